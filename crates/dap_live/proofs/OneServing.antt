@@ -23,11 +23,11 @@ use Rattle.dap_end.specs.Taking.{serves}
 use Rattle.dap_end.proofs.ForCallers.{going_one, taking_one, new_known, going_known, taking_known}
 use Rattle.dap_text.specs.declared.filed.FileLine.{FileLine}
 use Rattle.dap_text.specs.declared.filed.RecordLine.{RecordLine}
-use Rattle.dap_text.specs.Tables.{files_text}
+use Rattle.dap_text.specs.Tables.{files_lines}
 use Rattle.linewise.specs.declared.talking.Became.{Became}
 use Rattle.linewise.specs.declared.talking.Became.TheVariants.{Done, NoMemory}
-use Rattle.linewise.specs.Talks.{HaveOneText}
-use Rattle.linewise.proofs.ForCallers.{one_text}
+use Rattle.linewise.specs.Talks.{ComesIn, HaveOneText}
+use Rattle.linewise.proofs.ForCallers.{comes_one, one_text}
 use Rattle.dap_live.specs.declared.serving.Serving.{Serving}
 use Rattle.dap_live.specs.declared.orders.Anew.{Anew}
 use Rattle.dap_live.specs.declared.orders.Order.{Order}
@@ -287,7 +287,9 @@ does_one old other one two order.Ack said more b c fits same nb nc x y = (
 )
 does_one old other one two (order.New anew) said more b c fits same nb nc x y = renew_one old other one two anew said more b c same nb nc x y
 does_one old other one two order.Files said more b c fits same nb nc x y =
-    (stay old other one two same x.0.0 y.0.0, x.1 ∙ ap (λ (v : ServingValue). files_text v.present.files) same.0 ∙ sym y.1, x.0.1 ∙ sym y.0.1)
+    let listed = comes_one (files_lines old.end.present.files) said more b c nb nc x.1
+    (subst (λ (v : ServingValue). ComesIn (files_lines v.present.files) more c) (sym same.0) y.1) in
+    (stay old other one two same x.0 y.0, listed.0, listed.1)
 does_one old other one two (order.File file) said more b c fits same nb nc x y =
     on_end old other one two said more b c same x.0 y.0
     (file_one old.end one.end two.end file said more b c same.3 nb nc x.1 (subst (λ (v : ServingValue). AddsFile v file two.end more c) (sym same.0) y.1))

@@ -10,11 +10,13 @@ use Rattle.dap_end.specs.Ports.{HasCome}
 use Rattle.dap_end.specs.Serving.{IsAfter, NotGiven}
 use Rattle.dap_end.specs.Done.{ServingValue, Past, nothing_yet}
 use Rattle.dap_end.specs.Taking.{serves}
+use Rattle.linewise.specs.Talks.{ComesIn}
 use Rattle.linewise.specs.declared.talking.Became.{Became}
 use Rattle.linewise.specs.declared.talking.Became.TheVariants.{Done, BadLine}
 use Rattle.dap_text.specs.declared.filed.FileLine.{FileLine}
 use Rattle.dap_text.specs.declared.filed.RecordLine.{RecordLine}
-use Rattle.dap_text.specs.Tables.{files_text}
+use Rattle.dap_text.specs.declared.tables.FilesPlace.{FilesPlace}
+use Rattle.dap_text.specs.Tables.{files_lines, lines_from}
 use Rattle.dap_live.specs.declared.serving.Serving.{Serving}
 use Rattle.dap_live.specs.declared.orders.Order.{Order}
 use Rattle.dap_live.specs.declared.orders.Order.TheVariants as order
@@ -80,7 +82,7 @@ Does old order.Ack new text became = Stays Done old new became × SaysAck old.en
 Does old (order.New anew) new text became =
     let setup = setup_anew old.setup anew in
     DoneOr (λ became. became) (IsSetup setup × IsNew setup old.end.present.own old.most_waiting old.end.present.files new) (SetupFault setup) link_refusal old new text became
-Does old order.Files new text became = Stays Done old new became × (text ≡ files_text old.end.present.files)
+Does old order.Files new text became = (new ≡ old) × ComesIn (files_lines old.end.present.files) text became
 Does old (order.File file) new text became = OnEnd old new × AddsFile old.end file new.end text became
 Does old (order.Record r) new text became = OnEnd old new × AddsRecord old.end r new.end text became
 Does old (order.Ask request) new text became = (new ≡ old) × (text ≡ []) × (became ≡ BadLine)
@@ -92,6 +94,10 @@ IsForServing _ = Unit {0}
 
 abbrev pub answered : Serving → List ℕ → Serving → List ℕ → Became → Type 0
 answered old line new text became = DoesOrder IsForServing Does Does old (order_of line) new text became
+
+-- the lines of the files from a place on
+abbrev pub pieces : Serving → FilesPlace → List (List ℕ)
+pieces serving place = lines_from serving.end.present.files place
 
 abbrev pub waiting : Serving → ℕ
 waiting serving = waits_of serving.end.port.link (is_behind serving.most_waiting serving.end)

@@ -25,7 +25,7 @@ use crate::texts::{
 use dap_accessing::{AskFault, Report, Request};
 use dap_end::{AskingEnd, EndFault, TakeFault};
 use dap_text::{RequestText, Text, push_number, push_str};
-use linewise::{Answers, Became};
+use linewise::{Answer, Answers, Became};
 use nsp_link::{Got, LinkFault, LinkSetup};
 use std::alloc::{AllocError, Global};
 
@@ -355,12 +355,21 @@ fn is_behind(asking: &Asking) -> bool
 impl Answers for Asking {
     ghost use Rattle.dap_live.specs.Asking.{answered, waiting};
 
+    // Each answer is said as a whole.
+    type Place = ();
+
     ghost answered = { answered };
 
     ghost waiting = { waiting };
 
-    fn answer(&mut self, line: &[u8], text: &mut Vec<u8>) -> Became {
-        answer_order(self, read_order(line), text)
+    ghost pieces = { λ asking place. [] };
+
+    fn answer(&mut self, line: &[u8], text: &mut Vec<u8>) -> Answer<()> {
+        Answer::Whole(answer_order(self, read_order(line), text))
+    }
+
+    fn more(&self, _place: (), _text: &mut Vec<u8>) -> Result<Option<()>, AllocError> {
+        Ok(None)
     }
 
     fn waits(&self) -> usize {

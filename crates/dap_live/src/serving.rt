@@ -10,22 +10,22 @@ ghost use Rattle.dap_end.specs.Done.{nothing_yet};
 ghost use Rattle.dap_end.specs.Taking.{serves};
 ghost use Rattle.dap_end.specs.Turns.{Takes, WentOn};
 ghost use Rattle.dap_text.specs.Adding.{Adds};
-ghost use Rattle.dap_text.specs.Tables.{files_text};
 ghost use Rattle.rec_file.specs.Shapes.{is_shape};
+ghost use Rattle.linewise.specs.Talks.{Begins};
 ghost use Rattle.linewise.specs.declared.talking.Became.{Became as TheBecame};
 ghost use Rattle.dap_live.specs.Sending.{UnlessFailed};
 ghost use Rattle.dap_live.specs.Both.{DoesOrder, SaysGone, Stays, TakesPacket};
 ghost use Rattle.dap_live.specs.Inner.Reaching.{Reaches};
 ghost use Rattle.dap_live.specs.Inner.Saying.{AddsShaped};
-ghost use Rattle.dap_live.specs.Serving.{AddsFile, AddsRecord, Does, IsForServing, Resends, is_behind as is_behind_at};
+ghost use Rattle.dap_live.specs.Serving.{AddsFile, AddsRecord, Does, IsForServing, Resends, is_behind as is_behind_at, pieces};
 
 use crate::orders::{Anew, Order, read_order, set_up};
 use crate::sending::{has_message, is_left, push_again, say_ack, waits};
 use crate::texts::{push_add_refusal, push_done, push_link_refusal, push_status, push_taken};
 use dap_end::{EndFault, ServingEnd, TakeFault};
 use dap_msg::codes::{ACCESS_REFUSED, REASON_BAD_ATTRIBUTES};
-use dap_text::{FileLine, RecordLine, Text, push_files};
-use linewise::{Answers, Became};
+use dap_text::{FileLine, FilesPlace, RecordLine, Text, push_files_line};
+use linewise::{Answer, Answers, Became};
 use nsp_link::{Got, LinkFault, LinkSetup};
 use rec_file::Shape;
 use std::alloc::{AllocError, Global};
@@ -285,71 +285,96 @@ fn add_record(
     }
 }
 
-/// The lines of the files.
-fn list_files(end: &ServingEnd, text: &mut Vec<u8>) -> Result<Became, AllocError>
+/// Does what a line says. The files are listed line by line.
+fn act(
+    serving: &mut Serving,
+    order: Order<'_>,
+    text: &mut Vec<u8>,
+) -> Result<Answer<FilesPlace>, AllocError>
     requires { text.old.items ≡ [] }
-    ensures { IfOk result (λ became. (became ≡ Became.Done)
-        × (text.new.items ≡ files_text end.now.present.files)) }
-{
-    push_files(text, end.files())?;
-    Ok(Became::Done)
-}
-
-/// Does what a line says.
-fn act(serving: &mut Serving, order: Order<'_>, text: &mut Vec<u8>) -> Result<Became, AllocError>
-    requires { text.old.items ≡ [] }
-    ensures ok { IfOk result (Does serving.old order.entry serving.new text.new.items) }
+    ensures ok { IfOk result (Begins Does pieces serving.old order.entry
+        serving.new text.new.items) }
     ensures err { OnErr result (Reaches Does serving.old order.entry serving.new) }
     ensures known { OnErr result (IsForServing order.entry) }
 {
     let alloc = serving.alloc;
     let most_waiting = serving.most_waiting;
     match order {
-        Order::Packet(digits) => take_packet(alloc, &mut serving.end, most_waiting, &digits, text),
-        Order::Resend => resend(alloc, &mut serving.end, most_waiting, text),
-        Order::Ack => say_ack(serving.end.link(), text),
-        Order::New(anew) => renew(serving, anew, text),
-        Order::Files => list_files(&serving.end, text),
-        Order::File(file) => add_file(alloc, &mut serving.end, &file, text),
-        Order::Record(record) => add_record(alloc, &mut serving.end, &record, text),
-        Order::Ask(_) => Ok(Became::BadLine),
+        Order::Packet(digits) => {
+            let became = take_packet(alloc, &mut serving.end, most_waiting, &digits, text)?;
+            Ok(Answer::Whole(became))
+        }
+        Order::Resend => {
+            let became = resend(alloc, &mut serving.end, most_waiting, text)?;
+            Ok(Answer::Whole(became))
+        }
+        Order::Ack => Ok(Answer::Whole(say_ack(serving.end.link(), text)?)),
+        Order::New(anew) => Ok(Answer::Whole(renew(serving, anew, text)?)),
+        Order::Files => Ok(Answer::Begun(FilesPlace::File(0))),
+        Order::File(file) => {
+            let became = add_file(alloc, &mut serving.end, &file, text)?;
+            Ok(Answer::Whole(became))
+        }
+        Order::Record(record) => {
+            let became = add_record(alloc, &mut serving.end, &record, text)?;
+            Ok(Answer::Whole(became))
+        }
+        Order::Ask(_) => Ok(Answer::Whole(Became::BadLine)),
     }
 }
 
 /// Answers an order.
-fn answer_one(serving: &mut Serving, order: Order<'_>, text: &mut Vec<u8>) -> Became
+fn answer_one(serving: &mut Serving, order: Order<'_>, text: &mut Vec<u8>) -> Answer<FilesPlace>
     requires { text.old.items ≡ [] }
-    ensures { DoesOrder IsForServing Does Does serving.old (Some order.entry) serving.new text.new.items result }
+    ensures { Begins (DoesOrder IsForServing Does Does) pieces serving.old (Some order.entry)
+        serving.new text.new.items result }
 {
     match act(serving, order, text) {
-        Ok(became) => became,
+        Ok(answer) => answer,
         Err(_) => {
             text.clear();
-            Became::NoMemory
+            Answer::Whole(Became::NoMemory)
         }
     }
 }
 
 /// Answers what a line says.
-fn answer_order(serving: &mut Serving, order: Option<Order<'_>>, text: &mut Vec<u8>) -> Became
+fn answer_order(
+    serving: &mut Serving,
+    order: Option<Order<'_>>,
+    text: &mut Vec<u8>,
+) -> Answer<FilesPlace>
     requires { text.old.items ≡ [] }
-    ensures { DoesOrder IsForServing Does Does serving.old order.entry serving.new text.new.items result }
+    ensures { Begins (DoesOrder IsForServing Does Does) pieces serving.old order.entry
+        serving.new text.new.items result }
 {
     match order {
         Some(order) => answer_one(serving, order, text),
-        None => Became::BadLine,
+        None => Answer::Whole(Became::BadLine),
     }
 }
 
 impl Answers for Serving {
-    ghost use Rattle.dap_live.specs.Serving.{answered, waiting};
+    ghost use Rattle.dap_live.specs.Serving.{answered, pieces, waiting};
+
+    type Place = FilesPlace;
 
     ghost answered = { answered };
 
     ghost waiting = { waiting };
 
-    fn answer(&mut self, line: &[u8], text: &mut Vec<u8>) -> Became {
+    ghost pieces = { pieces };
+
+    fn answer(&mut self, line: &[u8], text: &mut Vec<u8>) -> Answer<FilesPlace> {
         answer_order(self, read_order(line), text)
+    }
+
+    fn more(
+        &self,
+        place: FilesPlace,
+        text: &mut Vec<u8>,
+    ) -> Result<Option<FilesPlace>, AllocError> {
+        push_files_line(text, self.end.files(), place)
     }
 
     fn waits(&self) -> usize {

@@ -1,16 +1,13 @@
 //! How files are printed.
 
-ghost use Rattle.std.specs.Prelude.{◌≡◌, ◌<◌, ◌++◌, OnOk, codes, length};
-ghost use Rattle.std.specs.FinMap.{entries};
-ghost use Rattle.std.specs.List.{flat_map};
-ghost use Rattle.rec_file.specs.AnyFiles.{any_value};
+ghost use Rattle.std.specs.Prelude.{◌≡◌, ◌<◌, ◌++◌, IfOk, OnErr, OnOk, codes, length};
 ghost use Rattle.dap_text.specs.Adding.{Adds, StillBegins};
-ghost use Rattle.dap_text.specs.Tables.{file_line, files_text, format_text, org_text, record_line};
-ghost use Rattle.dap_text.specs.Inner.Tables.{file_text, shape_text, sizes_text};
+ghost use Rattle.dap_text.specs.Tables.{AddsLine, file_line, files_text, format_text, lines_from, org_text, record_line};
+ghost use Rattle.dap_text.specs.Inner.Tables.{shape_text, sizes_text};
 
 use crate::text::{push_image, push_number, push_str};
 use dap_accessed::FileTable;
-use rec_file::{AnyFile, Format, Org, RecordFile, Shape, first_record};
+use rec_file::{Format, Org, RecordFile, Shape, first_record};
 use std::alloc::AllocError;
 
 /// The word for an organization.
@@ -86,30 +83,73 @@ fn push_record(text: &mut Vec<u8>, number: u32, body: &[u8]) -> Result<(), Alloc
     push_str(text, "\n")
 }
 
-/// Appends the lines of a file's records, in the order of their numbers. The next record is found before the line of one
-/// is written, so that the processor fetches it meanwhile.
-#[tactic(auto, unfolding(crate::specs::Adding::StillBegins))]
-fn push_records(text: &mut Vec<u8>, file: &AnyFile) -> Result<(), AllocError>
-    ensures added { OnOk result (Adds text.old text.new
-        (flat_map record_line (entries (any_value file.now).records))) }
-    ensures kept { StillBegins text.old text.new }
-{
-    let mut next = first_record(file, 0);
-    while let Some((number, body)) = next {
-        next = first_record(file, number + 1);
-        push_record(text, number, body)?;
-    }
-    Ok(())
+/// A place in the listing of the files (own).
+#[derive(Clone, Copy, Debug, PartialEq, Eq)]
+pub enum FilesPlace {
+    /// Before the line of the file at this place of the table.
+    File(usize),
+    /// Before the line of that file's first record from this number on.
+    Record(usize, u32),
 }
 
-/// Appends the lines of a file.
+/// Appends the line of the file at a place of the table, where there is one; what is next then.
 #[tactic(auto, unfolding(crate::specs::Adding::StillBegins))]
-fn push_file(text: &mut Vec<u8>, name: &[u8], file: &AnyFile) -> Result<(), AllocError>
-    ensures added { OnOk result (Adds text.old text.new (file_text (name.now, any_value file.now))) }
+fn push_file_at(
+    text: &mut Vec<u8>,
+    files: &FileTable,
+    at: usize,
+) -> Result<Option<FilesPlace>, AllocError>
+    ensures line { IfOk result (AddsLine files.now (FilesPlace.File at) text.old text.new) }
+    ensures refused { OnErr result (0 < length (lines_from files.now (FilesPlace.File at))) }
     ensures kept { StillBegins text.old text.new }
 {
-    push_file_line(text, name, file.shape())?;
-    push_records(text, file)
+    if at >= files.count() {
+        return Ok(None);
+    }
+    push_file_line(text, files.name(at), files.file(at).shape())?;
+    Ok(Some(FilesPlace::Record(at, 0)))
+}
+
+/// Appends the line of a file's first record from a number on, or of the next file; what is next then.
+#[tactic(auto, unfolding(crate::specs::Adding::StillBegins))]
+fn push_record_from(
+    text: &mut Vec<u8>,
+    files: &FileTable,
+    at: usize,
+    from: u32,
+) -> Result<Option<FilesPlace>, AllocError>
+    ensures line { IfOk result (AddsLine files.now (FilesPlace.Record at from) text.old text.new) }
+    ensures refused { OnErr result (0 < length (lines_from files.now (FilesPlace.Record at from))) }
+    ensures kept { StillBegins text.old text.new }
+{
+    if at >= files.count() {
+        return Ok(None);
+    }
+    match first_record(files.file(at), from) {
+        Some((number, body)) => {
+            push_record(text, number, body)?;
+            Ok(Some(FilesPlace::Record(at, number + 1)))
+        }
+        None => push_file_at(text, files, at + 1),
+    }
+}
+
+/// Appends the line at a place in the listing of all files; the place of the next one. Where all lines are before it,
+/// nothing. Own.
+#[tactic(auto, unfolding(crate::specs::Adding::StillBegins))]
+pub fn push_files_line(
+    text: &mut Vec<u8>,
+    files: &FileTable,
+    place: FilesPlace,
+) -> Result<Option<FilesPlace>, AllocError>
+    ensures line { IfOk result (AddsLine files.now place text.old text.new) }
+    ensures refused { OnErr result (0 < length (lines_from files.now place)) }
+    ensures kept { StillBegins text.old text.new }
+{
+    match place {
+        FilesPlace::File(at) => push_file_at(text, files, at),
+        FilesPlace::Record(at, from) => push_record_from(text, files, at, from),
+    }
 }
 
 /// Appends the lines of all files, in the order in which they were made. Own.
@@ -118,8 +158,9 @@ pub fn push_files(text: &mut Vec<u8>, files: &FileTable) -> Result<(), AllocErro
     ensures added { OnOk result (Adds text.old text.new (files_text files.now)) }
     ensures kept { StillBegins text.old text.new }
 {
-    for at in 0..files.count() {
-        push_file(text, files.name(at), files.file(at))?;
+    let mut place = FilesPlace::File(0);
+    while let Some(next) = push_files_line(text, files, place)? {
+        place = next;
     }
     Ok(())
 }

@@ -2,3 +2,5 @@
 
 -- two talks have one text, where each line has one answer
 pub use Rattle.linewise.proofs.OneText.{OneAnswer, one_text}
+-- an answer that is said piece by piece has one text, where no memory is refused
+pub use Rattle.linewise.proofs.PieceLemmas.{comes_one}

@@ -1,5 +1,6 @@
 mod InputLemmas
 mod OutputLemmas
+pub mod PieceLemmas
 mod SliceLemmas
 pub mod OneText
 pub mod ForCallers

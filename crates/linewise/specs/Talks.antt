@@ -1,12 +1,14 @@
 -- What an end and a partner say to each other, line by line.
 use Rattle.std.specs.Prelude.{◌≡◌, ◌≢◌, ◌⊎◌, ℕ, ◌<◌, ◌≤◌, ◌==◌, Bool, true, false, List, [], ◌∷◌, ◌++◌, length, codes, Some, None, Option}
 use Rattle.std.specs.Fmt.{decimal}
-use Rattle.std.specs.List.{AllByRecursion}
+use Rattle.std.specs.List.{AllByRecursion, concat}
 use Rattle.std.specs.Io.KnownBytes.{Appends}
 use Rattle.std.specs.Io.BufRead.{first_line, drop_through}
 use Rattle.linewise.specs.Output.{WritesFront}
 use Rattle.linewise.specs.declared.talking.Became.{Became}
 use Rattle.linewise.specs.declared.talking.Became.TheVariants.{Done, BadLine, NoMemory}
+use Rattle.linewise.specs.declared.talking.Answer.{Answer}
+use Rattle.linewise.specs.declared.talking.Answer.TheVariants.{Whole, Begun}
 use Rattle.linewise.specs.declared.talking.TalkFault.{TalkFault}
 use Rattle.linewise.specs.declared.talking.TalkFault.TheVariants.{ReadFailed, WriteFailed}
 
@@ -38,6 +40,25 @@ said_of text (Some became) count = text ++ (refusal_of became ++ (codes "waits "
 -- what an end does by a line: what it is then, the text that it says, and what became of the line
 abbrev pub Answering : Type 0 → Type 1
 Answering E = E → List ℕ → E → List ℕ → Became → Type 0
+
+-- An answer that is said piece by piece: all of its pieces, or those before the first one to which memory was refused.
+abbrev pub ComesIn : List (List ℕ) → List ℕ → Became → Type 0
+ComesIn pieces text Done = text ≡ concat pieces
+ComesIn pieces text BadLine = ⊥
+ComesIn pieces text NoMemory = (front rest : List (List ℕ)) × (pieces ≡ front ++ rest) × (0 < length rest) × (text ≡ concat front)
+
+-- What was done by a line, and the whole text that is said; or its front, which is an answer with whatever its pieces from a
+-- place on come to.
+abbrev pub Begins : {E L P : Type 0} → (answered : E → L → E → List ℕ → Became → Type 0) → (pieces : E → P → List (List ℕ))
+    → E → L → E → List ℕ → Answer P → Type 0
+Begins answered pieces old line new text (Whole became) = answered old line new text became
+Begins answered pieces old line new text (Begun place) =
+    (more : List ℕ) (became : Became) → ComesIn (pieces new place) more became → answered old line new (text ++ more) became
+
+-- The text is the piece at a place, and the others are those from the next place on; or there is none.
+abbrev pub GivesPiece : {P : Type 0} → (pieces : P → List (List ℕ)) → P → List ℕ → Option P → Type 0
+GivesPiece pieces place text None = (pieces place ≡ []) × (text ≡ [])
+GivesPiece pieces place text (Some next) = pieces place ≡ text ∷ pieces next
 
 -- What comes of a line. The end doesn't get one that is too long, or to which memory was refused.
 abbrev pub AnswersLine : {E : Type 0} → Answering E → E → List ℕ → E → List ℕ → Option Became → Type 0

@@ -6,4 +6,4 @@ mod output;
 mod talking;
 
 pub use input::LONGEST;
-pub use talking::{Answers, Became, TalkFault, is_skipped, talk};
+pub use talking::{Answer, Answers, Became, TalkFault, is_skipped, talk};

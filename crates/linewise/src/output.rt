@@ -12,7 +12,7 @@ use itoa::Buffer;
 use std::io::Write;
 
 /// Writes a text.
-fn write_text<W: Write>(text: &[u8], writer: &mut W) -> Result<(), TalkFault>
+pub(crate) fn write_text<W: Write>(text: &[u8], writer: &mut W) -> Result<(), TalkFault>
     ensures whole { OnOk result (Appends (W.contents writer.old) (W.contents writer.new) text.now) }
     ensures fault { IfErr result (λ fault. fault ≡ TalkFault.WriteFailed) }
     ensures front { WritesFront (W.contents writer.old) (W.contents writer.new) text.now }

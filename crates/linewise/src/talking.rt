@@ -1,17 +1,18 @@
 //! The loop over the lines of an input.
 
 ghost use Rattle.std.specs.Prelude.{◌≡◌, ◌≢◌, ℕ, Bool, List, [], ◌∷◌, ◌++◌, ◌<◌, ◌≤◌, length, true, false, Option, Some, None, IfOk, IfErr, OnOk, OnErr, IfSome};
-ghost use Rattle.std.specs.List.{list_any};
+ghost use Rattle.std.specs.List.{concat, list_any};
 ghost use Rattle.std.specs.Io.KnownBytes.{Appends, Keeps, IsAtEnd};
 ghost use Rattle.std.specs.Io.BufRead.{first_line, drop_through, strip_last};
-ghost use Rattle.linewise.specs.Talks.{AnswersLine, Fails, Talked, is_bad as is_bad_line, is_skipped as says_nothing};
+ghost use Rattle.linewise.specs.Output.{WritesFront};
+ghost use Rattle.linewise.specs.Talks.{ComesIn, Fails, Talked, is_bad as is_bad_line, is_skipped as says_nothing};
 ghost use Rattle.linewise.specs.declared.talking.Became.{Became as TheBecame};
 ghost use Rattle.linewise.specs.Inner.Kept.{Holds, without_end as ended};
-ghost use Rattle.linewise.specs.Inner.Steps.{Breaks, Ends, Goes, Says};
+ghost use Rattle.linewise.specs.Inner.Steps.{BeginsLine, Breaks, Completes, Ends, Goes, Says};
 
 use crate::input::{Kept, LONGEST, Line, read_line};
-use crate::output::write_answer;
-use std::alloc::Global;
+use crate::output::{write_answer, write_text};
+use std::alloc::{AllocError, Global};
 use std::io::{BufRead, Write};
 use thiserror::Error;
 
@@ -26,9 +27,22 @@ pub enum Became {
     NoMemory,
 }
 
+/// An answer, or how one begins that is said piece by piece (own).
+#[derive(Clone, Copy, Debug, PartialEq, Eq)]
+pub enum Answer<P> {
+    /// The text is the whole of it, and this became of the line.
+    Whole(Became),
+    /// The text is its front, and the pieces from this place on follow.
+    Begun(P),
+}
+
 /// An end that answers lines (own).
 pub trait Answers {
     ghost use Rattle.linewise.specs.declared.talking.Became.{Became};
+    ghost use Rattle.linewise.specs.Talks.{Begins, GivesPiece};
+
+    /// Where an answer that is said piece by piece goes on.
+    type Place: Copy;
 
     // What it may come to by a line, the text of its answer, and what became of the line.
     ghost answered: { Self → List ℕ → Self → List ℕ → Became → Type 0 };
@@ -36,10 +50,23 @@ pub trait Answers {
     // How many packets it waits to be acknowledged, and one more where it has something left to do.
     ghost waiting: { Self → ℕ };
 
-    /// Answers a line, which comes without its end. The text comes empty.
-    fn answer(&mut self, line: &[u8], text: &mut Vec<u8>) -> Became
+    // The pieces of an answer from a place on.
+    ghost pieces: { Self → Self.Place → List (List ℕ) };
+
+    /// Answers a line, which comes without its end, or begins to. The text comes empty.
+    fn answer(&mut self, line: &[u8], text: &mut Vec<u8>) -> Answer<Self::Place>
         requires { text.old.items ≡ [] }
-        ensures { answered self.old line.now self.new text.new.items result };
+        ensures { Begins answered pieces self.old line.now self.new text.new.items result };
+
+    /// The next piece of an answer, and where it goes on behind that; nothing where all is said. The text comes empty.
+    fn more(
+        &self,
+        place: Self::Place,
+        text: &mut Vec<u8>,
+    ) -> Result<Option<Self::Place>, AllocError>
+        requires { text.old.items ≡ [] }
+        ensures piece { IfOk result (GivesPiece (pieces self.now) place text.new.items) }
+        ensures refused { OnErr result (0 < length (pieces self.now place)) };
 
     /// How many packets it waits to be acknowledged, and one more where it has something left to do. It takes no memory.
     fn waits(&self) -> usize
@@ -85,13 +112,17 @@ pub fn is_skipped(line: &[u8]) -> bool
     }
 }
 
-/// Answers a line, of which nothing is left out; what became of it, or nothing where it says nothing.
-fn answer_whole<E: Answers>(end: &mut E, line: &[u8], text: &mut Vec<u8>) -> Option<Became>
+/// Answers a line, of which nothing is left out, or begins to; nothing where it says nothing.
+fn answer_whole<E: Answers>(
+    end: &mut E,
+    line: &[u8],
+    text: &mut Vec<u8>,
+) -> Option<Answer<E::Place>>
     requires { text.old.items ≡ [] }
-    ensures { AnswersLine E.answered end.old line.now end.new text.new.items result }
+    ensures { BeginsLine E.answered E.pieces end.old line.now end.new text.new.items result }
 {
     if line.len() > LONGEST {
-        return Some(Became::BadLine);
+        return Some(Answer::Whole(Became::BadLine));
     }
     if is_skipped(line) {
         return None;
@@ -99,16 +130,68 @@ fn answer_whole<E: Answers>(end: &mut E, line: &[u8], text: &mut Vec<u8>) -> Opt
     Some(end.answer(line, text))
 }
 
-/// Answers a line that was read.
-fn answer_read<E: Answers>(end: &mut E, line: &Line, text: &mut Vec<u8>) -> Option<Became>
+/// Answers a line that was read, or begins to.
+fn answer_read<E: Answers>(end: &mut E, line: &Line, text: &mut Vec<u8>) -> Option<Answer<E::Place>>
     requires { text.old.items ≡ [] }
     ensures { (raw : List ℕ) → Holds line.now raw
-        → AnswersLine E.answered end.old (ended raw) end.new text.new.items result }
+        → BeginsLine E.answered E.pieces end.old (ended raw) end.new text.new.items result }
 {
     match line.kept {
         Kept::All => answer_whole(end, without_end(&line.bytes), text),
-        Kept::TooLong => Some(Became::BadLine),
-        Kept::NoMemory => Some(Became::NoMemory),
+        Kept::TooLong => Some(Answer::Whole(Became::BadLine)),
+        Kept::NoMemory => Some(Answer::Whole(Became::NoMemory)),
+    }
+}
+
+/// Writes the text and the pieces from a place on, each before the next is asked for; what became of the line. The text
+/// is empty then.
+fn write_pieces<E: Answers, W: Write>(
+    end: &E,
+    first: E::Place,
+    text: &mut Vec<u8>,
+    writer: &mut W,
+) -> Result<Became, TalkFault>
+    ensures whole { IfOk result (λ became. (more : List ℕ)
+        × ComesIn (E.pieces end.now first) more became
+        × Appends (W.contents writer.old) (W.contents writer.new) (text.old.items ++ more)
+        × (text.new.items ≡ [])) }
+    ensures fault { IfErr result (λ fault. fault ≡ TalkFault.WriteFailed) }
+    ensures front { OnErr result (WritesFront (W.contents writer.old) (W.contents writer.new)
+        (text.old.items ++ concat (E.pieces end.now first))) }
+{
+    let mut place = first;
+    loop {
+        write_text(text, writer)?;
+        text.clear();
+        match end.more(place, text) {
+            Ok(Some(next)) => place = next,
+            Ok(None) => return Ok(Became::Done),
+            Err(_) => {
+                text.clear();
+                return Ok(Became::NoMemory);
+            }
+        }
+    }
+}
+
+/// Writes all of an answer but the last text and its ending; what became of the line.
+fn write_begun<E: Answers, W: Write>(
+    end: &E,
+    answer: Answer<E::Place>,
+    text: &mut Vec<u8>,
+    writer: &mut W,
+) -> Result<Became, TalkFault>
+    ensures whole { IfOk result (λ became. (written : List ℕ)
+        × Appends (W.contents writer.old) (W.contents writer.new) written
+        × Completes (E.pieces end.now) text.old.items answer (written ++ text.new.items) became) }
+    ensures fault { IfErr result (λ fault. fault ≡ TalkFault.WriteFailed) }
+    ensures front { OnErr result ((whole : List ℕ)
+        × Completes (E.pieces end.now) text.old.items answer whole Became.Done
+        × WritesFront (W.contents writer.old) (W.contents writer.new) whole) }
+{
+    match answer {
+        Answer::Whole(became) => Ok(became),
+        Answer::Begun(place) => write_pieces(end, place, text, writer),
     }
 }
 
@@ -137,10 +220,11 @@ fn say<E: Answers, W: Write, F: Write>(
     ensures fault { IfErr result (λ fault. fault ≡ TalkFault.WriteFailed) }
 {
     text.clear();
-    let became = match answer_read(end, line, text) {
+    let answer = match answer_read(end, line, text) {
         None => return Ok(None),
-        Some(became) => became,
+        Some(answer) => answer,
     };
+    let became = write_begun(end, answer, text, writer)?;
     tell_bad(became, number, error_writer);
     match write_answer(text, became, end.waits(), writer) {
         Ok(()) => Ok(Some(became)),
@@ -193,9 +277,10 @@ fn is_bad(became: Option<Became>) -> bool
 
 /// Answers the lines of an input until it ends, and tells whether some line was none of the end's (own).
 ///
-/// Each line is answered, and its answer written and flushed, before the next one is read. A line has at most 16,777,216
-/// bytes, and ends with a line feed, or a carriage return and a line feed, or with the input; of a longer one nothing is
-/// kept. A bad line is told to the error writer by its number, from 1, before its answer is written.
+/// Each line is answered, and its answer written and flushed, before the next one is read; of an answer that is said piece
+/// by piece, each piece is written before the next one is asked for. A line has at most 16,777,216 bytes, and ends with a
+/// line feed, or a carriage return and a line feed, or with the input; of a longer one nothing is kept. A bad line is told
+/// to the error writer by its number, from 1, before its answer is written.
 ///
 /// Faults: the reader failed, and all lines before are answered; the writer failed, and a front of the answers stands.
 pub fn talk<E: Answers, R: BufRead, W: Write, F: Write>(

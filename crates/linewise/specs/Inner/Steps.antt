@@ -1,15 +1,34 @@
 -- One turn of a conversation, and how far a conversation has come.
-use Rattle.std.specs.Prelude.{◌≡◌, ℕ, ◌<◌, Bool, List, length, Some, Option, IfSome}
-use Rattle.std.specs.List.{list_any}
+use Rattle.std.specs.Prelude.{◌≡◌, ℕ, ◌<◌, ◌++◌, Bool, List, length, Some, None, Option, IfSome}
+use Rattle.std.specs.List.{list_any, concat}
 use Rattle.std.specs.Io.KnownBytes.{Appends, Keeps, IsAtEnd}
 use Rattle.std.specs.Io.BufRead.{first_line, drop_through}
 use Rattle.linewise.specs.Output.{WritesFront}
-use Rattle.linewise.specs.Talks.{Answering, SaysTo, Talked, is_bad}
+use Rattle.linewise.specs.Talks.{Answering, AnswersLine, Begins, ComesIn, SaysTo, Talked, is_bad}
 use Rattle.linewise.specs.declared.talking.Became.{Became}
+use Rattle.linewise.specs.declared.talking.Answer.{Answer}
+use Rattle.linewise.specs.declared.talking.Answer.TheVariants.{Whole, Begun}
 use Rattle.linewise.specs.declared.talking.Next.{Next}
 use Rattle.linewise.specs.declared.talking.Next.TheVariants.{Over, Line}
 use Rattle.linewise.specs.declared.talking.TalkFault.{TalkFault}
 use Rattle.linewise.specs.declared.talking.TalkFault.TheVariants.{ReadFailed, WriteFailed}
+
+-- what comes of a line, or how its answer begins
+abbrev pub BeginsLine : {E P : Type 0} → Answering E → (E → P → List (List ℕ)) → E → List ℕ → E → List ℕ → Option (Answer P) → Type 0
+BeginsLine answered pieces old line new text None = AnswersLine answered old line new text None
+BeginsLine answered pieces old line new text (Some answer) =
+    Begins (λ o l n t b. AnswersLine answered o l n t (Some b)) pieces old line new text answer
+
+-- the text of an answer that began so, and what became of the line
+abbrev pub Completes : {P : Type 0} → (P → List (List ℕ)) → List ℕ → Answer P → List ℕ → Became → Type 0
+Completes pieces text (Whole became) whole came = (whole ≡ text) × (came ≡ became)
+Completes pieces text (Begun place) whole came = (more : List ℕ) × ComesIn (pieces place) more came × (whole ≡ text ++ more)
+
+-- Of the pieces of an answer those in front are written, behind its first text, but for the text that comes next; these
+-- are left behind that.
+abbrev pub HasWritten : (pieces left : List (List ℕ)) → (first text : List ℕ) → (written holds : Option (List ℕ)) → Type 0
+HasWritten pieces left first text written holds =
+    (front : List (List ℕ)) × (said : List ℕ) × (pieces ≡ front ++ left) × (said ++ text ≡ first ++ concat front) × Appends written holds said
 
 -- the answer to a line stands behind what was written
 abbrev pub Says : {E : Type 0} → Answering E → (E → ℕ) → E → List ℕ → E → (written holds : Option (List ℕ)) → Option Became → Type 0
