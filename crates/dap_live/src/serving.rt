@@ -304,10 +304,7 @@ fn act(
             let became = take_packet(alloc, &mut serving.end, most_waiting, &digits, text)?;
             Ok(Answer::Whole(became))
         }
-        Order::Resend => {
-            let became = resend(alloc, &mut serving.end, most_waiting, text)?;
-            Ok(Answer::Whole(became))
-        }
+        Order::Resend => Ok(Answer::Whole(resend(alloc, &mut serving.end, most_waiting, text)?)),
         Order::Ack => Ok(Answer::Whole(say_ack(serving.end.link(), text)?)),
         Order::New(anew) => Ok(Answer::Whole(renew(serving, anew, text)?)),
         Order::Files => Ok(Answer::Begun(FilesPlace::File(0))),
