@@ -27,6 +27,17 @@ REASONS = {
     "11": "no file has these attributes",
     "12": "that is no record's number",
 }
+# what answers a request, besides a Status that refuses it
+DUE = {
+    "hello": "Configuration",
+    **dict.fromkeys(("create", "open"), "Attributes, Acknowledge"),
+    "connect": "Acknowledge",
+    "get": "Data",
+    **dict.fromkeys(("put", "update", "delete", "rewind"), "Status"),
+    **dict.fromkeys(("fetch", "continue"), "Data or Status"),
+    "store": "Access Complete",
+    **dict.fromkeys(("close", "purge"), "Access Complete"),
+}
 MAX_SHOWN = 40  # characters of a user's line that are shown
 
 
@@ -45,6 +56,12 @@ def not_asked(request, answer):
     if word not in REQUESTS:
         return f"no request '{shown(word)}'"
     return f"'{shown(request)}': wrong words for '{word}'; names and records are hex digits (docs/SCHEDULES.md)"
+
+
+def unexpected(came, request):
+    """Which messages came where an answer had no place, and which was due to the request, if any was."""
+    due = DUE.get(request.split(" ")[0])
+    return f"{came} came, and " + (f"{due} was due after '{shown(request)}'" if due else "nothing was due")
 
 
 def refusal(report):

@@ -3,10 +3,10 @@ import os
 import sys
 import time
 
-from decnet import answers, log
+from decnet import answers, dap, log
 from decnet.end import Lines as Pieces
 from decnet.link import State
-from decnet.nsp import Reason
+from decnet.nsp import Kind, Reason
 from decnet.role import FAILED, GOOD, Role
 
 MAX_LINE = 16_777_216  # the most bytes of a line that a live end takes
@@ -54,6 +54,7 @@ class Asker(Role):
 
     def open(self, to, session):
         self.link = self.link_to(self.node.way_to(to))
+        self.link.explain = self.explain
         self.link.open(session)
 
     def connect(self, peer, packet):
@@ -101,6 +102,11 @@ class Asker(Role):
         refusal = answers.refusal(text)
         if refusal:
             self.note_refusal(f"'{answers.shown(self.request)}': {refusal}")
+
+    def explain(self, packet):
+        """What came in the packet that brought an answer without a place, and what was due."""
+        came = dap.named(packet.body) if packet.kind is Kind.ONLY else "a part of a message"
+        return answers.unexpected(came, self.request if self.is_due else "")
 
     def note_refusal(self, why):
         self.is_refused = True

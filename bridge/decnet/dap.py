@@ -1,6 +1,8 @@
-"""As much of DAP 5.6.0 as tells which messages may change files, and which answer says that a file is closed."""
+"""As much of DAP 5.6.0 as names messages, and tells which may change files, and which answer says that a file is closed."""
 
 ACCESS, CONTROL, COMPLETE = 3, 4, 7
+NAMES = {1: "Configuration", 2: "Attributes", 3: "Access", 4: "Control", 5: "Continue Transfer", 6: "Acknowledge",
+         7: "Access Complete", 8: "Data", 9: "Status"}
 HARMLESS = frozenset({1, 2, 5, 6, 9, *range(10, 17)})  # types of messages that change no file
 OPEN = b"\1"  # ACCFUNC of an Access that makes no file
 READING = frozenset({b"\1", b"\2", b"\6"})  # CTLFUNC: get, connect, rewind
@@ -29,6 +31,14 @@ def messages(body):
             raise Unread
         yield kind, body[at:end]
         at = end
+
+
+def named(body):
+    """The messages of an NSP message by their names."""
+    try:
+        return ", ".join(NAMES.get(kind, f"a message of type {kind}") for kind, _ in messages(body))
+    except Unread:
+        return "a message that can't be read"
 
 
 def may_change(body):

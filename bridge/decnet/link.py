@@ -14,7 +14,8 @@ CLOSING_TRIES = 5
 MAX_PENDING = 64  # packets that a live end wasn't told yet, or hasn't answered; one more is as lost
 MAX_PACKET = nsp.SEGMENT_HEADER + nsp.MAX_SEGMENT
 # answers of a live end behind which its link is of no more use
-LINK_FAILED = ("bad-sequence", "message-too-long", "exhausted", "unexpected-answer", "failed")
+UNEXPECTED = "unexpected-answer"
+LINK_FAILED = ("bad-sequence", "message-too-long", "exhausted", UNEXPECTED, "failed")
 NO_MEMORY = "refused no-memory"
 
 
@@ -149,6 +150,7 @@ class Link:
         says that a file is closed goes out when the `keeper` has saved what was changed."""
         self.node, self.end, self.settings, self.told, self.clock = node, end, settings, told, clock
         self.keeper = keeper
+        self.explain = lambda packet: ""  # what to say of a packet that brought an answer without a place
         self.peer, self.local, self.remote = peer, local, 0
         self.state, self.was_open = State.CLOSED, False
         self.why, self.reason = "", None  # why it was closed, in words; the reason that the other end gave
@@ -338,7 +340,7 @@ class Link:
             if packet.kind is not Kind.ONLY or dap.may_change(packet.body):
                 self.has_changed = True
                 self.keeper.note_change()
-        self.tell("> " + packet.whole.hex())
+        self.ask_end("> " + packet.whole.hex(), lambda answer: self.do(answer, packet))
 
     def take_other(self, packet):
         for qualifier, number in packet.acks:
@@ -383,8 +385,8 @@ class Link:
         then(answer)
         self.watch()
 
-    def do(self, answer):
-        """Does what an answer of the live end says."""
+    def do(self, answer, packet=None):
+        """Does what an answer of the live end says, to this packet or to another line."""
         failed = ""
         for text in answer:
             word, _, rest = text.partition(" ")
@@ -397,7 +399,8 @@ class Link:
             elif word == "refused" and rest.split(" ")[0].rstrip(":") in LINK_FAILED:
                 failed = failed or rest
         if failed:
-            self.disconnect(Reason.ABORTED, f"the live end refused: {failed}")
+            why = self.explain(packet) if packet and failed == UNEXPECTED else ""
+            self.disconnect(Reason.ABORTED, f"the live end refused: {failed}{why and ': '}{why}")
 
     def read_packet(self, text):
         """A packet of the live end."""

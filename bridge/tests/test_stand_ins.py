@@ -169,6 +169,21 @@ class RefusalTest(PairCase):
             self.assertIn("answers what no live end does", child.told())
             self.assertNotIn("Traceback", child.told())
 
+    def test_an_answer_without_a_place_says_what_came_and_what_was_due(self):
+        """An Acknowledge comes where a Configuration is due; the live end is the real one."""
+        near, far = self.ends()
+        child = self.bridge("ask", far, "--to", SERVING, *HASTE, stdin=b"hello\n")
+        station = self.station(near, SERVING, ASKING)
+        connect = station.hear_kind(Kind.CONNECT)
+        station.say(nsp.confirm(connect.source, 7, 512))
+        station.remote, station.local = connect.source, 7
+        station.hear_kind(Kind.ONLY)
+        station.say(segment(station.remote, station.local, 1, bytes.fromhex("060200")))
+        self.assertEqual(station.hear_kind(Kind.DISCONNECT).reason, Reason.ABORTED)
+        station.say(nsp.disconnect_confirm(station.remote, station.local, Reason.COMPLETE))
+        self.assertEqual(child.finish(), 1)
+        self.assertIn("unexpected-answer: Acknowledge came, and Configuration was due after 'hello'", child.told())
+
     def test_a_request_that_is_answered_by_nothing(self):
         near, far = self.ends()
         child = self.bridge("ask", far, "--to", SERVING, *HASTE, program=self.stand_in("return []"), stdin=b"hello\n")
