@@ -43,7 +43,7 @@ Empty lines, and lines that begin with #, are skipped.
 
 Example: echo '> 600201040305800100060200' | ./dapnsp show
 
-README.md explains each word of a listing.",
+docs/LISTING.md explains each word of a listing.",
 };
 
 const MSG: Help = Help {
@@ -54,7 +54,7 @@ Empty lines, and lines that begin with #, are skipped.
 
 Example: echo '< 060200' | ./dapnsp msg
 
-README.md explains each word of a listing.",
+docs/LISTING.md explains each word of a listing.",
 };
 
 const RUN: Help = Help {

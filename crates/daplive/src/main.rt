@@ -7,7 +7,7 @@ use std::cell::Cell;
 use std::io::{BufReader, BufWriter, ErrorKind};
 use std::process::ExitCode;
 
-/// Tells want of memory, and answers its exit status.
+/// Reports that memory ran out, and answers the exit status of that.
 fn no_memory(rt: &HostRuntime) -> ExitCode {
     let _ = eprintln!(rt; "no memory");
     ExitCode::from(3)

@@ -55,7 +55,7 @@ pub names_follow : (program : Text) → task_of (program ∷ codes "follow" ∷ 
 unfolding clap_on_literals digits
 names_follow program = refl
 
--- want of memory, of whatever input
+-- out of memory, of whatever input
 pub refused : (task : Task) (known old new : Option (List ℕ)) (status : ℕ) → (status ≡ 3) × Keeps old new → IfSome known (λ input. TaskGives task input old new status)
 refused task None old new status memory = tt
 refused (End options) (Some input) old new status memory = inr (memory.1, memory.0)

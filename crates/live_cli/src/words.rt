@@ -30,10 +30,10 @@ lines has the network and the timers. And a listing of captured lines with their
 
 const LINES: &str =
     "Each line is answered before the next is read, and its answer ends with 'waits N': so many packets \
-would be sent again, and one more where want of memory left something undone. Empty lines, and those that begin with #, have no answer.
+would be sent again, and one more where a line ran out of memory and something is left to do. Empty lines, and those that begin with #, have no answer.
 
   > HEX                       takes a packet: accepted, repeat, early or ack-only; reports; packets to send, each '< HEX'
-  resend                      the packets that aren't acknowledged, the oldest first; then what want of memory left undone
+  resend                      the packets that aren't acknowledged, the oldest first; then what was left undone
   ack                         an acknowledgement of all that came
   new [LOCAL REMOTE [BYTES]]  a new link, between these addresses, with so many bytes in a segment; serve keeps its files
   files                       serve: the files, as the two lines below
@@ -56,7 +56,7 @@ with which they are whole; what is missing, and what is left over, stands behind
 
 Example: echo '> 600201040305800100060200' | ./daplive follow
 
-README.md explains each word of a listing.";
+docs/LISTING.md explains each word of a listing.";
 
 /// What help says of an end, and the addresses that are usual for it.
 struct Usual {
