@@ -257,8 +257,8 @@ fn names_files_that_come_byte_by_byte(rt: HostRuntime) -> Result<(), Fail> {
 
 #[test]
 fn names_a_file_that_is_too_large(rt: HostRuntime) -> Result<(), Fail> {
-    let mut input = vec![in rt.alloc(); 0; 16_777_217]?;
-    input[..4].copy_from_slice(b"\xa1\xb2\xc3\xd4");
+    let mut input = Vec::from_slice(rt.alloc(), b"\xa1\xb2\xc3\xd4")?;
+    input.resize(16_777_217, 0)?;
     let mut reader = input.as_slice();
     let left = run_helping(rt.alloc(), "show", &mut reader)?;
     let (_, help) = PCAP.split_at(b"bad line 1\n".len());
@@ -410,7 +410,7 @@ fn run_behind_pipe<W: Write>(
         alloc,
         &words,
         &mut reader,
-        &mut Output::new(writer, &is_closed),
+        &mut Output::new(&mut *writer, &is_closed),
         &mut ErrorOutput::new(&mut told, &is_closed),
     );
     Ok((exit_status(status, is_closed.get()), told))
