@@ -1,10 +1,8 @@
 //! Exit statuses and texts, and devices that fail.
 
 use crate::examples::EXAMPLES;
-use cli_faults::{ErrorOutput, Output, exit_status};
 use dap_cli::{run_program, run_words};
 use std::alloc::Global;
-use std::cell::Cell;
 use std::io;
 use std::io::{ErrorKind, Read, Write};
 use std::process::Abort;
@@ -392,47 +390,6 @@ fn tells_writers_that_fail(rt: HostRuntime) -> Result<(), Fail> {
             let told_so = status == 3 && told.as_slice() == b"write failed\n".as_slice();
             assert!(&rt; told_so && writer.held.as_slice() == *front);
         }
-    }
-    Ok(())
-}
-
-/// Runs the program over a standard output that may have lost its reader: the exit status, and what it told.
-fn run_behind_pipe<W: Write>(
-    alloc: Global,
-    word: &str,
-    writer: &mut W,
-) -> Result<(u8, Vec<u8>), Fail> {
-    let words = words_of(alloc, &[word])?;
-    let is_closed = Cell::new(false);
-    let mut reader = CAPTURE;
-    let mut told = Vec::new(alloc);
-    let status = run_program(
-        alloc,
-        &words,
-        &mut reader,
-        &mut Output::new(&mut *writer, &is_closed),
-        &mut ErrorOutput::new(&mut told, &is_closed),
-    );
-    Ok((exit_status(status, is_closed.get()), told))
-}
-
-#[test]
-fn is_silent_where_nobody_reads(rt: HostRuntime) -> Result<(), Fail> {
-    for word in ["show", "--help"] {
-        for writes in [0, 2, 200] {
-            for kind in KINDS {
-                let mut writer = breaking(rt.alloc(), *kind, writes);
-                let (status, told) = run_behind_pipe(rt.alloc(), word, &mut writer)?;
-                let is_right = match kind {
-                    ErrorKind::BrokenPipe => status == 141 && told.is_empty(),
-                    _ => status == 3 && told.as_slice() == b"write failed\n".as_slice(),
-                };
-                assert!(&rt; is_right);
-            }
-        }
-        let mut written = Vec::new(rt.alloc());
-        let (status, told) = run_behind_pipe(rt.alloc(), word, &mut written)?;
-        assert!(&rt; status == 0 && told.is_empty() && !written.is_empty());
     }
     Ok(())
 }
