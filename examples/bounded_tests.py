@@ -1,5 +1,6 @@
 #!/usr/bin/env python3
-"""A client that asks for a file many times, in one NSP message, and acknowledges late: how much waits for it.
+"""A client that asks for a file many times, in one NSP message, and acknowledges late: how much waits for it. And early
+segments that are longer than any message: they aren't held.
 
 usage: bounded_tests.py [--daplive PROGRAM]
 
@@ -17,6 +18,8 @@ SEGMENT, RECORD, RECORDS, TIMES = 100, 500, 4, 20
 CONFIG, OPEN, CONNECT = "01020a00040703050600000000", "0302080100014602000000", "0402020200"
 FETCH, REWIND = "040203010103", "040203060100"
 WINDOW = 2047
+MAX_MESSAGE = 65535  # the longest message that a live end takes
+TOO_LONG = "refused message-too-long"
 # how a line with a data segment begins, by its marks, and the digits before its payload
 DATA, HEADER = ("< 00", "< 20", "< 40", "< 60"), 18
 
@@ -54,9 +57,12 @@ class Server:
         return lines[:-1], int(lines[-1].split()[1])
 
     def send(self, payload):
-        """Sends an NSP message of one segment, which acknowledges nothing."""
+        """Sends the next NSP message, of one segment, which acknowledges nothing new."""
         self.sent += 1
-        return self.say(f"> 6002020101{little(0x8000 + self.acked % 4096)}{little(self.sent % 4096)}{payload}")
+        return self.send_numbered(self.sent, payload)
+
+    def send_numbered(self, number, payload):
+        return self.say(f"> 6002020101{little(0x8000 + self.acked % 4096)}{little(number % 4096)}{payload}")
 
     def acknowledge(self, count):
         self.acked = count
@@ -106,6 +112,15 @@ class Bounded(unittest.TestCase):
                 bounded.send((FETCH + REWIND) * TIMES)
                 counts.append(len(bounded.payloads))
             self.assertEqual(counts[0], counts[-1])
+
+    def test_an_early_segment_longer_than_any_message_is_not_held(self):
+        for size, is_held in (MAX_MESSAGE, True), (MAX_MESSAGE + 1, False):
+            with self.subTest(size=size), Server(self.program, 1000) as server:
+                self.assertEqual(server.send_numbered(2, "ff" * size), (["early", "< 0401010202" + little(0x8000)], 0))
+                answer, _ = server.send_numbered(1, CONFIG)
+                self.assertEqual(answer[0], "accepted")
+                self.assertEqual(answer[1][: len("< 60010102020280")], "< 6001010202" + little(0x8000 + 1 + is_held))
+                self.assertEqual(server.send_numbered(2, "ff" * size)[0][0], "repeat" if is_held else TOO_LONG)
 
 
 if __name__ == "__main__":

@@ -12,7 +12,7 @@ use Rattle.nsp_link.proofs.ForCallers.{inserted}
 use Rattle.std.specs.declared.cmp.Ordering.TheVariants.{Less, Equal, Greater}
 use Rattle.std.specs.Ordering.{match_ordering}
 use Rattle.nsp_link.specs.Link.{LinkValue, piece_of, failed_link}
-use Rattle.nsp_link.specs.Receiving.{Received, run, segment_of, taking_in, is_end, ReceivedBytes, Receives}
+use Rattle.nsp_link.specs.Receiving.{Received, run, segment_of, taking_in, is_end, Bounded, BoundedBytes, LetsGo, Receives}
 use Rattle.dap_end.specs.Pasts.{served}
 use Rattle.dap_end.specs.declared.fault.EndFault.{EndFault}
 use Rattle.dap_end.specs.declared.fault.EndFault.TheVariants as end_fault
@@ -74,9 +74,18 @@ received_comes old new (Segment s) (Ok got) (_, (_, _, acks)) = along old new _ 
 received_comes old new (DataAck s) (Ok got) (_, (_, acks)) = along old new _ acks.2 (inr (refl, refl, refl))
 received_comes old new p (Err e) (_, left) = along old new _ left (stopped_comes old (is_end e))
 
-bytes_come : (old new : LinkValue) (bytes : List ℕ) (r : Result Got LinkFault) → ReceivedBytes old new bytes r → Comes old new
+let_go_comes : (old new : LinkValue) (p : Packet) (r : Result Got LinkFault) → LetsGo old p r new → Comes old new
+let_go_comes old new (Segment s) (Ok got) (_, _, acks) = along old new _ acks.2 (inr (refl, refl, refl))
+let_go_comes old new (Segment s) (Err e) (_, left) = along old new _ left (stopped_comes old (is_end e))
+let_go_comes old new (DataAck s) r h = absurd h
+
+bounded_comes : (old new : LinkValue) (p : Packet) (r : Result Got LinkFault) → Bounded old p r new → Comes old new
+bounded_comes old new p r (inl h) = let_go_comes old new p r h.1
+bounded_comes old new p r (inr h) = received_comes old new p r h.1
+
+bytes_come : (old new : LinkValue) (bytes : List ℕ) (r : Result Got LinkFault) → BoundedBytes old new bytes r → Comes old new
 bytes_come old new bytes r (inl h) = along old new old h.3 (stays old)
-bytes_come old new bytes r (inr h) = received_comes old new h.0 r h.2
+bytes_come old new bytes r (inr h) = bounded_comes old new h.0 r h.2
 
 comes_by : (failed : Bool) (old new : LinkValue) (bytes : List ℕ) (r : Result Got LinkFault) → old.failed ≡ failed → Receives old new bytes r → Comes old new
 comes_by true old new bytes r e h = along old new old (h.failed e).1 (stays old)

@@ -9,7 +9,7 @@ use Rattle.nsp_link.specs.declared.fault.LinkFault.{LinkFault}
 use Rattle.nsp_link.specs.Cutting.{Piece}
 use Rattle.nsp_link.specs.Coming.{Coming, taken, taken_all, body_with}
 use Rattle.nsp_link.specs.Link.{LinkValue, piece_of, failed_link, forgotten}
-use Rattle.nsp_link.specs.Receiving.{Received, run, segment_of, taking_in, is_end, ReceivedBytes, Receives}
+use Rattle.nsp_link.specs.Receiving.{Received, run, segment_of, taking_in, is_end, Bounded, BoundedBytes, LetsGo, Receives}
 use Rattle.dap_msg.specs.Items.{IsPlace}
 use Rattle.dap_end.specs.Ports.{PortValue}
 use Rattle.dap_end.specs.Moved.{with_link}
@@ -61,9 +61,18 @@ received old new (Segment s) (Ok got) (_, (_, _, acks)) =
 received old new (DataAck s) (Ok got) (_, (_, acks)) = along old new _ acks.2 (forgotten_grown old old acks.0 (same old))
 received old new p (Err e) (_, left) = along old new _ left (stopped_by old (is_end e))
 
-from_bytes : (old new : LinkValue) (bytes : List ℕ) (r : Result Got LinkFault) → ReceivedBytes old new bytes r → Grown old new
+let_go : (old new : LinkValue) (p : Packet) (r : Result Got LinkFault) → LetsGo old p r new → Grown old new
+let_go old new (Segment s) (Ok got) (_, _, acks) = along old new _ acks.2 (forgotten_grown old old acks.0 (same old))
+let_go old new (Segment s) (Err e) (_, left) = along old new _ left (stopped_by old (is_end e))
+let_go old new (DataAck s) r h = absurd h
+
+bounded : (old new : LinkValue) (p : Packet) (r : Result Got LinkFault) → Bounded old p r new → Grown old new
+bounded old new p r (inl h) = let_go old new p r h.1
+bounded old new p r (inr h) = received old new p r h.1
+
+from_bytes : (old new : LinkValue) (bytes : List ℕ) (r : Result Got LinkFault) → BoundedBytes old new bytes r → Grown old new
 from_bytes old new bytes r (inl h) = along old new old h.3 (same old)
-from_bytes old new bytes r (inr h) = received old new h.0 r h.2
+from_bytes old new bytes r (inr h) = bounded old new h.0 r h.2
 
 grown_by : (old new : LinkValue) (bytes : List ℕ) (r : Result Got LinkFault) (failed : Bool) → old.failed ≡ failed → Receives old new bytes r → Grown old new
 grown_by old new bytes r true e h = along old new old (h.failed e).1 (same old)

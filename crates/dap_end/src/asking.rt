@@ -154,7 +154,7 @@ impl AskingEnd {
         ask_next(&mut self.port, &mut self.accessing, request, prepared)
     }
 
-    /// Takes a packet in, as [`nsp_link::LinkEnd::receive`] does; nothing is read by that.
+    /// Takes a packet in, as [`nsp_link::LinkEnd::receive_bounded`] does; nothing is read by that.
     pub fn receive(&mut self, packet: &[u8]) -> Result<Got, LinkFault>
         ensures rest { self.new ≡ record self.old {
           port = record self.old.port { link = self.new.port.link };

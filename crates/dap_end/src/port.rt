@@ -58,7 +58,7 @@ impl Port {
         ensures receives { Receives self.old.link self.new.link packet.now result }
         ensures kept { IsPort self.old → IsPort self.new }
     {
-        let received = self.link.receive(packet);
+        let received = self.link.receive_bounded(packet);
         let _ = self.link.unacked();
         received
     }

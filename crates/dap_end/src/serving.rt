@@ -149,7 +149,7 @@ impl ServingEnd {
         self.accessed.add_record(number, body)
     }
 
-    /// Takes a packet in, as [`nsp_link::LinkEnd::receive`] does; nothing is served by that.
+    /// Takes a packet in, as [`nsp_link::LinkEnd::receive_bounded`] does; nothing is served by that.
     pub fn receive(&mut self, packet: &[u8]) -> Result<Got, LinkFault>
         ensures rest { self.new ≡ record self.old {
           port = record self.old.port { link = self.new.port.link };

@@ -13,6 +13,7 @@ pub mod Delivering
 pub mod Came
 pub mod Refusing
 pub mod Writing
+pub mod Bounded
 pub mod Growing
 pub mod Written
 pub mod Several

@@ -1,6 +1,6 @@
 -- A packet is refused for one reason, and one that is taken isn't refused.
 use Rattle.std.proofs.Common.{◌≡◌, ℕ, ◌+◌, ◌≤◌, arith, refl, sym, ◌∙◌, subst, ap, Bool, true, false, List, [], ◌∷◌, length, inl, inr}
-use Rattle.std.specs.Prelude.{◌≢◌, ◌<◌, ◌==◌, ◌⊎◌, slice_index, Option, Some, Result, Ok, Err}
+use Rattle.std.specs.Prelude.{◌≢◌, ◌<◌, ◌==◌, ◌⊎◌, slice_index, Option, Some, None, Result, Ok, Err}
 use Rattle.std.proofs.lemmas.Bool.{eq-eqb}
 use Rattle.nsp_seg.specs.declared.packet.SegFault.{SegFault}
 use Rattle.nsp_seg.specs.declared.packet.Packet.{Packet}
@@ -14,7 +14,7 @@ use Rattle.nsp_link.specs.Cutting.{Piece}
 use Rattle.nsp_link.specs.Limits.{most_segments}
 use Rattle.nsp_link.specs.Coming.{Coming, taken, taken_all, FitsBehind, AllFit, Misfits, MisfitsOne, RefusesAll}
 use Rattle.nsp_link.specs.Link.{LinkValue, IsBetween, first_ack, got_of, piece_of, forgotten}
-use Rattle.nsp_link.specs.Receiving.{Received, Refuses, Acknowledges, segment_of, taking_in, run, stopped, ReceivedBytes, Receives}
+use Rattle.nsp_link.specs.Receiving.{newly_acked, Received, Refuses, Acknowledges, segment_of, taking_in, run, stopped, ReceivedBytes, LetsGo, Bounded, BoundedBytes, Receives}
 
 -- ---- Segments that follow one another.
 
@@ -154,7 +154,8 @@ packet_same old one two p (Err e) (Err f) nr ns few less a b =
 abbrev AreBytes : List ℕ → Type 0
 AreBytes bytes = (i : ℕ) → slice_index bytes i < 256
 
-bytes_same : (old one two : LinkValue) (bytes : List ℕ) (r s : Result Got LinkFault) → AreBytes bytes → r ≢ Err NoMemory → s ≢ Err NoMemory → one.coming.received ≤ most_segments → two.coming.received ≤ most_segments
+-- what any end does that hasn't failed is determined, want of memory aside
+pub bytes_same : (old one two : LinkValue) (bytes : List ℕ) (r s : Result Got LinkFault) → AreBytes bytes → r ≢ Err NoMemory → s ≢ Err NoMemory → one.coming.received ≤ most_segments → two.coming.received ≤ most_segments
     → ReceivedBytes old one bytes r → ReceivedBytes old two bytes s → (r ≡ s) × (one ≡ two)
 bytes_same old one two bytes r s fits nr ns few less (inl a) (inl b) =
     (a.1 ∙ ap malformed_by (fault-one a.0 b.0 bytes fits a.2 b.2) ∙ sym b.1, a.3 ∙ sym b.3)
@@ -163,10 +164,49 @@ bytes_same old one two bytes r s fits nr ns few less (inr a) (inl b) = absurd (s
 bytes_same old one two bytes r s fits nr ns few less (inr a) (inr b) =
     packet_same old one two a.0 r s nr ns few less a.2 (subst (λ (p : Packet). Received old p s two) (spells-one b.0 a.0 bytes b.1 a.1) b.2)
 
+-- ---- An end that holds nothing oversize.
+
+let_go_same : (old one two : LinkValue) (p : Packet) (r s : Result Got LinkFault) → LetsGo old p r one → LetsGo old p s two → (r ≡ s) × (one ≡ two)
+let_go_same old one two (Segment s) (Ok g) (Ok h) (_, a, acks) (_, b, others) =
+    (ap got_by (a ∙ sym b), acks_one old old one two (first_ack s.ack1 s.ack2) acks others)
+let_go_same old one two (Segment s) (Ok g) (Err f) (way, _, _) (inl (out, _), _) = absurd (out way)
+let_go_same old one two (Segment s) (Ok g) (Err f) (_, _, acks) (inr (_, none, _), _) = let both = sym none ∙ acks.1 in absurd cc
+let_go_same old one two (Segment s) (Err e) (Ok h) (inl (out, _), _) (way, _, _) = absurd (out way)
+let_go_same old one two (Segment s) (Err e) (Ok h) (inr (_, none, _), _) (_, _, acks) = let both = sym none ∙ acks.1 in absurd cc
+let_go_same old one two (Segment s) (Err e) (Err f) (why, left) (also, right) =
+    let same : e ≡ f = reason why also in
+    (ap failed_by same, left ∙ ap (λ (x : LinkFault). stopped x old) same ∙ sym right)
+  where
+    Why : LinkFault → Type 0
+    Why x = ((IsBetween old.setup.remote old.setup.local (Segment s) → ⊥) × (x ≡ WrongLink)) ⊎ (IsBetween old.setup.remote old.setup.local (Segment s) × (newly_acked old (first_ack s.ack1 s.ack2) ≡ None) × (x ≡ BadSequence))
+
+    reason : Why e → Why f → e ≡ f
+    reason (inl a) (inl b) = a.1 ∙ sym b.1
+    reason (inl a) (inr b) = absurd (a.0 b.0)
+    reason (inr a) (inl b) = absurd (b.0 a.0)
+    reason (inr a) (inr b) = a.2 ∙ sym b.2
+let_go_same old one two (DataAck s) r t a b = absurd a
+
+bounded_same : (old one two : LinkValue) (p : Packet) (r s : Result Got LinkFault) → r ≢ Err NoMemory → s ≢ Err NoMemory → one.coming.received ≤ most_segments → two.coming.received ≤ most_segments
+    → Bounded old p r one → Bounded old p s two → (r ≡ s) × (one ≡ two)
+bounded_same old one two p r s nr ns few less (inl (_, a)) (inl (_, b)) = let_go_same old one two p r s a b
+bounded_same old one two p r s nr ns few less (inl (long, _)) (inr (fits, _)) = let both = sym long ∙ fits in absurd cc
+bounded_same old one two p r s nr ns few less (inr (fits, _)) (inl (long, _)) = let both = sym long ∙ fits in absurd cc
+bounded_same old one two p r s nr ns few less (inr (_, a)) (inr (_, b)) = packet_same old one two p r s nr ns few less a b
+
+bounded_bytes_same : (old one two : LinkValue) (bytes : List ℕ) (r s : Result Got LinkFault) → AreBytes bytes → r ≢ Err NoMemory → s ≢ Err NoMemory → one.coming.received ≤ most_segments → two.coming.received ≤ most_segments
+    → BoundedBytes old one bytes r → BoundedBytes old two bytes s → (r ≡ s) × (one ≡ two)
+bounded_bytes_same old one two bytes r s fits nr ns few less (inl a) (inl b) =
+    (a.1 ∙ ap malformed_by (fault-one a.0 b.0 bytes fits a.2 b.2) ∙ sym b.1, a.3 ∙ sym b.3)
+bounded_bytes_same old one two bytes r s fits nr ns few less (inl a) (inr b) = absurd (spells-apart b.0 a.0 bytes fits b.1 a.2)
+bounded_bytes_same old one two bytes r s fits nr ns few less (inr a) (inl b) = absurd (spells-apart a.0 b.0 bytes fits a.1 b.2)
+bounded_bytes_same old one two bytes r s fits nr ns few less (inr a) (inr b) =
+    bounded_same old one two a.0 r s nr ns few less a.2 (subst (λ (p : Packet). Bounded old p s two) (spells-one b.0 a.0 bytes b.1 a.1) b.2)
+
 receives_by : (failed : Bool) (old one two : LinkValue) (bytes : List ℕ) (r s : Result Got LinkFault) → old.failed ≡ failed → AreBytes bytes → r ≢ Err NoMemory → s ≢ Err NoMemory
     → Receives old one bytes r → Receives old two bytes s → (r ≡ s) × (one ≡ two)
 receives_by true old one two bytes r s e fits nr ns a b = ((a.failed e).0 ∙ sym (b.failed e).0, (a.failed e).1 ∙ sym (b.failed e).1)
-receives_by false old one two bytes r s e fits nr ns a b = bytes_same old one two bytes r s fits nr ns a.few b.few (a.any e) (b.any e)
+receives_by false old one two bytes r s e fits nr ns a b = bounded_bytes_same old one two bytes r s fits nr ns a.few b.few (a.any e) (b.any e)
 
 -- what taking a packet in comes to, want of memory aside
 pub receives_same : (old one two : LinkValue) (bytes : List ℕ) (r s : Result Got LinkFault) → AreBytes bytes → r ≢ Err NoMemory → s ≢ Err NoMemory → Receives old one bytes r → Receives old two bytes s → (r ≡ s) × (one ≡ two)

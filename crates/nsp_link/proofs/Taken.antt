@@ -1,6 +1,6 @@
 -- The first segments of a peer's messages, taken one after another: what they come to.
 use Rattle.std.proofs.Common.{◌≡◌, ℕ, zero, suc, ◌+◌, ◌<◌, ◌≤◌, List, [], ◌∷◌, ◌++◌, length, take, drop, get_or, Option, Some, refl, sym, ap, ◌∙◌, arith, subst, Bool, true, false, inl, inr, append_assoc}
-use Rattle.std.specs.Prelude.{unwrap_or, slice_get}
+use Rattle.std.specs.Prelude.{unwrap_or, slice_get, All}
 use Rattle.std.proofs.lemmas.Bool.{cases_lt}
 use Rattle.std.proofs.lemmas.List.{take_more, take-take, take-append-drop, length-append, length-take, append-nil}
 use Rattle.std.proofs.lemmas.Option.{slice_get_within, get_or_from_slice_get, slice_get-get_or}
@@ -9,7 +9,7 @@ use Rattle.nsp_link.specs.Coming.{Coming, nothing_came, taken, taken_all}
 use Rattle.nsp_link.specs.Inner.Joining.{behind}
 use Rattle.nsp_link.specs.Inner.Whole.{HasTaken, IsWhole, begun, HasWhole}
 use Rattle.nsp_link.proofs.Joining.{coming_same}
-use Rattle.nsp_link.proofs.Taking.{AreNext, received-all, stands_next, cut-append, length-cut-more, count-positive}
+use Rattle.nsp_link.proofs.Taking.{AreNext, received-all, stands_next, takes_next, cut-append, length-cut-more, count-positive}
 
 -- ---- More are taken.
 
@@ -93,6 +93,16 @@ front_whole size messages (suc r) pos le =
     let next : r + 1 ≡ suc r = omega arith in
     subst (λ (c : Coming). HasWhole c size messages []) (sym (front_more xs r p at) ∙ ap (λ (n : ℕ). taken_all nothing_came (take n xs)) next)
     (stands_next before size messages [] p pos (front_whole size messages r pos (omega arith)) here)
+
+-- no segment of short messages is longer than the longest of them
+pub piece_short : (size limit : ℕ) (messages : List (List ℕ)) (r : ℕ) (p : Piece) → 0 < size → All (λ m. length m ≤ limit) messages → slice_get (cut size messages) r ≡ Some p → length p.payload ≤ limit
+piece_short size limit messages r p pos short at =
+    let xs = cut size messages in
+    let le : r ≤ length xs = omega (arith, slice_get_within xs r p at) in
+    let before = taken_all nothing_came (take r xs) in
+    let here : slice_get xs before.received ≡ Some p = ap (slice_get xs) (front_received xs r le) ∙ at in
+    let next = takes_next before size messages [] p limit pos short (front_whole size messages r pos le) here in
+    omega (arith, next.short, length-append (unwrap_or before.partial []) p.payload)
 
 pub whole_of : (c : Coming) (size : ℕ) (messages given : List (List ℕ)) → 0 < size → HasTaken c size messages given → HasWhole c size messages given
 whole_of c size messages given pos h =

@@ -18,7 +18,7 @@ use Rattle.nsp_seg.specs.declared.packet.Packet.TheVariants.{Segment as ASegment
 use Rattle.nsp_link.specs.declared.fault.LinkFault.{LinkFault}
 use Rattle.nsp_link.specs.declared.link.Got.{Got}
 use Rattle.nsp_link.specs.Link.{LinkValue, AreUnfinished, Sends, failed_link, first_ack, forgotten, piece_of, waiting_bytes}
-use Rattle.nsp_link.specs.Receiving.{Acknowledges, Received, ReceivedBytes, Receives, is_end, segment_of, taking_in}
+use Rattle.nsp_link.specs.Receiving.{Acknowledges, Received, LetsGo, Bounded, BoundedBytes, Receives, is_end, segment_of, taking_in}
 use Rattle.nsp_link.specs.Sending.{queued_link}
 use Rattle.nsp_link.proofs.Counts.{length-cut_message, length-cut-one}
 use Rattle.nsp_link.proofs.Several.{cut-none}
@@ -157,9 +157,18 @@ received_waits old new (ASegment s) (Ok got) (_, (_, _, acks)) = acked_waits old
 received_waits old new (DataAck s) (Ok got) (_, (_, acks)) = acked_waits old old new (first_ack (Some s.ack1) s.ack2) refl acks
 received_waits old new p (Err e) (_, left) = let is = ap (λ (v : LinkValue). waiting_bytes v) left in omega (arith, is, stopped_waits (is_end e) old)
 
-by_bytes : (old new : LinkValue) (bytes : List ℕ) (r : Result Got LinkFault) → ReceivedBytes old new bytes r → waiting_bytes new ≤ waiting_bytes old
+let_go_waits : (old new : LinkValue) (p : Packet) (r : Result Got LinkFault) → LetsGo old p r new → waiting_bytes new ≤ waiting_bytes old
+let_go_waits old new (ASegment s) (Ok got) (_, _, acks) = acked_waits old old new (first_ack s.ack1 s.ack2) refl acks
+let_go_waits old new (ASegment s) (Err e) (_, left) = let is = ap (λ (v : LinkValue). waiting_bytes v) left in omega (arith, is, stopped_waits (is_end e) old)
+let_go_waits old new (DataAck s) r h = absurd h
+
+bounded_waits : (old new : LinkValue) (p : Packet) (r : Result Got LinkFault) → Bounded old p r new → waiting_bytes new ≤ waiting_bytes old
+bounded_waits old new p r (inl (_, h)) = let_go_waits old new p r h
+bounded_waits old new p r (inr (_, h)) = received_waits old new p r h
+
+by_bytes : (old new : LinkValue) (bytes : List ℕ) (r : Result Got LinkFault) → BoundedBytes old new bytes r → waiting_bytes new ≤ waiting_bytes old
 by_bytes old new bytes r (inl (f, is, has, same)) = let e = ap (λ (v : LinkValue). waiting_bytes v) same in omega (arith, e)
-by_bytes old new bytes r (inr (p, spells, got)) = received_waits old new p r got
+by_bytes old new bytes r (inr (p, spells, got)) = bounded_waits old new p r got
 
 by_failing : (b : Bool) (old new : LinkValue) (bytes : List ℕ) (r : Result Got LinkFault) → old.failed ≡ b → Receives old new bytes r → waiting_bytes new ≤ waiting_bytes old
 by_failing true old new bytes r is h = let e = ap (λ (v : LinkValue). waiting_bytes v) (h.failed is).1 in omega (arith, e)

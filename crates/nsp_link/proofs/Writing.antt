@@ -61,7 +61,7 @@ sends_like : (v w : LinkValue) (messages : List (List ℕ)) → w.queue ≡ v.qu
 sends_like v w messages queue part acked size sends =
     record { queue = rw (queue, acked, size) sends.queue; acked = rw (acked, size) sends.acked; part = rw (part, acked, size) sends.part }
 
-sends_acked : (old mid new : LinkValue) (number : Option ℕ) (messages : List (List ℕ)) → IsLink old → mid.queue ≡ old.queue → mid.part ≡ old.part → mid.acked ≡ old.acked → mid.setup.seg_size ≡ old.setup.seg_size → Acknowledges old number mid new → Sends old messages → Sends new messages
+pub sends_acked : (old mid new : LinkValue) (number : Option ℕ) (messages : List (List ℕ)) → IsLink old → mid.queue ≡ old.queue → mid.part ≡ old.part → mid.acked ≡ old.acked → mid.setup.seg_size ≡ old.setup.seg_size → Acknowledges old number mid new → Sends old messages → Sends new messages
 sends_acked old mid new number messages link queue part acked size acks sends =
     let few = newly-few old number acks.0 acks.1 in
     let long : acks.0 ≤ length mid.queue = rw queue (omega (arith, few, link.acked, link.queued)) in
@@ -70,7 +70,7 @@ sends_acked old mid new number messages link queue part acked size acks sends =
 sends_failed : (v : LinkValue) (messages : List (List ℕ)) → Sends v messages → Sends (failed_link v) messages
 sends_failed v messages sends = record { queue = sends.queue; acked = sends.acked; part = sends.part }
 
-sends_stopped : (v : LinkValue) (e : LinkFault) (messages : List (List ℕ)) → Sends v messages → Sends (stopped e v) messages
+pub sends_stopped : (v : LinkValue) (e : LinkFault) (messages : List (List ℕ)) → Sends v messages → Sends (stopped e v) messages
 sends_stopped v e messages sends = elim (is_end e) as (λ b. Sends (cond b (failed_link v) v) messages) [
   | true ↦ sends_failed v messages sends
   | false ↦ sends

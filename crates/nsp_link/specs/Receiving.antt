@@ -1,5 +1,5 @@
 -- What receiving computes, by the numbers that a packet shows.
-use Rattle.std.specs.Prelude.{◌≡◌, ◌≢◌, ℕ, ◌+◌, ◌-◌, ◌≤◌, Bool, true, false, List, ◌∷◌, ◌⊎◌, Result, Ok, Err, IsOk, Option, Some, None, IfSome, MatchResult, nat_lt, ◌==◌, if◌then◌else◌}
+use Rattle.std.specs.Prelude.{◌≡◌, ◌≢◌, ℕ, ◌+◌, ◌-◌, ◌≤◌, ◌&&◌, Bool, true, false, List, ◌∷◌, length, ◌⊎◌, Result, Ok, Err, IsOk, Option, Some, None, IfSome, MatchResult, nat_lt, ◌==◌, if◌then◌else◌}
 use Rattle.nsp_seg.specs.Numbers.{residue}
 use Rattle.nsp_link.specs.declared.fault.LinkFault.{LinkFault}
 use Rattle.nsp_link.specs.declared.fault.LinkFault.TheVariants.{WrongLink, BadSequence, MessageTooLong, NoMemory, Failed, Malformed}
@@ -8,7 +8,7 @@ use Rattle.nsp_seg.specs.declared.packet.Packet.{Packet}
 use Rattle.nsp_seg.specs.Packets.{Spells, HasFault}
 use Rattle.nsp_seg.specs.declared.packet.Packet.TheVariants.{Segment, DataAck}
 use Rattle.nsp_link.specs.declared.link.Got.{Got}
-use Rattle.nsp_link.specs.declared.link.Got.TheVariants.{Accepted, AckOnly}
+use Rattle.nsp_link.specs.declared.link.Got.TheVariants.{Accepted, Early, AckOnly}
 use Rattle.nsp_link.specs.Cutting.{Piece}
 use Rattle.nsp_link.specs.Coming.{taken_all, AllFit, RefusesAll}
 use Rattle.nsp_link.specs.Holding.{following}
@@ -106,9 +106,37 @@ UnrefusedDue old bytes result =
     (size : ℕ) (messages given : List (List ℕ)) (p : Packet) (k : Option ℕ) (a : ℕ)
     → Spells p bytes → IsDue old size messages given p k a → IfSome k (λ n. n ≤ old.coming.received) → IsOk result
 
+-- ---- What an end does that holds no segment which is longer than its longest message.
+
+-- an early segment that belongs to no message of this end: it has more bytes than the longest one
+abbrev pub is_oversize : LinkValue → Packet → Bool
+is_oversize v (Segment s) = nat_lt (v.coming.received + 1) (segment_of v s.number) && nat_lt v.setup.max_message (length s.payload)
+is_oversize v (DataAck s) = false
+
+-- it is answered as early and isn't held: its acknowledgement alone is taken
+abbrev pub LetsGo : LinkValue → Packet → Result Got LinkFault → LinkValue → Type 0
+LetsGo old (Segment s) (Ok got) new =
+    IsBetween old.setup.remote old.setup.local (Segment s) × (got ≡ Early) × Acknowledges old (first_ack s.ack1 s.ack2) old new
+LetsGo old (Segment s) (Err e) new =
+    let way = IsBetween old.setup.remote old.setup.local (Segment s) in
+    (((way → ⊥) × (e ≡ WrongLink)) ⊎ (way × (newly_acked old (first_ack s.ack1 s.ack2) ≡ None) × (e ≡ BadSequence))) × (new ≡ stopped e old)
+LetsGo old (DataAck s) result new = ⊥
+
+-- what such an end that hasn't failed does with any packet
+abbrev pub Bounded : LinkValue → Packet → Result Got LinkFault → LinkValue → Type 0
+Bounded old p result new =
+    ((is_oversize old p ≡ true) × LetsGo old p result new) ⊎ ((is_oversize old p ≡ false) × Received old p result new)
+
+-- the bytes are malformed, which changes nothing, or they are a packet, and its numbers and length tell what becomes of it
+abbrev pub BoundedBytes : (old new : LinkValue) → List ℕ → Result Got LinkFault → Type 0
+BoundedBytes old new bytes result =
+    ((f : SegFault) × (result ≡ Err (Malformed f)) × HasFault f bytes × (new ≡ old))
+    ⊎ ((p : Packet) × Spells p bytes × Bounded old p result new)
+
+-- all that such an end does with any bytes
 pub record Receives (old new : LinkValue) (bytes : List ℕ) (result : Result Got LinkFault) : Type 0 where
   pub failed : old.failed ≡ true → (result ≡ Err Failed) × (new ≡ old)
-  pub any : old.failed ≡ false → ReceivedBytes old new bytes result
+  pub any : old.failed ≡ false → BoundedBytes old new bytes result
   pub due : ReceivedDue old new bytes result
   -- no end takes more segments than that
   pub few : new.coming.received ≤ most_segments

@@ -12,9 +12,9 @@ ghost use Rattle.nsp_link.specs.declared.fault.LinkFault.{LinkFault as TheFault}
 ghost use Rattle.nsp_link.specs.declared.fault.LinkFault.TheVariants.{NoMemory};
 ghost use Rattle.nsp_link.specs.Cutting.{Piece, cut, total_length};
 ghost use Rattle.nsp_link.specs.Holding.{following, closed_up};
-ghost use Rattle.nsp_link.specs.Limits.{greatest_age};
+ghost use Rattle.nsp_link.specs.Limits.{greatest_age, most_segments};
 ghost use Rattle.nsp_link.specs.Link.{LinkValue, IsLink, AreUnfinished, Carries, Sends, Stands, Writes, new_link, waiting_bytes};
-ghost use Rattle.nsp_link.specs.Receiving.{Receives};
+ghost use Rattle.nsp_link.specs.Receiving.{ReceivedBytes, Receives};
 ghost use Rattle.nsp_link.specs.Sending.{queued_link};
 ghost use Rattle.nsp_link.specs.Separation.{IsSegmentNear, IsAckNear};
 
@@ -62,9 +62,14 @@ pub fn distances_separate()
 {}
 
 /// What a packet does to an end is determined: two outcomes of one call on the same end are equal, and so are the ends
-/// afterwards, want of memory aside (own).
+/// afterwards, out of memory aside; of `receive` where the end hasn't failed, and of `receive_bounded` (own).
 pub fn receiving_is_determined()
-    ensures { (old one two : LinkValue) (bytes : List ℕ) (r s : Result TheGot TheFault)
+    ensures any { (old one two : LinkValue) (bytes : List ℕ) (r s : Result TheGot TheFault)
+        → ((i : ℕ) → slice_index bytes i < 256) → r ≢ Err NoMemory → s ≢ Err NoMemory
+        → one.coming.received ≤ most_segments → two.coming.received ≤ most_segments
+        → ReceivedBytes old one bytes r → ReceivedBytes old two bytes s
+        → (r ≡ s) × (one ≡ two) }
+    ensures bounded { (old one two : LinkValue) (bytes : List ℕ) (r s : Result TheGot TheFault)
         → ((i : ℕ) → slice_index bytes i < 256) → r ≢ Err NoMemory → s ≢ Err NoMemory
         → Receives old one bytes r → Receives old two bytes s → (r ≡ s) × (one ≡ two) }
 {}

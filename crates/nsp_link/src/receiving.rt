@@ -3,13 +3,14 @@
 ghost use Rattle.std.specs.Prelude.{◌≡◌, ◌+◌, ◌<◌, ◌≤◌, ◌++◌, [], ◌∷◌, length, drop, take, Ok, Err, Some, None, IfOk, IfErr, OnOk, OnErr, IsTrue, MatchOption, MatchResult, ℕ, List, false};
 ghost use Rattle.nsp_seg.specs.declared.packet.SegFault.{SegFault};
 ghost use Rattle.nsp_seg.specs.declared.packet.Packet.{Packet};
+ghost use Rattle.nsp_seg.specs.declared.packet.Packet.TheVariants.{Segment as ASegment};
 ghost use Rattle.nsp_seg.specs.Packets.{Spells, HasFault};
 ghost use Rattle.nsp_link.specs.declared.fault.LinkFault.TheVariants.{BadSequence, Failed, NoMemory, WrongLink, Malformed};
 ghost use Rattle.nsp_link.specs.declared.link.Got.TheVariants.{Accepted};
 ghost use Rattle.nsp_link.specs.Coming.{AllFit, RefusesAll};
 ghost use Rattle.nsp_link.specs.Cutting.{bytes_in, part_after};
 ghost use Rattle.nsp_link.specs.Link.{Stands, SendsStill, HandsOut, Keeps, got_of, first_ack, plain_ack, forgotten};
-ghost use Rattle.nsp_link.specs.Receiving.{newly_acked, run, segment_of, taking_in, is_end, stopped, NotTaken, Received, ReceivedBytes, ReceivedDue, UnrefusedDue};
+ghost use Rattle.nsp_link.specs.Receiving.{newly_acked, run, segment_of, taking_in, is_end, is_oversize, stopped, NotTaken, Received, ReceivedBytes, ReceivedDue, UnrefusedDue, LetsGo, Bounded, BoundedBytes};
 ghost use Rattle.nsp_link.specs.Inner.Pieces.{lent_piece, pieces};
 
 use crate::fault::LinkFault;
@@ -17,7 +18,7 @@ use crate::incoming::take_run;
 use crate::link::{Got, LinkEnd};
 use crate::piece::{Piece, Segment};
 use crate::ring::{advance, fill, is_free};
-use nsp_seg::{AckField, PacketValue, Seq12, decode_value};
+use nsp_seg::{AckField, PacketValue, SegmentFields, Seq12, decode_value};
 use std::collections::VecDeque;
 
 /// A number that is so far ahead of another, or farther, is behind it: half of the 4,096 numbers (NSP 4.0.0,
@@ -76,6 +77,75 @@ impl LinkEnd {
         match decode_value(packet) {
             Ok(packet) => self.receive_packet(&packet),
             Err(fault) => Err(LinkFault::Malformed(fault)),
+        }
+    }
+
+    /// As [`LinkEnd::receive`], save that an early segment with more than `max_message` bytes isn't held: it is answered
+    /// as early, and of its packet the acknowledgement alone is taken (own). No message that this end takes has such a
+    /// segment, and a peer can't fill the window with them.
+    pub fn receive_bounded(&mut self, packet: &[u8]) -> Result<Got, LinkFault>
+        ensures failed { IsTrue self.old.failed → (result ≡ Err Failed) × (self.new ≡ self.old) }
+        // Any packet, by the numbers that it shows, and its length.
+        ensures any { self.old.failed ≡ false → (p : Packet) → Spells p packet.now
+            → Bounded self.old p result self.new }
+        // All bytes: they are malformed, which changes nothing, or they are a packet.
+        ensures whole { self.old.failed ≡ false
+            → BoundedBytes self.old self.new packet.now result }
+        // Bytes at fault are malformed with that fault, and these alone; this changes nothing.
+        ensures fault_found { self.old.failed ≡ false → (f : SegFault) → HasFault f packet.now
+            → (result ≡ Err (Malformed f)) × (self.new ≡ self.old) }
+        ensures malformed { (f : SegFault) → result ≡ Err (Malformed f)
+            → HasFault f packet.now × (self.new ≡ self.old) }
+        // The messages sent stay those that were sent.
+        ensures sends { SendsStill self.old self.new }
+        // A packet that is due, by the counts for which its numbers stand.
+        ensures due { ReceivedDue self.old self.new packet.now result }
+        // One that only acknowledges, or whose segment was taken before, is never refused.
+        ensures unrefused { UnrefusedDue self.old packet.now result }
+    {
+        if self.failed {
+            return Err(LinkFault::Failed);
+        }
+        match decode_value(packet) {
+            Ok(packet) => self.receive_fitting(&packet),
+            Err(fault) => Err(LinkFault::Malformed(fault)),
+        }
+    }
+
+    /// Takes in a packet that was read, and holds no segment that is longer than any message.
+    fn receive_fitting(&mut self, packet: &PacketValue<'_>) -> Result<Got, LinkFault>
+        ensures { Bounded self.old packet.now result self.new }
+    {
+        match packet {
+            PacketValue::Segment(segment) if self.is_oversize(segment) => self.let_go(segment),
+            _ => self.receive_packet(packet),
+        }
+    }
+
+    /// Whether a segment is early, and longer than any message.
+    fn is_oversize(&self, segment: &SegmentFields<'_>) -> bool
+        ensures { result ≡ is_oversize self.now (ASegment segment.now) }
+    {
+        let ahead = segment
+            .number
+            .ahead_of(Seq12::of(self.incoming.received + 1));
+        0 < ahead && ahead < HALF_ROUND && segment.payload.0.len() > self.setup.max_message
+    }
+
+    /// Takes the acknowledgement of an early segment alone. A fault of it ends the link.
+    fn let_go(&mut self, segment: &SegmentFields<'_>) -> Result<Got, LinkFault>
+        ensures { LetsGo self.old (ASegment segment.now) result self.new }
+    {
+        self.check_address(segment.dst, segment.src)?;
+        match self.believe(segment.ack1, segment.ack2) {
+            Ok(count) => {
+                self.forget(count);
+                Ok(Got::Early)
+            }
+            Err(fault) => {
+                self.failed = true;
+                Err(fault)
+            }
         }
     }
 
