@@ -4,18 +4,18 @@ use Rattle.std.specs.List.{concat}
 use Rattle.std.specs.Fmt.{decimal}
 use Rattle.hex.specs.Hex.{encode_lower}
 use Rattle.dap_accessing.specs.declared.report.Report.{Report}
-use Rattle.dap_world.specs.declared.event.End.{End}
-use Rattle.dap_world.specs.declared.event.Event.{Event}
-use Rattle.dap_world.specs.declared.event.Step.{Step}
-use Rattle.dap_world.specs.declared.event.Step.TheVariants as step
-use Rattle.dap_world.specs.declared.setup.WorldSetup.{WorldSetup}
+use Rattle.dap_events.specs.declared.event.End.{End}
+use Rattle.dap_events.specs.declared.event.Event.{Event}
+use Rattle.dap_events.specs.declared.event.Step.{Step}
+use Rattle.dap_events.specs.declared.event.Step.TheVariants as step
+use Rattle.dap_events.specs.declared.setup.WorldSetup.{WorldSetup}
 use Rattle.dap_world.specs.Machine.{State, Sending, files_of, fresh}
 use Rattle.dap_world.specs.Setups.{IsWorldSetup}
 use Rattle.dap_world.specs.Wires.{IsOnWire}
 use Rattle.dap_world.proofs.ForCallers.{no_step, one_on_wire, one_reason, one_step}
 use Rattle.dap_text.specs.Reports.{report_text}
-use Rattle.dap_capture.specs.Schedules.{Numbered, said}
-use Rattle.dap_capture.specs.Inner.Schedules.{events_of}
+use Rattle.dap_orders.specs.Schedules.{Numbered, said}
+use Rattle.dap_capture.specs.Inner.Playing.{events_of}
 use Rattle.dap_text.specs.Tables.{files_text}
 use Rattle.dap_capture.specs.Played.{IsPacketWritten, IsStepText, Played, Plays, empty, end_text, event_line, goes, over, played, refusal_line, refusal_text, setup_refused, stops}
 use Rattle.dap_listing.specs.declared.fault.Outcome.{Outcome}

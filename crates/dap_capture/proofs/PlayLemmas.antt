@@ -5,16 +5,17 @@ use Rattle.std.specs.Prelude.{codes}
 use Rattle.std.proofs.lemmas.List.{append_assoc}
 use Rattle.dap_world.specs.Machine.{State, Refuses, fresh, files_of}
 use Rattle.dap_world.specs.Setups.{IsWorldSetup}
-use Rattle.dap_world.specs.declared.setup.WorldSetup.{WorldSetup}
-use Rattle.dap_world.specs.declared.event.Event.{Event}
-use Rattle.dap_world.specs.declared.event.WorldFault.{WorldFault}
-use Rattle.dap_world.specs.declared.event.WorldFault.TheVariants as fault
+use Rattle.dap_events.specs.declared.setup.WorldSetup.{WorldSetup}
+use Rattle.dap_events.specs.declared.event.Event.{Event}
+use Rattle.dap_events.specs.declared.event.WorldFault.{WorldFault}
+use Rattle.dap_events.specs.declared.event.WorldFault.TheVariants as fault
 use Rattle.dap_world.specs.Runs.{Went}
 use Rattle.dap_listing.specs.declared.fault.Outcome.{Outcome}
 use Rattle.dap_listing.specs.declared.fault.Outcome.TheVariants.{Good, Stopped}
-use Rattle.dap_capture.specs.Orders.{event_of, setup_of}
-use Rattle.dap_capture.specs.Schedules.{Numbered, fault_unless}
-use Rattle.dap_capture.specs.Inner.Schedules.{event_fault, events_of}
+use Rattle.dap_orders.specs.Orders.{event_of, setup_of}
+use Rattle.dap_orders.specs.Schedules.{Numbered, fault_unless}
+use Rattle.dap_orders.specs.Schedules.{event_fault}
+use Rattle.dap_capture.specs.Inner.Playing.{events_of}
 use Rattle.dap_text.specs.Tables.{files_text}
 use Rattle.dap_capture.specs.Played.{Plays, over, goes, stops, Played, empty, setup_refused, played, event_line, refusal_line, refusal_text}
 use Rattle.dap_capture.specs.Inner.Playing.{PlaysOne}

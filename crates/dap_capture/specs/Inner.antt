@@ -1,5 +1,3 @@
 -- What only the contracts of private functions cite, and proofs: nobody has to believe it.
 pub mod Checking
 pub mod Playing
-pub mod Orders
-pub mod Schedules

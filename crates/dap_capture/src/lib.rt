@@ -4,8 +4,6 @@
 
 mod commands;
 mod laws;
-mod meaningful;
-mod orders;
 mod play;
 mod steps;
 

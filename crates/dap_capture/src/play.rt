@@ -3,51 +3,19 @@
 ghost use Rattle.std.specs.Prelude.{◌≡◌, ◌≤◌, ◌+◌, IfErr, IfOk, length};
 ghost use Rattle.std.specs.List.{filter_map};
 ghost use Rattle.dap_world.specs.Runs.{Went};
-ghost use Rattle.dap_capture.specs.Inner.Checking.{TellsFirst, TellsFirstOrWants, TellsFirstThenWants};
-ghost use Rattle.dap_capture.specs.Inner.Orders.{event_of_order};
+ghost use Rattle.dap_orders.specs.Orders.{event_of_order};
+ghost use Rattle.dap_orders.specs.Schedules.{event_fault, said, schedule_faults};
+ghost use Rattle.dap_capture.specs.Inner.Checking.{TellsFirstOrWants, TellsFirstThenWants};
 ghost use Rattle.dap_capture.specs.Inner.Playing.{PlaysOne};
 ghost use Rattle.dap_capture.specs.Played.{Played, Plays};
-ghost use Rattle.dap_listing.specs.Firsts.{IsOfLine};
-ghost use Rattle.dap_capture.specs.Inner.Schedules.{event_fault, events_of};
-ghost use Rattle.dap_capture.specs.Schedules.{said, schedule_faults};
+ghost use Rattle.dap_capture.specs.Inner.Playing.{events_of};
 
-use crate::meaningful::MeaningfulLines;
-use crate::orders::{Order, read_order, read_setup};
 use crate::steps::{push_event, push_refusal, refusal_word};
 use dap_listing::{CaptureFault, INPUT_LIMIT, Outcome};
+use dap_orders::{MeaningfulLines, Order, check_orders, check_schedule, read_order, read_setup};
 use dap_text::push_files;
 use dap_world::{Event, Step, World, WorldFault};
 use std::alloc::Global;
-
-/// Whether the lines are events, or else the first fault.
-fn check_orders<'a>(mut lines: MeaningfulLines<'a>) -> Result<(), CaptureFault>
-    ensures faults { TellsFirst result (filter_map event_fault lines.entry) }
-    ensures of_line { IfErr result IsOfLine }
-{
-    while let Some((number, line)) = lines.next() {
-        if read_order(line).is_none() {
-            return Err(CaptureFault::BadLine(number));
-        }
-    }
-    Ok(())
-}
-
-/// Whether the first line that says something is a setup, and the others are events, or else the
-/// first fault.
-fn check_schedule(input: &[u8]) -> Result<(), CaptureFault>
-    requires { length input.now ≤ INPUT_LIMIT }
-    ensures faults { TellsFirst result (schedule_faults (said input.now)) }
-    ensures of_line { IfErr result IsOfLine }
-{
-    let mut lines = MeaningfulLines::of(input);
-    let Some((first, setup)) = lines.next() else {
-        return Ok(());
-    };
-    if read_setup(setup).is_none() {
-        return Err(CaptureFault::BadLine(first));
-    }
-    check_orders(lines)
-}
 
 /// The event happens; a request is given away.
 fn happen(world: &mut World, event: Event) -> Result<Step, WorldFault>

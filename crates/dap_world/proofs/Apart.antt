@@ -3,7 +3,7 @@ use Rattle.std.proofs.Common.{◌≡◌, ℕ, ◌+◌, ◌≤◌, arith, subst}
 use Rattle.std.specs.Prelude.{Option, Some, None, IfSome}
 use Rattle.nsp_seg.specs.Numbers.{residue}
 use Rattle.nsp_link.specs.Separation.{IsSegmentNear, IsAckNear}
-use Rattle.dap_world.specs.declared.event.End.{End}
+use Rattle.dap_events.specs.declared.event.End.{End}
 use Rattle.dap_world.specs.Machine.{State, Sending, end_of, other, is_old, IsDue}
 use Rattle.dap_world.specs.Runs.{IsReached}
 use Rattle.nsp_link.specs.Limits.{largest_window}

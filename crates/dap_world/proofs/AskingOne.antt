@@ -32,11 +32,11 @@ use Rattle.dap_world.specs.Agreement.{AreAdmissible, IsBufsiz, answers_to, items
 use Rattle.dap_end.specs.Agreement.{AgreeAt}
 use Rattle.dap_world.specs.Inner.Agreement.{NextWithin}
 use Rattle.dap_accessed.specs.Served.{AllAtMost}
-use Rattle.dap_world.specs.declared.event.Event.TheVariants as event
-use Rattle.dap_world.specs.declared.event.Step.{Step}
-use Rattle.dap_world.specs.declared.event.Step.TheVariants as step
-use Rattle.dap_world.specs.declared.event.WorldFault.{WorldFault}
-use Rattle.dap_world.specs.declared.event.WorldFault.TheVariants as fault
+use Rattle.dap_events.specs.declared.event.Event.TheVariants as event
+use Rattle.dap_events.specs.declared.event.Step.{Step}
+use Rattle.dap_events.specs.declared.event.Step.TheVariants as step
+use Rattle.dap_events.specs.declared.event.WorldFault.{WorldFault}
+use Rattle.dap_events.specs.declared.event.WorldFault.TheVariants as fault
 use Rattle.dap_world.specs.Machine.{State, sent_by, taken_of, answers_read, asking as asking_of, asked, reported, Steps, Refuses}
 use Rattle.dap_world.specs.Runs.{Went}
 use Rattle.dap_world.specs.Inner.Worlds.{IsWorld}

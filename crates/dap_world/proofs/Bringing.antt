@@ -1,12 +1,12 @@
 -- A segment is sent, delivered and acknowledged.
 use Rattle.std.proofs.Common.{◌≡◌, ℕ, ◌+◌, ◌*◌, ◌≤◌, ◌<◌, List, arith, refl, sym, ◌∙◌, subst, ap, true, false, length, le-ltb}
 use Rattle.std.specs.Prelude.{◌-◌, Option, Some, Err, slice_get}
-use Rattle.dap_world.specs.declared.event.End.{End}
-use Rattle.dap_world.specs.declared.event.End.TheVariants.{A, B}
-use Rattle.dap_world.specs.declared.event.Event.TheVariants as event
-use Rattle.dap_world.specs.declared.event.Step.{Step}
-use Rattle.dap_world.specs.declared.event.WorldFault.{WorldFault}
-use Rattle.dap_world.specs.declared.event.WorldFault.TheVariants as fault
+use Rattle.dap_events.specs.declared.event.End.{End}
+use Rattle.dap_events.specs.declared.event.End.TheVariants.{A, B}
+use Rattle.dap_events.specs.declared.event.Event.TheVariants as event
+use Rattle.dap_events.specs.declared.event.Step.{Step}
+use Rattle.dap_events.specs.declared.event.WorldFault.{WorldFault}
+use Rattle.dap_events.specs.declared.event.WorldFault.TheVariants as fault
 use Rattle.dap_world.specs.Machine.{Refuses, State, EndState, Sending, end_of, with_end, other, wrote, delivered, is_stale, MayEmit, segments_of, Steps}
 use Rattle.dap_msg.specs.Blocked.{NspMessage}
 use Rattle.dap_world.specs.Runs.{Went}

@@ -21,13 +21,13 @@ use Rattle.dap_end.specs.Done.{AskingValue}
 use Rattle.dap_end.specs.Serving.{IsAfter}
 use Rattle.dap_end.specs.Done.{ServingValue}
 use Rattle.nsp_link.proofs.ForCallers.{closes, keeps, came_due}
-use Rattle.dap_world.specs.declared.event.End.{End}
-use Rattle.dap_world.specs.declared.event.End.TheVariants.{A, B}
-use Rattle.dap_world.specs.declared.event.Event.TheVariants as event
-use Rattle.dap_world.specs.declared.event.Step.{Step}
-use Rattle.dap_world.specs.declared.event.Step.TheVariants as step
-use Rattle.dap_world.specs.declared.event.WorldFault.{WorldFault}
-use Rattle.dap_world.specs.declared.event.WorldFault.TheVariants as fault
+use Rattle.dap_events.specs.declared.event.End.{End}
+use Rattle.dap_events.specs.declared.event.End.TheVariants.{A, B}
+use Rattle.dap_events.specs.declared.event.Event.TheVariants as event
+use Rattle.dap_events.specs.declared.event.Step.{Step}
+use Rattle.dap_events.specs.declared.event.Step.TheVariants as step
+use Rattle.dap_events.specs.declared.event.WorldFault.{WorldFault}
+use Rattle.dap_events.specs.declared.event.WorldFault.TheVariants as fault
 use Rattle.dap_world.specs.Machine.{reported, State, EndState, other, end_of, with_end, is_stale, came, delivered, Steps, Refuses}
 use Rattle.dap_world.specs.Runs.{TakesMemory, Went}
 use Rattle.dap_world.specs.Inner.Worlds.{IsWorld, AreTrue, AreEarly, WasSent}

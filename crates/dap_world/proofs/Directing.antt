@@ -12,10 +12,10 @@ use Rattle.dap_accessing.specs.Phase.{IsNoneDue}
 use Rattle.dap_accessing.specs.Told.{Wrong, due_after, Told}
 use Rattle.dap_accessing.proofs.ForCallers.{asked_one, none_due}
 use Rattle.dap_world.specs.Agreement.{AreAdmissible, answers_to, reports_of}
-use Rattle.dap_world.specs.declared.event.Event.TheVariants as event
-use Rattle.dap_world.specs.declared.event.Step.{Step}
-use Rattle.dap_world.specs.declared.event.WorldFault.{WorldFault}
-use Rattle.dap_world.specs.declared.event.WorldFault.TheVariants as fault
+use Rattle.dap_events.specs.declared.event.Event.TheVariants as event
+use Rattle.dap_events.specs.declared.event.Step.{Step}
+use Rattle.dap_events.specs.declared.event.WorldFault.{WorldFault}
+use Rattle.dap_events.specs.declared.event.WorldFault.TheVariants as fault
 use Rattle.dap_world.specs.Machine.{State, answers_read, asked, files_of, reported, sent_by, taken_of, Steps, Refuses}
 use Rattle.dap_world.specs.Runs.{Went}
 use Rattle.dap_world.specs.Inner.Worlds.{IsWorld}

@@ -10,8 +10,8 @@ use Rattle.dap_accessed.specs.Groups.{Answers}
 use Rattle.dap_accessing.specs.Asked.{Asked}
 use Rattle.dap_accessing.specs.Told.{Told}
 use Rattle.dap_world.specs.Agreement.{reports_of}
-use Rattle.dap_world.specs.declared.event.End.{End}
-use Rattle.dap_world.specs.declared.event.End.TheVariants.{A, B}
+use Rattle.dap_events.specs.declared.event.End.{End}
+use Rattle.dap_events.specs.declared.event.End.TheVariants.{A, B}
 use Rattle.dap_world.specs.Machine.{State, arrived_at, answers_read, files_of, next_to_read, reported, segments_of, sent_by, taken_of}
 use Rattle.dap_world.specs.Inner.Worlds.{IsWorld}
 use Rattle.dap_world.specs.Settling.{AllTold, Finished, IsEmpty, IsFinished, RanBy, unacked}

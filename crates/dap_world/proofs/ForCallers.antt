@@ -3,7 +3,7 @@ use Rattle.std.proofs.Common.{◌≡◌, ℕ, List}
 use Rattle.dap_msg.specs.Blocked.{all_joined}
 use Rattle.nsp_link.specs.Cutting.{cut}
 use Rattle.nsp_link.proofs.ForCallers.{written_one}
-use Rattle.dap_world.specs.declared.event.End.{End}
+use Rattle.dap_events.specs.declared.event.End.{End}
 use Rattle.dap_world.specs.Machine.{State, Sending, other, end_of}
 use Rattle.dap_world.specs.Wires.{IsOnWire, address_of}
 -- an event has one step at the most, or one reason why it has none

@@ -15,12 +15,12 @@ use Rattle.dap_accessing.specs.Asked.{messages_of, Asked}
 use Rattle.dap_accessing.specs.Phase.{IsAdmissible}
 use Rattle.nsp_link.specs.Limits.{most_segments}
 use Rattle.dap_world.specs.Agreement.{answers_to}
-use Rattle.dap_world.specs.declared.event.End.{End}
-use Rattle.dap_world.specs.declared.event.End.TheVariants.{A, B}
-use Rattle.dap_world.specs.declared.event.Event.{Event}
-use Rattle.dap_world.specs.declared.event.Event.TheVariants as event
-use Rattle.dap_world.specs.declared.event.Step.{Step}
-use Rattle.dap_world.specs.declared.setup.WorldSetup.{WorldSetup}
+use Rattle.dap_events.specs.declared.event.End.{End}
+use Rattle.dap_events.specs.declared.event.End.TheVariants.{A, B}
+use Rattle.dap_events.specs.declared.event.Event.{Event}
+use Rattle.dap_events.specs.declared.event.Event.TheVariants as event
+use Rattle.dap_events.specs.declared.event.Step.{Step}
+use Rattle.dap_events.specs.declared.setup.WorldSetup.{WorldSetup}
 use Rattle.dap_world.specs.Setups.{IsWorldSetup}
 use Rattle.dap_world.specs.Machine.{files_of, reported, State, EndState, Sending, fresh, other, end_of, with_end, arrived, arrived_at, sent_by, taken_of, answers_read, asking, asked, posted, wrote, delivered, answering, served_one, read_one, segments_of, Steps, StepsFreely}
 use Rattle.dap_end.specs.Runs.{RunsBy}

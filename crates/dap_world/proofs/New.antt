@@ -4,12 +4,12 @@ use Rattle.dap_accessed.specs.Present as accessed
 use Rattle.dap_accessing.specs.Present as accessing
 use Rattle.nsp_link.specs.declared.link.LinkSetup.{LinkSetup}
 use Rattle.nsp_link.proofs.ForCallers.{stands_new, sends_new}
-use Rattle.dap_world.specs.declared.setup.WorldSetup.{WorldSetup}
+use Rattle.dap_events.specs.declared.setup.WorldSetup.{WorldSetup}
 use Rattle.dap_msg.specs.BothEnds.{least_buffer}
 use Rattle.nsp_link.specs.Link.{IsSetup}
 use Rattle.dap_world.specs.declared.side.Wired.{Wired}
-use Rattle.dap_world.specs.declared.event.End.{End}
-use Rattle.dap_world.specs.declared.event.End.TheVariants.{A, B}
+use Rattle.dap_events.specs.declared.event.End.{End}
+use Rattle.dap_events.specs.declared.event.End.TheVariants.{A, B}
 use Rattle.dap_world.specs.Machine.{reported, fresh, other}
 use Rattle.dap_world.specs.Setups.{IsWorldSetup}
 use Rattle.dap_end.specs.Ports.{PortValue, new_port}

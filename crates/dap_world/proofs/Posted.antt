@@ -23,13 +23,13 @@ use Rattle.dap_end.specs.Ports.{HandsOver as HandedOver}
 use Rattle.dap_end.specs.Done.{AskingValue, AskingPast}
 use Rattle.dap_end.specs.Serving.{IsAfter}
 use Rattle.dap_end.specs.Done.{ServingValue, Past}
-use Rattle.dap_world.specs.declared.event.End.{End}
-use Rattle.dap_world.specs.declared.event.End.TheVariants.{A, B}
-use Rattle.dap_world.specs.declared.event.Event.TheVariants as event
-use Rattle.dap_world.specs.declared.event.Step.{Step}
-use Rattle.dap_world.specs.declared.event.Step.TheVariants as step
-use Rattle.dap_world.specs.declared.event.WorldFault.{WorldFault}
-use Rattle.dap_world.specs.declared.event.WorldFault.TheVariants as fault
+use Rattle.dap_events.specs.declared.event.End.{End}
+use Rattle.dap_events.specs.declared.event.End.TheVariants.{A, B}
+use Rattle.dap_events.specs.declared.event.Event.TheVariants as event
+use Rattle.dap_events.specs.declared.event.Step.{Step}
+use Rattle.dap_events.specs.declared.event.Step.TheVariants as step
+use Rattle.dap_events.specs.declared.event.WorldFault.{WorldFault}
+use Rattle.dap_events.specs.declared.event.WorldFault.TheVariants as fault
 use Rattle.dap_world.specs.Machine.{reported, EndState, end_of, with_end, posted, segments_of, Steps, Refuses}
 use Rattle.dap_world.specs.Runs.{Went}
 use Rattle.dap_world.specs.Inner.Worlds.{IsWorld}

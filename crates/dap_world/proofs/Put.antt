@@ -7,8 +7,8 @@ use Rattle.nsp_link.proofs.ForCallers.{may_send_by}
 use Rattle.dap_end.specs.Ports.{PortValue}
 use Rattle.dap_end.specs.Writing.{WroteMore}
 use Rattle.dap_world.specs.declared.side.Wired.{Wired}
-use Rattle.dap_world.specs.declared.event.Step.{Step}
-use Rattle.dap_world.specs.declared.event.Step.TheVariants as step
+use Rattle.dap_events.specs.declared.event.Step.{Step}
+use Rattle.dap_events.specs.declared.event.Step.TheVariants as step
 use Rattle.dap_world.specs.Inner.Sides.{WroteOne}
 
 pub wrote_put : (v : LinkValue) (old mid new : List Wired) (w : Wired) (k : Option ℕ) (answer : Step) → mid ≡ old → new ≡ mid ++ w ∷ [] → answer ≡ step.Packet (length mid)

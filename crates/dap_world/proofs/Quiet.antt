@@ -2,11 +2,11 @@
 use Rattle.std.proofs.Common.{◌≡◌, ◌+◌, ◌≤◌, arith, refl, ◌∙◌, ap, List, [], ◌∷◌, length}
 use Rattle.std.proofs.lemmas.List.{length-append}
 use Rattle.dap_accessing.specs.Request.{Request}
-use Rattle.dap_world.specs.declared.event.End.{End}
-use Rattle.dap_world.specs.declared.event.End.TheVariants.{A, B}
-use Rattle.dap_world.specs.declared.event.Event.{Event}
-use Rattle.dap_world.specs.declared.event.Event.TheVariants as event
-use Rattle.dap_world.specs.declared.event.Step.{Step}
+use Rattle.dap_events.specs.declared.event.End.{End}
+use Rattle.dap_events.specs.declared.event.End.TheVariants.{A, B}
+use Rattle.dap_events.specs.declared.event.Event.{Event}
+use Rattle.dap_events.specs.declared.event.Event.TheVariants as event
+use Rattle.dap_events.specs.declared.event.Step.{Step}
 use Rattle.dap_world.specs.Machine.{State, EndState, with_end, Steps}
 use Rattle.dap_world.specs.Runs.{Runs}
 use Rattle.dap_world.specs.Inner.Settling.{AsksNothing}

@@ -13,11 +13,11 @@ use Rattle.dap_accessing.specs.Told.{Told, is_unexpected}
 use Rattle.dap_accessing.specs.declared.report.Report.{Report}
 use Rattle.nsp_link.specs.Cutting.{cut}
 use Rattle.nsp_link.specs.Limits.{most_segments}
-use Rattle.dap_world.specs.declared.event.End.TheVariants.{A}
-use Rattle.dap_world.specs.declared.event.Event.TheVariants as event
-use Rattle.dap_world.specs.declared.event.Step.{Step}
-use Rattle.dap_world.specs.declared.event.Step.TheVariants as step
-use Rattle.dap_world.specs.declared.event.WorldFault.TheVariants as fault
+use Rattle.dap_events.specs.declared.event.End.TheVariants.{A}
+use Rattle.dap_events.specs.declared.event.Event.TheVariants as event
+use Rattle.dap_events.specs.declared.event.Step.{Step}
+use Rattle.dap_events.specs.declared.event.Step.TheVariants as step
+use Rattle.dap_events.specs.declared.event.WorldFault.TheVariants as fault
 use Rattle.dap_world.specs.Machine.{Refuses, State, arrived, arrived_at, taken_of, answers_read, read_one, next_to_read, told_by, reported, Steps}
 use Rattle.dap_world.specs.Runs.{Went, TakesMemory, WantsMemory}
 use Rattle.dap_world.specs.Inner.Worlds.{IsWorld}

@@ -1,11 +1,11 @@
 -- What events of the links leave alone, whatever comes of them.
 use Rattle.std.proofs.Common.{◌≡◌, ℕ, arith, refl, ◌∙◌, subst, sym, Ok, Err}
 use Rattle.std.specs.Prelude.{Result}
-use Rattle.dap_world.specs.declared.event.End.{End}
-use Rattle.dap_world.specs.declared.event.End.TheVariants.{A, B}
-use Rattle.dap_world.specs.declared.event.Event.TheVariants as event
-use Rattle.dap_world.specs.declared.event.Step.{Step}
-use Rattle.dap_world.specs.declared.event.WorldFault.{WorldFault}
+use Rattle.dap_events.specs.declared.event.End.{End}
+use Rattle.dap_events.specs.declared.event.End.TheVariants.{A, B}
+use Rattle.dap_events.specs.declared.event.Event.TheVariants as event
+use Rattle.dap_events.specs.declared.event.Step.{Step}
+use Rattle.dap_events.specs.declared.event.WorldFault.{WorldFault}
 use Rattle.dap_world.specs.Machine.{State, end_of, Steps}
 use Rattle.dap_world.specs.Settling.{work}
 use Rattle.dap_world.specs.Runs.{Went}

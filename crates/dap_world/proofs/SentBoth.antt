@@ -1,6 +1,6 @@
 -- What waits at both ends is brought to the other.
 use Rattle.std.proofs.Common.{◌≡◌, ℕ, ◌+◌, arith, ◌∙◌}
-use Rattle.dap_world.specs.declared.event.End.TheVariants.{A, B}
+use Rattle.dap_events.specs.declared.event.End.TheVariants.{A, B}
 use Rattle.dap_world.specs.Machine.{State}
 use Rattle.dap_world.specs.Settling.{unacked}
 use Rattle.dap_world.specs.Inner.Settling.{Emptied, SentBoth}

@@ -14,10 +14,10 @@ use Rattle.dap_accessed.specs.Present as accessed
 use Rattle.dap_accessed.proofs.ForCallers.{Answers-more}
 use Rattle.dap_accessing.specs.Asked.{Asked}
 use Rattle.dap_accessing.specs.Told.{Told}
-use Rattle.dap_world.specs.declared.event.Event.TheVariants as event
-use Rattle.dap_world.specs.declared.event.Step.TheVariants as step
-use Rattle.dap_world.specs.declared.event.WorldFault.{WorldFault}
-use Rattle.dap_world.specs.declared.event.WorldFault.TheVariants as fault
+use Rattle.dap_events.specs.declared.event.Event.TheVariants as event
+use Rattle.dap_events.specs.declared.event.Step.TheVariants as step
+use Rattle.dap_events.specs.declared.event.WorldFault.{WorldFault}
+use Rattle.dap_events.specs.declared.event.WorldFault.TheVariants as fault
 use Rattle.dap_world.specs.Machine.{State, arrived, taken_of, answers_read, answering, served_one, next_to_serve, Steps, Refuses, reported}
 use Rattle.dap_world.specs.Runs.{Went, WantsMemory}
 use Rattle.dap_world.specs.Inner.Worlds.{IsWorld}

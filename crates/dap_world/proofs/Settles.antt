@@ -5,13 +5,13 @@ use Rattle.std.proofs.lemmas.List.{length-append, length-map}
 use Rattle.std.proofs.lemmas.Bool.{cases_eq, ne_eqb}
 use Rattle.std.proofs.lemmas.Option.{slice_get-get_or}
 use Rattle.std.proofs.lemmas.Grind.{common_steps}
-use Rattle.dap_world.specs.declared.event.End.{End}
-use Rattle.dap_world.specs.declared.event.End.TheVariants.{A, B}
-use Rattle.dap_world.specs.declared.event.Event.{Event}
-use Rattle.dap_world.specs.declared.event.Event.TheVariants as event
-use Rattle.dap_world.specs.declared.event.Step.{Step}
-use Rattle.dap_world.specs.declared.event.WorldFault.{WorldFault}
-use Rattle.dap_world.specs.declared.event.WorldFault.TheVariants as fault
+use Rattle.dap_events.specs.declared.event.End.{End}
+use Rattle.dap_events.specs.declared.event.End.TheVariants.{A, B}
+use Rattle.dap_events.specs.declared.event.Event.{Event}
+use Rattle.dap_events.specs.declared.event.Event.TheVariants as event
+use Rattle.dap_events.specs.declared.event.Step.{Step}
+use Rattle.dap_events.specs.declared.event.WorldFault.{WorldFault}
+use Rattle.dap_events.specs.declared.event.WorldFault.TheVariants as fault
 use Rattle.dap_world.specs.Machine.{State, EndState, Sending, end_of, with_end, other, wrote, came, delivered, is_stale, Steps, Refuses}
 use Rattle.dap_world.specs.Runs.{Runs, Went}
 use Rattle.dap_world.specs.Inner.Worlds.{IsWorld, AreEarly}

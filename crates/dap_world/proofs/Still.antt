@@ -1,11 +1,11 @@
 -- Where no work is done and nothing is handed over or asked, nothing moves but what the links' own events move.
 use Rattle.std.proofs.Common.{◌≡◌, ℕ, ◌+◌, ◌≤◌, arith, refl, sym, ◌∙◌, subst, ap, List, [], ◌∷◌, length}
 use Rattle.std.proofs.lemmas.List.{length-append}
-use Rattle.dap_world.specs.declared.event.End.{End}
-use Rattle.dap_world.specs.declared.event.End.TheVariants.{A, B}
-use Rattle.dap_world.specs.declared.event.Event.{Event}
-use Rattle.dap_world.specs.declared.event.Event.TheVariants as event
-use Rattle.dap_world.specs.declared.event.Step.{Step}
+use Rattle.dap_events.specs.declared.event.End.{End}
+use Rattle.dap_events.specs.declared.event.End.TheVariants.{A, B}
+use Rattle.dap_events.specs.declared.event.Event.{Event}
+use Rattle.dap_events.specs.declared.event.Event.TheVariants as event
+use Rattle.dap_events.specs.declared.event.Step.{Step}
 use Rattle.dap_world.specs.Machine.{State, EndState, end_of, with_end, Steps}
 use Rattle.dap_world.specs.Runs.{Runs}
 use Rattle.dap_world.specs.Settling.{RanBy, work}

@@ -13,7 +13,7 @@ use Rattle.dap_accessing.specs.declared.report.Report.{Report}
 use Rattle.dap_accessing.specs.Told.{Hearing, Reports, Waits, Unexpected, hear, Told}
 use Rattle.dap_accessing.proofs.ForCallers.{told_by, Told-told_by, reports_grow}
 use Rattle.dap_end.proofs.ForCallers.{in_append}
-use Rattle.dap_world.specs.declared.event.End.TheVariants.{A}
+use Rattle.dap_events.specs.declared.event.End.TheVariants.{A}
 use Rattle.dap_world.specs.Agreement.{answers_to}
 use Rattle.dap_world.specs.Machine.{State, arrived_at, sent_by, taken_of, answers_read, reported}
 use Rattle.dap_world.specs.Inner.Worlds.{IsWorld}

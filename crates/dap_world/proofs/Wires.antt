@@ -10,8 +10,8 @@ use Rattle.nsp_link.specs.Cutting.{cut}
 use Rattle.nsp_link.specs.Coming.{Coming, nothing_came, taken_all}
 use Rattle.nsp_link.specs.Link.{LinkValue, Sends, Stands, Writes, IsWritten}
 use Rattle.dap_end.specs.Pasts.{AreFull}
-use Rattle.dap_world.specs.declared.event.End.{End}
-use Rattle.dap_world.specs.declared.event.End.TheVariants.{A, B}
+use Rattle.dap_events.specs.declared.event.End.{End}
+use Rattle.dap_events.specs.declared.event.End.TheVariants.{A, B}
 use Rattle.dap_world.specs.declared.side.Wired.{Wired}
 use Rattle.dap_world.specs.Machine.{State, end_of, other}
 use Rattle.dap_world.specs.Inner.Links.{IsLinkOf, AreWired}

@@ -1,9 +1,9 @@
 -- What an answer names.
 use Rattle.std.specs.Prelude.{◌≡◌, ◌<◌, length, Some}
-use Rattle.dap_world.specs.declared.event.End.{End}
-use Rattle.dap_world.specs.declared.event.Event.{Event}
-use Rattle.dap_world.specs.declared.event.Step.{Step}
-use Rattle.dap_world.specs.declared.event.Step.TheVariants as step
+use Rattle.dap_events.specs.declared.event.End.{End}
+use Rattle.dap_events.specs.declared.event.Event.{Event}
+use Rattle.dap_events.specs.declared.event.Step.{Step}
+use Rattle.dap_events.specs.declared.event.Step.TheVariants as step
 use Rattle.dap_world.specs.Machine.{State, end_of, reported}
 use Rattle.dap_world.specs.Runs.{writing_end}
 

@@ -2,9 +2,9 @@
 use Rattle.std.specs.Prelude.{◌≤◌}
 use Rattle.nsp_link.specs.Limits.{largest_segment, largest_window}
 use Rattle.dap_world.specs.Agreement.{IsBufsiz}
-use Rattle.dap_world.specs.declared.event.WorldFault.{WorldFault}
-use Rattle.dap_world.specs.declared.event.WorldFault.TheVariants as fault
-use Rattle.dap_world.specs.declared.setup.WorldSetup.{WorldSetup}
+use Rattle.dap_events.specs.declared.event.WorldFault.{WorldFault}
+use Rattle.dap_events.specs.declared.event.WorldFault.TheVariants as fault
+use Rattle.dap_events.specs.declared.setup.WorldSetup.{WorldSetup}
 
 -- the sizes that a world may have
 pub record IsWorldSetup (s : WorldSetup) : Type 0 where

@@ -18,14 +18,14 @@ ghost use Rattle.dap_end.specs.Pasts.{Still};
 ghost use Rattle.dap_world.specs.Inner.Sides.{AreShort, AskFaultOf, AskedSo, EmitFault, KeptSo, PostFault, PostedSo, WroteOne};
 ghost use Rattle.dap_world.specs.Inner.Splitting.{SentAll};
 ghost use Rattle.dap_world.specs.Inner.Ways.{Delivery, delivered_as};
-ghost use Rattle.dap_world.specs.declared.event.WorldFault.TheVariants.{NoMemory};
+ghost use Rattle.dap_events.specs.declared.event.WorldFault.TheVariants.{NoMemory};
 
-use crate::event::{End, Event, Step, WorldFault};
 use crate::side::{Wired, acknowledge, again, due, may_post, next_number, put};
 use crate::splitting::split_all;
 use crate::world::World;
 use dap_accessing::{Prepared, Report, Request};
 use dap_end::{AskingEnd, ServingEnd};
+use dap_events::{End, Event, Step, WorldFault};
 use nsp_link::{Got, LinkFault};
 use std::alloc::Global;
 

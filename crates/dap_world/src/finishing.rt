@@ -1,20 +1,19 @@
 //! All that was asked comes to its reports, over a stretch without loss.
 
-use crate::event::{End, Event, WorldFault};
+ghost use Rattle.std.specs.Prelude.{◌≡◌, true, false};
+ghost use Rattle.dap_events.specs.declared.event.WorldFault.TheVariants.{NothingToDo};
+
+use crate::ends::other_end;
 use crate::world::World;
 use dap_accessing::Request;
+use dap_events::{End, Event, WorldFault};
 
-impl WorldFault {
-    ghost use Rattle.std.specs.Prelude.{◌≡◌, true, false};
-    ghost use Rattle.dap_world.specs.declared.event.WorldFault.TheVariants.{NothingToDo};
-
-    /// Whether there was nothing to do.
-    fn is_nothing(&self) -> bool
-        ensures yes { result ≡ true → self.now ≡ NothingToDo }
-        ensures no { result ≡ false → self.now ≡ NothingToDo → ⊥ }
-    {
-        matches!(self, WorldFault::NothingToDo)
-    }
+/// Whether there was nothing to do.
+fn is_nothing(fault: WorldFault) -> bool
+    ensures yes { result ≡ true → fault ≡ NothingToDo }
+    ensures no { result ≡ false → fault ≡ NothingToDo → ⊥ }
+{
+    matches!(fault, WorldFault::NothingToDo)
 }
 
 impl World {
@@ -23,12 +22,12 @@ impl World {
     ghost use Rattle.dap_world.specs.Machine.{MayEmit, answers_read, reported, end_of, sent_by};
     ghost use Rattle.dap_world.specs.Headline.{HeadlineOf};
     ghost use Rattle.dap_world.specs.Runs.{Runs};
-    ghost use Rattle.dap_world.specs.declared.event.Event.{Event as TheEvent};
+    ghost use Rattle.dap_events.specs.declared.event.Event.{Event as TheEvent};
     ghost use Rattle.dap_world.specs.Inner.Worlds.{IsWorld};
     ghost use Rattle.dap_world.specs.Settling.{AllDone, Finished, FinishFault, IsEmpty, IsFinished, IsFresh, IsPostDue, RanBy, StopsAtRequest, unacked};
     ghost use Rattle.dap_world.specs.Inner.Settling.{AreEmpty, AreSettled, Brought, BroughtAll, Emptied, Halts, IsOneDue, IsQuiet, IsServed, NothingSent, PostedAll, RanTo, ReadEvery, ReadPart, RunsTo, SameBut, SentBoth, ServedEvery, SettledBoth};
-    ghost use Rattle.dap_world.specs.declared.event.End.TheVariants.{A, B};
-    ghost use Rattle.dap_world.specs.declared.event.WorldFault.TheVariants.{NoMemory};
+    ghost use Rattle.dap_events.specs.declared.event.End.TheVariants.{A, B};
+    ghost use Rattle.dap_events.specs.declared.event.WorldFault.TheVariants.{NoMemory};
 
     /// Messages are few, at most one request has no report yet, and each answer had its place.
     fn few(&self)
@@ -56,7 +55,7 @@ impl World {
             Ok(_step) => {}
             Err(fault) => return Err(fault),
         }
-        match self.step(&Event::Deliver(end.other(), place)) {
+        match self.step(&Event::Deliver(other_end(end), place)) {
             Ok(_step) => {}
             Err(fault) => return Err(fault),
         }
@@ -99,7 +98,7 @@ impl World {
         match self.step(&Event::Post(end)) {
             Ok(_step) => Ok(1),
             Err(fault) => {
-                if fault.is_nothing() {
+                if is_nothing(fault) {
                     return Ok(0);
                 }
                 Err(fault)
@@ -138,7 +137,7 @@ impl World {
             match self.step(&Event::Serve) {
                 Ok(_step) => {}
                 Err(fault) => {
-                    return if fault.is_nothing() {
+                    return if is_nothing(fault) {
                         Ok(count)
                     } else {
                         Err(fault)
@@ -167,7 +166,7 @@ impl World {
             match self.step(&Event::Read) {
                 Ok(_step) => {}
                 Err(fault) => {
-                    if fault.is_nothing() {
+                    if is_nothing(fault) {
                         return Ok((self.read_count() - before) as usize);
                     }
                     return Err(fault);

@@ -3,7 +3,7 @@
 #![tactic(auto)]
 
 mod calls;
-mod event;
+mod ends;
 mod finishing;
 mod laws;
 mod settling;
@@ -14,7 +14,7 @@ mod world;
 
 pub use dap_accessed::FileTable;
 pub use dap_accessing::{AskFault, By, Ending, How, Numbered, Octets, OctetsList, Report, Request};
-pub use event::{End, Event, Step, WorldFault};
+pub use dap_events::{End, Event, Step, WorldFault, WorldSetup};
 pub use laws::{
     each_request_has_one_report, events_are_decided, every_run_keeps_the_headline,
     numbers_stay_apart,
@@ -22,6 +22,5 @@ pub use laws::{
 pub use nsp_link::{Got, LinkEnd, LinkFault, LinkSetup};
 pub use nsp_seg::SegFault;
 pub use rec_file::{AnyFile, Format, Org, RecordFile, RelFile, SeqFile, Shape};
-pub use setup::WorldSetup;
 pub use side::Wired;
 pub use world::World;

@@ -1,7 +1,8 @@
 //! A stretch without loss: what was sent arrives and is acknowledged.
 
-use crate::event::{End, Event, WorldFault};
+use crate::ends::other_end;
 use crate::world::World;
+use dap_events::{End, Event, WorldFault};
 
 impl World {
     ghost use Rattle.std.specs.Prelude.{◌≡◌, ◌<◌, ◌≤◌, ◌+◌, ◌-◌, IfOk, IfErr, IsOk, OnOk, OnErr, length, ℕ};
@@ -10,8 +11,8 @@ impl World {
     ghost use Rattle.dap_world.specs.Settling.{RanBy, Settled, unacked, work};
     ghost use Rattle.dap_world.specs.Inner.Settling.{AllResent, AreThere, AllCame, NothingSent, RanTo};
     ghost use Rattle.dap_world.specs.Headline.{HeadlineOf};
-    ghost use Rattle.dap_world.specs.declared.event.End.{End};
-    ghost use Rattle.dap_world.specs.declared.event.WorldFault.TheVariants.{NoMemory};
+    ghost use Rattle.dap_events.specs.declared.event.End.{End};
+    ghost use Rattle.dap_events.specs.declared.event.WorldFault.TheVariants.{NoMemory};
 
     /// Writes the first segments of an end that aren't acknowledged again, in order.
     fn resend_all(&mut self, end: End, count: usize) -> Result<(), WorldFault>
@@ -43,7 +44,7 @@ impl World {
         ensures left { OnErr result (unacked self.new end ≡ unacked self.old end) }
     {
         for j in first..last {
-            match self.step(&Event::Deliver(end.other(), j)) {
+            match self.step(&Event::Deliver(other_end(end), j)) {
                 Ok(_step) => {}
                 Err(fault) => return Err(fault),
             }
@@ -61,8 +62,8 @@ impl World {
         ensures err { IfErr result (λ f. (f ≡ NoMemory) × RanTo self.old self.new) }
         ensures left { OnErr result (unacked self.new end ≡ unacked self.old end) }
     {
-        let place = self.wire(end.other()).len();
-        match self.step(&Event::Ack(end.other())) {
+        let place = self.wire(other_end(end)).len();
+        match self.step(&Event::Ack(other_end(end))) {
             Ok(_step) => {}
             Err(fault) => return Err(fault),
         }

@@ -8,27 +8,15 @@ ghost use Rattle.dap_world.specs.Machine.{fresh};
 ghost use Rattle.dap_world.specs.Headline.{HeadlineOf};
 ghost use Rattle.dap_world.specs.Settling.{IsFresh};
 ghost use Rattle.nsp_link.specs.declared.fault.LinkFault.TheVariants as link_fault;
-ghost use Rattle.dap_world.specs.declared.event.WorldFault.TheVariants.{BadSetup, NoMemory};
+ghost use Rattle.dap_events.specs.declared.event.WorldFault.TheVariants.{BadSetup, NoMemory};
 
-use crate::event::{End, WorldFault};
+use crate::ends::other_end;
 use crate::world::World;
 use dap_end::{AskingEnd, ServingEnd};
+use dap_events::{End, WorldFault, WorldSetup};
 use dap_msg::LEAST_BUFFER;
 use nsp_link::{LinkFault, LinkSetup};
 use std::alloc::Global;
-
-/// The numbers of a world (own).
-#[derive(Clone, Copy, Debug, PartialEq, Eq)]
-pub struct WorldSetup {
-    /// The bytes of a segment, 1 to 1,400.
-    pub seg_size: usize,
-    /// The segments sent and not acknowledged at most, 1 to 2,047.
-    pub window: usize,
-    /// The buffer of A in bytes, 64 to 65,535.
-    pub bufsiz_a: u16,
-    /// The buffer of B in bytes, likewise.
-    pub bufsiz_b: u16,
-}
 
 /// The address of an end.
 fn address(end: End) -> u16
@@ -46,7 +34,7 @@ fn link_setup(setup: &WorldSetup, end: End) -> LinkSetup
 {
     LinkSetup {
         local: address(end),
-        remote: address(end.other()),
+        remote: address(other_end(end)),
         seg_size: setup.seg_size,
         window: setup.window,
         max_message: usize::from(setup.bufsiz_a.max(setup.bufsiz_b)),

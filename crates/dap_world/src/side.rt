@@ -10,10 +10,10 @@ ghost use Rattle.nsp_link.specs.declared.fault.LinkFault.TheVariants as link_fau
 ghost use Rattle.dap_world.specs.Machine.{is_old};
 ghost use Rattle.dap_world.specs.Inner.Sides.{AreShort, EmitFault, PostFault, ResendFault, WroteOne};
 ghost use Rattle.dap_world.specs.Inner.Ways.{NotDue, is_old_segment, is_old_wired};
-ghost use Rattle.dap_world.specs.declared.event.WorldFault.TheVariants.{NoMemory};
-ghost use Rattle.dap_world.specs.declared.event.Step.TheVariants as step;
+ghost use Rattle.dap_events.specs.declared.event.WorldFault.TheVariants.{NoMemory};
+ghost use Rattle.dap_events.specs.declared.event.Step.TheVariants as step;
 
-use crate::event::{Step, WorldFault};
+use dap_events::{Step, WorldFault};
 use nsp_link::{GREATEST_AGE, LinkEnd, LinkFault};
 
 /// A packet that an end wrote (own).

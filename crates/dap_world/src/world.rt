@@ -1,10 +1,10 @@
 //! Both ends and the network. The line `let _ = &self.read` lets a proof see what is true of every world.
 
-use crate::event::{End, Event, Step, WorldFault};
 use crate::side::Wired;
 use dap_accessed::FileTable;
 use dap_accessing::{Report, Request};
 use dap_end::{AskingEnd, ServingEnd};
+use dap_events::{End, Event, Step, WorldFault};
 use nsp_link::LinkEnd;
 use std::alloc::Global;
 use std::marker::Model;

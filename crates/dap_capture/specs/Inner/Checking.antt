@@ -1,12 +1,8 @@
 -- What a check of lines tells.
-use Rattle.std.specs.Prelude.{◌≡◌, ◌⊎◌, List, [], slice_get, Some, Result, MatchResult}
+use Rattle.std.specs.Prelude.{◌≡◌, ◌⊎◌, List, [], Result, MatchResult}
 use Rattle.dap_listing.specs.Firsts.{IsFirst}
 use Rattle.dap_listing.specs.declared.fault.CaptureFault.{CaptureFault}
 use Rattle.dap_listing.specs.declared.fault.CaptureFault.TheVariants.{NoMemory}
-
--- the first of the faults, where there is one
-abbrev pub TellsFirst : {X : Type 0} → Result X CaptureFault → List CaptureFault → Type 0
-TellsFirst result faults = MatchResult result (λ _. faults ≡ []) (λ fault. slice_get faults 0 ≡ Some fault)
 
 -- the first of the faults, where there is one and memory sufficed up to it
 abbrev pub TellsFirstOrWants : {X : Type 0} → Result X CaptureFault → List CaptureFault → Type 0

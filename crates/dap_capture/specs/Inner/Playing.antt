@@ -1,15 +1,18 @@
 -- What the program does of one event.
 use Rattle.std.specs.Prelude.{◌≡◌, ℕ, List, ◌++◌, Some, slice_get}
+use Rattle.std.specs.List.{filter_map}
 use Rattle.std.specs.Global.{Vec}
-use Rattle.dap_world.specs.declared.event.End.{End}
-use Rattle.dap_world.specs.declared.event.Event.{Event}
-use Rattle.dap_world.specs.declared.event.Step.{Step}
-use Rattle.dap_world.specs.declared.event.WorldFault.{WorldFault}
+use Rattle.dap_events.specs.declared.event.End.{End}
+use Rattle.dap_events.specs.declared.event.Event.{Event}
+use Rattle.dap_events.specs.declared.event.Step.{Step}
+use Rattle.dap_events.specs.declared.event.WorldFault.{WorldFault}
 use Rattle.dap_world.specs.Machine.{State, Sending, Steps, Refuses, end_of}
 use Rattle.dap_world.specs.Wires.{IsOnWire}
 use Rattle.dap_listing.specs.declared.fault.Outcome.{Outcome}
 use Rattle.dap_listing.specs.declared.fault.Outcome.TheVariants.{Good, Stopped}
 use Rattle.dap_text.specs.Adding.{Adds}
+use Rattle.dap_orders.specs.Orders.{event_of}
+use Rattle.dap_orders.specs.Schedules.{Numbered}
 use Rattle.dap_capture.specs.Played.{IsStepText, event_line, refusal_line, refusal_text}
 
 -- these are the bytes of the packet at a place of an end's wire
@@ -30,3 +33,7 @@ PlaysOne number e old new before after Good =
 PlaysOne number e old new before after Stopped =
     (f : WorldFault) × (word : List ℕ) × Refuses old e f × (refusal_text f ≡ Some word) × (new ≡ old)
     × (after ≡ before ++ refusal_line number word)
+
+-- the events of lines
+abbrev pub events_of : List Numbered → List Event
+events_of said = filter_map (λ line. event_of line.1) said

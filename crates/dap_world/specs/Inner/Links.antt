@@ -4,7 +4,7 @@ use Rattle.std.specs.List.{AllByRecursion}
 use Rattle.std.specs.Map.{keys_of}
 use Rattle.dap_msg.specs.Blocked.{all_joined}
 use Rattle.nsp_link.specs.Link.{LinkValue, Sends, Stands}
-use Rattle.dap_world.specs.declared.event.End.{End}
+use Rattle.dap_events.specs.declared.event.End.{End}
 use Rattle.dap_world.specs.declared.side.Wired.{Wired}
 use Rattle.dap_world.specs.Machine.{State, end_of, other}
 use Rattle.dap_world.specs.Links.{left_link}

@@ -1,14 +1,14 @@
 -- The parts of a stretch without loss.
 use Rattle.std.specs.Prelude.{◌≡◌, ℕ, ◌+◌, ◌*◌, ◌≤◌, ◌<◌, List, [], ◌∷◌, ◌++◌, length, Some, None, slice_get}
-use Rattle.dap_world.specs.declared.event.End.{End}
-use Rattle.dap_world.specs.declared.event.Event.{Event}
-use Rattle.dap_world.specs.declared.event.Event.TheVariants as event
-use Rattle.dap_world.specs.declared.event.WorldFault.{WorldFault}
+use Rattle.dap_events.specs.declared.event.End.{End}
+use Rattle.dap_events.specs.declared.event.Event.{Event}
+use Rattle.dap_events.specs.declared.event.Event.TheVariants as event
+use Rattle.dap_events.specs.declared.event.WorldFault.{WorldFault}
 use Rattle.dap_world.specs.Runs.{Runs}
 use Rattle.dap_world.specs.Machine.{State, EndState, Sending, MayEmit, next_to_read, posted, reported, end_of, sent_by, other, with_end}
 use Rattle.dap_msg.specs.declared.message.Message.{Message}
 use Rattle.dap_world.specs.Settling.{FinishFault, IsEmpty, RanBy, unacked}
-use Rattle.dap_world.specs.declared.event.End.TheVariants.{A, B}
+use Rattle.dap_events.specs.declared.event.End.TheVariants.{A, B}
 
 -- some events lead from the one state to the other, and none of them asks
 abbrev pub RanTo : State → State → Type 0

@@ -1,8 +1,8 @@
 -- How the link of each end of a new world is set up.
 use Rattle.std.specs.Prelude.{max}
 use Rattle.nsp_link.specs.declared.link.LinkSetup.{LinkSetup}
-use Rattle.dap_world.specs.declared.event.End.{End}
-use Rattle.dap_world.specs.declared.setup.WorldSetup.{WorldSetup}
+use Rattle.dap_events.specs.declared.event.End.{End}
+use Rattle.dap_events.specs.declared.setup.WorldSetup.{WorldSetup}
 use Rattle.dap_world.specs.Machine.{other}
 use Rattle.dap_world.specs.Wires.{address_of}
 

@@ -13,10 +13,10 @@ use Rattle.dap_end.specs.Asking.{AskedOne}
 use Rattle.dap_end.specs.Done.{AskingValue}
 use Rattle.dap_end.specs.Ports.{PortValue}
 use Rattle.dap_world.specs.declared.side.Wired.{Wired}
-use Rattle.dap_world.specs.declared.event.Step.{Step}
-use Rattle.dap_world.specs.declared.event.Step.TheVariants as step
-use Rattle.dap_world.specs.declared.event.WorldFault.{WorldFault}
-use Rattle.dap_world.specs.declared.event.WorldFault.TheVariants as fault
+use Rattle.dap_events.specs.declared.event.Step.{Step}
+use Rattle.dap_events.specs.declared.event.Step.TheVariants as step
+use Rattle.dap_events.specs.declared.event.WorldFault.{WorldFault}
+use Rattle.dap_events.specs.declared.event.WorldFault.TheVariants as fault
 
 -- an end's port, how many NSP messages it handed to its link, and the packets that it wrote
 pub record SideValue : Type 0 where

@@ -11,10 +11,10 @@ use Rattle.nsp_link.specs.Receiving.{Receives}
 use Rattle.dap_world.specs.Machine.{is_old}
 use Rattle.dap_world.specs.Inner.Sides.{SideValue, AreShort}
 use Rattle.dap_world.specs.declared.side.Wired.{Wired}
-use Rattle.dap_world.specs.declared.event.Step.{Step}
-use Rattle.dap_world.specs.declared.event.Step.TheVariants as step
-use Rattle.dap_world.specs.declared.event.WorldFault.{WorldFault}
-use Rattle.dap_world.specs.declared.event.WorldFault.TheVariants as fault
+use Rattle.dap_events.specs.declared.event.Step.{Step}
+use Rattle.dap_events.specs.declared.event.Step.TheVariants as step
+use Rattle.dap_events.specs.declared.event.WorldFault.{WorldFault}
+use Rattle.dap_events.specs.declared.event.WorldFault.TheVariants as fault
 
 -- The messages are those handed to the one link; the other stands after some of their segments and gave away these.
 pub record IsWay (from : SideValue) (to : LinkValue) (messages given : List (List ℕ)) : Type 0 where

@@ -6,7 +6,7 @@ use Rattle.dap_accessed.specs.Groups.{Answers}
 use Rattle.dap_accessing.specs.Asked.{Asked}
 use Rattle.nsp_link.specs.Limits.{largest_window, most_segments}
 use Rattle.dap_world.specs.Agreement.{IsBufsiz, AreAdmissible}
-use Rattle.dap_world.specs.declared.event.End.TheVariants.{A, B}
+use Rattle.dap_events.specs.declared.event.End.TheVariants.{A, B}
 use Rattle.dap_world.specs.Machine.{State, EndState, Sending, taken_of, arrived_at, segments_of}
 
 -- ---- Each direction.

@@ -1,8 +1,8 @@
 use Rattle.std.proofs.Common.{rules, ◌∙◌}
 use Rattle.dap_listing.specs.declared.fault.Outcome.TheVariants.{Good, Stopped}
-use Rattle.dap_capture.specs.Inner.Orders.{event_of_order}
+use Rattle.dap_orders.specs.Orders.{event_of_order}
 use Rattle.dap_capture.specs.Inner.Playing.{PlaysOne}
-use Rattle.dap_capture.specs.Inner.Schedules.{events_of}
+use Rattle.dap_capture.specs.Inner.Playing.{events_of}
 use Rattle.dap_capture.proofs.PlayLemmas.{faults_after, goes_further, is_over, stops_here}
 use Rattle.dap_capture.proofs.play.play_events.Goals as goal
 

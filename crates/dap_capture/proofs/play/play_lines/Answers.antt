@@ -2,7 +2,7 @@ use Rattle.std.proofs.Common.{rules, ap, ◌∙◌, codes, ◌++◌, ◌≡◌}
 use Rattle.std.proofs.lemmas.Result.{IfOk-weaker}
 use Rattle.dap_capture.proofs.PlayLemmas.{nothing_said, bad_sizes, played_from}
 use Rattle.dap_capture.specs.Played.{refusal_line}
-use Rattle.dap_capture.specs.Schedules.{said}
+use Rattle.dap_orders.specs.Schedules.{said}
 use Rattle.dap_capture.proofs.play.play_lines.Goals as goal
 
 pub returns-in_default-clause-played : goal.returns-in_default-clause-played

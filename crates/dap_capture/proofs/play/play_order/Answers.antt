@@ -1,6 +1,6 @@
 use Rattle.std.proofs.Common.{subst}
 use Rattle.std.specs.Prelude.{Ok}
-use Rattle.dap_world.specs.declared.event.Event.{Event}
+use Rattle.dap_events.specs.declared.event.Event.{Event}
 use Rattle.dap_world.specs.Naming.{NamedIsThere}
 use Rattle.dap_world.proofs.ForCallers.{named}
 use Rattle.dap_capture.proofs.play.play_order.Goals as goal

@@ -1,6 +1,6 @@
 use Rattle.std.proofs.Common.{◌≡◌, ◌∙◌, Err, ap, subst, length, map}
-use Rattle.dap_world.specs.declared.event.End.{End}
-use Rattle.dap_world.specs.declared.event.Event.TheVariants as event
+use Rattle.dap_events.specs.declared.event.End.{End}
+use Rattle.dap_events.specs.declared.event.Event.TheVariants as event
 use Rattle.dap_world.specs.Machine.{State, Steps, end_of}
 use Rattle.dap_world.specs.Settling.{unacked}
 use Rattle.dap_world.proofs.Others.{refused_same}
@@ -13,15 +13,15 @@ use Rattle.dap_world.proofs.world.World.acknowledge.Goals as goal
 pub returns-in-Ok-step-clause-ok : goal.returns-in-Ok-step-clause-ok
 returns-in-Ok-step-clause-ok c =
     let shown = c.wire-place.result.now in
-    let at = wire_length c.args.self.now _ shown (subst (λ (e : End). map sending_of shown ≡ (end_of c.args.self.now e).wire) c.other.ensures c.wire-place.ensures.sendings) in
-    let first = subst (λ (e : End). Steps c.args.self.now (event.Ack e) c.in-Ok._step c.step.new.self) c.other-2.ensures c.in-Ok.ensures.went in
+    let at = wire_length c.args.self.now _ shown (subst (λ (e : End). map sending_of shown ≡ (end_of c.args.self.now e).wire) c.other_end.ensures c.wire-place.ensures.sendings) in
+    let first = subst (λ (e : End). Steps c.args.self.now (event.Ack e) c.in-Ok._step c.step.new.self) c.other_end-2.ensures c.in-Ok.ensures.went in
     acknowledged_all c.args.self.now c.step.new.self c.step-2.new.self c.args.end (length shown) c.in-Ok._step c.in-Ok-step._step c.requires.world c.requires.taken at first c.in-Ok-step.ensures.went
 
 pub returns-clause-err : goal.returns-clause-err
 returns-clause-err c =
     let shown = c.wire-place.result.now in
-    let at = wire_length c.args.self.now _ shown (subst (λ (e : End). map sending_of shown ≡ (end_of c.args.self.now e).wire) c.other.ensures c.wire-place.ensures.sendings) in
-    let first = subst (λ (e : End). Steps c.args.self.now (event.Ack e) c.in-Ok._step c.step.new.self) c.other-2.ensures c.in-Ok.ensures.went in
+    let at = wire_length c.args.self.now _ shown (subst (λ (e : End). map sending_of shown ≡ (end_of c.args.self.now e).wire) c.other_end.ensures c.wire-place.ensures.sendings) in
+    let first = subst (λ (e : End). Steps c.args.self.now (event.Ack e) c.in-Ok._step c.step.new.self) c.other_end-2.ensures c.in-Ok.ensures.went in
     back_refused c.args.self.now c.step.new.self c.step-2.new.self c.args.end (length shown) c.in-Ok._step c.in-Err-step.fault c.requires.world at first c.in-Err-step.ensures.went
 
 pub returns-in-Err-clause-rest : goal.returns-in-Err-clause-rest
@@ -39,13 +39,13 @@ returns-clause-rest c =
 
 pub returns-in-Err-clause-err : goal.returns-in-Err-clause-err
 returns-in-Err-clause-err c =
-    ack_refused c.args.self.now c.step.new.self c.args.end c.in-Err.fault (subst (λ (e : End). Went c.args.self.now (event.Ack e) (Err c.in-Err.fault) c.step.new.self) c.other-2.ensures c.in-Err.ensures.went)
+    ack_refused c.args.self.now c.step.new.self c.args.end c.in-Err.fault (subst (λ (e : End). Went c.args.self.now (event.Ack e) (Err c.in-Err.fault) c.step.new.self) c.other_end-2.ensures c.in-Err.ensures.went)
 
 pub returns-in-Err-clause-left : goal.returns-in-Err-clause-left
 returns-in-Err-clause-left c = ap (λ (s : State). unacked s c.args.end) (refused_same c.args.self.now c.step.new.self _ c.in-Err.fault c.in-Err.ensures.went)
 
 pub returns-clause-left : goal.returns-clause-left
 returns-clause-left c =
-    let first = subst (λ (e : End). Steps c.args.self.now (event.Ack e) c.in-Ok._step c.step.new.self) c.other-2.ensures c.in-Ok.ensures.went in
+    let first = subst (λ (e : End). Steps c.args.self.now (event.Ack e) c.in-Ok._step c.step.new.self) c.other_end-2.ensures c.in-Ok.ensures.went in
     ap (λ (s : State). unacked s c.args.end) (refused_same c.step.new.self c.step-2.new.self _ c.in-Err-step.fault c.in-Err-step.ensures.went)
     ∙ ack_unacked c.args.self.now c.step.new.self c.args.end c.in-Ok._step first

@@ -1,6 +1,6 @@
 use Rattle.std.proofs.Common.{◌≡◌, ◌-◌, ◌∙◌, ℕ, Err, ap, arith, subst}
-use Rattle.dap_world.specs.declared.event.End.{End}
-use Rattle.dap_world.specs.declared.event.Event.TheVariants as event
+use Rattle.dap_events.specs.declared.event.End.{End}
+use Rattle.dap_events.specs.declared.event.Event.TheVariants as event
 use Rattle.dap_world.specs.Machine.{State, Steps}
 use Rattle.dap_world.specs.Settling.{unacked}
 use Rattle.dap_world.proofs.Others.{refused_same}
@@ -12,7 +12,7 @@ use Rattle.dap_world.proofs.world.World.deliver_all.Goals as goal
 
 pub loop-j-preserved : goal.loop-j-preserved
 loop-j-preserved c =
-    let went = subst (λ (e : End). Steps c.loop-j.self (event.Deliver e c.loop-j.j) c.in-Ok._step c.step.new.self) c.other.ensures c.in-Ok.ensures.went in
+    let went = subst (λ (e : End). Steps c.loop-j.self (event.Deliver e c.loop-j.j) c.in-Ok._step c.step.new.self) c.other_end.ensures c.in-Ok.ensures.went in
     record {
       came = came_more c.args.self.now c.loop-j.self c.step.new.self c.args.end c.args.first c.args.last c.loop-j.j c.in-Ok._step c.loop-j.invariant.world c.loop-j.invariant.came c.requires.there
           c.loop-j.auto.j c.loop-j-test.true c.requires.few went;
@@ -24,7 +24,7 @@ pub returns-in-Err-clause-err : goal.returns-in-Err-clause-err
 returns-in-Err-clause-err c =
     came_refused c.args.self.now c.loop-j.self c.step.new.self c.args.end c.args.first c.args.last c.loop-j.j c.in-Err.fault c.loop-j.invariant.world c.loop-j.invariant.came c.requires.there
     c.loop-j.auto.j c.loop-j-test.true
-    (subst (λ (e : End). Went c.loop-j.self (event.Deliver e c.loop-j.j) (Err c.in-Err.fault) c.step.new.self) c.other.ensures c.in-Err.ensures.went)
+    (subst (λ (e : End). Went c.loop-j.self (event.Deliver e c.loop-j.j) (Err c.in-Err.fault) c.step.new.self) c.other_end.ensures c.in-Err.ensures.went)
 
 pub returns-clause-ok : goal.returns-clause-ok
 returns-clause-ok c =

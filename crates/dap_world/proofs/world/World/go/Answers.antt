@@ -1,6 +1,6 @@
 use Rattle.std.proofs.Common.{sym, ap, ◌∙◌, Some}
 use Rattle.std.proofs.lemmas.Option.{slice_get-get_or}
-use Rattle.dap_world.specs.declared.event.Event.{Event}
+use Rattle.dap_events.specs.declared.event.Event.{Event}
 use Rattle.dap_world.proofs.Others.{runs_more, stops}
 use Rattle.dap_world.proofs.world.World.go.Goals as goal
 

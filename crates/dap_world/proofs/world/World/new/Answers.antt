@@ -3,7 +3,7 @@ use Rattle.nsp_link.specs.declared.link.LinkSetup.{LinkSetup}
 use Rattle.nsp_link.specs.Link.{IsSetup}
 use Rattle.dap_msg.specs.Blocked.{bodies}
 use Rattle.dap_end.specs.Ports.{new_port}
-use Rattle.dap_world.specs.declared.event.End.TheVariants.{A}
+use Rattle.dap_events.specs.declared.event.End.TheVariants.{A}
 use Rattle.dap_world.proofs.Kept.{headline_of}
 use Rattle.dap_world.proofs.New.{new_sound, world_setup}
 use Rattle.dap_world.proofs.world.World.new.Goals as goal

@@ -1,4 +1,4 @@
-use Rattle.dap_world.specs.declared.event.End.TheVariants.{A, B}
+use Rattle.dap_events.specs.declared.event.End.TheVariants.{A, B}
 use Rattle.dap_msg.specs.Blocked.{bodies}
 use Rattle.dap_world.specs.Inner.WorldView.{parts_of}
 use Rattle.dap_world.proofs.Wrote.{is_running}

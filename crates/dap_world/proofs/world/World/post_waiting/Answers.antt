@@ -1,8 +1,8 @@
 use Rattle.std.proofs.Common.{◌∙◌, ap, subst, Err}
 use Rattle.std.specs.Prelude.{Result}
-use Rattle.dap_world.specs.declared.event.Event.TheVariants as event
-use Rattle.dap_world.specs.declared.event.Step.{Step}
-use Rattle.dap_world.specs.declared.event.WorldFault.{WorldFault}
+use Rattle.dap_events.specs.declared.event.Event.TheVariants as event
+use Rattle.dap_events.specs.declared.event.Step.{Step}
+use Rattle.dap_events.specs.declared.event.WorldFault.{WorldFault}
 use Rattle.dap_world.specs.Runs.{Went}
 use Rattle.dap_world.proofs.Exhausting.{post_fault}
 use Rattle.dap_world.proofs.Others.{refused_same}

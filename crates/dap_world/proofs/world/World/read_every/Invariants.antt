@@ -1,5 +1,5 @@
 use Rattle.std.proofs.Common.{◌-◌, ℕ, length}
-use Rattle.dap_world.specs.declared.event.End.TheVariants.{A}
+use Rattle.dap_events.specs.declared.event.End.TheVariants.{A}
 use Rattle.dap_world.specs.Machine.{arrived_at}
 use Rattle.dap_world.specs.Inner.Worlds.{IsWorld}
 use Rattle.dap_world.proofs.Emptying.{ReadSome}

@@ -1,5 +1,5 @@
 use Rattle.std.proofs.Common.{◌∙◌, ap, arith}
-use Rattle.dap_world.specs.declared.event.Event.TheVariants as event
+use Rattle.dap_events.specs.declared.event.Event.TheVariants as event
 use Rattle.dap_world.specs.Machine.{State}
 use Rattle.dap_world.specs.Settling.{unacked}
 use Rattle.dap_world.proofs.Others.{refused_same}

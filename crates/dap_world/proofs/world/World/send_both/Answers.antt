@@ -1,6 +1,6 @@
 use Rattle.std.proofs.Common.{◌+◌}
 use Rattle.dap_world.proofs.Settles.{ran_both}
-use Rattle.dap_world.specs.declared.event.End.TheVariants.{A}
+use Rattle.dap_events.specs.declared.event.End.TheVariants.{A}
 use Rattle.dap_world.proofs.Posting.{still_other}
 use Rattle.dap_world.proofs.SentBoth.{sent_both, settled_b}
 use Rattle.dap_world.proofs.world.World.send_both.Goals as goal

@@ -1,4 +1,4 @@
-use Rattle.dap_world.specs.declared.event.WorldFault.TheVariants.{NoMemory, NothingToDo}
+use Rattle.dap_events.specs.declared.event.WorldFault.TheVariants.{NoMemory, NothingToDo}
 use Rattle.dap_world.specs.Inner.WorldView.{parts_of}
 use Rattle.std.proofs.Common.{arith}
 use Rattle.dap_world.proofs.Few.{few_served}

@@ -1,8 +1,8 @@
 use Rattle.std.proofs.Common.{◌≡◌, ◌+◌, ◌-◌, ◌∙◌, ℕ, List, arith, ap, subst, sym, length}
 use Rattle.dap_msg.specs.Blocked.{NspMessage, messages_in}
 use Rattle.std.specs.Prelude.{Err}
-use Rattle.dap_world.specs.declared.event.Event.TheVariants as event
-use Rattle.dap_world.specs.declared.event.WorldFault.{WorldFault}
+use Rattle.dap_events.specs.declared.event.Event.TheVariants as event
+use Rattle.dap_events.specs.declared.event.WorldFault.{WorldFault}
 use Rattle.dap_world.specs.Runs.{Went}
 use Rattle.dap_world.specs.Machine.{State, EndState}
 use Rattle.dap_world.specs.Inner.Settling.{Served, ServedEvery}

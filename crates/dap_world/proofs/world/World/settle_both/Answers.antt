@@ -1,5 +1,5 @@
 use Rattle.std.proofs.Common.{◌+◌, arith}
-use Rattle.dap_world.specs.declared.event.End.TheVariants.{A, B}
+use Rattle.dap_events.specs.declared.event.End.TheVariants.{A, B}
 use Rattle.dap_world.proofs.Settles.{ran_both}
 use Rattle.dap_world.proofs.Exhausting.{memory, unsettled}
 use Rattle.dap_world.proofs.Settled.{settled_both, settle_needs}

@@ -14,21 +14,6 @@ pub enum End {
     B,
 }
 
-impl End {
-    ghost use Rattle.std.specs.Prelude.{◌≡◌};
-    ghost use Rattle.dap_world.specs.Machine.{other};
-
-    /// The other end.
-    pub(crate) fn other(self) -> End
-        ensures { result ≡ other self }
-    {
-        match self {
-            End::A => End::B,
-            End::B => End::A,
-        }
-    }
-}
-
 /// What happens in a world (own).
 #[derive(Drop, Debug, PartialEq)]
 pub enum Event {
@@ -97,7 +82,7 @@ pub enum WorldFault {
 
 impl From<AllocError> for WorldFault {
     ghost use Rattle.std.specs.Prelude.{◌≡◌};
-    ghost use Rattle.dap_world.specs.declared.event.WorldFault.TheVariants.{NoMemory};
+    ghost use Rattle.dap_events.specs.declared.event.WorldFault.TheVariants.{NoMemory};
 
     ghost from_gives = { λ _ e. e ≡ NoMemory };
 
@@ -108,7 +93,7 @@ impl From<AllocError> for WorldFault {
 
 impl<T: Drop> From<AllocFailed<T>> for WorldFault {
     ghost use Rattle.std.specs.Prelude.{◌≡◌};
-    ghost use Rattle.dap_world.specs.declared.event.WorldFault.TheVariants.{NoMemory};
+    ghost use Rattle.dap_events.specs.declared.event.WorldFault.TheVariants.{NoMemory};
 
     ghost from_gives = { λ _ e. e ≡ NoMemory };
 

@@ -1,11 +1,13 @@
 -- What the lines of a schedule say: a setup, or an event.
 use Rattle.std.specs.Prelude.{ℕ, List, [], ◌∷◌, codes, bytes_eq, Option, option_map}
 use Rattle.std.specs.Map.{lookup}
-use Rattle.dap_world.specs.declared.event.End.{End}
-use Rattle.dap_world.specs.declared.event.End.TheVariants.{A, B}
-use Rattle.dap_world.specs.declared.event.Event.{Event}
-use Rattle.dap_world.specs.declared.event.Event.TheVariants as event
-use Rattle.dap_world.specs.declared.setup.WorldSetup.{WorldSetup}
+use Rattle.dap_events.specs.declared.event.End.{End}
+use Rattle.dap_events.specs.declared.event.End.TheVariants.{A, B}
+use Rattle.dap_events.specs.declared.event.Event.{Event}
+use Rattle.dap_events.specs.declared.event.Event.TheVariants as event
+use Rattle.dap_events.specs.declared.setup.WorldSetup.{WorldSetup}
+use Rattle.dap_orders.specs.declared.orders.Order.{Order}
+use Rattle.dap_orders.specs.declared.orders.Order.TheVariants as order
 use Rattle.dap_text.specs.Requests.{request_of}
 use Rattle.dap_text.specs.Words.{ends, field, long, one_of, short, word, words_of}
 
@@ -31,3 +33,14 @@ abbrev pub setup_of : List ℕ → Option WorldSetup
 setup_of line =
     word (codes "setup") (field long (λ seg_size. field long (λ window. field short (λ bufsiz_a. field short (λ bufsiz_b.
     ends (record { seg_size = seg_size; window = window; bufsiz_a = bufsiz_a; bufsiz_b = bufsiz_b })))))) (words_of line)
+
+-- the event that an order is for
+abbrev pub event_of_order : Order → Event
+event_of_order (order.Ask request) = event.Ask request
+event_of_order (order.Post end) = event.Post end
+event_of_order (order.Emit end) = event.Emit end
+event_of_order (order.Resend end back) = event.Resend end back
+event_of_order (order.Ack end) = event.Ack end
+event_of_order (order.Deliver end place) = event.Deliver end place
+event_of_order order.Serve = event.Serve
+event_of_order order.Read = event.Read

@@ -1,7 +1,7 @@
 //! The lines of a schedule that say something.
 
 ghost use Rattle.std.specs.Prelude.{◌≡◌, ◌≤◌, ◌+◌, ◌∷◌, [], length, IfSome, MatchOption};
-ghost use Rattle.dap_capture.specs.Inner.Schedules.{said_from};
+ghost use Rattle.dap_orders.specs.Schedules.{said_from};
 
 use dap_listing::{INPUT_LIMIT, next_line};
 use linewise::is_skipped;
@@ -30,15 +30,14 @@ fn next_meaningful(number: usize, bytes: &[u8]) -> Option<(usize, &[u8], &[u8])>
 
 /// The lines that say something, from a place of the input on, each behind its number.
 #[derive(Drop)]
-pub(crate) struct MeaningfulLines<'a> {
+pub struct MeaningfulLines<'a> {
     number: usize,
     rest: &'a [u8],
 }
 
 impl<'a> Model for MeaningfulLines<'a> {
     ghost use Rattle.std.specs.Prelude.{List, ◌+◌, ◌≤◌, length};
-    ghost use Rattle.dap_capture.specs.Inner.Schedules.{said_from};
-    ghost use Rattle.dap_capture.specs.Schedules.{Numbered};
+    ghost use Rattle.dap_orders.specs.Schedules.{Numbered, said_from};
 
     ghost Value = { List Numbered };
 
@@ -49,10 +48,10 @@ impl<'a> Model for MeaningfulLines<'a> {
 
 impl<'a> MeaningfulLines<'a> {
     ghost use Rattle.std.specs.Prelude.{◌≡◌, ◌≤◌, ◌+◌, ◌∷◌, [], length, MatchOption};
-    ghost use Rattle.dap_capture.specs.Schedules.{said};
+    ghost use Rattle.dap_orders.specs.Schedules.{said};
 
     /// Those of a whole input.
-    pub(crate) fn of(input: &'a [u8]) -> Self
+    pub fn of(input: &'a [u8]) -> Self
         requires { length input.now ≤ INPUT_LIMIT }
         ensures said { result ≡ said input.now }
         ensures short { length result ≤ length input.now + 1 }
@@ -64,7 +63,7 @@ impl<'a> MeaningfulLines<'a> {
     }
 
     /// The next one.
-    pub(crate) fn next(&mut self) -> Option<(usize, &'a [u8])>
+    pub fn next(&mut self) -> Option<(usize, &'a [u8])>
         ensures { MatchOption result ((self.old ≡ []) × (self.new ≡ []))
             (λ found. self.old ≡ (found.0, found.1.now) ∷ self.new) }
     {

@@ -1,24 +1,11 @@
--- What the orders of the program are.
+-- What a line says, by the parts that are read alone.
 use Rattle.std.specs.Prelude.{ℕ, List, [], ◌∷◌, codes, Option, option_map}
-use Rattle.dap_world.specs.declared.event.End.{End}
-use Rattle.dap_world.specs.declared.event.Event.{Event}
-use Rattle.dap_world.specs.declared.event.Event.TheVariants as event
+use Rattle.dap_events.specs.declared.event.End.{End}
+use Rattle.dap_events.specs.declared.event.Event.{Event}
+use Rattle.dap_events.specs.declared.event.Event.TheVariants as event
 use Rattle.dap_text.specs.Requests.{request_of}
 use Rattle.dap_text.specs.Words.{Words, ends, field, long, one_of, word, words_of}
-use Rattle.dap_capture.specs.Orders.{end_of}
-use Rattle.dap_capture.specs.declared.orders.Order.{Order}
-use Rattle.dap_capture.specs.declared.orders.Order.TheVariants as order
-
--- the event that an order is for
-abbrev pub event_of_order : Order → Event
-event_of_order (order.Ask request) = event.Ask request
-event_of_order (order.Post end) = event.Post end
-event_of_order (order.Emit end) = event.Emit end
-event_of_order (order.Resend end back) = event.Resend end back
-event_of_order (order.Ack end) = event.Ack end
-event_of_order (order.Deliver end place) = event.Deliver end place
-event_of_order order.Serve = event.Serve
-event_of_order order.Read = event.Read
+use Rattle.dap_orders.specs.Orders.{end_of}
 
 -- E
 abbrev pub one_end : (End → Event) → Words → Option Event

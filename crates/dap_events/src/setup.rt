@@ -1,0 +1,14 @@
+//! The sizes of a world.
+
+/// The numbers of a world (own).
+#[derive(Clone, Copy, Debug, PartialEq, Eq)]
+pub struct WorldSetup {
+    /// The bytes of a segment, 1 to 1,400.
+    pub seg_size: usize,
+    /// The segments sent and not acknowledged at most, 1 to 2,047.
+    pub window: usize,
+    /// The buffer of A in bytes, 64 to 65,535.
+    pub bufsiz_a: u16,
+    /// The buffer of B in bytes, likewise.
+    pub bufsiz_b: u16,
+}

@@ -1,0 +1,40 @@
+//! What is wrong with the lines of a schedule.
+
+ghost use Rattle.std.specs.Prelude.{◌≤◌, IfErr, length};
+ghost use Rattle.std.specs.List.{filter_map};
+ghost use Rattle.dap_listing.specs.Firsts.{IsOfLine};
+ghost use Rattle.dap_orders.specs.Schedules.{TellsFirst, event_fault, said, schedule_faults};
+
+use crate::meaningful::MeaningfulLines;
+use crate::orders::{read_order, read_setup};
+use dap_listing::{CaptureFault, INPUT_LIMIT};
+
+/// Whether the lines are events, or else the first fault.
+pub fn check_orders<'a>(mut lines: MeaningfulLines<'a>) -> Result<(), CaptureFault>
+    ensures faults { TellsFirst result (filter_map event_fault lines.entry) }
+    ensures of_line { IfErr result IsOfLine }
+{
+    while let Some((number, line)) = lines.next() {
+        if read_order(line).is_none() {
+            return Err(CaptureFault::BadLine(number));
+        }
+    }
+    Ok(())
+}
+
+/// Whether the first line that says something is a setup, and the others are events, or else the
+/// first fault.
+pub fn check_schedule(input: &[u8]) -> Result<(), CaptureFault>
+    requires { length input.now ≤ INPUT_LIMIT }
+    ensures faults { TellsFirst result (schedule_faults (said input.now)) }
+    ensures of_line { IfErr result IsOfLine }
+{
+    let mut lines = MeaningfulLines::of(input);
+    let Some((first, setup)) = lines.next() else {
+        return Ok(());
+    };
+    if read_setup(setup).is_none() {
+        return Err(CaptureFault::BadLine(first));
+    }
+    check_orders(lines)
+}

@@ -1,0 +1,16 @@
+//! The two ends.
+
+ghost use Rattle.std.specs.Prelude.{◌≡◌};
+ghost use Rattle.dap_world.specs.Machine.{other};
+
+use dap_events::End;
+
+/// The other end.
+pub(crate) fn other_end(end: End) -> End
+    ensures { result ≡ other end }
+{
+    match end {
+        End::A => End::B,
+        End::B => End::A,
+    }
+}
