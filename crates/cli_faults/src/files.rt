@@ -24,7 +24,7 @@ const PCAP_NANO_SWAPPED: &[u8] = &[0x4d, 0x3c, 0xb2, 0xa1];
 const PCAPNG: &[u8] = &[0x0a, 0x0d, 0x0d, 0x0a];
 
 /// A file of captured frames.
-#[derive(Clone, Copy, Debug, PartialEq, Eq)]
+#[derive(Clone, Copy, PartialEq, Eq)]
 pub(crate) enum FileKind {
     Pcap,
     Pcapng,

@@ -8,7 +8,7 @@ use dap_listing::{CaptureFault, Outcome, finish};
 use std::io::Write;
 
 /// A command that reads lines (own).
-#[derive(Clone, Copy, Debug, PartialEq, Eq)]
+#[derive(Clone, Copy, PartialEq, Eq)]
 pub struct Reading {
     /// The name of the program.
     pub program: &'static str,

@@ -1,7 +1,7 @@
 //! What a call gives.
 
 /// What serving one message gives (own).
-#[derive(Drop, Debug, PartialEq)]
+#[derive(Drop, PartialEq)]
 pub struct Served {
     /// The answers, each an NSP message.
     pub answers: Vec<Vec<u8>>,

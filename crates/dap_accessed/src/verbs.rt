@@ -12,7 +12,7 @@ use dap_msg::codes::{
 use rec_file::{AnyFile, Pick, RecordFile, Refusal, Stream, key_number};
 
 /// What a Control asks for (DAP 5.6.0, Control message, CTLFUNC and RAC).
-#[derive(Clone, Copy, PartialEq, Eq, Debug)]
+#[derive(Clone, Copy, PartialEq, Eq)]
 pub enum Verb {
     /// A record.
     Get,

@@ -232,14 +232,14 @@ fn append(
 
 /// What was counted of the messages of a request: the bytes of the first, and of the last behind the records, 0 where
 /// there is none.
-#[derive(Clone, Copy, Debug)]
+#[derive(Clone, Copy)]
 pub(crate) struct Counts {
     first: usize,
     last: usize,
 }
 
 /// The messages of a request.
-#[derive(Drop, Debug)]
+#[derive(Drop)]
 pub(crate) struct Outgoing<'a> {
     first: MessageValue<'a>,
     records: &'a [Octets],
@@ -307,7 +307,7 @@ impl<'a> Outgoing<'a> {
 }
 
 /// The messages of a request that [`crate::Accessing::prepare`] looked at, with what was counted of them. Own.
-#[derive(Drop, Debug)]
+#[derive(Drop)]
 pub struct Prepared<'a> {
     pub(crate) outgoing: Outgoing<'a>,
     pub(crate) counts: Counts,

@@ -98,7 +98,7 @@ impl PartialEq for OctetsList {
 }
 
 /// Records in order, each behind its number. Own.
-#[derive(Drop, Debug)]
+#[derive(Drop)]
 pub struct Numbered(pub Vec<(u64, Octets)>);
 
 impl Model for Numbered {

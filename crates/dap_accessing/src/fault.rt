@@ -39,7 +39,7 @@ pub enum ReadFault {
 }
 
 /// An answer that was read. Own.
-#[derive(Drop, Debug, PartialEq)]
+#[derive(Drop, PartialEq)]
 pub struct ReadStep {
     /// What it completes, if it is the last answer to its request.
     pub report: Option<Report>,

@@ -3,7 +3,7 @@
 use crate::bytes::{Numbered, Octets};
 
 /// How a batch of records ended. Own.
-#[derive(Clone, Copy, Drop, Debug, PartialEq, Eq)]
+#[derive(Clone, Copy, Drop, PartialEq, Eq)]
 pub enum Ending {
     /// At the end of the file.
     Complete,
@@ -14,7 +14,7 @@ pub enum Ending {
 }
 
 /// What was answered to a request. Own.
-#[derive(Drop, Debug, PartialEq)]
+#[derive(Drop, PartialEq)]
 pub enum Report {
     /// To Hello: the peer's buffer size in bytes, 0 for no limit.
     Ready(u16),

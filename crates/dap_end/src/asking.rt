@@ -38,7 +38,7 @@ use std::alloc::Global;
 use std::marker::Model;
 
 /// What reading the next answer comes to (own).
-#[derive(Drop, Debug, PartialEq)]
+#[derive(Drop, PartialEq)]
 pub enum Heard {
     /// Nothing came that wasn't read.
     Nothing,

@@ -6,7 +6,7 @@ use std::alloc::{AllocError, AllocFailed};
 use thiserror::Error;
 
 /// The two ends (own).
-#[derive(Clone, Copy, Drop, Debug, PartialEq, Eq)]
+#[derive(Clone, Copy, Drop, PartialEq, Eq)]
 pub enum End {
     /// The one that asks.
     A,
@@ -15,7 +15,7 @@ pub enum End {
 }
 
 /// What happens in a world (own).
-#[derive(Drop, Debug, PartialEq)]
+#[derive(Drop, PartialEq)]
 pub enum Event {
     /// A request is asked of A; its messages wait.
     Ask(Request),

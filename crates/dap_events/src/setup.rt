@@ -1,7 +1,7 @@
 //! The sizes of a world.
 
 /// The numbers of a world (own).
-#[derive(Clone, Copy, Debug, PartialEq, Eq)]
+#[derive(Clone, Copy, PartialEq, Eq)]
 pub struct WorldSetup {
     /// The bytes of a segment, 1 to 1,400.
     pub seg_size: usize,

@@ -15,7 +15,7 @@ pub(crate) const ROUND: u64 = 4096;
 const BELOW: u64 = 2047;
 
 /// A segment that counts: its place, the number of its packet, its marks, and the hex digits of its payload.
-#[derive(Clone, Copy, Debug)]
+#[derive(Clone, Copy)]
 pub(crate) struct Counted<'a> {
     pub(crate) place: u64,
     pub(crate) packet: usize,

@@ -12,7 +12,7 @@ use nsp_seg::Seq12;
 use std::alloc::{AllocError, Global};
 
 /// The segments that go one way between two ends (own).
-#[derive(Clone, Copy, Debug, PartialEq, Eq, Hash)]
+#[derive(Clone, Copy, PartialEq, Eq, Hash)]
 pub(crate) struct Stream {
     pub(crate) way: Direction,
     pub(crate) dst: u16,

@@ -4,7 +4,7 @@ use nsp_seg::{AckField, AckFields, Seq12};
 
 /// A captured data segment (NSP 4.0.0, data segment message). Its fields are those of a packet's segment, but of its
 /// payload the hex digits stand here, two for each byte: most payloads are listed or joined without being decoded.
-#[derive(Clone, Copy, Debug, PartialEq, Eq)]
+#[derive(Clone, Copy, PartialEq, Eq)]
 pub struct CapturedSegment<'a> {
     pub first: bool,
     pub last: bool,
@@ -17,7 +17,7 @@ pub struct CapturedSegment<'a> {
 }
 
 /// A captured packet, as [`crate::read_packet`] reads it (NSP 4.0.0, data segments and their acknowledgement).
-#[derive(Clone, Copy, Debug, PartialEq, Eq)]
+#[derive(Clone, Copy, PartialEq, Eq)]
 pub enum CapturedPacket<'a> {
     Segment(CapturedSegment<'a>),
     DataAck(AckFields),

@@ -17,7 +17,7 @@ pub const PACKET_LIMIT: usize = 4096;
 
 /// A captured packet among lines: the way that it went and the hex digits of its bytes; and the number of the line behind
 /// it, and what stands there (own).
-#[derive(Clone, Copy, Debug, PartialEq)]
+#[derive(Clone, Copy, PartialEq)]
 pub struct Found<'a> {
     pub way: Direction,
     pub digits: &'a [u8],

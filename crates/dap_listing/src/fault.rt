@@ -7,7 +7,7 @@ use std::io::Write;
 use thiserror::Error;
 
 /// A run that came to its end (own).
-#[derive(Clone, Copy, Debug, PartialEq, Eq)]
+#[derive(Clone, Copy, PartialEq, Eq)]
 pub enum Outcome {
     /// All was done.
     Good,

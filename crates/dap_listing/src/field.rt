@@ -13,7 +13,7 @@ use itoa::Integer;
 use std::alloc::AllocError;
 
 /// A field by its name, with its value where it is there.
-#[derive(Clone, Copy, Debug)]
+#[derive(Clone, Copy)]
 pub(crate) enum Field<'a> {
     Byte(&'static str, Option<u8>),
     Word(&'static str, Option<u16>),

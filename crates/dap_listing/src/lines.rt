@@ -9,7 +9,7 @@ ghost use Rattle.dap_listing.specs.Inner.Cutting.{HasNoEnd, IsCut, IsEnd};
 use dap_text::find_byte;
 
 /// The way that captured bytes went (own).
-#[derive(Clone, Copy, Debug, PartialEq, Eq, Hash)]
+#[derive(Clone, Copy, PartialEq, Eq, Hash)]
 pub enum Direction {
     /// `>`
     Right,
@@ -18,7 +18,7 @@ pub enum Direction {
 }
 
 /// What the first bytes of a line say.
-#[derive(Clone, Copy, Debug)]
+#[derive(Clone, Copy)]
 pub(crate) enum Head<'a> {
     /// The line says nothing: it is empty or a comment.
     Skipped,

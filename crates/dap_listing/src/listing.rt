@@ -24,7 +24,7 @@ use std::alloc::{AllocError, Global};
 use std::io::Read;
 
 /// What the lines of an input hold, as the contracts of [`crate::show`] and [`crate::messages`] say it (own).
-#[derive(Clone, Copy, Debug, PartialEq, Eq)]
+#[derive(Clone, Copy, PartialEq, Eq)]
 pub enum Listed {
     /// NSP packets.
     Packets,

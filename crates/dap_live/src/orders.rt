@@ -12,7 +12,7 @@ use dap_text::{
 use nsp_link::LinkSetup;
 
 /// How a link is set up anew; what isn't said is as before.
-#[derive(Clone, Copy, Debug)]
+#[derive(Clone, Copy)]
 pub(crate) enum Anew {
     Same,
     /// Between these addresses, the own one first.

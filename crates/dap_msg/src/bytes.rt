@@ -3,7 +3,7 @@
 use std::marker::Model;
 
 /// Bytes that lie in memory, which contracts see as a list of numbers (own).
-#[derive(Drop, Debug)]
+#[derive(Drop)]
 pub struct Bytes<'a>(pub &'a [u8]);
 
 impl<'a> Model for Bytes<'a> {

@@ -23,7 +23,7 @@ use crate::message::{
 /// names, and its images and bytes are slices of the input. It is copied freely.
 ///
 /// Contracts say its value, the [`MessageValue`] with the same fields, in which bytes are lists of numbers.
-#[derive(Clone, Copy, Debug, PartialEq, Eq)]
+#[derive(Clone, Copy, PartialEq, Eq)]
 pub enum Message<'a> {
     /// Type 1, Configuration.
     Config {

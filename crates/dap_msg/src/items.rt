@@ -10,7 +10,7 @@ use crate::fault::MsgFault;
 use crate::message::Message;
 
 /// What stands at a place of an NSP message (own).
-#[derive(Drop, Debug, PartialEq)]
+#[derive(Drop, PartialEq)]
 pub enum Item<'a> {
     /// A message.
     Whole(Message<'a>),

@@ -10,7 +10,7 @@ use crate::codes::{
 };
 
 /// The fields of a Configuration message, as in [`crate::Message::Config`] (DAP 5.6.0, Configuration message).
-#[derive(Clone, Copy, Debug, PartialEq, Eq)]
+#[derive(Clone, Copy, PartialEq, Eq)]
 pub struct Configuration {
     pub bufsiz: u16,
     pub ostype: u8,
@@ -24,7 +24,7 @@ pub struct Configuration {
 }
 
 /// The fields of an Attributes message, as in [`crate::Message::Attrib`] (DAP 5.6.0, Attributes message).
-#[derive(Drop, Debug, PartialEq)]
+#[derive(Drop, PartialEq)]
 pub struct Attributes<'a> {
     pub datatype: Option<u16>,
     pub org: Option<u8>,
@@ -50,7 +50,7 @@ pub struct Attributes<'a> {
 }
 
 /// The fields of an Access message, as in [`crate::Message::Access`] (DAP 5.6.0, Access message).
-#[derive(Drop, Debug, PartialEq)]
+#[derive(Drop, PartialEq)]
 pub struct AccessFields<'a> {
     pub func: u8,
     pub opt: u64,
@@ -62,7 +62,7 @@ pub struct AccessFields<'a> {
 }
 
 /// The fields of a Control message, as in [`crate::Message::Control`] (DAP 5.6.0, Control message).
-#[derive(Drop, Debug, PartialEq)]
+#[derive(Drop, PartialEq)]
 pub struct ControlFields<'a> {
     pub func: u8,
     pub rac: Option<u8>,
@@ -74,7 +74,7 @@ pub struct ControlFields<'a> {
 }
 
 /// The fields of an Access Complete message, as in [`crate::Message::Accomp`] (DAP 5.6.0, Access Complete message).
-#[derive(Clone, Copy, Debug, PartialEq, Eq)]
+#[derive(Clone, Copy, PartialEq, Eq)]
 pub struct Completion {
     pub func: u8,
     pub fop: u64,
@@ -82,7 +82,7 @@ pub struct Completion {
 }
 
 /// The fields of a Status message, as in [`crate::Message::Status`] (DAP 5.6.0, Status message).
-#[derive(Drop, Debug, PartialEq)]
+#[derive(Drop, PartialEq)]
 pub struct StatusFields<'a> {
     pub code: u16,
     pub rfa: Bytes<'a>,
@@ -93,7 +93,7 @@ pub struct StatusFields<'a> {
 /// A DAP message as a value, exported as `MessageValue`, for crates whose contracts speak of messages: definitions and
 /// proofs are of this type, and two messages with the same fields are one value, wherever their bytes lie. A program that
 /// only reads and writes messages uses [`crate::Message`].
-#[derive(Drop, Debug, PartialEq)]
+#[derive(Drop, PartialEq)]
 pub enum Message<'a> {
     Config(Configuration),
     Attrib(Attributes<'a>),

@@ -8,7 +8,7 @@ use dap_msg::codes::{ORG_RELATIVE, ORG_SEQUENTIAL, RFM_FIXED, RFM_VARIABLE};
 
 /// What the line of a file says: its name, which is still digits, and ORG, RFM, MRS in bytes and MRN (DAP 5.6.0,
 /// Attributes message). Own.
-#[derive(Drop, Debug)]
+#[derive(Drop)]
 pub struct FileLine<'a> {
     pub name: Text<'a>,
     pub org: u8,
@@ -18,7 +18,7 @@ pub struct FileLine<'a> {
 }
 
 /// What the line of a record says: its number, and its bytes, which are still digits. Own.
-#[derive(Drop, Debug)]
+#[derive(Drop)]
 pub struct RecordLine<'a> {
     pub number: u32,
     pub body: Text<'a>,

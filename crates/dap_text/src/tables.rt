@@ -84,7 +84,7 @@ fn push_record(text: &mut Vec<u8>, number: u32, body: &[u8]) -> Result<(), Alloc
 }
 
 /// A place in the listing of the files (own).
-#[derive(Clone, Copy, Debug, PartialEq, Eq)]
+#[derive(Clone, Copy, PartialEq, Eq)]
 pub enum FilesPlace {
     /// Before the line of the file at this place of the table.
     File(usize),

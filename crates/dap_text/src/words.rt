@@ -13,7 +13,7 @@ use std::alloc::{AllocError, Global};
 use std::marker::Model;
 
 /// The words of a line that are left, which contracts see as a list. Between two of them stands one space. Own.
-#[derive(Drop, Debug)]
+#[derive(Drop)]
 pub struct Words<'a> {
     rest: Option<&'a [u8]>,
 }
@@ -110,7 +110,7 @@ pub fn read_number(word: &[u8], most: u32) -> Option<u32>
 }
 
 /// Bytes of a name or a record, by their hex digits, or `-` where there are none, which contracts see as bytes. Own.
-#[derive(Drop, Debug)]
+#[derive(Drop)]
 pub struct Text<'a> {
     word: &'a [u8],
 }
@@ -171,7 +171,7 @@ impl<'a> ToBytes for Text<'a> {
 }
 
 /// Records, each by the hex digits of a word or `-`, which contracts see as lists of bytes. Own.
-#[derive(Drop, Debug)]
+#[derive(Drop)]
 pub struct Texts<'a> {
     words: Words<'a>,
 }

@@ -9,7 +9,7 @@ use clap::{Command, Error};
 use std::alloc::Global;
 
 /// A command of the program (own).
-#[derive(Clone, Copy, Debug, PartialEq, Eq)]
+#[derive(Clone, Copy, PartialEq, Eq)]
 pub enum Choice {
     Show,
     Msg,

@@ -17,7 +17,7 @@ use dap_events::{Step, WorldFault};
 use nsp_link::{GREATEST_AGE, LinkEnd, LinkFault};
 
 /// A packet that an end wrote (own).
-#[derive(Drop, Debug, PartialEq)]
+#[derive(Drop, PartialEq)]
 pub struct Wired {
     /// Its bytes.
     pub packet: Vec<u8>,

@@ -19,7 +19,7 @@ const END: usize = 2;
 const ROOM: usize = 4_096;
 
 /// What is kept of a line.
-#[derive(Clone, Copy, Debug, PartialEq, Eq)]
+#[derive(Clone, Copy, PartialEq, Eq)]
 pub(crate) enum Kept {
     All,
     /// It is longer than a line may be.

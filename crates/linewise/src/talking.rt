@@ -17,7 +17,7 @@ use std::io::{BufRead, Write};
 use thiserror::Error;
 
 /// What became of a line (own).
-#[derive(Clone, Copy, Debug, PartialEq, Eq)]
+#[derive(Clone, Copy, PartialEq, Eq)]
 pub enum Became {
     /// It was answered.
     Done,
@@ -28,7 +28,7 @@ pub enum Became {
 }
 
 /// An answer, or how one begins that is said piece by piece (own).
-#[derive(Clone, Copy, Debug, PartialEq, Eq)]
+#[derive(Clone, Copy, PartialEq, Eq)]
 pub enum Answer<P> {
     /// The text is the whole of it, and this became of the line.
     Whole(Became),
@@ -233,7 +233,7 @@ fn say<E: Answers, W: Write, F: Write>(
 }
 
 /// What one turn of a conversation came to.
-#[derive(Clone, Copy, Debug)]
+#[derive(Clone, Copy)]
 pub(crate) enum Next {
     /// There is no line more.
     Over,

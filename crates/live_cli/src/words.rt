@@ -276,14 +276,14 @@ fn command_line<'a>(alloc: Global) -> Result<Command<'a>, Error>
 }
 
 /// Which end (own).
-#[derive(Clone, Copy, Debug, PartialEq, Eq)]
+#[derive(Clone, Copy, PartialEq, Eq)]
 pub enum Role {
     Serve,
     Ask,
 }
 
 /// What the words say (own).
-#[derive(Clone, Copy, Debug, PartialEq, Eq)]
+#[derive(Clone, Copy, PartialEq, Eq)]
 pub struct Options {
     pub role: Role,
     pub local: u16,
@@ -297,7 +297,7 @@ pub struct Options {
 }
 
 /// What the program does (own).
-#[derive(Clone, Copy, Debug, PartialEq, Eq)]
+#[derive(Clone, Copy, PartialEq, Eq)]
 pub enum Task {
     /// Answers lines as an end.
     End(Options),
@@ -306,7 +306,7 @@ pub enum Task {
 }
 
 /// How an option's value has to be spelled.
-#[derive(Clone, Copy, Debug, PartialEq, Eq)]
+#[derive(Clone, Copy, PartialEq, Eq)]
 pub(crate) enum Digits {
     /// By four hex digits.
     Address,
@@ -317,7 +317,7 @@ pub(crate) enum Digits {
 }
 
 /// An option whose value isn't spelled so.
-#[derive(Clone, Copy, Debug)]
+#[derive(Clone, Copy)]
 pub(crate) struct Misspelt<'a> {
     pub(crate) option: &'static str,
     pub(crate) value: &'a str,

@@ -14,7 +14,7 @@ use crate::seq12::Seq12;
 /// have names, and its payload is a slice of the bytes that were read. It is copied freely.
 ///
 /// Contracts say its value, the [`PacketValue`] with the same fields, in which the payload is a list of numbers.
-#[derive(Clone, Copy, Debug, PartialEq, Eq)]
+#[derive(Clone, Copy, PartialEq, Eq)]
 pub enum Packet<'a> {
     /// A data segment (NSP 4.0.0, data segment message).
     Segment {

@@ -23,7 +23,7 @@ pub(crate) const ACK_FIELD_HIGH: u8 = 0x80;
 pub(crate) const QUAL_UNIT: u16 = 0x1000;
 
 /// An acknowledgement field (NSP 4.0.0, data acknowledgement message).
-#[derive(Clone, Copy, Debug, PartialEq, Eq)]
+#[derive(Clone, Copy, PartialEq, Eq)]
 pub struct AckField {
     /// QUAL, 0 to 7: 0 acknowledges segments of this subchannel, 1 refuses them, 2 and 3 are of the other
     /// subchannel.
@@ -33,7 +33,7 @@ pub struct AckField {
 }
 
 /// The payload of a segment, which contracts see as a list of numbers (own).
-#[derive(Clone, Drop, Debug)]
+#[derive(Drop)]
 pub struct Payload<'a>(pub &'a [u8]);
 
 impl<'a> Model for Payload<'a> {
@@ -60,7 +60,7 @@ impl<'a> PartialEq for Payload<'a> {
 }
 
 /// The fields of a data segment, as in [`crate::Packet::Segment`] (NSP 4.0.0, data segment message).
-#[derive(Clone, Drop, Debug, PartialEq)]
+#[derive(Drop, PartialEq)]
 pub struct SegmentFields<'a> {
     pub first: bool,
     pub last: bool,
@@ -73,7 +73,7 @@ pub struct SegmentFields<'a> {
 }
 
 /// The fields of a data acknowledgement, as in [`crate::Packet::DataAck`] (NSP 4.0.0, data acknowledgement message).
-#[derive(Clone, Copy, Debug, PartialEq, Eq)]
+#[derive(Clone, Copy, PartialEq, Eq)]
 pub struct AckFields {
     pub dst: u16,
     pub src: u16,
@@ -84,7 +84,7 @@ pub struct AckFields {
 /// A packet as a value, exported as `PacketValue`, for crates whose contracts speak of packets: definitions and proofs
 /// are of this type, and two packets with the same bytes are one value, wherever these lie. A program that only reads
 /// and writes packets uses [`crate::Packet`].
-#[derive(Clone, Drop, Debug, PartialEq)]
+#[derive(Drop, PartialEq)]
 pub enum Packet<'a> {
     Segment(SegmentFields<'a>),
     DataAck(AckFields),
@@ -120,7 +120,7 @@ impl From<AllocError> for SegFault {
 }
 
 /// What a packet's first byte says that it is (NSP 4.0.0, message formats).
-#[derive(Clone, Copy, Debug, PartialEq, Eq)]
+#[derive(Clone, Copy, PartialEq, Eq)]
 pub enum FlagKind {
     /// Data segment.
     Segment,

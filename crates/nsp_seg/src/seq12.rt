@@ -6,7 +6,7 @@ ghost use Rattle.nsp_seg.specs.Numbers.{residue};
 use std::marker::Model;
 
 /// A number below 4,096: that of a segment, or of an acknowledgement (NSP 4.0.0, data segment message).
-#[derive(Clone, Copy, Debug, PartialEq, Eq)]
+#[derive(Clone, Copy, PartialEq, Eq)]
 pub struct Seq12(u16);
 
 /// So many numbers there are.

@@ -2,7 +2,7 @@
 
 /// What the user of a stream may do (own, in the manner of RMS). An operation without its right is
 /// refused as not permitted.
-#[derive(Clone, Copy, Debug, PartialEq, Eq)]
+#[derive(Clone, Copy, PartialEq, Eq)]
 pub struct Rights {
     pub get: bool,
     pub put: bool,
@@ -11,7 +11,7 @@ pub struct Rights {
 }
 
 /// Which record a get is for (own, in the manner of RMS).
-#[derive(Clone, Copy, Debug, PartialEq, Eq)]
+#[derive(Clone, Copy, PartialEq, Eq)]
 pub enum Pick {
     /// The lowest occupied number from the stream's next on.
     Next,

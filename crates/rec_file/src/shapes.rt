@@ -25,7 +25,7 @@ pub enum Format {
 ///
 /// Its fields are public. The shapes that files have are those that [`Shape::check`] gives: that is
 /// a condition of the files' `new`, and holds of every `shape()`.
-#[derive(Clone, Copy, Debug, PartialEq, Eq)]
+#[derive(Clone, Copy, PartialEq, Eq)]
 pub struct Shape {
     pub org: Org,
     pub format: Format,

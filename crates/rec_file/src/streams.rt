@@ -19,7 +19,7 @@ use std::marker::Model;
 /// An operation answers the number of its record, or the first of its refusals whose condition
 /// holds. Each operation leaves no current record, refused or not, save a get that finds one, and
 /// save want of memory, which comes last and changes nothing.
-#[derive(Clone, Copy, Debug)]
+#[derive(Clone, Copy)]
 pub struct Stream {
     rights: Rights,
     next: u32,
