@@ -1,4 +1,4 @@
--- What stands in an NSP message: DAP messages, one after another.
+-- The items of an NSP message: DAP messages, one after another.
 use Rattle.std.specs.Prelude.{◌≡◌, ℕ, ◌+◌, ◌<◌, ◌⊎◌, List, [], ◌∷◌, length, drop, slice_index}
 -- A message; or the rest of the NSP message, of which no message can be read, with its first fault. The fault's
 -- offset is counted from the start of the NSP message.

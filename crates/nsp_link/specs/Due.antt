@@ -8,7 +8,7 @@ use Rattle.nsp_link.specs.Holding.{following}
 use Rattle.nsp_link.specs.Limits.{most_segments}
 use Rattle.nsp_link.specs.Link.{LinkValue, Stands, IsOfPeer, Keeps, held_after}
 
--- The end hasn't failed and stands after some of the peer's messages, and the packet is of that peer.
+-- The end hasn't failed and has taken some of the peer's messages, and the packet is of that peer.
 abbrev pub IsDue : LinkValue → (size : ℕ) → (messages given : List (List ℕ)) → Packet → Option ℕ → ℕ → Type 0
 IsDue v size messages given p k a = (v.failed ≡ false) × Stands v size messages given × IsOfPeer v size messages p k a
 
