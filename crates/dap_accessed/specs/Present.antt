@@ -14,7 +14,7 @@ use Rattle.dap_accessed.specs.Groups.{Grouped, stands_after}
 
 -- what a server keeps
 pub record Present : Type 0 where
-  -- the end's own BUFSIZ
+  -- the server's BUFSIZ
   pub own : ℕ
   -- how long a message the peer takes
   pub limit : ℕ

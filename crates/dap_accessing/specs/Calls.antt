@@ -33,7 +33,7 @@ pub record Asks (request : Request) (old new : Present) (messages : List (List �
   pub sendable : AreSendable limit (messages_of old.own request)
   pub spelled : messages ≡ all_joined (Blocked limit (messages_of old.own request))
   pub stands : (requests : List Request) (answers : List Item) → StandsAfter requests answers old → StandsAfter (requests ++ request ∷ []) answers new
-  -- asking alone tells nothing more
+  -- asking alone adds no report
   pub told : (requests : List Request) (answers : List Item) → StandsAfter requests answers old →
       Told (requests ++ request ∷ []) answers ≡ Told requests answers
 

@@ -17,7 +17,7 @@ pub record EndOf (P : Type 0) : Type 1 where
   pub on : EndValue P → EndValue P → Type 0  -- some of what came was gone through
   pub rests : EndValue P → Type 0  -- nothing is left to go through here
   pub halts : EndValue P → EndValue P → EndFault → Type 0  -- why the first end goes on no further, and what it is then
-  pub quiet : Type 0  -- nothing is told
+  pub quiet : Type 0  -- nothing is reported
 
 -- All that came was gone through, and then what waits was passed on; or some of it was, and this is why no more.
 abbrev pub DidAll : {P : Type 0} → EndOf P → (old new : EndValue P) → Result (Unit {0}) EndFault → Type 0

@@ -1,4 +1,4 @@
--- A packet of a peer that is due, and what becomes of it by the counts for which its numbers stand.
+-- A packet of a peer that is due, and what it does to an end, by numbers without modulus.
 use Rattle.std.specs.Prelude.{◌≡◌, ◌⊎◌, ℕ, ◌+◌, ◌-◌, ◌<◌, ◌≤◌, ◌==◌, max, false, List, length, drop, Option, Some, None, if◌then◌else◌}
 use Rattle.nsp_seg.specs.declared.packet.Packet.{Packet}
 use Rattle.nsp_link.specs.declared.fault.LinkFault.{LinkFault}

@@ -15,7 +15,7 @@ pub record FileVal : Type 0 where
   pub shape : Shape
   pub records : Records
 
--- the lowest occupied number from n on: the keys of a finite map stand in order
+-- the lowest occupied number from n on: the keys of a finite map are in order
 abbrev pub lowest_from : Records → ℕ → Option ℕ
 lowest_from m n = slice_get (filter (nat_le n) (keys m)) 0
 
