@@ -1,4 +1,4 @@
-//! A short caller of each library of this repository. It prints what comes of each, and the texts of the faults.
+//! A short caller of each library. It prints what comes of each, and the text of each fault.
 #![tactic(auto)]
 
 mod asking;

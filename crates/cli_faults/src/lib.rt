@@ -1,4 +1,4 @@
-//! What is told where the words or the lines of a program are at fault, and the exit status.
+//! What both programs print of wrong arguments and bad lines, and their exit statuses.
 #![tactic(auto)]
 
 mod files;

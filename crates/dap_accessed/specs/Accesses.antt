@@ -10,6 +10,7 @@ use Rattle.dap_accessed.specs.declared.phase.OpenFile.{OpenFile}
 use Rattle.dap_accessed.specs.Standing.{Files, new_file, place_of, file_at, Place, Ready, Opened, Scene, Effect, enters}
 use Rattle.dap_accessed.specs.Replies.{bare_status, refused_access, opened_with, completed}
 
+-- the operations that FAC allows
 abbrev pub rights_of : ℕ → Rights
 rights_of fac =
     record {
@@ -19,21 +20,22 @@ rights_of fac =
       del = codes.asks_for fac codes.fac_bits.delete;
     }
 
--- FAC 0 stands for GET on open, and for PUT on create
+-- FAC 0 counts as GET on open, and as PUT on create
 abbrev pub fac_or : (fac usual : ℕ) → ℕ
 fac_or fac usual = if fac == 0 then usual else fac
 
+-- a refused Access leaves the end in Ready
 abbrev pub refuse_access : Scene → Message → Effect
 refuse_access scene status = enters scene Ready (status ∷ [])
 
--- with the place of the file of that name
+-- Opens the file at this index of the table, if there is one.
 abbrev pub open_file : Scene → (fac : ℕ) → Option ℕ → Effect
 open_file scene fac None = refuse_access scene (bare_status codes.stscode.file_not_found)
 open_file scene fac (Some at) =
     enters scene (Opened (record { at = at; is_new = false; rights = rights_of (fac_or fac codes.fac_bits.get) }))
     (opened_with (file_at at scene.files).shape)
 
--- with the shape that it would have; a new file stands behind all others
+-- Makes a file of this name and shape, unless one of that name is at an index. It comes after all others.
 abbrev pub create_file : Scene → (name : List ℕ) → (fac : ℕ) → Option ℕ → Option Shape → Effect
 create_file scene name fac (Some at) shape = refuse_access scene (refused_access codes.reasons.file_exists)
 create_file scene name fac None None = refuse_access scene (refused_access codes.reasons.bad_attributes)
@@ -42,7 +44,7 @@ create_file scene name fac None (Some shape) =
     (Opened (record { at = length scene.files; is_new = true; rights = rights_of (fac_or fac codes.fac_bits.put) }))
     (opened_with shape)
 
--- by ACCFUNC; only the two are supported
+-- an Access, by ACCFUNC: open and create are supported
 abbrev pub access_file : Scene → AccessFields → Option Shape → Effect
 access_file scene access shape =
     if access.func == codes.accfunc.opening then open_file scene access.fac (place_of access.name scene.files)
@@ -55,12 +57,12 @@ access_file scene access shape =
 abbrev pub purged : OpenFile → Files → Files
 purged opened files = if opened.is_new then remove files opened.at else files
 
--- the end of a stream; where none is connected it has no place
+-- the end of a stream; without a stream it is out of synchronization
 abbrev pub end_stream : Scene → OpenFile → Place → Effect
 end_stream scene opened (Opened _) = enters scene (Opened opened) (bare_status (codes.out_of_place codes.types.accomp) ∷ [])
 end_stream scene opened place = enters scene (Opened opened) (completed ∷ [])
 
--- by CMPFUNC, in a place in which a file is open
+-- an Access Complete, by CMPFUNC, while a file is open
 abbrev pub complete : (func : ℕ) → Scene → OpenFile → Place → Effect
 complete func scene opened place =
     if func == codes.cmpfunc.close then enters scene Ready (completed ∷ [])

@@ -1,4 +1,4 @@
--- Files and records that an end is given before the peer's Config was served.
+-- Files and records that a server is given before the peer's Configuration.
 use Rattle.std.specs.Prelude.{ℕ, ◌≡◌, ◌≢◌, ◌+◌, ◌-◌, ◌<◌, Bool, not, ◌&&◌, ◌||◌, nat_lt, List, [], ◌∷◌, ◌++◌, length, Some, None}
 use Rattle.rec_file.specs.declared.shapes.Shape.{Shape}
 use Rattle.rec_file.specs.declared.refusals.Refusal.{Refusal}
@@ -13,7 +13,7 @@ use Rattle.dap_accessed.specs.Standing.{Files, place_of, new_file, file_at, with
 use Rattle.dap_accessed.specs.Groups.{stands_after}
 use Rattle.dap_accessed.specs.Present.{Present, StandsAfter}
 
--- No Config was served, whatever items the end stands after.
+-- No Configuration was served, whatever items left this server.
 pub record IsFresh (p : Present) : Type 0 where
   pub is : (first : Files) (items : List Item) → StandsAfter first items p → (stands_after p.own first items).standing.place ≡ Fresh
 
@@ -23,15 +23,15 @@ pub record IsLate (p : Present) : Type 0 where
 
 -- ---- A file.
 
--- behind the others, without records
+-- a file without records, after the others
 abbrev pub with_new_file : List ℕ → Shape → Files → Files
 with_new_file name shape files = files ++ (name, new_file shape) ∷ []
 
--- no Config was served, and no file has this name
+-- no Configuration was served, and no file has this name
 abbrev pub MayAdd : Present → List ℕ → Type 0
 MayAdd p name = IsFresh p × (place_of name p.files ≡ None)
 
--- why it isn't added, in the order of the tests
+-- why a file isn't added, the first reason in this order
 abbrev pub AddRefused : Present → List ℕ → AddFault → Type 0
 AddRefused p name fault.Busy = IsLate p
 AddRefused p name fault.FileExists = IsFresh p × (place_of name p.files ≡ None → ⊥)
@@ -40,14 +40,15 @@ AddRefused p name _ = ⊥
 
 -- ---- A record of the newest file.
 
+-- the index of the newest file
 abbrev pub newest : Files → ℕ
 newest files = length files - 1
 
--- in a sequential file the number is above the next one
+-- in a sequential file, the number is above the next one
 abbrev pub leaves_gap : FileVal → ℕ → Bool
 leaves_gap file n = is_seq file.shape.org && nat_lt (highest_of file.records + 1) n
 
--- why a record isn't stored under a number: those refusals of a PUT with its number that the file gives, in their order
+-- why a record isn't stored under a number: each reason with its condition, in order
 abbrev pub record_refusals : FileVal → ℕ → List ℕ → List (Bool × Refusal)
 record_refusals file n body =
     (not (allows_length file.shape (length body)), BadLength)
@@ -55,17 +56,20 @@ record_refusals file n body =
     ∷ (not (is_free file n), RecordExists)
     ∷ []
 
+-- the file takes the record under this number
 abbrev pub MayStore : FileVal → ℕ → List ℕ → Type 0
 MayStore file n body = first_refusal (record_refusals file n body) ≡ None
 
+-- the newest file has the record under this number
 abbrev pub with_record : ℕ → List ℕ → Files → Files
 with_record n body files = with_file (newest files) (stored (file_at (newest files) files) n body) files
 
--- no Config was served, there is a file, and it takes the record
+-- no Configuration was served, there is a file, and the newest one takes the record
 abbrev pub MayAddRecord : Present → ℕ → List ℕ → Type 0
 MayAddRecord p n body =
     IsFresh p × (0 < length p.files) × MayStore (file_at (newest p.files) p.files) n body
 
+-- why a record isn't added, the first reason in this order
 abbrev pub RecordRefused : Present → ℕ → List ℕ → AddFault → Type 0
 RecordRefused p n body fault.Busy = IsLate p
 RecordRefused p n body fault.NoFile = IsFresh p × (p.files ≡ [])

@@ -1,5 +1,5 @@
--- What each item does, and its answers, by the place in which it is served (DAP 5.6.0, message sequences; the answers
--- to a message that has no place are own).
+-- What each message does in each place, and its answers (DAP 5.6.0, message sequences). The answers to a message that
+-- is out of sequence are a choice of this implementation.
 use Rattle.std.specs.Prelude.{ℕ, Bool, if◌then◌else◌, List, [], ◌∷◌, Option}
 use Rattle.dap_msg.specs.Codes as codes
 use Rattle.dap_msg.specs.declared.message.Message.{Message}
@@ -21,32 +21,33 @@ use Rattle.dap_accessed.specs.Accesses.{access_file, complete}
 use Rattle.dap_accessed.specs.Records.{at_number, new_stream, verb_of, get_pick, record_got, put_key, refused, settled, Change, Putting, Updating, changed}
 use Rattle.dap_accessed.specs.Transfers.{fetch, continue_fetch, store_one, continue_store}
 
--- what a group of two begins with, and where it stands
+-- the first message of a group of two, and where it is served
 pub record Begun : Type 0 where
   pub first : Item
   pub opened : OpenFile
   pub stream : StreamVal
   pub change : Change
 
--- What an item does that is not the second of a group: it is a group by itself, with this effect, or it begins one of
--- two, and has no effect yet.
+-- What an item does that isn't the second of a group: it is a group by itself, with this effect; or it begins a group
+-- of two, and has no effect yet.
 pub data Turn : Type 0 where
   Does : Effect → Turn
   Begins : Begun → Turn
 
--- a message that has no place here changes nothing
+-- A message that is out of sequence changes nothing.
 abbrev pub sync : Scene → Place → Message → Effect
 sync scene place message = enters scene place (sync_status message ∷ [])
 
--- a Control that may not come where a file is open; one that this end doesn't know has no place there at all
+-- the answer to a Control that is out of sequence while a file is open; an unknown CTLFUNC isn't supported
 abbrev pub control_status : Verb → Message
 control_status verbs.Unknown = bare_status (codes.unsupported codes.types.control)
 control_status verb = bare_status (codes.out_of_place codes.types.control)
 
+-- that answer, which changes nothing
 abbrev pub refuse_control : Verb → Scene → Place → Effect
 refuse_control verb scene place = enters scene place (control_status verb ∷ [])
 
--- what a message does in each place in which a file is open, unless the place says otherwise
+-- what a message does while a file is open, if the place doesn't say otherwise
 abbrev pub common_effect : Scene → OpenFile → Place → Message → Effect
 common_effect scene opened place (Control control) = refuse_control (verb_of control) scene place
 common_effect scene opened place (Accomp c) = complete c.func scene opened place
@@ -54,7 +55,8 @@ common_effect scene opened place message = sync scene place message
 
 -- ---- Fresh.
 
--- a Config says how long a message the peer takes
+-- A Configuration sets the peer's limit and is answered by that of this end. A BUFSIZ of 1 to 63 isn't allowed.
+-- Messages of types 10 to 16 are ignored.
 abbrev pub effect_fresh : (own : ℕ) → Scene → Message → Effect
 effect_fresh own scene (Config c) =
     if is_too_small c.bufsiz then enters scene Fresh (bare_status (codes.invalid codes.types.config) ∷ [])
@@ -64,7 +66,8 @@ effect_fresh own scene message = sync scene Fresh message
 
 -- ---- Ready.
 
--- an Access may make a file, of the shape that is given
+-- Attributes have no answer, an Access opens or makes a file of the given shape, and messages of types 10 to 16 are
+-- ignored.
 abbrev pub effect_ready : Scene → Option Shape → Message → Effect
 effect_ready scene shape (Other _ _) = enters scene Ready []
 effect_ready scene shape (Attrib _) = enters scene Ready []
@@ -73,22 +76,25 @@ effect_ready scene shape message = sync scene Ready message
 
 -- ---- Opened.
 
+-- CONNECT is acknowledged, and makes a stream
 abbrev pub control_opened : Verb → Scene → OpenFile → Effect
 control_opened verbs.Connect scene opened = enters scene (Connected opened (new_stream opened.rights)) (Ack ∷ [])
 control_opened verb scene opened = refuse_control verb scene (Opened opened)
 
+-- a Control, or what is common to all places with an open file
 abbrev pub effect_opened : Scene → OpenFile → Message → Effect
 effect_opened scene opened (Control control) = control_opened (verb_of control) scene opened
 effect_opened scene opened message = common_effect scene opened (Opened opened) message
 
 -- ---- Connected.
 
--- a Control that has the item after it in its group
+-- a Control that begins a group of two
 abbrev pub begins_with : ControlFields → OpenFile → StreamVal → Change → Turn
 begins_with control opened stream change =
     Begins (record { first = Whole (Control control); opened = opened; stream = stream; change = change })
 
--- a PUT and an UPDATE begin a group of two
+-- What a Control does with a stream. PUT and UPDATE begin a group of two. A fetch needs the right to GET. REWIND goes
+-- to number 1.
 abbrev pub control_connected : Verb → Scene → OpenFile → StreamVal → ControlFields → Turn
 control_connected verbs.Get scene opened stream control =
     Does (record_got (get_pick (the_file scene.files opened) stream control) scene opened stream)
@@ -104,13 +110,15 @@ control_connected verbs.Rewind scene opened stream control =
     Does (enters scene (Connected opened (at_number 1 stream)) (bare_status codes.stscode.success ∷ []))
 control_connected verb scene opened stream control = Does (refuse_control verb scene (Connected opened stream))
 
+-- a Control, or what is common to all places with an open file
 abbrev pub turn_connected : Scene → OpenFile → StreamVal → Message → Turn
 turn_connected scene opened stream (Control control) =
     control_connected (verb_of control) scene opened stream control
 turn_connected scene opened stream message = Does (common_effect scene opened (Connected opened stream) message)
 
--- ---- Store. After a Filedata that was refused those behind it do nothing, and only then a Continue Transfer has a place.
+-- ---- Store. After a refused Data message those after it are dropped. Only then may a Continue Transfer come.
 
+-- A Data message is stored, or ignored while the Store drops. A Continue Transfer is in sequence only then.
 abbrev pub effect_store : (dropping : Bool) → (ordinal : ℕ) → Scene → OpenFile → StreamVal → Message → Effect
 effect_store dropping ordinal scene opened stream (Filedata _ body) =
     if dropping then enters scene (Store opened stream) [] else store_one ordinal scene opened stream body
@@ -120,12 +128,14 @@ effect_store dropping ordinal scene opened stream message = common_effect scene 
 
 -- ---- Stopped.
 
+-- a Continue Transfer goes on with the fetch, or ends it
 abbrev pub effect_stopped : Scene → OpenFile → StreamVal → Message → Effect
 effect_stopped scene opened stream (Contran func) = continue_fetch func scene opened stream
 effect_stopped scene opened stream message = common_effect scene opened (Stopped opened stream) message
 
 -- ---- All places. Only in Connected does a message begin a group of two.
 
+-- what a message does in a place
 abbrev pub turn_in : (own : ℕ) → Scene → (past : List Group) → Place → Message → Turn
 turn_in own scene past Fresh message = Does (effect_fresh own scene message)
 turn_in own scene past Ready message = Does (effect_ready scene (asked_shape (kept_attributes past)) message)
@@ -135,14 +145,14 @@ turn_in own scene past (Store opened stream) message =
     Does (effect_store (is_dropping past) (ordinal_so_far past) scene opened stream message)
 turn_in own scene past (Stopped opened stream) message = Does (effect_stopped scene opened stream message)
 
--- What an item does that is served now, outside a group of two; a malformed one has its format Status.
+-- What an item does outside a group of two. A malformed one is answered by the format Status of its type.
 abbrev pub turn_of : (own : ℕ) → Standing → Item → Turn
 turn_of own s (Malformed fault) = Does (enters s.scene s.place (bare_status (codes.status_code_for fault.message_type) ∷ []))
 turn_of own s (Whole message) = turn_in own s.scene s.past s.place message
 
 -- ---- The second item of a group of two.
 
--- one that isn't a Filedata ends the group without its operation
+-- the second item of a group of two; one that is no Data message ends the group without its operation
 abbrev pub effect_with : Change → Scene → OpenFile → StreamVal → Item → Effect
 effect_with change scene opened stream (Whole (Filedata _ body)) = changed change scene opened stream body
 effect_with change scene opened stream (Whole message) = sync scene (Connected opened stream) message

@@ -1,4 +1,5 @@
--- What is looked back for in the groups so far, the newest first.
+-- What is looked up in the groups so far, the newest first (DAP 5.6.0, Attributes message). The ordinal is a choice
+-- of this implementation.
 use Rattle.std.specs.Prelude.{ℕ, ◌+◌, Bool, true, false, not, ◌&&◌, nat_lt, ◌==◌, min, List, length, filter, filter_map, slice_get, take_while, Option, Some, None, unwrap_or}
 use Rattle.std.specs.List.{list_any}
 use Rattle.dap_msg.specs.Codes as codes
@@ -11,27 +12,32 @@ use Rattle.rec_file.specs.declared.shapes.Shape.{Shape}
 use Rattle.rec_file.specs.Shapes.{checked_shape}
 use Rattle.dap_accessed.specs.Standing.{Place, Ready, Store, Group}
 
+-- the place is Ready
 abbrev pub is_ready : Place → Bool
 is_ready Ready = true
 is_ready _ = false
 
+-- the place is Store
 abbrev pub is_store : Place → Bool
 is_store (Store _ _) = true
 is_store _ = false
 
+-- the item is an Access
 abbrev pub is_access : Item → Bool
 is_access (Whole (Access _)) = true
 is_access _ = false
 
+-- the attributes, if the item is an Attributes message
 abbrev pub attributes_in : Item → Option Attributes
 attributes_in (Whole (Attrib attributes)) = Some attributes
 attributes_in _ = None
 
+-- the item is a Data message
 abbrev pub is_filedata : Item → Bool
 is_filedata (Whole (Filedata _ _)) = true
 is_filedata _ = false
 
--- a Continue Transfer that takes up the Store again
+-- a Continue Transfer with skip, which resumes a Store
 abbrev pub is_skip : Item → Bool
 is_skip (Whole (Contran func)) = func == codes.confunc.skip
 is_skip _ = false
@@ -42,12 +48,12 @@ is_skip _ = false
 abbrev pub since_access : List Group → List Group
 since_access past = take_while (λ group. not (is_access group.first)) (filter (λ group. is_ready group.place) past)
 
--- the attributes of an Access: those of the last Attributes message in Ready since the Access before
+-- the attributes of an Access: those of the last Attributes message in Ready since the Access before, or none
 abbrev pub kept_attributes : List Group → Attributes
 kept_attributes past =
     unwrap_or (slice_get (filter_map (λ group. attributes_in group.first) (since_access past)) 0) no_attributes
 
--- the shape that attributes ask for, if a file may have it
+-- the shape that attributes name, if a file may have it
 abbrev pub asked_shape : Attributes → Option Shape
 asked_shape a = with_defaults checked_shape a
 
@@ -57,10 +63,11 @@ asked_shape a = with_defaults checked_shape a
 abbrev pub this_store : List Group → List Group
 this_store past = take_while (λ group. is_store group.place) past
 
+-- the ordinal stays at the largest number of 4 bytes
 abbrev pub greatest_ordinal : ℕ
 greatest_ordinal = 4294967295
 
--- the number of the Filedata in this Store
+-- how many Data messages this Store has had, also those that it dropped
 abbrev pub ordinal_so_far : List Group → ℕ
 ordinal_so_far past = min (length (filter (λ group. is_filedata group.first) (this_store past))) greatest_ordinal
 
@@ -68,10 +75,10 @@ ordinal_so_far past = min (length (filter (λ group. is_filedata group.first) (t
 abbrev pub next_ordinal : ℕ → ℕ
 next_ordinal n = min (n + 1) greatest_ordinal
 
--- a Filedata with an answer is one that was refused
+-- a Data message of a Store that has an answer was refused
 abbrev pub was_refused : Group → Bool
 was_refused group = is_filedata group.first && nat_lt 0 (length group.answers)
 
--- A Filedata of this Store was refused, and the Store wasn't taken up again since.
+-- a Data message of this Store was refused, and the Store wasn't resumed since
 abbrev pub is_dropping : List Group → Bool
 is_dropping past = list_any was_refused (take_while (λ group. not (is_skip group.first)) (this_store past))

@@ -1,4 +1,4 @@
--- What an end keeps of the items that it served: it stands as after any list of items that leaves just this.
+-- What a server keeps of the items that it served. It is as after any items that leave this.
 use Rattle.std.specs.Prelude.{ℕ, ◌≡◌, Bool, ◌&&◌, if◌then◌else◌, List, Option, Some, None}
 use Rattle.dap_msg.specs.declared.items.Item.{Item}
 use Rattle.rec_file.specs.declared.shapes.Shape.{Shape}
@@ -12,8 +12,9 @@ use Rattle.dap_accessed.specs.Records.{Change, Putting, Updating}
 use Rattle.dap_accessed.specs.Effects.{Begun}
 use Rattle.dap_accessed.specs.Groups.{Grouped, stands_after}
 
+-- what a server keeps
 pub record Present : Type 0 where
-  -- the end's own BUFSIZ
+  -- the server's BUFSIZ
   pub own : ℕ
   -- how long a message the peer takes
   pub limit : ℕ
@@ -22,13 +23,14 @@ pub record Present : Type 0 where
   pub kept : Option Shape
   pub phase : Phase
 
--- what counts of the past: the shape that an Access would give a new file, and in a Store whether it drops what
--- comes, and its ordinal
+-- what counts of the past: the shape that an Access would give a new file, whether a Store drops Data messages, and
+-- its ordinal
 pub record Memory : Type 0 where
   pub shape : Option Shape
   pub dropping : Bool
   pub ordinal : ℕ
 
+-- what counts of the past in this place
 abbrev pub looked_back : Place → List Group → Memory
 looked_back place past =
     record {
@@ -52,10 +54,12 @@ abbrev pub phase_within : Change → OpenFile → StreamVal → Phase
 phase_within (Putting key) opened stream = phases.PutDue opened stream key
 phase_within Updating opened stream = phases.UpdateDue opened stream
 
+-- the phase, also inside a group of two
 abbrev pub phase_of : Standing → Option Begun → Phase
 phase_of s None = phase_at s.place (looked_back s.place s.past)
 phase_of s (Some begun) = phase_within begun.change begun.opened begun.stream
 
+-- what a server keeps in this state
 abbrev pub present_of : ℕ → Grouped → Present
 present_of own c =
     record {
@@ -66,6 +70,6 @@ present_of own c =
       phase = phase_of c.standing c.begun;
     }
 
--- the end stands as one with its BUFSIZ that had these files at first, after these items
+-- the server is as one with its BUFSIZ, and these files at first, after these items
 abbrev pub StandsAfter : Files → List Item → Present → Type 0
 StandsAfter first items present = present ≡ present_of present.own (stands_after present.own first items)

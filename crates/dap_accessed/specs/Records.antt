@@ -30,20 +30,23 @@ uncurrent stream = record stream { current = None }
 abbrev pub at_number : ℕ → StreamVal → StreamVal
 at_number n stream = record stream { next = n; current = None }
 
+-- a stream of an Access, at number 1
 abbrev pub new_stream : Rights → StreamVal
 new_stream rights = record { rights = rights; next = 1; current = None }
 
--- RAC missing is that of the next record
+-- RAC missing is sequential
 abbrev pub rac_of : ControlFields → ℕ
 rac_of control = unwrap_or control.rac codes.rac.sequential
 
+-- the next record
 abbrev pub is_next : ControlFields → Bool
 is_next control = rac_of control == codes.rac.sequential
 
+-- the record with a key
 abbrev pub is_keyed : ControlFields → Bool
 is_keyed control = rac_of control == codes.rac.keyed
 
--- what a Control asks for: a GET or a PUT may be for a whole file
+-- What a Control asks for, by CTLFUNC. With RAC 3 a GET is a fetch and a PUT is a Store.
 abbrev pub verb_of : ControlFields → Verb
 verb_of control =
     if control.func == codes.ctlfunc.get then (if rac_of control == codes.rac.whole_file then verbs.Fetch else verbs.Get)
@@ -53,15 +56,17 @@ verb_of control =
     else if control.func == codes.ctlfunc.delete then verbs.Delete
     else if control.func == codes.ctlfunc.rewind then verbs.Rewind else verbs.Unknown
 
--- KEY missing is empty
+-- the number of KEY; KEY missing is empty, which is a bad key
 abbrev pub key_of : ControlFields → Result ℕ Refusal
 key_of control = number_of_key (unwrap_or control.key [])
 
+-- the refusal, if there is one, or else the value
 abbrev pub or_refusal : {X : Type 0} → Option Refusal → X → Result X Refusal
 or_refusal None x = Ok x
 or_refusal (Some refusal) x = Err refusal
 
--- what is refused of a GET or a PUT before its key is a number: it needs this right, and no RAC above this one is for it
+-- Why a GET or a PUT is refused before its number is looked up, in order: the right is missing; RAC is too large, or
+-- is 1 in a sequential file; or KEY isn't 1 to 4 bytes and RAC isn't 0.
 abbrev pub refusals_before : (right : Bool) → (greatest_rac : ℕ) → FileVal → ControlFields → List (Bool × Refusal)
 refusals_before right greatest_rac file control =
     (not right, NotPermitted)
@@ -70,29 +75,32 @@ refusals_before right greatest_rac file control =
 
 -- ---- GET.
 
+-- which record: RAC 0 the next one, RAC 1 that of the key, RAC 2 that of the key as a record file address
 abbrev pub pick_of : ControlFields → Pick
 pick_of control =
     if is_next control then Next
     else if is_keyed control then Key (result_unwrap_or (key_of control) 0) else Rfa (result_unwrap_or (key_of control) 0)
 
--- the record that a GET is for, or why it is refused
+-- which record a GET is for, or why it is refused
 abbrev pub get_pick : FileVal → StreamVal → ControlFields → Result Pick Refusal
 get_pick file stream control =
     or_refusal (first_refusal (refusals_before stream.rights.get codes.rac.address file control)) (pick_of control)
 
--- a refusal leaves the files and where the stream is, and no current record
+-- A refusal leaves the files and the stream's next number, and no current record.
 abbrev pub refused : Scene → OpenFile → StreamVal → Refusal → Effect
 refused scene opened stream refusal =
     enters scene (Connected opened (uncurrent stream)) (refusal_status refusal [] ∷ [])
 
+-- the Data message of a record, with its number in 4 bytes
 abbrev pub filedata_of : ℕ × List ℕ → Message
 filedata_of r = record_of r.0 r.1
 
--- whether a record's Filedata, with its number in 4 bytes, is within the limit
+-- a record's Data message is within the limit
 abbrev pub fits_limit : ℕ → ℕ × List ℕ → Bool
 fits_limit limit r = nat_le (length (canon (filedata_of r))) limit
 
--- with the reply of the operation; a record whose Filedata is longer than the limit is a GET that is refused
+-- What a GET answers. A record whose Data message is too long for the peer is refused, and the stream stays before
+-- it.
 abbrev pub got : Result ℕ Refusal → Scene → OpenFile → (before after : StreamVal) → Effect
 got (Err refusal) scene opened before after = refused scene opened before refusal
 got (Ok n) scene opened before after =
@@ -100,6 +108,7 @@ got (Ok n) scene opened before after =
     if fits_limit scene.limit r then enters scene (Connected opened after) (filedata_of r ∷ [])
     else enters scene (Connected opened (uncurrent before)) (too_large ∷ [])
 
+-- what a GET does, unless it was refused before
 abbrev pub record_got : Result Pick Refusal → Scene → OpenFile → StreamVal → Effect
 record_got (Err refusal) scene opened stream = refused scene opened stream refusal
 record_got (Ok pick) scene opened stream =
@@ -114,18 +123,19 @@ put_key file stream control =
     or_refusal (first_refusal (refusals_before stream.rights.put codes.rac.keyed file control))
     (if is_keyed control then Some (result_unwrap_or (key_of control) 0) else None)
 
--- an operation that may change the file, and its Status
+-- a PUT, an UPDATE or a DELETE: the file and the stream are those that the operation leaves, and the answer is one
+-- Status
 abbrev pub settled : Scene → OpenFile → Outcome → Effect
 settled scene opened outcome =
     enters (record scene { files = with_file opened.at outcome.file scene.files }) (Connected opened outcome.stream)
     (record_status outcome.reply ∷ [])
 
--- What a Control begins that has the item after it in its group.
+-- what a Control begins: a PUT, which may be refused already, or an UPDATE
 pub data Change : Type 0 where
   Putting : (key : Result (Option ℕ) Refusal) → Change
   Updating : Change
 
--- the PUT or the UPDATE, with the record's bytes
+-- the PUT or the UPDATE, once the Data message has come
 abbrev pub changed : Change → Scene → OpenFile → StreamVal → List ℕ → Effect
 changed (Putting (Err refusal)) scene opened stream body = refused scene opened stream refusal
 changed (Putting (Ok key)) scene opened stream body =

@@ -1,4 +1,5 @@
--- The answers of the accessed end (DAP 5.6.0, Status message; the codes and reasons are own).
+-- The answers of a server (DAP 5.6.0, Status message). Which code and reason is used is a choice of this
+-- implementation.
 use Rattle.std.specs.Prelude.{ℕ, List, [], ◌∷◌, Result, Ok, Err}
 use Rattle.dap_msg.specs.Codes as codes
 use Rattle.dap_msg.specs.declared.message.Message.{Message}
@@ -13,6 +14,7 @@ use Rattle.rec_file.specs.declared.shapes.Shape.{Shape}
 use Rattle.rec_file.specs.declared.refusals.Refusal.{Refusal}
 use Rattle.rec_file.specs.declared.refusals.Refusal.TheVariants.{NotPermitted, NoCurrent, RecordNotFound, RecordExists, NumberOutOfRange, BadLength, BadAccessMode, DeleteNotAllowed, BadKey, EndOfFile}
 
+-- a Status message
 abbrev pub status : (code : ℕ) → (rfa recnum stv : List ℕ) → Message
 status code rfa recnum stv = Status (record { code = code; rfa = rfa; recnum = recnum; stv = stv })
 
@@ -24,15 +26,15 @@ bare_status code = status code [] [] []
 abbrev pub reason_status : (code reason : ℕ) → List ℕ → Message
 reason_status code reason recnum = status code [] recnum (reason ∷ [])
 
--- an Access that opens nothing
+-- an Access that is refused for this reason
 abbrev pub refused_access : (reason : ℕ) → Message
 refused_access reason = reason_status codes.stscode.access_refused reason []
 
--- a message has no place here
+-- out of synchronization: a message of this type may not come now
 abbrev pub sync_status : Message → Message
 sync_status message = bare_status (codes.out_of_place (type_of message))
 
--- the one byte of the reason in STV, 0 where there is none
+-- the byte of the reason in STV, 0 if a refusal has none
 abbrev pub reason_of : Refusal → ℕ
 reason_of NotPermitted = 2
 reason_of NoCurrent = 3
@@ -45,38 +47,43 @@ reason_of DeleteNotAllowed = 9
 reason_of BadKey = 12
 reason_of _ = 0
 
--- the Status of a refused operation on a record; in a Store it has the ordinal
+-- The Status of a refused operation on a record. The end of the file has a code without a reason. In a Store RECNUM
+-- has the ordinal.
 abbrev pub refusal_status : Refusal → (recnum : List ℕ) → Message
 refusal_status EndOfFile recnum = bare_status codes.stscode.end_of_file
 refusal_status refusal recnum = reason_status codes.stscode.record_refused (reason_of refusal) recnum
 
--- success of PUT, UPDATE and DELETE, with the record's number
+-- success of a PUT, an UPDATE or a DELETE, with the record's number as RFA and RECNUM
 abbrev pub done_status : ℕ → Message
 done_status n = status codes.stscode.success (four_bytes n) (four_bytes n) []
 
+-- the Status of an operation on a record
 abbrev pub record_status : Result ℕ Refusal → Message
 record_status (Ok n) = done_status n
 record_status (Err refusal) = refusal_status refusal []
 
--- a record's Filedata is longer than the peer takes
+-- a record's Data message is longer than the peer takes
 abbrev pub too_large : Message
 too_large = reason_status codes.stscode.record_refused codes.reasons.too_large_for_buffer []
 
--- what ends an access or a stream
+-- the Access Complete that answers the end of an access or a stream
 abbrev pub completed : Message
 completed = complete_with codes.cmpfunc.response
 
+-- the code of ORG
 abbrev pub org_number : Org → ℕ
 org_number Seq = codes.org.sequential
 org_number Rel = codes.org.relative
 
+-- the code of RFM
 abbrev pub format_number : Format → ℕ
 format_number Fixed = codes.rfm.fixed
 format_number Variable = codes.rfm.variable
 
+-- the Attributes of a file
 abbrev pub attributes_for : Shape → Message
 attributes_for shape = attributes_of (org_number shape.org) (format_number shape.format) shape.mrs shape.mrn
 
--- a file is open: its Attributes, then Acknowledge
+-- an open file is answered by its Attributes and an Acknowledge
 abbrev pub opened_with : Shape → List Message
 opened_with shape = attributes_for shape ∷ Ack ∷ []

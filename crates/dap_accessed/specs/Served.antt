@@ -1,4 +1,4 @@
--- What a call of `serve` does.
+-- What `serve` does.
 use Rattle.std.specs.Prelude.{ℕ, ◌≡◌, ◌≤◌, true, List, [], ◌∷◌, ◌++◌, length}
 use Rattle.std.specs.List.{AllByRecursion}
 use Rattle.dap_msg.specs.declared.items.Item.{Item}
@@ -11,13 +11,13 @@ use Rattle.dap_accessed.specs.Past.{is_filedata, is_dropping}
 use Rattle.dap_accessed.specs.Groups.{stands_after, limit_for, added}
 use Rattle.dap_accessed.specs.Present.{Present, StandsAfter}
 
--- none is longer than the limit
+-- each is within the limit
 abbrev pub AllAtMost : ℕ → List (List ℕ) → Type 0
 AllAtMost limit list = AllByRecursion (λ bytes. length bytes ≤ limit) list
 
--- The item at a place was served: after any items, an end that stood as after these stands as after these and it, and
--- gives just the answers that it adds, joined as far as the peer's limit goes. Each has a spelling, and none is longer
--- than that limit, which is that of the least buffer before the peer's Config, and never above what any end takes.
+-- The item at this offset was served. Whatever items left the server before, it is as after those and this one, and
+-- its answers are those that the item adds, joined within the peer's limit. Each has a spelling, and no NSP message
+-- of them is longer than that limit.
 pub record Serves (bytes : List ℕ) (at : ℕ) (old new : Present) (served : Served) : Type 0 where
   pub item : Item
   pub reads : ItemAt bytes at item served.next
@@ -31,7 +31,7 @@ pub record Serves (bytes : List ℕ) (at : ℕ) (old new : Present) (served : Se
   pub within : AllAtMost limit (bodies served.answers.items)
   pub same_own : new.own ≡ old.own
 
--- An item that has no answer, and is no Filedata that is stored: to serve it takes no memory.
+-- an item without an answer, that is no Data message which is stored: it is never out of memory
 abbrev pub IsSilent : ℕ → Files → List Item → Item → Type 0
 IsSilent own first items item =
     (added own first items item ≡ []) × (is_filedata item ≡ true → is_dropping (stands_after own first items).standing.past ≡ true)

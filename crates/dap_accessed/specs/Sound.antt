@@ -1,4 +1,4 @@
--- What holds of an end after any items.
+-- What is true of a server after any items.
 use Rattle.std.specs.Prelude.{◌<◌, ◌≤◌, length, IfSome, bytes_eq}
 use Rattle.std.specs.List.{AllByRecursion, IsDistinct}
 use Rattle.dap_msg.specs.BothEnds.{greatest_message, least_buffer}
@@ -6,7 +6,7 @@ use Rattle.rec_file.specs.Files.{IsFile}
 use Rattle.dap_accessed.specs.Standing.{Files, Scene, Place, Fresh, Ready, Opened, Connected, Store, Stopped}
 use Rattle.dap_accessed.specs.Groups.{Grouped}
 
--- the file that is open is in the table
+-- the open file is in the table
 abbrev pub IsOpenAt : Files → Place → Type 0
 IsOpenAt files Fresh = Unit {0}
 IsOpenAt files Ready = Unit {0}
@@ -15,13 +15,14 @@ IsOpenAt files (Connected opened stream) = opened.at < length files
 IsOpenAt files (Store opened stream) = opened.at < length files
 IsOpenAt files (Stopped opened stream) = opened.at < length files
 
--- files that an end may have at first
+-- files that a server may have at first
 pub record AreFiles (table : Files) : Type 0 where
   -- each obeys its shape, which is one that the check gives
   pub files : AllByRecursion (λ f. IsFile f.1) table
   -- no two have the same name
   pub distinct : IsDistinct (λ f g. bytes_eq f.0 g.0) table
 
+-- the files are sound, the open file is in the table, and the peer's limit is from 64 to 65,535
 pub record IsSoundAt (scene : Scene) (place : Place) : Type 0 where
   pub files : AreFiles scene.files
   pub opened : IsOpenAt scene.files place
@@ -29,7 +30,7 @@ pub record IsSoundAt (scene : Scene) (place : Place) : Type 0 where
   pub least : least_buffer ≤ scene.limit
   pub most : scene.limit ≤ greatest_message
 
--- also inside a group of two
+-- the same, also inside a group of two
 pub record IsSound (c : Grouped) : Type 0 where
   pub standing : IsSoundAt c.standing.scene c.standing.place
   pub begun : IfSome c.begun (λ b. b.opened.at < length c.standing.scene.files)

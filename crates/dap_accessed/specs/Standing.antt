@@ -1,4 +1,4 @@
--- Where the accessed end stands between two groups of messages.
+-- The state of a server between two groups of messages (DAP 5.6.0, message sequences).
 use Rattle.std.specs.Prelude.{ℕ, List, [], get_or, set, Option, bytes_eq}
 use Rattle.std.specs.List.{position}
 use Rattle.std.specs.FinMap as map
@@ -16,11 +16,11 @@ use Rattle.dap_accessed.specs.declared.phase.OpenFile.{OpenFile}
 abbrev pub Files : Type 0
 Files = List (List ℕ × FileVal)
 
--- the place of the first file with this name
+-- the index of the first file with this name
 abbrev pub place_of : List ℕ → Files → Option ℕ
 place_of name files = position (λ (f : List ℕ × FileVal). bytes_eq f.0 name) files
 
--- the shape of a file of which nothing is known
+-- the shape of a file that isn't there: sequential, variable, without limits
 abbrev pub plain_shape : Shape
 plain_shape = record { org = Seq; format = Variable; mrs = 0; mrn = 0 }
 
@@ -28,14 +28,15 @@ plain_shape = record { org = Seq; format = Variable; mrs = 0; mrn = 0 }
 abbrev pub new_file : Shape → FileVal
 new_file shape = record { shape = shape; records = map.empty }
 
--- the name of the file at a place, and the file; where there is none, no name and no records
+-- the name of the file at an index, empty if there is none
 abbrev pub name_at : ℕ → Files → List ℕ
 name_at n files = (get_or files n ([], new_file plain_shape)).0
 
+-- the file at an index, without records if there is none
 abbrev pub file_at : ℕ → Files → FileVal
 file_at n files = (get_or files n ([], new_file plain_shape)).1
 
--- the files with another one at a place
+-- the files with another file at an index, under the same name
 abbrev pub with_file : ℕ → FileVal → Files → Files
 with_file n file files = set files n (name_at n files, file)
 
@@ -43,8 +44,8 @@ with_file n file files = set files n (name_at n files, file)
 abbrev pub the_file : Files → OpenFile → FileVal
 the_file files opened = file_at opened.at files
 
--- The places between groups. Store is that of a sequential file transfer to this end, Stopped that of one to the
--- peer that a record too large has stopped.
+-- The place between groups: before the peer's Configuration; without a file; with a file; with a stream; in a
+-- sequential file transfer to this end; and in one to the peer that has stopped at a record too large.
 pub data Place : Type 0 where
   Fresh : Place
   Ready : Place
@@ -53,32 +54,33 @@ pub data Place : Type 0 where
   Store : OpenFile → StreamVal → Place
   Stopped : OpenFile → StreamVal → Place
 
--- A group that is over: the place in which it was served, its first item, and its answers.
+-- a group that is over: the place in which it was served, its first item, and its answers
 pub record Group : Type 0 where
   pub place : Place
   pub first : Item
   pub answers : List Message
 
--- how long a message the peer takes, and the files: a group finds such a scene, and leaves one
+-- the longest message that the peer takes, and the files
 pub record Scene : Type 0 where
   pub limit : ℕ
   pub files : Files
 
--- the scene, the place, and the groups so far, the newest first
+-- a state: the limit and the files, the place, and the groups so far, the newest first
 pub record Standing : Type 0 where
   pub scene : Scene
   pub place : Place
   pub past : List Group
 
--- the scene that a group leaves, the place after it, and its answers
+-- what a group leaves: the limit and the files, the place after it, and its answers
 pub record Effect : Type 0 where
   pub scene : Scene
   pub place : Place
   pub answers : List Message
 
+-- such an effect
 abbrev pub enters : Scene → Place → List Message → Effect
 enters scene place answers = record { scene = scene; place = place; answers = answers }
 
--- These files, and no Config of the peer yet, which may have the least buffer.
+-- The first state: these files, no Configuration of the peer, and the least limit.
 abbrev pub start : Files → Standing
 start files = record { scene = record { limit = least_buffer; files = files }; place = Fresh; past = [] }

@@ -9,6 +9,7 @@ use Rattle.dap_accessed.specs.Standing.{Files}
 use Rattle.dap_accessed.specs.Present.{Present}
 use Rattle.dap_accessed.specs.Tables.{files_code}
 
+-- the parts as one value
 abbrev pub present_code : Coded Present
 present_code =
     code_by (ℕ × (ℕ × (Files × (Option Shape × Phase))))

@@ -1,5 +1,6 @@
-//! The accessed end of a DAP file access: it holds the files, and serves one message after another
-//! (DAP 5.6.0, message sequences; the answers to what has no place are own).
+//! A DAP server: it has the files, and serves one message after another. It follows DAP 5.6.0, message sequences,
+//! where a server is the accessed process. The answers to messages that are out of sequence are a choice of this
+//! crate.
 #![tactic(auto)]
 
 mod accessed;

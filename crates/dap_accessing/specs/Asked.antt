@@ -1,4 +1,4 @@
--- The messages of a request.
+-- The messages of a request (DAP 5.6.0, message sequences).
 use Rattle.std.specs.Prelude.{ℕ, List, [], ◌∷◌, ◌++◌, map, flat_map, Option, Some, None}
 use Rattle.dap_msg.specs.declared.message.Message.{Message}
 use Rattle.dap_msg.specs.declared.message.Message.TheVariants.{Attrib, Access, Control, Contran, Filedata}
@@ -11,29 +11,36 @@ use Rattle.dap_accessing.specs.declared.request.How.TheVariants.{Again, Skip, Ab
 use Rattle.dap_accessing.specs.Request.{Request}
 use Rattle.dap_accessing.specs.declared.request.Request.TheVariants.{Hello, Create, OpenFile, Connect, Get, Put, Update, Delete, Rewind, Fetch, Store, Continue, Close, Purge}
 
+-- an Access with ACCFUNC, the name and FAC, otherwise zeros and no password
 abbrev pub access : ℕ → List ℕ → ℕ → Message
 access func name fac =
     Access (record { func = func; opt = 0; name = name; fac = fac; shr = 0; display = 0; password = [] })
 
+-- a Control with CTLFUNC, and with RAC and KEY if they are given
 abbrev pub control : ℕ → Option ℕ → Option (List ℕ) → Message
 control func rac key =
     Control (record { func = func; rac = rac; key = key; krf = None; rop = None; hsh = None; display = None })
 
+-- a GET of the next record, or by a key or a record file address, both in 4 bytes
 abbrev pub get_by : By → Message
 get_by Next = control codes.ctlfunc.get (Some codes.rac.sequential) None
 get_by (Key n) = control codes.ctlfunc.get (Some codes.rac.keyed) (Some (four_bytes n))
 get_by (Rfa n) = control codes.ctlfunc.get (Some codes.rac.address) (Some (four_bytes n))
 
+-- a PUT without a key, or with one in 4 bytes
 abbrev pub put_at : Option ℕ → Message
 put_at None = control codes.ctlfunc.put (Some codes.rac.sequential) None
 put_at (Some n) = control codes.ctlfunc.put (Some codes.rac.keyed) (Some (four_bytes n))
 
+-- the CONFUNC of a Continue
 abbrev pub how_to_go_on : How → ℕ
 how_to_go_on Again = codes.confunc.again
 how_to_go_on Skip = codes.confunc.skip
 how_to_go_on Abort = codes.confunc.abort
 
--- the messages of a request, of an end with this BUFSIZ
+-- The messages of a request, of a client with this BUFSIZ. A Create or an OpenFile is Attributes and an Access. A Put
+-- or an Update is a Control and a Data message. A Store is a PUT with RAC 3, a Data message for each record, and an
+-- Access Complete that ends the stream. All others are one message.
 abbrev pub messages_of : ℕ → Request → List Message
 messages_of own Hello = config_of own ∷ []
 messages_of own (Create name org rfm mrs mrn fac) =

@@ -1,4 +1,4 @@
--- What `ask` and `read` come to.
+-- What `ask` and `read` do.
 use Rattle.std.specs.Prelude.{ℕ, ◌≡◌, ◌≤◌, Bool, true, false, List, [], ◌∷◌, ◌++◌, option_to_list}
 use Rattle.dap_msg.specs.declared.items.Item.{Item}
 use Rattle.dap_msg.specs.Items.{ItemAt}
@@ -16,13 +16,13 @@ use Rattle.dap_accessing.specs.Told.{Told, is_unexpected}
 use Rattle.dap_accessing.specs.Phase.{limit_after, IsAdmissible, IsRefused}
 use Rattle.dap_accessing.specs.Present.{Present, StandsAfter, failed_after}
 
--- the request is admissible, whatever requests and answers the end stands after
+-- the request is admissible after any requests and answers that leave this client
 abbrev pub IsAdmittedBy : Present → Request → Type 0
 IsAdmittedBy old request =
     (requests : List Request) (answers : List Item) → StandsAfter requests answers old → IsAdmissible old.own requests answers request
 
--- The request is asked: it was admissible, these NSP messages are its messages, joined as far as the peer's limit goes, and
--- the end stands as after it too.
+-- The request is asked: it is admissible, these NSP messages are its messages, joined within the peer's limit, and
+-- the client is as after this request too. No report is added.
 pub record Asks (request : Request) (old new : Present) (messages : List (List ℕ)) : Type 0 where
   pub works : old.failed ≡ false
   pub goes_on : new.failed ≡ false
@@ -33,18 +33,18 @@ pub record Asks (request : Request) (old new : Present) (messages : List (List �
   pub sendable : AreSendable limit (messages_of old.own request)
   pub spelled : messages ≡ all_joined (Blocked limit (messages_of old.own request))
   pub stands : (requests : List Request) (answers : List Item) → StandsAfter requests answers old → StandsAfter (requests ++ request ∷ []) answers new
-  -- asking alone tells nothing more
+  -- asking alone adds no report
   pub told : (requests : List Request) (answers : List Item) → StandsAfter requests answers old →
       Told (requests ++ request ∷ []) answers ≡ Told requests answers
 
--- why a request is refused
+-- Why a request isn't asked: the client had failed, or the reason of `IsRefused`.
 abbrev pub AskRefused : Request → Present → AskFault → Type 0
 AskRefused request old ask_fault.Failed = old.failed ≡ true
 AskRefused request old fault =
     (old.failed ≡ false)
     × ((requests : List Request) (answers : List Item) → StandsAfter requests answers old → IsRefused old.own requests answers request fault)
 
--- The answer at `at` was read: it was expected, and the report is the one that it adds.
+-- The answer at this offset was read: it was expected, and the report is the one that it adds, if any.
 pub record Reads (bytes : List ℕ) (at : ℕ) (old new : Present) (read : ReadStep) : Type 0 where
   pub works : old.failed ≡ false
   pub goes_on : new.failed ≡ false
@@ -55,13 +55,14 @@ pub record Reads (bytes : List ℕ) (at : ℕ) (old new : Present) (read : ReadS
   pub told : (requests : List Request) (answers : List Item) → StandsAfter requests answers old →
       Told requests (answers ++ answer ∷ []) ≡ Told requests answers ++ option_to_list read.report
 
--- what stands at the place is unexpected, or it isn't, after all requests and answers that the end stands after
+-- the answer at this offset is unexpected, or it isn't, after any requests and answers that leave this client
 abbrev pub IsThere : List ℕ → ℕ → Present → (unexpected : Bool) → Type 0
 IsThere bytes at old unexpected =
     (answer : Item) × (next : ℕ) × ItemAt bytes at answer next
     × ((requests : List Request) (answers : List Item) → StandsAfter requests answers old → is_unexpected requests answers answer ≡ unexpected)
 
--- why an answer is refused, and what that leaves
+-- Why an answer isn't read, and the client then. It had failed before; or memory was refused, and nothing has
+-- changed; or the answer is unexpected, and the client has failed from now on.
 abbrev pub ReadRefused : List ℕ → ℕ → Present → Present → ReadFault → Type 0
 ReadRefused bytes at old new read_fault.Failed = (old.failed ≡ true) × (new ≡ old)
 ReadRefused bytes at old new read_fault.NoMemory = (old.failed ≡ false) × (new ≡ old) × IsThere bytes at old false

@@ -1,4 +1,4 @@
--- Parts of what answers come to, by names of their own.
+-- Names for parts of what answers report.
 use Rattle.std.specs.Prelude.{ℕ, Bool, ◌==◌, if◌then◌else◌, List, Option, is_some}
 use Rattle.dap_msg.specs.Codes as codes
 use Rattle.dap_msg.specs.declared.message.Attributes.{Attributes}
@@ -10,20 +10,23 @@ use Rattle.dap_accessing.specs.declared.report.Report.TheVariants as report
 use Rattle.dap_accessing.specs.declared.report.Ending.{Ending}
 use Rattle.dap_accessing.specs.Told.{Hearing, Reports, Unexpected, reason_in, hear_failure, hear_ack, behind, is_other, hear_completed, ending_by, in_front, record_in, status_in}
 
--- the Ack of an open or a create; messages of types 10 to 16 before it are ignored
+-- the Acknowledge that ends an opening; messages of types 10 to 16 before it are ignored
 abbrev pub hear_opened : Report → List Item → Hearing
 hear_opened done answers = hear_ack done (behind is_other answers)
 
+-- the report of an opened file
 abbrev pub opened_as : Attributes → Report
 opened_as a = with_defaults (λ org rfm mrs mrn. report.Opened org rfm mrs mrn) a
 
+-- how a fetch ended
 abbrev pub ending_of : StatusFields → Ending
 ending_of status = ending_by status.code (reason_in status.stv)
 
+-- a Data message
 abbrev pub is_record : Item → Bool
 is_record answer = is_some (record_in answer)
 
--- the records before the first answer that is none
+-- the records before the first answer that is no Data message
 abbrev pub records_in_front : List Item → List (ℕ × List ℕ)
 records_in_front answers = in_front record_in answers
 
@@ -31,17 +34,18 @@ records_in_front answers = in_front record_in answers
 abbrev pub hear_batch_end : List (ℕ × List ℕ) → List Item → Hearing
 hear_batch_end records answers = hear_failure (λ status. report.Batch records (ending_of status)) answers
 
+-- a Status message
 abbrev pub is_status : Item → Bool
 is_status answer = is_some (status_in answer)
 
--- the Statuses before the first answer that is none
+-- the Statuses before the first answer that is no Status
 abbrev pub statuses_in_front : List Item → List StatusFields
 statuses_in_front answers = in_front status_in answers
 
--- the Accomp of a store, with this first refusal before it
+-- the Access Complete of a store, with this first refusal before it
 abbrev pub hear_store_end : Option (ℕ × ℕ × ℕ) → List Item → Hearing
 hear_store_end first answers = hear_completed (report.Stored first) answers
 
--- an Accomp of this CMPFUNC
+-- an Access Complete with this CMPFUNC
 abbrev pub completes : ℕ → Report → List Item → Hearing
 completes func done rest = if func == codes.cmpfunc.response then Reports done rest else Unexpected

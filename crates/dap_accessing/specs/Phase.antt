@@ -1,4 +1,4 @@
--- The phase and the peer's limit follow from the reports; which requests may be asked follows from these.
+-- The client's phase and the peer's limit follow from the reports. Which requests are admissible follows from these.
 use Rattle.std.specs.Prelude.{◌≡◌, ℕ, List, [], ◌∷◌, fold}
 use Rattle.std.specs.List.{IsAmong}
 use Rattle.dap_msg.specs.declared.items.Item.{Item}
@@ -16,7 +16,7 @@ use Rattle.dap_accessing.specs.declared.phase.Phase.TheVariants.{Fresh, Ready, O
 use Rattle.dap_accessing.specs.Asked.{messages_of}
 use Rattle.dap_accessing.specs.Told.{Told, NothingDue, due_after}
 
--- the phase after a report
+-- The phase after a report. A refusal, and all that isn't named here, leaves it.
 abbrev pub phase_next : Phase → Report → Phase
 phase_next phase (report.Ready _) = Ready
 phase_next phase (report.Opened _ _ _ _) = Opened
@@ -27,18 +27,20 @@ phase_next phase (report.Stored _) = Opened
 phase_next phase report.Closed = Ready
 phase_next phase _ = phase
 
+-- the phase after all reports: Fresh at first
 abbrev pub phase_after : List Report → Phase
 phase_after reports = fold phase_next Fresh reports
 
--- how long a message the peer takes
+-- the longest message that the peer takes, after a report
 abbrev pub limit_next : ℕ → Report → ℕ
 limit_next limit (report.Ready bufsiz) = limit_of bufsiz
 limit_next limit _ = limit
 
+-- at first 65,535 bytes, and after the answer to Hello what its BUFSIZ allows
 abbrev pub limit_after : List Report → ℕ
 limit_after reports = fold limit_next greatest_message reports
 
--- the phases in which a request is asked
+-- the phases in which a request may be asked
 abbrev pub phases_for : Request → List Phase
 phases_for Hello = Fresh ∷ []
 phases_for (Create _ _ _ _ _ _) = Ready ∷ []
@@ -49,20 +51,23 @@ phases_for Close = Opened ∷ Connected ∷ Stopped ∷ []
 phases_for Purge = Opened ∷ Connected ∷ Stopped ∷ []
 phases_for _ = Connected ∷ []
 
--- after these answers no report is due
+-- no report is due after these answers
 abbrev pub IsNoneDue : List Request → List Item → Type 0
 IsNoneDue requests answers = due_after requests answers ≡ NothingDue
 
+-- the phase after the reports is one of the request's
 abbrev pub IsInPhase : List Request → List Item → Request → Type 0
 IsInPhase requests answers request = IsAmong (phases_for request) (phase_after (Told requests answers))
 
--- a request is admissible after requests and answers
+-- Admissible after requests and answers: no report is due, the phase is right, and each message has a spelling and is
+-- within the peer's limit.
 abbrev pub IsAdmissible : ℕ → List Request → List Item → Request → Type 0
 IsAdmissible own requests answers request =
     IsNoneDue requests answers × IsInPhase requests answers request
     × AreSendable (limit_after (Told requests answers)) (messages_of own request)
 
--- why it isn't: the first of these that holds; memory is wanting only for one that is admissible
+-- Why a request isn't asked: the first of these that holds. Memory is refused only to an admissible request. A client
+-- that has failed is a case of `AskRefused`.
 abbrev pub IsRefused : ℕ → List Request → List Item → Request → AskFault → Type 0
 IsRefused own requests answers request Busy = IsNoneDue requests answers → ⊥
 IsRefused own requests answers request WrongPhase = IsNoneDue requests answers × (IsInPhase requests answers request → ⊥)

@@ -1,11 +1,11 @@
--- The phases in which a request is asked, as a table that the code goes through.
+-- The table of phases in which a request may be asked.
 use Rattle.std.specs.Prelude.{Bool, true, false}
 use Rattle.dap_accessing.specs.Request.{Request}
 use Rattle.dap_accessing.specs.declared.request.Request.TheVariants.{Hello, Create, OpenFile, Connect, Get, Put, Update, Delete, Rewind, Fetch, Store, Continue, Close, Purge}
 use Rattle.dap_accessing.specs.declared.phase.Phase.{Phase}
 use Rattle.dap_accessing.specs.declared.phase.Phase.TheVariants.{Fresh, Ready, Opened, Connected, Stopped}
 
--- the phases in which a request is asked
+-- the request may be asked in the phase
 abbrev pub phase_fits : Phase → Request → Bool
 phase_fits Fresh Hello = true
 phase_fits Ready (Create _ _ _ _ _ _) = true

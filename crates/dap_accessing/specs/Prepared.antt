@@ -1,4 +1,4 @@
--- What `prepare` finds and makes, and `ask_prepared` needs.
+-- What `prepare` makes and `ask_prepared` needs.
 use Rattle.std.specs.Prelude.{◌≡◌, ◌≤◌, true, false, None}
 use Rattle.dap_msg.specs.Sendable.{AreSendable}
 use Rattle.dap_msg.specs.BothEnds.{greatest_message}
@@ -9,7 +9,7 @@ use Rattle.dap_accessing.specs.Phases.{phase_fits}
 use Rattle.dap_accessing.specs.Present.{Present}
 use Rattle.dap_accessing.specs.Outgoing.{AreCounted, outgoing_messages}
 
--- the end may ask the request as it stands: the request is admissible by what the end keeps
+-- the client may ask the request: it is admissible by what the client keeps
 pub record MayAsk (old : Present) (request : Request) : Type 0 where
   pub works : old.failed ≡ false
   pub none_due : old.pending ≡ None
@@ -17,7 +17,7 @@ pub record MayAsk (old : Present) (request : Request) : Type 0 where
   pub sendable : AreSendable old.limit (messages_of old.own request)
   pub most : old.limit ≤ greatest_message
 
--- it may, and these are the request's messages, with the bytes of the first and the last
+-- The client may ask the request, and these are its messages, with the numbers of bytes of the first and the last.
 pub record IsPrepared (old : Present) (request : Request) (p : Prepared) : Type 0 where
   pub may : MayAsk old request
   pub messages : outgoing_messages p.outgoing ≡ messages_of old.own request

@@ -1,4 +1,4 @@
--- What an end keeps of its requests and answers: it stands as after any that leave just this.
+-- What a client keeps of its requests and answers. It is as after any requests and answers that leave this.
 use Rattle.std.specs.Prelude.{ℕ, ◌+◌, ◌≡◌, ◌≤◌, Bool, true, false, if◌then◌else◌, List, ◌++◌, length, Option, Some, None}
 use Rattle.std.specs.Option.{option_or}
 use Rattle.dap_msg.specs.declared.items.Item.{Item}
@@ -11,8 +11,8 @@ use Rattle.dap_accessing.specs.Told.{Hearing, Unexpected, hear, hear_config, hea
 use Rattle.dap_accessing.specs.Parts.{hear_opened, is_record, records_in_front, hear_batch_end, is_status, statuses_in_front, hear_store_end}
 use Rattle.dap_accessing.specs.Phase.{phase_after, limit_after}
 
--- What answers come to, where this is still to come: of a fetch more records after those that came, of a Store its end
--- after the first refusal that came.
+-- What answers report to a request whose earlier answers left this: of a fetch more records, of a Store its end and
+-- the first refusal so far.
 abbrev pub hear_from : Pending → List Item → Hearing
 hear_from pending.Config answers = hear_config answers
 hear_from pending.Attributes answers = hear_attributes answers
@@ -26,6 +26,8 @@ hear_from (pending.Stored first) answers =
     else hear_store_end (option_or first (first_told (statuses_in_front answers))) (behind is_status answers)
 hear_from pending.Closed answers = hear_completed report.Closed answers
 
+-- the client's BUFSIZ, whether it has failed, its phase, the peer's limit, and what is still to come of the answers
+-- to a request
 pub record Present : Type 0 where
   pub own : ℕ
   pub failed : Bool
@@ -33,16 +35,18 @@ pub record Present : Type 0 where
   pub limit : ℕ
   pub pending : Option Pending
 
--- an end once an answer had no place
+-- a client after an unexpected answer
 abbrev pub failed_after : Present → Present
 failed_after p = record p { failed = true; pending = None }
 
--- what is pending fits what is due
+-- what is pending is what is due
 abbrev pub FitsDue : Due → Option Pending → Type 0
 FitsDue NothingDue None = Unit {0}
 FitsDue (AnswersDue request so_far) (Some pending) = (more : List Item) → hear request (so_far ++ more) ≡ hear_from pending more
 FitsDue _ _ = ⊥
 
+-- the client is as after these requests and answers: it works, and its phase, its limit and what is pending are those
+-- that they leave
 pub record StandsAfter (requests : List Request) (answers : List Item) (present : Present) : Type 0 where
   pub works : present.failed ≡ false
   pub phase : present.phase ≡ phase_after (Told requests answers)

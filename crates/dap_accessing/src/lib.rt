@@ -1,5 +1,5 @@
-//! The accessing end of a DAP file access: the messages of requests, and what the answers report
-//! (DAP 5.6.0, message sequences; which answers a request hears is own).
+//! A DAP client: the messages of requests, and what the answers report. They follow DAP 5.6.0, message sequences,
+//! where a client is the accessing process. Which answers a request takes is a choice of this crate.
 #![tactic(auto)]
 
 mod accessing;

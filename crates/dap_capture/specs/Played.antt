@@ -27,25 +27,26 @@ use Rattle.dap_listing.specs.declared.fault.CaptureFault.{CaptureFault}
 use Rattle.dap_listing.specs.declared.fault.Outcome.{Outcome}
 use Rattle.dap_listing.specs.declared.fault.Outcome.TheVariants.{Good, Stopped}
 
--- the line of the event of a number
+-- the line of an event, after its number
 abbrev pub event_line : ℕ → List ℕ → List ℕ
 event_line number text = concat (decimal number ∷ codes " " ∷ text ∷ line_feed ∷ [])
 
--- the line of an event that is refused
+-- the line of a refused event
 abbrev pub refusal_line : ℕ → List ℕ → List ℕ
 refusal_line number word = event_line number (codes "refused " ++ word)
 
+-- the letter of an end
 abbrev pub end_text : End → List ℕ
 end_text A = codes "a"
 end_text B = codes "b"
 
--- the packet at a place of an end's wire, in hex
+-- the packet at this index of an end's wire, in hex
 abbrev pub IsPacketWritten : State → End → (place : ℕ) → (text : List ℕ) → Type 0
 IsPacketWritten s end place text =
     (sending : Sending) × (slice_get (end_of s end).wire place ≡ Some sending) × (bytes : List ℕ) × IsOnWire s end sending bytes
     × (text ≡ concat (codes "packet " ∷ end_text end ∷ codes " " ∷ decimal place ∷ codes " " ∷ encode_lower bytes ∷ []))
 
--- What is printed of an event that came to this step and left this state. Of a report that is told: the newest one.
+-- The text of a step, by its answer and the state after it. Of a report it is the newest one.
 abbrev pub IsStepText : State → Event → Step → List ℕ → Type 0
 IsStepText s e (step.Asked count) text = text ≡ codes "asked " ++ decimal count
 IsStepText s e (step.Posted count) text = text ≡ codes "posted " ++ decimal count
@@ -56,7 +57,7 @@ IsStepText s e step.Nothing text = text ≡ codes "read"
 IsStepText s e step.Reported text =
     (report : Report) × (slice_get (reported s) (length (reported s) - 1) ≡ Some report) × (text ≡ codes "report " ++ report_text report)
 
--- the word for a refusal; want of memory has none
+-- the word for a refusal; out of memory has none, so no text says it
 abbrev pub refusal_text : WorldFault → Option (List ℕ)
 refusal_text fault.NoSuchPacket = Some (codes "no-such-packet")
 refusal_text fault.Stale = Some (codes "stale")
@@ -66,8 +67,8 @@ refusal_text fault.NoMemory = None
 refusal_text fault.Exhausted = Some (codes "exhausted")
 refusal_text fault.BadSetup = None
 
--- The text of a run from a state over events, the first of which has the number: a line for each step, up to the first
--- event without one, and then the files.
+-- The text of a run over events, numbered from this number: a line for each step, up to the first event without one,
+-- and then the files.
 pub data Plays : State → ℕ → List Event → Outcome → List ℕ → Type 0 where
   over : {s : State} {number : ℕ} → Plays s number [] Good (files_text (files_of s))
   goes : {s : State} {number : ℕ} {e : Event} {events : List Event} {outcome : Outcome}
@@ -79,8 +80,8 @@ pub data Plays : State → ℕ → List Event → Outcome → List ℕ → Type 
       → Refuses s e f → refusal_text f ≡ Some word
       → Plays s number (e ∷ events) Stopped (refusal_line number word ++ files_text (files_of s))
 
--- The text of the lines of a schedule: nothing where there is none, or the refusal of the setup, or that of a run from
--- a world in which nothing has happened.
+-- The text of a schedule: nothing where there is no line; or the refusal of the setup; or the text of a run from a
+-- new world. By the law `schedules_have_one_text` there is one outcome and one text.
 pub data Played : List Numbered → Outcome → List ℕ → Type 0 where
   empty : Played [] Good []
   setup_refused : {first : Numbered} {others : List Numbered} (setup : WorldSetup)
@@ -90,6 +91,6 @@ pub data Played : List Numbered → Outcome → List ℕ → Type 0 where
       → setup_of first.1 ≡ Some setup → IsWorldSetup setup → Plays (fresh setup) 1 (filter_map (λ line. event_of line.1) others) outcome text
       → Played (first ∷ others) outcome text
 
--- what a run over a schedule answers
+-- what `schedule` does with an input
 abbrev pub ScheduleGives : List ℕ → Option (List ℕ) → Option (List ℕ) → Result Outcome CaptureFault → Type 0
 ScheduleGives input = Gives (schedule_faults (said input)) (Played (said input)) input

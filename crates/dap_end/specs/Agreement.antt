@@ -1,4 +1,4 @@
--- The two ends of an exchange without a network: what requests ask, what is answered, and which requests are admissible.
+-- Two ends without a network: what requests ask, what is answered, and which requests are admissible.
 use Rattle.std.specs.Prelude.{ℕ, ◌≤◌, List, [], ◌∷◌, ◌++◌, map, ◌≡◌, ◌≢◌, None, true}
 use Rattle.dap_msg.specs.declared.message.Message.{Message}
 use Rattle.dap_msg.specs.BothEnds.{greatest_message, least_buffer}
@@ -20,15 +20,15 @@ pub record IsBufsiz (n : ℕ) : Type 0 where
   pub least : least_buffer ≤ n
   pub most : n ≤ greatest_message
 
--- what the server is sent when these are asked, each message served
+-- what the server is sent for these requests
 abbrev pub asked_items : (own_a : ℕ) → List Request → List Item
 asked_items own_a requests = map Whole (Asked own_a requests)
 
--- what it answers, where it had these files at first
+-- what it answers, with these files at first
 abbrev pub asked_answers : (own_a own_b : ℕ) → Files → List Request → List Message
 asked_answers own_a own_b first requests = Answers own_b first (asked_items own_a requests)
 
--- and what these answers report
+-- what these answers report
 abbrev pub asked_reports : (own_a own_b : ℕ) → Files → List Request → List Report
 asked_reports own_a own_b first requests = Told requests (map Whole (asked_answers own_a own_b first requests))
 
@@ -39,11 +39,11 @@ AreAllAdmissible own_a own_b first before (request ∷ requests) =
     IsAdmissible own_a before (map Whole (asked_answers own_a own_b first before)) request
     × AreAllAdmissible own_a own_b first (before ++ request ∷ []) requests
 
--- The phase of the client is that of the server's place, and after Hello each end takes for the other's limit what the other
--- has.
+-- after Hello each end takes for the other's limit the other's BUFSIZ
 abbrev pub AreLimits : (own_a own_b : ℕ) → (limit_b limit_a : ℕ) → Type 0
 AreLimits own_a own_b limit_b limit_a = (limit_b ≡ own_a) × (limit_a ≡ own_b)
 
+-- the client's phase is that of the server's place
 abbrev pub AgreeAt : (own_a own_b : ℕ) → Phase → Place → (limit_b limit_a : ℕ) → Type 0
 AgreeAt own_a own_b Fresh at.Fresh limit_b limit_a = limit_b ≡ least_buffer
 AgreeAt own_a own_b Ready at.Ready limit_b limit_a = AreLimits own_a own_b limit_b limit_a
@@ -52,7 +52,7 @@ AgreeAt own_a own_b Connected (at.Connected _ _) limit_b limit_a = AreLimits own
 AgreeAt own_a own_b Stopped (at.Stopped _ _) limit_b limit_a = AreLimits own_a own_b limit_b limit_a
 AgreeAt own_a own_b _ _ limit_b limit_a = ⊥
 
--- the two ends agree after these requests, and the server is not inside a group
+-- The two ends agree after these requests, and the server isn't inside a group.
 pub record AreAgreed (own_a own_b : ℕ) (first : Files) (requests : List Request) : Type 0 where
   pub whole : (stands_after own_b first (asked_items own_a requests)).begun ≡ None
   pub places :

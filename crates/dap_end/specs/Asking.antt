@@ -1,4 +1,4 @@
--- The end that asks, before any peer.
+-- A client with its link, whatever the peer is.
 use Rattle.std.specs.Prelude.{◌≡◌, ◌≢◌, ◌⊎◌, ℕ, List, [], ◌∷◌, ◌++◌, length, true, false, Option, option_to_list}
 use Rattle.std.specs.List.{AllByRecursion}
 use Rattle.dap_msg.specs.Blocked.{AllFit, all_joined, messages_in}
@@ -14,9 +14,9 @@ use Rattle.dap_end.specs.Ports.{gone_on}
 use Rattle.dap_end.specs.Going.{given_then, NextItem, GoneThrough}
 use Rattle.dap_end.specs.Done.{AskingValue, AskingPast}
 
--- The end is as after this: it waits for what is due after these requests and answers; the answers are those of the NSP
--- messages that it read and of the front of the next one; and what it handed to its link, and what waits, are the messages
--- of the requests.
+-- The client is as after this history: it waits for what is due after these requests and answers. The answers are
+-- those of the NSP messages that it read, and of a prefix of the next one. What it passed to its link, and what
+-- waits, are the messages of the requests. The law `asking_ends_stand` says what follows.
 pub record HasAsked (past : AskingPast) (v : AskingValue) : Type 0 where
   pub asking : StandsAfter past.requests past.answers v.present
   pub gone : GoneThrough past.given v.port.link.coming.inbox v.port.place past.answers
@@ -27,7 +27,7 @@ pub record HasAsked (past : AskingPast) (v : AskingValue) : Type 0 where
   pub fit : AllFit (messages_in past.asked)
   pub full : AllByRecursion (λ packet. packet ≢ []) past.asked
 
--- the end is as after some past, or an unexpected answer failed it after some
+-- the client is as after some history, or an unexpected answer failed it after one
 abbrev pub HasDone : AskingValue → Type 0
 HasDone v =
     ((past : AskingPast) × HasAsked past v)
@@ -35,7 +35,7 @@ HasDone v =
 
 -- ---- Asking.
 
--- The request was asked: its messages wait, so many NSP messages.
+-- The request was asked: its messages, n NSP messages, wait.
 pub record AskedOne (request : Request) (old new : AskingValue) (n : ℕ) : Type 0 where
   pub messages : List (List ℕ)
   pub asks : Asks request old.present new.present messages
@@ -45,7 +45,7 @@ pub record AskedOne (request : Request) (old new : AskingValue) (n : ℕ) : Type
 
 -- ---- Reading.
 
--- The next item of the oldest NSP message was read; it was expected, and the report is the one that it adds.
+-- The next item of the oldest NSP message was read. It was expected, and the report is the one that it adds.
 pub record ReadOne (old new : AskingValue) (report : Option Report) : Type 0 where
   pub works : old.present.failed ≡ false
   pub goes_on : new.present.failed ≡ false
@@ -56,7 +56,7 @@ pub record ReadOne (old new : AskingValue) (report : Option Report) : Type 0 whe
   pub past : (past : AskingPast) → HasAsked past old → HasAsked (record past { given = given_then past.given one.bytes one.next; answers = past.answers ++ one.item ∷ [] }) new
   pub told : (past : AskingPast) → HasAsked past old → Told past.requests (past.answers ++ one.item ∷ []) ≡ Told past.requests past.answers ++ option_to_list report
 
--- why nothing was read, and what that leaves: after an unexpected answer the end has failed
+-- why nothing was read, and the client then: after an unexpected answer it has failed
 pub record ReadNone (old new : AskingValue) (f : ReadFault) : Type 0 where
   pub bytes : List ℕ
   pub later : List (List ℕ)

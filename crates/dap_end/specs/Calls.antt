@@ -1,4 +1,6 @@
--- What calls of an end, one after another, come to: from which end to which, which packets were written, and which reports made.
+-- Calls of an end, one after another, as events: what they do to the end, which packets they write, and which reports
+-- they make. By the laws `calls_are_runs` and `asking_calls_are_runs` each call is a run, except one in which an
+-- answer is unexpected.
 use Rattle.std.specs.Prelude.{◌≡◌, ◌⊎◌, ℕ, ◌+◌, ◌-◌, ◌<◌, List, [], ◌∷◌, ◌++◌, Option, Some, Result, IfSome, option_map}
 use Rattle.nsp_link.specs.declared.link.Got.{Got}
 use Rattle.nsp_link.specs.declared.fault.LinkFault.{LinkFault}
@@ -18,26 +20,26 @@ use Rattle.dap_end.specs.Runs.{RunsBy}
 use Rattle.dap_end.specs.Headline.{Arrival, Written}
 use Rattle.dap_end.specs.Joined.{Pair, IsBrought}
 
--- these packets, of the segments in order from this number on
+-- these packets, of the segments from this number on
 abbrev pub numbered : (k acks : ℕ) → List (List ℕ) → List Written
 numbered k acks [] = []
 numbered k acks (bytes ∷ packets) = record { bytes = bytes; segment = Some k; acks = acks } ∷ numbered (k + 1) acks packets
 
--- it carries that segment of whatever was handed to the link, or none, and all that the link has taken
+-- the packet has that segment of whatever was passed to the link, or none, and acknowledges all that the link has
+-- taken
 abbrev pub WroteOne : LinkValue → Option ℕ → Written → Type 0
 WroteOne v k w = (w.segment ≡ k) × (w.acks ≡ v.coming.received) × WritesSent v k w.bytes
 
 -- ---- Calls.
 
--- A packet came; the end did what it does by itself, or some of it; it wrote a segment again that isn't acknowledged, by its
--- place among these, or none: an acknowledgement.
+-- A packet came; or the end went on by itself; or it retransmitted a segment, by its index among those that aren't
+-- acknowledged, or acknowledged.
 pub data EndEvent : Type 0 where
   Came : List ℕ → EndEvent
   GoesOn : EndEvent
   Repeats : Option ℕ → EndEvent
 
--- what each leaves of either end, and the packets that it writes, where the end does so by itself before it writes, and such
--- bytes may come to its link
+-- what each event does to an end, and the packets that it writes
 abbrev pub EndStepped : {P : Type 0} → (quiet : Type 0) → (does : EndValue P → EndValue P → Type 0) → (comes : LinkValue → List ℕ → Type 0) → (old : EndValue P) → EndEvent → (new : EndValue P) → List Written → Type 0
 EndStepped quiet does comes old (Came bytes) new wrote =
     (result : Result Got LinkFault) × (link : LinkValue) × Receives old.port.link link bytes result
@@ -57,64 +59,67 @@ IsOneOf (c ∷ came) v bytes = (c ≡ (v, bytes)) ⊎ IsOneOf came v bytes
 
 -- ---- The end that serves.
 
--- It served items that came, and handed over what waited, in any order.
+-- The server served items that came, and passed on what waited, in any order.
 pub data WorkedOn : ServingValue → ServingValue → Type 0 where
   rests : {v : ServingValue} → WorkedOn v v
   serves_one : {old new : ServingValue} (mid : ServingValue) (n : ℕ) → ServedOne old mid n → WorkedOn mid new → WorkedOn old new
   hands_over : {old new : ServingValue} (mid : ServingValue) (n : ℕ) → HandsOver old mid n → WorkedOn mid new → WorkedOn old new
 
--- the end, with its packets so far: those of the event stand behind them
+-- an event, after which the packets of the event follow those before
 abbrev pub Stepped : (comes : LinkValue → List ℕ → Type 0) → ServingValue × List Written → EndEvent → List Written → ServingValue × List Written → Type 0
 Stepped comes old event more new = EndStepped (Unit {0}) WorkedOn comes old.0 event new.0 more × (new.1 ≡ old.1 ++ more)
 
--- one after another
+-- events, one after another
 abbrev pub EventRuns : (comes : LinkValue → List ℕ → Type 0) → ServingValue → List EndEvent → ServingValue → List Written → Type 0
 EventRuns comes old events new wrote = RunsBy (Stepped comes) (old, []) events (new, wrote)
 
+-- the same for some events
 abbrev pub RunsAs : (comes : LinkValue → List ℕ → Type 0) → (old new : ServingValue) → List Written → Type 0
 RunsAs comes old new wrote = (events : List EndEvent) × EventRuns comes old events new wrote
 
--- calls lead from one end to another, and write these packets; whatever comes is one of these
+-- Calls of a server. What comes is one of these packets.
 abbrev pub Runs : List Arrival → (old new : ServingValue) → List Written → Type 0
 Runs came old new wrote = RunsAs (IsOneOf came) old new wrote
 
 -- ---- The end that asks.
 
--- A request was asked, or what happens to either end.
+-- A request was asked, or an event of either end.
 pub data AskingEvent : Type 0 where
   Asks : Request → AskingEvent
   By : EndEvent → AskingEvent
 
--- answers were read, whose reports stand behind those before, and then all that waited was handed over, or none
+-- answers were read, whose reports follow those before, and then what waited was passed on, or not
 abbrev pub HeardMore : (before after : List Report) → AskingValue → AskingValue → Type 0
 HeardMore before after old new = (heard : AskingValue) × Behind before after (ReadOn old heard) × ((new ≡ heard) ⊎ ((n : ℕ) × HandsOver heard new n))
 
--- the end, with its reports and its packets so far: those of the event stand behind them
+-- an event, after which its reports and packets follow those before
 abbrev pub AskingStepped : (comes : LinkValue → List ℕ → Type 0) → AskingValue × List Report × List Written → AskingEvent → List Written → AskingValue × List Report × List Written → Type 0
 AskingStepped comes old (Asks request) more new = (n : ℕ) × AskedOne request old.0 new.0 n × (more ≡ []) × (new.1 ≡ old.1) × (new.2 ≡ old.2)
 AskingStepped comes old (By event) more new =
     EndStepped (new.1 ≡ old.1) (HeardMore old.1 new.1) comes old.0 event new.0 more × (new.2 ≡ old.2 ++ more)
 
--- one after another
+-- events, one after another
 abbrev pub AskingEventRuns : (comes : LinkValue → List ℕ → Type 0) → AskingValue → List AskingEvent → AskingValue → List Report → List Written → Type 0
 AskingEventRuns comes old events new reports wrote = RunsBy (AskingStepped comes) (old, [], []) events (new, reports, wrote)
 
+-- the requests that were asked
 abbrev pub requests_in : List AskingEvent → List Request
 requests_in [] = []
 requests_in (Asks request ∷ events) = request ∷ requests_in events
 requests_in (_ ∷ events) = requests_in events
 
+-- the same for some events with these requests
 abbrev pub AskingRunsAs : (comes : LinkValue → List ℕ → Type 0) → List Request → (old new : AskingValue) → List Report → List Written → Type 0
 AskingRunsAs comes requests old new reports wrote =
     (events : List AskingEvent) × (requests ≡ requests_in events) × AskingEventRuns comes old events new reports wrote
 
--- calls, in which these requests were asked, lead from one end to another, tell these reports and write these packets; whatever
--- comes is one of these
+-- Calls of a client in which these requests were asked. What comes is one of these packets.
 abbrev pub AskingRuns : List Arrival → List Request → (old new : AskingValue) → List Report → List Written → Type 0
 AskingRuns came requests old new reports wrote = AskingRunsAs (IsOneOf came) requests old new reports wrote
 
 -- ---- Both.
 
+-- an event of one of two ends
 pub data PairEvent : Type 0 where
   AtA : AskingEvent → PairEvent
   AtB : EndEvent → PairEvent
@@ -127,6 +132,6 @@ PairStepped old (AtA event) more new =
 PairStepped old (AtB event) more new =
     Stepped (IsBrought old.from_a) (old.b, old.from_b) event more (new.b, new.from_b) × (new ≡ record old { b = new.b; from_b = new.from_b })
 
--- calls of both lead from one pair to another
+-- calls of both, one after another
 abbrev pub PairRuns : (old new : Pair) → Type 0
 PairRuns old new = (events : List PairEvent) × RunsBy PairStepped old events new

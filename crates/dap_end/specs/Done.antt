@@ -1,4 +1,4 @@
--- An end, and what it did on its link, which it keeps none of.
+-- An end, and its history on its link, of which it stores nothing.
 use Rattle.std.specs.Prelude.{ℕ, List, [], ◌∷◌, ◌++◌}
 use Rattle.dap_msg.specs.declared.items.Item.{Item}
 use Rattle.dap_msg.specs.Blocked.{NspMessage, Blocked}
@@ -11,19 +11,22 @@ use Rattle.dap_end.specs.Ports.{EndValue}
 
 -- ---- The end that serves.
 
+-- a server with its link
 abbrev pub ServingValue : Type 0
 ServingValue = EndValue accessed.Present
 
+-- the history of a server
 pub record Past : Type 0 where
   pub first : Files  -- the files that it had at first
   pub given : List (List ℕ)  -- the NSP messages that it served whole
   pub items : List Item  -- what it served: messages, or the rest of an NSP message of which none can be read
   pub handed : List (List ℕ)  -- the NSP messages with its answers that were handed to its link
 
+-- the history of a new server with these files
 abbrev pub nothing_yet : Files → Past
 nothing_yet first = record { first = first; given = []; items = []; handed = [] }
 
--- the answers to each item, joined to NSP messages as far as the peer's limit goes
+-- the answers to each item, joined within the peer's limit
 abbrev pub answers_to : (own : ℕ) → Files → (before items : List Item) → List NspMessage
 answers_to own first before [] = []
 answers_to own first before (item ∷ items) =
@@ -31,9 +34,11 @@ answers_to own first before (item ∷ items) =
 
 -- ---- The end that asks.
 
+-- a client with its link
 abbrev pub AskingValue : Type 0
 AskingValue = EndValue accessing.Present
 
+-- the history of a client
 pub record AskingPast : Type 0 where
   pub requests : List Request  -- what was asked
   pub asked : List NspMessage  -- the NSP messages of the requests
@@ -41,5 +46,6 @@ pub record AskingPast : Type 0 where
   pub given : List (List ℕ)  -- the NSP messages that it read whole
   pub answers : List Item  -- what it read
 
+-- the history of a new client
 abbrev pub nothing_asked : AskingPast
 nothing_asked = record { requests = []; asked = []; handed = []; given = []; answers = [] }

@@ -1,4 +1,4 @@
--- The DAP messages in NSP messages, gone through one after another.
+-- The items of NSP messages, gone through one after another.
 use Rattle.std.specs.Prelude.{◌≡◌, ℕ, ◌<◌, ◌==◌, if◌then◌else◌, List, [], ◌∷◌, ◌++◌, length, slice_index_or}
 use Rattle.std.specs.List.{AllByRecursion}
 use Rattle.dap_fields.specs.Spelling.{AreBytes}
@@ -6,21 +6,21 @@ use Rattle.dap_msg.specs.declared.items.Item.{Item}
 use Rattle.dap_msg.specs.Items.{ItemAt, Items, IsPlace}
 use Rattle.dap_end.specs.Ports.{PortValue}
 
--- the items of NSP messages: all of each, in order
+-- the items of these NSP messages, in order
 abbrev pub AreItemsOf : List (List ℕ) → List Item → Type 0
 AreItemsOf [] items = items ≡ []
 AreItemsOf (bytes ∷ messages) items =
     (front back : List Item) × (items ≡ front ++ back) × Items bytes front × AreItemsOf messages back
 
--- the items are a front of all those in these NSP messages: each once, and in order
+-- the items are a prefix of those of these NSP messages: each once, and in order
 abbrev pub AreFrontOf : List (List ℕ) → List Item → Type 0
 AreFrontOf messages items = (all : List Item) → AreItemsOf messages all → (rest : List Item) × (all ≡ items ++ rest)
 
--- the NSP messages that were gone through, once an item was handled that ends at a place
+-- the NSP messages that are gone through, after an item that ends at this offset
 abbrev pub given_then : List (List ℕ) → (bytes : List ℕ) → (next : ℕ) → List (List ℕ)
 given_then given bytes next = if next == length bytes then given ++ bytes ∷ [] else given
 
--- The next item of the oldest NSP message that came: it begins at the port's place.
+-- the next item of the oldest NSP message that came, at the port's offset
 pub record NextItem (p : PortValue) : Type 0 where
   pub bytes : List ℕ
   pub later : List (List ℕ)
@@ -33,18 +33,18 @@ pub record NextItem (p : PortValue) : Type 0 where
 
 -- ---- What was gone through so far.
 
--- the oldest NSP message that came and is left, or no bytes where none is
+-- the oldest NSP message that came and isn't gone through, empty if there is none
 abbrev pub oldest : List (List ℕ) → List ℕ
 oldest inbox = slice_index_or inbox 0 []
 
--- The items stand in the bytes, from one place to another, and none of them ends with the bytes.
+-- the items are those from one offset of the bytes to another, and none of them ends with the bytes
 abbrev pub StandFrom : List ℕ → ℕ → List Item → ℕ → Type 0
 StandFrom bytes at [] to = at ≡ to
 StandFrom bytes at (item ∷ items) to =
     (next : ℕ) × (next < length bytes) × ItemAt bytes at item next × StandFrom bytes next items to
 
--- The first of these items are all those of NSP messages that were gone through; the others stand before the place in
--- the oldest that is left.
+-- The items are those of the NSP messages that were gone through, and those before the offset in the oldest one that
+-- is left.
 pub record GoneThrough (given inbox : List (List ℕ)) (place : ℕ) (items : List Item) : Type 0 where
   pub done : List Item
   pub begun : List Item

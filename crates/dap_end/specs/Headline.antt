@@ -1,4 +1,5 @@
--- What is said of a run of an end's calls, whatever bytes come, and of one in which the packets are those of a peer.
+-- What is said of a run of an end's calls: `every_run_is_served` and `every_run_is_told` for any peer, and more where
+-- all packets are those of one peer.
 use Rattle.std.specs.Prelude.{ℕ, List, map, Option}
 use Rattle.std.specs.List.{AllByRecursion}
 use Rattle.nsp_seg.specs.declared.packet.Packet.{Packet}
@@ -7,21 +8,21 @@ use Rattle.nsp_link.specs.Link.{LinkValue, IsOfPeer, Writes}
 
 -- ---- Packets.
 
--- bytes that came, and the link to which they came, as it was before
+-- bytes that came, and the link before they came
 abbrev pub Arrival : Type 0
 Arrival = LinkValue × List ℕ
 
--- a packet that an end wrote, with the number of its segment, if it has one, and how many segments it acknowledges
+-- a packet that was written, with the number of its segment, if it has one, and how many segments it acknowledges
 pub record Written : Type 0 where
   pub bytes : List ℕ
   pub segment : Option ℕ
   pub acks : ℕ
 
--- their bytes
+-- the bytes alone
 abbrev pub bytes_of : List Written → List (List ℕ)
 bytes_of wrote = map (λ w. w.bytes) wrote
 
--- each packet carries its segment of what was handed to the link, and its count of segments taken
+-- each packet has its segment of what was passed to the link, and its acknowledgement
 abbrev pub AreWrittenOf : LinkValue → (handed : List (List ℕ)) → List Written → Type 0
 AreWrittenOf v handed wrote = AllByRecursion (λ w. Writes v handed w.segment w.acks w.bytes) wrote
 

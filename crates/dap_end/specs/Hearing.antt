@@ -1,4 +1,4 @@
--- Reading all that came, and doing at once all that it lets the end that asks do.
+-- A client reads all that came, and does all that this lets it do.
 use Rattle.std.specs.Prelude.{◌≡◌, Result, Ok, Err, List, [], ◌++◌, Option, option_to_list}
 use Rattle.nsp_link.specs.Sending.{SendAllFault}
 use Rattle.dap_accessing.specs.declared.report.Report.{Report}
@@ -11,19 +11,19 @@ use Rattle.dap_accessing.specs.Present.{Present}
 use Rattle.dap_end.specs.Asking.{ReadOne, ReadNone}
 use Rattle.dap_end.specs.Done.{AskingValue}
 
--- Answers that came were read, one after another, and these are the reports that they added.
+-- Answers that came were read, one after another, and these reports were added.
 pub data ReadOn : AskingValue → AskingValue → List Report → Type 0 where
   begins : {v : AskingValue} → ReadOn v v []
   goes : {old new : AskingValue} {all : List Report} (mid : AskingValue) (report : Option Report) (more : List Report)
       → ReadOne old mid report → ReadOn mid new more → all ≡ option_to_list report ++ more → ReadOn old new all
 
--- why nothing is read or handed over here: what waits is refused, once all is read; or the next answer is
+-- why nothing more is read or passed on: what waits is refused, once all is read; or the next answer isn't read
 abbrev pub HearFault : (old new : AskingValue) → EndFault → Type 0
 HearFault old new (end_fault.Link f) =
     (new ≡ old) × (old.port.link.coming.inbox ≡ []) × SendAllFault old.port.link old.port.outbox f
 HearFault old new (end_fault.Read f) = ReadNone old new f
 
--- the reports stand behind those that were there
+-- the client as one of the two ends: its reports follow those before
 abbrev pub asks : (before reports : List Report) → EndOf Present
 asks before reports =
     record {
@@ -33,7 +33,7 @@ asks before reports =
       quiet = reports ≡ before;
     }
 
--- what reading all comes to
+-- all that came was read, or this is why not
 abbrev pub ReadsAll : (old new : AskingValue) → (before reports : List Report) → Result (Unit {0}) ReadFault → Type 0
 ReadsAll old new before reports (Ok done) = Behind before reports (ReadOn old new) × (new.port.link.coming.inbox ≡ [])
 ReadsAll old new before reports (Err f) = DidAll (asks before reports) old new (Err (end_fault.Read f))

@@ -1,4 +1,5 @@
--- Two ends, each the other's peer, and a line between them that loses, repeats and reorders packets.
+-- Two ends, each the other's peer, and a network that loses, repeats and reorders packets. Their headline is the law
+-- `two_ends_keep_the_headline`.
 use Rattle.std.specs.Prelude.{◌≡◌, ℕ, List, Some, slice_get}
 use Rattle.nsp_link.specs.Link.{LinkValue, IsTimely}
 use Rattle.dap_accessing.specs.Request.{Request}
@@ -6,7 +7,7 @@ use Rattle.dap_accessing.specs.declared.report.Report.{Report}
 use Rattle.dap_end.specs.Done.{ServingValue, AskingValue}
 use Rattle.dap_end.specs.Headline.{Written}
 
--- both ends, every packet that each wrote, the requests that were asked, and the reports that were told
+-- both ends, every packet that each wrote, the requests, and the reports
 pub record Pair : Type 0 where
   pub a : AskingValue
   pub b : ServingValue
@@ -15,7 +16,7 @@ pub record Pair : Type 0 where
   pub requests : List Request
   pub reports : List Report
 
--- a packet that comes is one that the other end wrote, unaltered and not more than 2,047 numbers old
+-- what comes is a packet that the other end wrote, unaltered and not more than 2,047 numbers old
 abbrev pub IsBrought : List Written → LinkValue → List ℕ → Type 0
 IsBrought wire v bytes =
     (j : ℕ) × (w : Written) × (slice_get wire j ≡ Some w) × (bytes ≡ w.bytes) × IsTimely v w.segment w.acks

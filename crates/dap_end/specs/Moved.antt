@@ -1,18 +1,18 @@
--- A port of which a part moved.
+-- A port of which a part has changed.
 use Rattle.std.specs.Prelude.{ℕ, ◌+◌, []}
 use Rattle.nsp_link.specs.Cutting.{cut}
 use Rattle.nsp_link.specs.Link.{LinkValue}
 use Rattle.nsp_link.specs.Sending.{queued_link}
 use Rattle.dap_end.specs.Ports.{PortValue}
 
--- only the link
+-- the same port with another link
 abbrev pub with_link : PortValue → LinkValue → PortValue
 with_link p link = record p { link = link }
 
--- all that waits is with the link
+-- all that waits is passed to the link
 abbrev pub posted : PortValue → PortValue
 posted p = record p { link = queued_link p.link (cut p.link.setup.seg_size p.outbox); outbox = [] }
 
--- so many segments more count as sent
+-- n segments more are sent
 abbrev pub sent_more : PortValue → ℕ → PortValue
 sent_more p n = with_link p (record p.link { sent = p.link.sent + n })

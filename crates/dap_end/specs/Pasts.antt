@@ -1,4 +1,4 @@
--- What an end did, once one item more was handled, and what leaves it as it was; and NSP messages none of which is empty.
+-- A history with one item or request more.
 use Rattle.std.specs.Prelude.{◌≢◌, ℕ, List, [], ◌∷◌, ◌++◌}
 use Rattle.std.specs.List.{AllByRecursion}
 use Rattle.dap_msg.specs.declared.items.Item.{Item}
@@ -11,17 +11,19 @@ use Rattle.dap_end.specs.Going.{given_then}
 use Rattle.dap_end.specs.Done.{Past}
 use Rattle.dap_end.specs.Done.{AskingPast}
 
--- each past that fits the first fits the second
+-- every history that fits the first end fits the second
 abbrev pub Still : {P V : Type 0} → (Fits : P → V → Type 0) → (old new : V) → Type 0
 Still {P} Fits old new = (past : P) → Fits past old → Fits past new
 
+-- a server's, with one item more
 abbrev pub served : Past → (bytes : List ℕ) → Item → (next : ℕ) → Past
 served past bytes item next = record past { given = given_then past.given bytes next; items = past.items ++ item ∷ [] }
 
+-- a client's, with one answer more
 abbrev pub read_one : AskingPast → (bytes : List ℕ) → Item → (next : ℕ) → AskingPast
 read_one past bytes item next = record past { given = given_then past.given bytes next; answers = past.answers ++ item ∷ [] }
 
--- one request more, with its messages joined as far as the peer's limit goes
+-- a client's, with one request more
 abbrev pub asked_one : AskingPast → (own : ℕ) → Request → AskingPast
 asked_one past own request =
     record past {
@@ -29,6 +31,6 @@ asked_one past own request =
       asked = past.asked ++ Blocked (limit_after (Told past.requests past.answers)) (messages_of own request);
     }
 
--- each NSP message has a message
+-- no NSP message is empty
 abbrev pub AreFull : List NspMessage → Type 0
 AreFull packets = AllByRecursion (λ packet. packet ≢ []) packets

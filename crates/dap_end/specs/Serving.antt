@@ -1,4 +1,4 @@
--- The end that serves, before any peer.
+-- A server with its link, whatever the peer is.
 use Rattle.std.specs.Prelude.{◌≡◌, ◌⊎◌, ℕ, ◌<◌, [], ◌∷◌, ◌++◌, length}
 use Rattle.dap_msg.specs.Blocked.{AllFit, all_joined}
 use Rattle.nsp_link.specs.Link.{Sends}
@@ -10,8 +10,9 @@ use Rattle.dap_end.specs.Ports.{gone_on, HasCome}
 use Rattle.dap_end.specs.Going.{given_then, NextItem, GoneThrough}
 use Rattle.dap_end.specs.Done.{ServingValue, Past, answers_to}
 
--- The end is as after this: its files and its phase are those after the items, which are those of the NSP messages that
--- it served and of the front of the next one; and what it handed to its link, and what waits, are the answers to them.
+-- The server is as after this history. The items are those of the NSP messages that it served, and of a prefix of the
+-- next one. What it passed to its link, and what waits, are the answers to them. The law `serving_ends_stand` says
+-- what follows.
 pub record IsAfter (past : Past) (v : ServingValue) : Type 0 where
   pub serving : StandsAfter past.first past.items v.present
   pub gone : GoneThrough past.given v.port.link.coming.inbox v.port.place past.items
@@ -22,14 +23,14 @@ pub record IsAfter (past : Past) (v : ServingValue) : Type 0 where
 
 -- ---- Files that the end is given.
 
--- Why nothing is added: a segment came, which counts as that the end is busy, or the accessed end refuses it so.
+-- Why no file or record is added: a segment came, which counts as busy, or the server refuses it.
 abbrev pub NotGiven : ServingValue → (Refused : AddFault → Type 0) → AddFault → Type 0
 NotGiven v Refused fault.Busy = HasCome v.port ⊎ Refused fault.Busy
 NotGiven v Refused f = (HasCome v.port → ⊥) × Refused f
 
 -- ---- Serving.
 
--- no answer waits, and something came that wasn't served
+-- no answer waits, and a message that came isn't served
 abbrev pub MayServe : ServingValue → Type 0
 MayServe v = (v.port.outbox ≡ []) × (0 < length v.port.link.coming.inbox)
 

@@ -1,4 +1,4 @@
--- Taking a packet in, and doing at once all that it lets the end that serves do.
+-- A server serves all that came, and does all that this lets it do.
 use Rattle.std.specs.Prelude.{◌≡◌, ◌⊎◌, ℕ, ◌+◌, ◌<◌, ◌≤◌, []}
 use Rattle.nsp_link.specs.declared.fault.LinkFault.TheVariants as fault
 use Rattle.nsp_link.specs.Cutting.{total_length}
@@ -15,29 +15,28 @@ use Rattle.dap_end.specs.Done.{ServingValue}
 abbrev pub HasRoom : (most : ℕ) → PortValue → Type 0
 HasRoom most p = bytes_waiting p < most
 
--- While fewer bytes wait than this, what waits is handed over, and the next item is served; and so on.
+-- While fewer bytes wait than this, what waits is passed on and the next item is served, again and again.
 pub data ServedInTurn (most : ℕ) : ServingValue → ServingValue → Type 0 where
   begins : {v : ServingValue} → ServedInTurn most v v
   goes : {old new : ServingValue} (posted mid : ServingValue) (count n : ℕ)
       → HandsOver old posted count → HasRoom most old.port → ServedOne posted mid n → ServedInTurn most mid new → ServedInTurn most old new
 
--- nothing that came is left, or as many bytes wait as may
+-- all that came is served, or the limit of bytes that wait is reached
 abbrev pub RestsAt : (most : ℕ) → ServingValue → Type 0
 RestsAt most v = (v.port.link.coming.inbox ≡ []) ⊎ (most ≤ bytes_waiting v.port)
 
--- why no more is served: what waits is refused; or it is handed over, and then memory to serve the next item is refused
+-- why no more is served: what waits is refused; or it is passed on, and then memory to serve the next item is refused
 abbrev pub ServeFault : (most : ℕ) → (old new : ServingValue) → EndFault → Type 0
 ServeFault most old new (end_fault.Link f) =
     ((new ≡ old) × SendAllFault old.port.link old.port.outbox f)
     ⊎ ((f ≡ fault.NoMemory) × HasRoom most old.port × ((n : ℕ) × HandsOver old new n) × MayServe new)
 ServeFault most old new (end_fault.Read f) = ⊥
 
--- the end that serves, while fewer bytes wait than this
+-- the server as one of the two ends
 abbrev pub serves : (most : ℕ) → EndOf Present
 serves most = record { on = ServedInTurn most; rests = RestsAt most; halts = ServeFault most; quiet = Unit {0} }
 
--- From an end that came to this one, it served on; and no more bytes wait than before, or fewer than it may serve at and the
--- answers to one item that was served meanwhile.
+-- No more bytes wait than before; or fewer than the limit and the answers to one item that was served meanwhile.
 abbrev pub IsBounded : (most : ℕ) → (old first new : ServingValue) → Type 0
 IsBounded most old first new =
     (bytes_waiting new.port ≤ bytes_waiting old.port)

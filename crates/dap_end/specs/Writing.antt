@@ -6,16 +6,16 @@ use Rattle.nsp_link.specs.Link.{LinkValue, may_send, IsSpelling}
 use Rattle.nsp_link.specs.Sending.{WritesSent, ack_packet_of}
 use Rattle.dap_end.specs.Ports.{PortValue}
 
--- those that stand behind the ones that were there are so
+-- what follows that which was there is as this says
 abbrev pub Behind : {A : Type 0} → (out all : List A) → (Are : List A → Type 0) → Type 0
 Behind {A} out all Are = (more : List A) × (all ≡ out ++ more) × Are more
 
--- of whatever was handed over, these are the packets of its segments, in order from this number on
+-- whatever was passed to the link, these are the packets of its segments from this number on
 abbrev pub AreSegments : LinkValue → (from : ℕ) → List (List ℕ) → Type 0
 AreSegments v k [] = Unit {0}
 AreSegments v k (bytes ∷ packets) = WritesSent v (Some k) bytes × AreSegments v (k + 1) packets
 
--- The next segments were written, no more than there are and the window allows.
+-- The next segments were written, as far as there are some and the window allows them.
 pub record WroteMore (old new : PortValue) (packets : List (List ℕ)) : Type 0 where
   pub sent : new ≡ record old { link = record old.link { sent = old.link.sent + length packets } }
   pub writes : AreSegments old.link (old.link.sent + 1) packets
@@ -24,23 +24,23 @@ pub record WroteMore (old new : PortValue) (packets : List (List ℕ)) : Type 0 
 
 -- ---- What answers a packet.
 
--- a segment came, and none is written that acknowledges it
+-- a segment came, and no segment is written that acknowledges it
 abbrev pub wants_ack : Got → (written : ℕ) → Bool
 wants_ack AckOnly written = false
 wants_ack got written = written == 0
 
--- where it is wanted, one acknowledgement of all that were taken stands behind the packets that were there
+-- if it is wanted, one acknowledgement of all that was taken follows what was there
 abbrev pub Acknowledged : PortValue → (wanted : Bool) → (out all : List (List ℕ)) → Type 0
 Acknowledged p true out all = (bytes : List ℕ) × (all ≡ out ++ bytes ∷ []) × IsSpelling (ack_packet_of p.link) bytes
 Acknowledged p false out all = all ≡ out
 
--- All segments were written that the window allows, and where none was and one came, an acknowledgement.
+-- all segments that the window allows, and if there is none and a segment came, an acknowledgement
 abbrev pub WroteAnswer : (old new : PortValue) → Got → (packets : List (List ℕ)) → Type 0
 WroteAnswer old new got packets =
     (written : List (List ℕ)) × WroteMore old new written × (may_send new.link ≡ false)
     × Acknowledged new (wants_ack got (length written)) written packets
 
--- Some of them were written, and a segment that the window allows is left, or the acknowledgement.
+-- some of these, and one is left
 abbrev pub WrotePart : (old new : PortValue) → Got → (packets : List (List ℕ)) → Type 0
 WrotePart old new got packets =
     WroteMore old new packets × (IsTrue (may_send new.link) ⊎ (wants_ack got (length packets) ≡ true))

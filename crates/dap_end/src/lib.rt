@@ -1,5 +1,5 @@
-//! One end of a DAP file access over one link, by itself: it takes packets and gives packets, whoever the peer is (own;
-//! the exchange is that of DAP 5.6.0, message sequences, over the data segments of NSP 4.0.0).
+//! A client or a server with its link, whatever the peer is: it takes packets and gives packets. The exchange
+//! follows DAP 5.6.0, message sequences, over the data segments of NSP 4.0.0.
 #![tactic(auto)]
 
 mod asking;

@@ -1,4 +1,4 @@
--- The listing of a capture with its messages joined. Own.
+-- The listing of a capture in which messages are reassembled.
 use Rattle.std.specs.Prelude.{◌≡◌, ℕ, ◌+◌, ◌-◌, ◌%◌, ◌==◌, nat_lt, List, [], ◌∷◌, ◌++◌, length, codes, if◌then◌else◌, Option, Result, Ok}
 use Rattle.std.specs.List.{AllZip, concat, enumerate_from, filter, flat_map, zip}
 use Rattle.std.specs.Fmt.{decimal}
@@ -16,27 +16,28 @@ use Rattle.dap_follow.specs.Streams.{IsOrdered, Captured, Placed, came_in, strea
 use Rattle.dap_follow.specs.Joined.{Message, Piece, is_message, messages, payload, pieces, tail}
 use Rattle.dap_follow.specs.declared.streams.Stream.{Stream}
 
--- what was captured is this
+-- the captured bytes are this packet or have this fault
 abbrev pub IsCaptured : Capture → Captured → Type 0
 IsCaptured capture packet =
     (packet.0 ≡ capture.0) × ((bytes : List ℕ) × (decode_of capture.1 ≡ Ok bytes) × IsSeen packet.1 bytes)
 
--- ` seg=A..B`: the numbers of two places
+-- ` seg=A..B`: two sequence numbers
 abbrev pub range_text : ℕ → ℕ → List ℕ
 range_text from to = concat (codes " seg=" ∷ decimal (from % 4096) ∷ codes ".." ∷ decimal (to % 4096) ∷ [])
 
+-- ` len=N`: how many bytes
 abbrev pub length_text : List ℕ → List ℕ
 length_text bytes = concat (codes " len=" ∷ decimal (length bytes) ∷ line_feed ∷ [])
 
--- behind a word: the numbers of a piece's first and last segment, and how many bytes it carries
+-- after a word, the numbers of the first and last segment, and how many bytes they have
 abbrev pub piece_text : List ℕ → Piece → List ℕ
 piece_text word p = word ++ (range_text p.head.place (tail p).place ++ length_text (payload p))
 
--- the lines of a message: its own, and those of the DAP messages in it
+-- the lines of a message: its heading, and those of the DAP messages in it
 abbrev pub IsMessageText : Piece → List ℕ → Type 0
 IsMessageText p text = (lines : List ℕ) × IsMessagesText (payload p) lines × (text ≡ piece_text (codes "  message") p ++ lines)
 
--- the lines of a packet: its own, and those of the messages that are whole with it
+-- the lines of a packet: its own, and those of the messages that it completes
 abbrev pub IsPacketText : (all : List Message) → ℕ × Captured → List ℕ → Type 0
 IsPacketText all (number, packet) text =
     (texts : List (List ℕ)) × AllZip (λ m. IsMessageText m.piece) (filter (λ m. m.packet == number) all) texts
@@ -46,23 +47,23 @@ IsPacketText all (number, packet) text =
 abbrev pub stream_text : Stream → List ℕ
 stream_text s = concat (codes " " ∷ arrow_text s.way ∷ codes " dst=" ∷ word_text s.dst ∷ codes " src=" ∷ word_text s.src ∷ [])
 
--- a piece that is no message
+-- segments that are no whole message
 abbrev pub part_line : Stream → Piece → List ℕ
 part_line stream p = if is_message p then [] else codes "part" ++ piece_text (stream_text stream) p
 
--- the places that are missing between a piece and the next
+-- the segments that are missing before the next ones
 abbrev pub gap_line : Stream → Piece → List Piece → List ℕ
 gap_line stream p [] = []
 gap_line stream p (next ∷ others) =
     if nat_lt ((tail p).place + 1) next.head.place
     then codes "gap" ++ (stream_text stream ++ (range_text ((tail p).place + 1) (next.head.place - 1) ++ line_feed)) else []
 
--- the parts and the gaps of a stream, in the order of their places
+-- the parts and gaps of a stream, in order
 abbrev pub rest_lines : Stream → List Piece → List ℕ
 rest_lines stream [] = []
 rest_lines stream (p ∷ others) = part_line stream p ++ gap_line stream p others ++ rest_lines stream others
 
--- the lines of the packets, and behind them what is left of each stream
+-- the lines of the packets, and after them the parts and gaps of each stream
 pub record IsFollowed (captured : List Capture) (text : List ℕ) : Type 0 where
   pub packets : List Captured
   pub ordered : List (List Placed)
@@ -72,7 +73,7 @@ pub record IsFollowed (captured : List Capture) (text : List ℕ) : Type 0 where
   pub are_texts : AllZip (IsPacketText (flat_map messages ordered)) (enumerate_from 1 packets) texts
   pub joined : text ≡ concat texts ++ flat_map (λ (stream, segments). rest_lines stream (pieces segments)) (zip (streams packets) ordered)
 
--- what the listing of an input answers
+-- what `follow` does with an input
 abbrev pub FollowGives : List ℕ → Option (List ℕ) → Option (List ℕ) → Result Outcome CaptureFault → Type 0
 FollowGives input =
     Gives (faults_from packet_limit 1 input) (λ outcome text. (outcome ≡ Good) × IsFollowed (captures packet_limit input) text) input

@@ -1,4 +1,5 @@
--- The data segments of a capture, stream by stream and in the order of their places. Own.
+-- The data segments of a capture: one stream for each direction, receiver and sender, in the order of the sequence
+-- numbers.
 use Rattle.std.specs.Prelude.{◌≡◌, ℕ, ◌+◌, ◌%◌, ◌≤◌, ◌==◌, ◌&&◌, Bool, bytes_eq, List, [], ◌∷◌, map, max, if◌then◌else◌, Option, Some, None, option_map, option_and_then, Ok}
 use Rattle.std.specs.List.{filter_map, find, enumerate_from}
 use Rattle.std.specs.List.Sorted.{IsStrictlyIncreasing}
@@ -10,7 +11,7 @@ use Rattle.dap_listing.specs.Packets.{Seen}
 use Rattle.dap_listing.specs.declared.lines.Direction.{Direction}
 use Rattle.dap_follow.specs.declared.streams.Stream.{Stream}
 
--- what was captured, and the way that it went
+-- a captured packet or fault, and its direction
 abbrev pub Captured : Type 0
 Captured = Direction × Seen
 
@@ -21,26 +22,26 @@ abbrev pub segment_in : Captured → Option (Stream × SegmentFields)
 segment_in (way, Ok (Segment s)) = Some (record { way = way; dst = s.dst; src = s.src }, s)
 segment_in _ = None
 
--- one arrow, one receiver and one sender
+-- the same direction, receiver and sender
 abbrev pub is_same : Stream → Stream → Bool
 is_same a b = bytes_eq (arrow_text a.way) (arrow_text b.way) && (a.dst == b.dst) && (a.src == b.src)
 
--- each once, in the order in which they appear
+-- the streams, each once, in the order in which they appear
 abbrev pub streams : List Captured → List Stream
 streams packets = insert_all is_same [] (filter_map (λ packet. option_map (λ p. p.0) (segment_in packet)) packets)
 
--- the segment of a packet, where it is of the stream, with the number of the packet
+-- the segment of a packet, if it is of the stream, with the number of the packet
 abbrev pub came_as : Stream → ℕ → Captured → Option (ℕ × SegmentFields)
 came_as stream number packet =
     option_and_then (λ p. if is_same stream p.0 then Some (number, p.1) else None) (segment_in packet)
 
--- the segments of a stream, as they came
+-- the segments of a stream, in the order of the capture
 abbrev pub came_in : Stream → List Captured → List (ℕ × SegmentFields)
 came_in stream packets = filter_map (λ (number, packet). came_as stream number packet) (enumerate_from 1 packets)
 
 -- ---- places
 
--- a segment in its place: where it is the first of its message or the last, and what it carries
+-- a segment with its sequence number without modulus (`place`), and the number of its packet
 pub record Placed : Type 0 where
   pub place : ℕ
   pub packet : ℕ
@@ -48,7 +49,8 @@ pub record Placed : Type 0 where
   pub last : Bool
   pub payload : List ℕ
 
--- Each place leaves the segment's number modulo 4,096, and lies from 2,047 below to 2,048 above the highest before it.
+-- Each number without modulus is the segment's number modulo 4,096, and is from 2,047 below to 2,048 above the
+-- highest one before it.
 pub data ArePlaced : ℕ → List (ℕ × SegmentFields) → List Placed → Type 0 where
   no_more : {highest : ℕ} → ArePlaced highest [] []
   one_more : {highest : ℕ} {c : ℕ × SegmentFields} {others : List (ℕ × SegmentFields)} {rest : List Placed} (place : ℕ)
@@ -56,16 +58,16 @@ pub data ArePlaced : ℕ → List (ℕ × SegmentFields) → List Placed → Typ
       → ArePlaced (max highest place) others rest
       → ArePlaced highest (c ∷ others) (record { place = place; packet = c.0; first = c.1.first; last = c.1.last; payload = c.1.payload } ∷ rest)
 
--- The first one's place is its number and 4,096.
+-- The first one has its number plus 4,096.
 abbrev pub first_place : List (ℕ × SegmentFields) → ℕ
 first_place [] = 0
 first_place (c ∷ others) = c.1.number + 4096
 
--- what stands at a place: of several the first that came
+-- the segment with a sequence number: if there are several, the first that came
 abbrev pub at : ℕ → List Placed → Option Placed
 at place = find (λ s. s.place == place)
 
--- the segments that count, in the order of their places
+-- The segments that count, in the order of their numbers: one for each number that came.
 pub record IsOrdered (came : List (ℕ × SegmentFields)) (ordered : List Placed) : Type 0 where
   pub placed : List Placed
   pub are_placed : ArePlaced (first_place came) came placed

@@ -1,4 +1,4 @@
-//! The listing of a capture with the NSP messages of several segments joined. Own.
+//! The listing of a capture in which the segments of each NSP message are reassembled.
 #![tactic(auto)]
 
 mod following;

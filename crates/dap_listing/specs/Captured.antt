@@ -11,7 +11,7 @@ use Rattle.dap_listing.specs.declared.captured.CapturedPacket.TheVariants as cap
 use Rattle.dap_listing.specs.declared.captured.CapturedSegment.{CapturedSegment}
 use Rattle.dap_listing.specs.Packets.{Seen}
 
--- hex digits of so many bytes
+-- hex digits of this many bytes
 abbrev pub Spell : List ℕ → ℕ → Type 0
 Spell digits count = AllPass is_hex_digit digits × (length digits ≡ 2 * count)
 
@@ -19,7 +19,7 @@ Spell digits count = AllPass is_hex_digit digits × (length digits ≡ 2 * count
 abbrev pub bytes_of : List ℕ → List ℕ
 bytes_of digits = result_unwrap_or (decode_of digits) []
 
--- from a place up to another stand the bytes that the digits spell
+-- from one offset to another are the bytes of the digits
 abbrev pub AreDecoded : List ℕ → ℕ → ℕ → List ℕ → Type 0
 AreDecoded digits from to bytes =
     (i : ℕ) → from ≤ i → i < to → get_or bytes i 0 ≡ get_or (bytes_of digits) i 0
@@ -37,13 +37,13 @@ segment_of c = record {
   payload = bytes_of c.digits.now;
 }
 
--- what was read, likewise
+-- the same of what was read
 abbrev pub seen_value : Result CapturedPacket SegFault → Seen
 seen_value (Ok (captured.Segment c)) = Ok (Segment (segment_of c))
 seen_value (Ok (captured.DataAck ack)) = Ok (DataAck ack)
 seen_value (Err fault) = Err fault
 
--- what stands for a payload are hex digits of bytes
+-- the payload is hex digits of whole bytes
 abbrev pub HasDigits : Result CapturedPacket SegFault → Type 0
 HasDigits (Ok (captured.Segment c)) = Spell c.digits.now (length c.digits.now / 2)
 HasDigits (Ok (captured.DataAck ack)) = Unit {0}

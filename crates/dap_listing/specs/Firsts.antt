@@ -9,6 +9,6 @@ IsOfLine (BadLine number) = Unit {0}
 IsOfLine TooLarge = Unit {0}
 IsOfLine _ = ⊥
 
--- the first of the faults, which a line can have
+-- the first of the faults
 abbrev pub IsFirst : List CaptureFault → CaptureFault → Type 0
 IsFirst faults fault = (slice_get faults 0 ≡ Some fault) × IsOfLine fault

@@ -1,4 +1,4 @@
--- What a run over a whole input answers.
+-- What a command over a whole input does.
 use Rattle.std.specs.Prelude.{◌≡◌, ◌≢◌, OnErr, ℕ, ◌+◌, ◌<◌, ◌≤◌, List, [], length, slice_get, Option, Some, IfSome, Result, Ok, Err, ◌⊎◌}
 use Rattle.std.specs.Io.KnownBytes.{Appends, Consumes, Keeps}
 use Rattle.linewise.specs.Talks.{longest}
@@ -8,24 +8,25 @@ use Rattle.dap_listing.specs.declared.fault.Outcome.TheVariants.{Good, Stopped}
 use Rattle.dap_listing.specs.declared.fault.CaptureFault.{CaptureFault}
 use Rattle.dap_listing.specs.declared.fault.CaptureFault.TheVariants.{BadLine, TooLarge, ReadFailed, WriteFailed, NoMemory}
 
--- A front of a reader's known bytes is taken, no longer than an input may be, which is as long as a line, and one byte more.
+-- A prefix of the reader's known bytes is read: at most one byte more than an input may have (16,777,216).
 abbrev pub TakesWithinLimit : Option (List ℕ) → Option (List ℕ) → Type 0
 TakesWithinLimit old new = (taken : List ℕ) × Consumes old new taken × (length taken ≤ longest + 1)
 
--- and no longer than an input may be
+-- a prefix is read, no longer than an input may be
 abbrev pub TakesAnInput : Option (List ℕ) → Option (List ℕ) → Type 0
 TakesAnInput old new = (taken : List ℕ) × Consumes old new taken × (length taken ≤ longest)
 
--- a text of an input whose lines have no fault
+-- the input is within its limit, no line has a fault, and the text is as this says
 abbrev pub IsTextOf : List CaptureFault → (List ℕ → Type 0) → (input text : List ℕ) → Type 0
 IsTextOf faults IsText input text = (length input ≤ longest) × (faults ≡ []) × IsText text
 
--- the first fault of the input's lines, of an input within the limit
+-- the input is within its limit, and this is the first fault of its lines
 abbrev pub HasLineFault : List CaptureFault → (input : List ℕ) → CaptureFault → Type 0
 HasLineFault faults input fault = (length input ≤ longest) × (slice_get faults 0 ≡ Some fault)
 
--- What a run over an input answers, and how the known bytes of the writer change from old to new: by the faults of the
--- input's lines, and the texts that go with an outcome.
+-- What a command does with an input, by the faults of its lines and by the texts of each outcome. The text was
+-- written; or a line has a fault, or the input is too large, and nothing was written; or the writer failed, and a
+-- prefix of the text was written; or the reader failed or memory was refused, and nothing was written.
 abbrev pub Gives : List CaptureFault → (Outcome → List ℕ → Type 0) → List ℕ
     → Option (List ℕ) → Option (List ℕ) → Result Outcome CaptureFault → Type 0
 Gives faults IsText input old new (Ok outcome) =
@@ -38,7 +39,7 @@ Gives faults IsText input old new (Err WriteFailed) =
     (outcome : Outcome) × (text : List ℕ) × IsTextOf faults (IsText outcome) input text × WritesFront old new text
 Gives faults IsText input old new (Err _) = Keeps old new
 
--- A fault leaves it as it was, save one of the writer.
+-- After a fault nothing was written, unless the writer failed.
 abbrev pub KeepsUnwritten : Result Outcome CaptureFault → Option (List ℕ) → Option (List ℕ) → Type 0
 KeepsUnwritten result old new = OnErr result ((result ≢ Err WriteFailed) → Keeps old new)
 
@@ -50,6 +51,6 @@ status_of (Err (BadLine number)) = 1
 status_of (Err TooLarge) = 1
 status_of (Err _) = 3
 
--- a run answers so, with some outcome, and its status is that of it
+-- the command does so with some outcome, and the exit status is that of the outcome
 abbrev pub HasStatus : (Result Outcome CaptureFault → Type 0) → ℕ → Type 0
 HasStatus Answers status = (outcome : Result Outcome CaptureFault) × Answers outcome × (status ≡ status_of outcome)

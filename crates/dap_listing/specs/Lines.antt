@@ -1,4 +1,4 @@
--- What the lines of a capture say.
+-- The lines of a capture.
 use Rattle.std.specs.Prelude.{ℕ, ◌*◌, ◌==◌, ◌&&◌, nat_le, List, [], ◌∷◌, if◌then◌else◌, length, Option, Some, None, Result, Ok, Err}
 use Rattle.linewise.specs.Talks.{is_skipped}
 use Rattle.dap_text.specs.Words.{is_hex_text}
@@ -7,15 +7,15 @@ use Rattle.dap_listing.specs.declared.fault.CaptureFault.TheVariants.{BadLine, T
 use Rattle.dap_listing.specs.declared.lines.Direction.{Direction}
 use Rattle.dap_listing.specs.declared.lines.Direction.TheVariants.{Right, Left}
 
--- what is captured: the direction, and the hex digits of the bytes
+-- what is captured: its direction, and the hex digits of its bytes
 abbrev pub Capture : Type 0
 Capture = Direction × List ℕ
 
--- what a line says: nothing, or what is captured, or its fault, by the line's number
+-- what a line is: a skipped line, captured bytes, or a fault, which has the number of the line
 abbrev pub Line : Type 0
 Line = Result (Option Capture) (ℕ → CaptureFault)
 
--- digits of bytes of which there may be so many
+-- hex digits of at most limit bytes
 abbrev pub digits_line : ℕ → Direction → List ℕ → Line
 digits_line limit direction digits =
     if is_hex_text digits then (if nat_le (length digits) (2 * limit) then Ok (Some (direction, digits)) else Err (λ number. TooLarge)) else Err BadLine
@@ -28,6 +28,6 @@ capture_line limit (first ∷ second ∷ digits) =
     else Err BadLine
 capture_line limit _ = Err BadLine
 
--- one that says nothing captures nothing
+-- a line of a capture; lines end with LF or CR LF
 abbrev pub line_of : ℕ → List ℕ → Line
 line_of limit line = if is_skipped line then Ok None else capture_line limit line

@@ -18,7 +18,7 @@ use Rattle.dap_listing.specs.declared.fault.Outcome.{Outcome}
 use Rattle.dap_listing.specs.declared.fault.Outcome.TheVariants.{Good}
 use Rattle.dap_listing.specs.declared.fault.CaptureFault.{CaptureFault}
 
--- the faults of the lines in order, of which the first has the number
+-- the faults of the lines, in order; the first line has this number
 abbrev pub faults_from : ℕ → ℕ → List ℕ → List CaptureFault
 faults_from limit number bytes =
     filter_map (λ (place, line). option_map (λ fault. fault place) (result_err (line_of limit line))) (enumerate_from number (lines bytes))
@@ -27,6 +27,7 @@ faults_from limit number bytes =
 abbrev pub captures : ℕ → List ℕ → List Capture
 captures limit input = filter_map (λ line. result_unwrap_or (line_of limit line) None) (lines input)
 
+-- the direction
 abbrev pub arrow_text : Direction → List ℕ
 arrow_text Right = codes ">"
 arrow_text Left = codes "<"
@@ -35,30 +36,30 @@ arrow_text Left = codes "<"
 abbrev pub heading : ℕ → Direction → List ℕ
 heading number direction = concat (decimal number ∷ codes " " ∷ arrow_text direction ∷ codes " " ∷ [])
 
--- What is listed of captured bytes after their number and direction. Of an NSP message: the line of its length, and
--- those of its messages.
+-- What is listed after the number and the direction: the lines of a packet, or of an NSP message its length and its
+-- messages.
 abbrev pub IsCapturedText : Listed → List ℕ → List ℕ → Type 0
 IsCapturedText Packets bytes text = IsPacketText bytes text
 IsCapturedText Messages bytes text = (messages : List ℕ) × IsMessagesText bytes messages
     × (text ≡ concat (codes "message len=" ∷ decimal (length bytes) ∷ line_feed ∷ []) ++ messages)
 
--- the most bytes of a packet
+-- how many bytes a packet has at most
 abbrev pub packet_limit : ℕ
 packet_limit = 4096
 
--- the most bytes that the digits of a line spell
+-- how many bytes a line may have in hex
 abbrev pub limit_of : Listed → ℕ
 limit_of Packets = packet_limit
 limit_of Messages = 65535
 
--- the lines of what was captured, the first of which has the number
+-- the lines of all that was captured, numbered from this number; by the law `listings_are_one` there is one listing
 pub data CaptureLines (listed : Listed) : ℕ → List Capture → List ℕ → Type 0 where
   no_more : {number : ℕ} → CaptureLines listed number [] []
   one_more : {number : ℕ} {direction : Direction} {digits : List ℕ} {others : List Capture} (bytes first rest : List ℕ)
       → decode_of digits ≡ Ok bytes → IsCapturedText listed bytes first → CaptureLines listed (number + 1) others rest
       → CaptureLines listed number ((direction, digits) ∷ others) ((heading number direction ++ first) ++ rest)
 
--- what a listing of the input answers: it is never stopped
+-- what `show` and `messages` do with an input
 abbrev pub ListingGives : Listed → List ℕ → Option (List ℕ) → Option (List ℕ)
     → Result Outcome CaptureFault → Type 0
 ListingGives listed input =

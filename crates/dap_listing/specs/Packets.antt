@@ -15,26 +15,29 @@ use Rattle.dap_listing.specs.Messages.{IsMessagesText}
 abbrev pub ack_text : AckField → List ℕ
 ack_text ack = concat (decimal ack.qual ∷ codes ":" ∷ decimal ack.number ∷ [])
 
+-- both fields
 abbrev pub acks_text : Option AckField → Option AckField → List ℕ
 acks_text None second = codes "-"
 acks_text (Some first) None = ack_text first
 acks_text (Some first) (Some second) = concat (ack_text first ∷ codes "," ∷ ack_text second ∷ [])
 
--- where in its message a segment stands
+-- whether a segment is the first and the last of its message
 abbrev pub mark_text : Bool → Bool → List ℕ
 mark_text true true = codes "only"
 mark_text true false = codes "first"
 mark_text false true = codes "last"
 mark_text false false = codes "middle"
 
--- a packet, or why captured bytes are none
+-- a packet, or why the bytes are none
 abbrev pub Seen : Type 0
 Seen = Result Packet SegFault
 
+-- the bytes are this packet, or have this fault
 abbrev pub IsSeen : Seen → List ℕ → Type 0
 IsSeen (Ok packet) bytes = Spells packet bytes
 IsSeen (Err fault) bytes = HasFault fault bytes
 
+-- the line of a packet, or of a fault
 abbrev pub seen_line : Seen → List ℕ
 seen_line (Ok (Segment s)) = concat (
     codes "segment " ∷ mark_text s.first s.last ∷ codes " dst=" ∷ word_text s.dst ∷ codes " src=" ∷ word_text s.src
@@ -43,12 +46,12 @@ seen_line (Ok (DataAck a)) = concat (
     codes "ack dst=" ∷ word_text a.dst ∷ codes " src=" ∷ word_text a.src ∷ codes " acks=" ∷ acks_text (Some a.ack1) a.ack2 ∷ line_feed ∷ [])
 seen_line (Err fault) = fault_line fault
 
--- the messages of a segment are listed where it holds a whole NSP message
+-- the lines of the messages in a segment that is a whole NSP message
 abbrev pub SeenMessages : Seen → List ℕ → Type 0
 SeenMessages (Ok (Segment s)) lines = MatchBool (s.first && s.last) (IsMessagesText s.payload lines) (lines ≡ [])
 SeenMessages _ lines = lines ≡ []
 
--- the line of what the bytes are, and those of its messages
+-- the line of what the bytes are, and the lines of its messages
 pub record IsPacketText (bytes text : List ℕ) : Type 0 where
   pub seen : Seen
   pub messages : List ℕ

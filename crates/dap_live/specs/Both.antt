@@ -1,4 +1,4 @@
--- What both ends do alike by a line, and what they say.
+-- What both ends have in common.
 use Rattle.std.specs.Prelude.{◌≡◌, ◌⊎◌, ◌++◌, ℕ, List, [], Result, Option, Some, None}
 use Rattle.nsp_link.specs.declared.link.Got.{Got}
 use Rattle.nsp_link.specs.declared.link.LinkSetup.{LinkSetup}
@@ -12,7 +12,7 @@ use Rattle.linewise.specs.declared.talking.Became.TheVariants.{Done, BadLine, No
 use Rattle.dap_live.specs.declared.orders.Order.{Order}
 use Rattle.dap_live.specs.Texts.{LineAnswer, done_said, taken_said}
 
--- A packet was taken in, and all done that it lets the end do, or it was refused; the answer has these reports.
+-- A packet was received, and all was done that it lets the end do; or it was refused. The answer has these reports.
 pub record TakesPacket {P C : Type 0} (end : EndOf P) (reports : List Report) (ends : Result Got TakeFault → Became → C)
     (old : EndValue P) (bytes : List ℕ) (new : EndValue P) (text : List ℕ) (came : C) : Type 0 where
   pub taken : Result Got TakeFault
@@ -23,7 +23,7 @@ pub record TakesPacket {P C : Type 0} (end : EndOf P) (reports : List Report) (e
 
 -- ---- Going on.
 
--- What an end says by going on, behind this front.
+-- What an end answers by going on, after this text.
 pub record SaysGone {P C : Type 0} (end : EndOf P) (reports : List Report) (ends : Became → C)
     (old : EndValue P) (front : List ℕ) (new : EndValue P) (text : List ℕ) (came : C) : Type 0 where
   pub gone : Result (Unit {0}) EndFault
@@ -34,7 +34,7 @@ pub record SaysGone {P C : Type 0} (end : EndOf P) (reports : List Report) (ends
 
 -- ---- What is done or refused.
 
--- It is done, and this is so then; or the end stays as it is, and is told why.
+-- It is done, and nothing is answered; or the end is as before, and the reason is answered.
 abbrev pub DoneOr : {E C F : Type 0} → (ends : Became → C) → (IsDone : Type 0) → (Why : F → Type 0) → (told : F → LineAnswer) → (old new : E) → List ℕ → C → Type 0
 DoneOr {E} {C} {F} ends IsDone Why told old new text came =
     (IsDone × (text ≡ []) × (came ≡ ends Done))
@@ -42,21 +42,22 @@ DoneOr {E} {C} {F} ends IsDone Why told old new text came =
 
 -- ---- A new link.
 
--- a new end's port, buffer and setup
+-- a new end has this port, buffer and setup
 abbrev pub IsSetUp : LinkSetup → (buffer : ℕ) → PortValue → (own : ℕ) → LinkSetup → Type 0
 IsSetUp setup buffer port own its = (port ≡ new_port setup) × (own ≡ buffer) × (its ≡ setup)
 
 -- ---- A line.
 
--- what an end does by an order, and says, and what comes of it
+-- what an end does by an order, what it answers, and what became of the line
 abbrev pub Doing : (E C : Type 0) → Type 1
 Doing E C = E → Order → E → List ℕ → C → Type 0
 
--- the end stays as it is, and this came of the line
+-- the end is as before, and this became of the line
 abbrev pub Stays : {E C : Type 0} → (was : C) → (old new : E) → C → Type 0
 Stays was old new came = (new ≡ old) × (came ≡ was)
 
--- Where memory is refused to the text of an order that the end knows, it is done or it isn't, and nothing is said but that.
+-- A line that is no order changes nothing and is a bad line. Otherwise the order is done; or memory is refused to its
+-- answer, and nothing else is answered, whether it was done or not.
 abbrev pub DoesOrder : {E C : Type 0} → (Knows : Order → Type 0) → Doing E C → (DoesAll : Doing E Became) → E → Option Order → E → List ℕ → Became → Type 0
 DoesOrder Knows Does DoesAll old None new text became = (new ≡ old) × (text ≡ []) × (became ≡ BadLine)
 DoesOrder {E} {C} Knows Does DoesAll old (Some o) new text became =

@@ -1,4 +1,4 @@
--- What the lines of a live end say.
+-- The orders that a line of a live end may be.
 use Rattle.std.specs.Prelude.{ℕ, List, [], ◌∷◌, codes, Option, option_map}
 use Rattle.std.specs.Int.{from_be_bytes, w16}
 use Rattle.std.specs.Result.{result_ok}
@@ -16,8 +16,7 @@ use Rattle.dap_live.specs.declared.orders.Order.TheVariants as order
 abbrev pub address_of : List ℕ → Option ℕ
 address_of word = option_map (from_be_bytes w16) (result_ok (decode_sized word 2))
 
--- What a line says, by its first word, and those after it. A line of a record begins with two spaces, so its first word is
--- empty.
+-- The order of a line, by its first word. A line of a record begins with two spaces, so its first word is empty.
 abbrev pub order_of : List ℕ → Option Order
 order_of line = one_of (
     word (codes ">") (field hex_of (λ bytes. ends (order.Packet bytes)))
@@ -33,7 +32,7 @@ order_of line = one_of (
     ∷ word (codes "ask") (λ words. option_map order.Ask (request_of words))
     ∷ []) (words_of line)
 
--- how the link is set up then
+-- the setup of a new link: what isn't named is as before
 abbrev pub setup_anew : LinkSetup → Anew → LinkSetup
 setup_anew setup Same = setup
 setup_anew setup (Between local remote) = record setup { local = local; remote = remote }

@@ -1,4 +1,4 @@
--- What the end that serves does by a line, and what it says.
+-- What a server does by a line, and what it answers.
 use Rattle.std.specs.Prelude.{◌≡◌, Bool, ℕ, MatchBool, List, [], MatchOption}
 use Rattle.rec_file.specs.Shapes.{checked_shape}
 use Rattle.dap_msg.specs.Codes.{stscode, reasons}
@@ -27,11 +27,11 @@ use Rattle.dap_live.specs.Both.{DoesOrder, DoneOr, IsSetUp, SaysGone, Stays, Tak
 
 -- ---- Going on.
 
--- something is left that the end would do now
+-- apart from memory, the server would do something by going on
 abbrev pub is_behind : (most : ℕ) → ServingValue → Bool
 is_behind most v = is_left v.port.link v.port.outbox (is_served_next most v.port.link)
 
--- behind the packets of all segments that aren't acknowledged, where something is left
+-- the packets of all segments that aren't acknowledged, then what going on does, if something is left
 abbrev pub Resends : (most : ℕ) → ServingValue → ServingValue → List ℕ → Became → Type 0
 Resends most old new text became = (packets : List (List ℕ)) × AllAgain old.port.link packets
     × MatchBool (is_behind most old)
@@ -40,14 +40,14 @@ Resends most old new text became = (packets : List (List ℕ)) × AllAgain old.p
 
 -- ---- A new link.
 
--- a new end on a link that is set up so, with these files
+-- a new server with these files, on a link with this setup
 abbrev pub IsNew : LinkSetup → (buffer most : ℕ) → Files → Serving → Type 0
 IsNew setup buffer most files s =
     IsAfter (nothing_yet files) s.end × IsSetUp setup buffer s.end.port s.end.present.own s.setup × (s.most_waiting ≡ most)
 
 -- ---- Files that it is given.
 
--- one was added, these are the files then, and no packet moved
+-- A file or record was added, these are the files now, and nothing was sent or received.
 pub record Added (made : Files) (old new : ServingValue) : Type 0 where
   pub files : new.present.files ≡ made
   pub idle : HasCome old.port → ⊥
@@ -55,13 +55,14 @@ pub record Added (made : Files) (old new : ServingValue) : Type 0 where
   pub own : new.present.own ≡ old.present.own
   pub port : new.port ≡ old.port
 
--- where the attributes are none of a file, they are told before all else
+-- A file is added, or the reason why not is answered. Bad attributes come first.
 abbrev pub AddsFile : ServingValue → FileLine → ServingValue → List ℕ → Became → Type 0
 AddsFile old file new text became = MatchOption (checked_shape file.org file.rfm file.mrs file.mrn)
     ((new ≡ old) × (text ≡ status_line stscode.access_refused reasons.bad_attributes) × (became ≡ Done))
     (λ shape. DoneOr (λ became. became) (MayAdd old.present file.name × Added (with_new_file file.name shape old.present.files) old new)
     (NotGiven old (AddRefused old.present file.name)) add_refusal old new text became)
 
+-- a record is added to the newest file, or the reason why not is answered
 abbrev pub AddsRecord : ServingValue → RecordLine → ServingValue → List ℕ → Became → Type 0
 AddsRecord old r new =
     DoneOr (λ became. became) (MayAddRecord old.present r.number r.body × Added (with_record r.number r.body old.present.files) old new)
@@ -69,11 +70,11 @@ AddsRecord old r new =
 
 -- ---- A line.
 
--- only the end moved
+-- only the end changed
 abbrev pub OnEnd : Serving → Serving → Type 0
 OnEnd old new = new ≡ record old { end = new.end }
 
--- what is done by a line that says this, and what is said
+-- what the server does by each order, and its answer
 abbrev pub Does : Serving → Order → Serving → List ℕ → Became → Type 0
 Does old (order.Packet bytes) new text became = OnEnd old new × TakesPacket (serves old.most_waiting) [] (λ taken became. became) old.end bytes new.end text became
 Does old order.Resend new text became =
@@ -87,11 +88,12 @@ Does old (order.File file) new text became = OnEnd old new × AddsFile old.end f
 Does old (order.Record r) new text became = OnEnd old new × AddsRecord old.end r new.end text became
 Does old (order.Ask request) new text became = (new ≡ old) × (text ≡ []) × (became ≡ BadLine)
 
--- an order that an end which serves knows
+-- the orders that a server knows
 abbrev pub IsForServing : Order → Type 0
 IsForServing (order.Ask request) = ⊥
 IsForServing _ = Unit {0}
 
+-- what a server does by a line
 abbrev pub answered : Serving → List ℕ → Serving → List ℕ → Became → Type 0
 answered old line new text became = DoesOrder IsForServing Does Does old (order_of line) new text became
 
@@ -99,5 +101,6 @@ answered old line new text became = DoesOrder IsForServing Does Does old (order_
 abbrev pub pieces : Serving → FilesPlace → List (List ℕ)
 pieces serving place = lines_from serving.end.present.files place
 
+-- the packets that aren't acknowledged, and one more where something is left
 abbrev pub waiting : Serving → ℕ
 waiting serving = waits_of serving.end.port.link (is_behind serving.most_waiting serving.end)

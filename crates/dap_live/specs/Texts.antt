@@ -25,28 +25,30 @@ use Rattle.linewise.specs.declared.talking.Became.TheVariants.{Done, NoMemory}
 
 -- ---- Packets and reports.
 
--- a packet to send
+-- a packet to be sent
 abbrev pub packet_text : List ℕ → List ℕ
 packet_text bytes = concat (codes "< " ∷ encode_lower bytes ∷ line_feed ∷ [])
 
--- packets to send, in order
+-- packets to be sent, in order
 abbrev pub packets_text : List (List ℕ) → List ℕ
 packets_text packets = flat_map packet_text packets
 
+-- reports, one a line
 abbrev pub reports_text : List Report → List ℕ
 reports_text reports = flat_map (λ report. concat (codes "report " ∷ report_text report ∷ line_feed ∷ [])) reports
 
 -- ---- Refusals.
 
--- What an answer says of a fault, and what it became. Of want of memory, which is told at the end of an answer, it says
--- nothing.
+-- What is answered to a fault, and what became of the line. Out of memory is answered at the end, so it has no text
+-- here.
 abbrev pub LineAnswer : Type 0
 LineAnswer = List ℕ × Became
 
+-- `refused` and this word
 abbrev pub refused : List ℕ → LineAnswer
 refused word = (concat (codes "refused " ∷ word ∷ line_feed ∷ []), Done)
 
--- why a link refuses; of bytes that are no packet in the words of a listing
+-- why a link refuses; bytes that are no packet are answered in the words of a listing
 abbrev pub link_refusal : LinkFault → LineAnswer
 link_refusal (fault.Malformed f) = (codes "refused " ++ fault_line f, Done)
 link_refusal fault.BadSetup = refused (codes "bad-setup")
@@ -58,20 +60,22 @@ link_refusal fault.Exhausted = refused (codes "exhausted")
 link_refusal fault.NoSuchSegment = refused (codes "nothing-to-do")
 link_refusal fault.NoMemory = ([], NoMemory)
 
--- why an end doesn't do all that there is to do
+-- why an end doesn't do all that it could
 abbrev pub end_refusal : EndFault → LineAnswer
 end_refusal (end.Link f) = link_refusal f
 end_refusal (end.Read read.Failed) = refused (codes "ask-failed")
 end_refusal (end.Read read.Unexpected) = refused (codes "unexpected-answer")
 end_refusal (end.Read read.NoMemory) = ([], NoMemory)
 
+-- why a request isn't asked
 abbrev pub ask_refusal : AskFault → LineAnswer
 ask_refusal f = option_map_or refused (ask_text f) ([], NoMemory)
 
--- a refusal by the code of a Status, and its reason
+-- a refusal by a Status code and its reason
 abbrev pub status_line : ℕ → ℕ → List ℕ
 status_line code why = refused_text code why ++ line_feed
 
+-- why a file or record isn't added
 abbrev pub add_refusal : AddFault → LineAnswer
 add_refusal add.Busy = refused (codes "busy")
 add_refusal add.FileExists = (status_line codes_of.stscode.access_refused codes_of.reasons.file_exists, Done)
@@ -86,7 +90,7 @@ abbrev pub done_said : List Report → List (List ℕ) → Result (Unit {0}) End
 done_said reports packets (Ok done) = (reports_text reports ++ packets_text packets, Done)
 done_said reports packets (Err f) = (reports_text reports ++ (packets_text packets ++ (end_refusal f).0), (end_refusal f).1)
 
--- by a packet
+-- the same after what the packet was
 abbrev pub taken_said : Result Got TakeFault → List Report → List (List ℕ) → LineAnswer
 taken_said (Ok got) reports packets = ((got_text got ++ line_feed) ++ (done_said reports packets (Ok tt)).0, Done)
 taken_said (Err (take.Refused f)) reports packets = link_refusal f

@@ -1,5 +1,4 @@
-//! Each end of a file access as an answerer of lines: what a line says, what the end does by it, and the text of its
-//! answer (own).
+//! Both live ends: what a client or a server does by a line, and the text of its answer.
 #![tactic(auto)]
 
 mod asking;

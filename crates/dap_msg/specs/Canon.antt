@@ -7,7 +7,7 @@ use Rattle.dap_msg.specs.Message.{Attributes, ControlFields, Message, Config, At
 use Rattle.dap_msg.specs.Formats.{type_number, header_bytes, operand}
 use Rattle.dap_msg.specs.Decoding.{SpellsMessage}
 
--- the field, where it is there
+-- the field, if it is there
 abbrev pub option_bytes : (k : Kind) → Option (ValueOf k) → List ℕ
 option_bytes k v = option_map_or (field_bytes k) v []
 
@@ -16,7 +16,7 @@ abbrev pub bits_of : List Bool → ℕ
 bits_of [] = 0
 bits_of (there ∷ rest) = (if there then 1 else 0) + 2 * bits_of rest
 
--- which fields are there
+-- which fields of Attributes are there, in the order of the bits of ATTMENU
 abbrev pub attribute_flags : Attributes → List Bool
 attribute_flags a =
     is_some a.datatype ∷ is_some a.org ∷ is_some a.rfm ∷
@@ -27,6 +27,7 @@ attribute_flags a =
     is_some a.sdc ∷ is_some a.lrl ∷ is_some a.hbk ∷
     is_some a.ebk ∷ is_some a.ffb ∷ is_some a.sbn ∷ []
 
+-- which fields of Control are there, in the order of the bits of CTLMENU
 abbrev pub control_flags : ControlFields → List Bool
 control_flags c = is_some c.rac ∷ is_some c.key ∷ is_some c.krf ∷ is_some c.rop ∷ is_some c.hsh ∷ is_some c.display ∷ []
 
@@ -58,14 +59,17 @@ operand_fields (Filedata recnum payload) = field_bytes (Image 8) recnum ∷ payl
 operand_fields (Status s) = field_bytes Word s.code ∷ field_bytes (Image 8) s.rfa ∷ field_bytes (Image 8) s.recnum ∷ field_bytes (Image 8) s.stv ∷ []
 operand_fields (Other number body) = body ∷ []
 
+-- the fields of the operand, joined
 abbrev pub operand_bytes : Message → List ℕ
 operand_bytes m = concat (operand_fields m)
 
--- what is written of a message: a header with LENGTH, and the fields of the operand
+-- What is written of a message: a header with LENGTH, and the fields of the operand. By the law `reads_back` it is
+-- read back as this message, whatever follows it.
 unfoldable pub canon : Message → List ℕ
 canon m = header_bytes (type_number m) (length (operand_bytes m)) ++ operand_bytes m
 
--- the bytes are what is written of the message: a header, and the operand as its format is written
+-- The bytes are what is written of the message: a header, and the operand as its format is written. By the law
+-- `writes_canon` that is `canon`, for a message that fits.
 abbrev pub IsWritten : Message → List ℕ → Type 0
 IsWritten m bytes =
     (body : List ℕ) × (bytes ≡ header_bytes (type_number m) (length body) ++ body)

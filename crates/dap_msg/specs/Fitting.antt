@@ -5,15 +5,18 @@ use Rattle.dap_msg.specs.Grammar.{Kind, Byte, Word, Extensible, Image, ValueOf}
 use Rattle.dap_msg.specs.Message.{Message, Config, Attrib, Access, Control, Contran, Ack, Accomp, Filedata, Status, Other}
 use Rattle.dap_msg.specs.Canon.{operand_bytes}
 
+-- a value within its field
 abbrev pub FitsField : (k : Kind) → ValueOf k → Type 0
 FitsField Byte v = v < 256
 FitsField Word v = v < 256 ^ 2
 FitsField (Extensible max) v = v < 128 ^ max
 FitsField (Image max) image = length image ≤ max
 
+-- a field that is missing, or a value within it
 abbrev pub FitsOption : (k : Kind) → Option (ValueOf k) → Type 0
 FitsOption k v = IfSome v (FitsField k)
 
+-- each value is within its field
 abbrev pub FieldsFit : Message → Type 0
 FieldsFit (Config c) =
     FitsField Word c.bufsiz × FitsField Byte c.ostype × FitsField Byte c.filesys × FitsField Byte c.vernum × FitsField Byte c.econum
@@ -39,6 +42,7 @@ FieldsFit (Filedata recnum payload) = FitsField (Image 8) recnum
 FieldsFit (Status s) = FitsField Word s.code × FitsField (Image 8) s.rfa × FitsField (Image 8) s.recnum × FitsField (Image 8) s.stv
 FieldsFit (Other number body) = (types.status < number) × (number ≤ greatest_type)
 
+-- each value is within its field, and the operand is below 65,536 bytes
 pub record KeepsLimits (m : Message) : Type 0 where
   pub fields : FieldsFit m
   pub length : length (operand_bytes m) < 2 ^ 16

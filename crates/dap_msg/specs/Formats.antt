@@ -1,4 +1,5 @@
--- The formats of the messages' operands, and of the header.
+-- The formats of the messages' operands and of the header (DAP 5.6.0, message formats). Which bits are
+-- refused, and with which fault, is a choice of this implementation.
 use Rattle.std.specs.Prelude.{ℕ, ◌/◌, ◌%◌, ◌^◌, ◌==◌, nat_lt, nat_le, if◌then◌else◌, Bool, true, false, ◌&&◌, ◌||◌, not, List, [], ◌∷◌, Option, Some, None}
 use Rattle.dap_msg.specs.Codes.{types, greatest_type}
 use Rattle.dap_msg.specs.declared.fault.FaultKind.{FaultKind}
@@ -6,10 +7,11 @@ use Rattle.dap_msg.specs.declared.fault.FaultKind.TheVariants.{BadFlags, BadStre
 use Rattle.dap_msg.specs.Grammar.{Kind, Byte, Word, Extensible, Image, Part, Must, When, OrElse, UnlessEnd, Remainder, Grammar, Done, Next, ◌>>=◌}
 use Rattle.dap_msg.specs.Message.{Header, Message, Config, Attrib, Access, Control, Contran, Ack, Accomp, Filedata, Status, Other}
 
--- any value of the field will do
+-- a test that refuses no value
 abbrev pub any : {V : Type 0} → V → Option FaultKind
 any v = None
 
+-- a field that has to be there, with any value
 abbrev pub must : Kind → Part
 must k = Must k any
 
@@ -25,10 +27,12 @@ or_empty max = OrElse (Image max) [] any
 abbrev pub refuses : {V : Type 0} → FaultKind → (V → Bool) → V → Option FaultKind
 refuses fault good v = if good v then None else Some fault
 
--- bits that say which of the next fields are there; only so many have a field
+-- An extensible field whose bits say which of the next fields are there. It is 0 where the operand ends before it. A
+-- bit without a field is refused as BadMenu.
 abbrev pub menu : ℕ → ℕ → Part
 menu max fields = OrElse (Extensible max) 0 (refuses BadMenu (λ bits. nat_lt bits (2 ^ fields)))
 
+-- bit i is set
 abbrev pub has : ℕ → ℕ → Bool
 has bits i = bits / 2 ^ i % 2 == 1
 
@@ -40,6 +44,7 @@ optional bits i k = When (has bits i) k any
 abbrev pub ending : {A : Type 0} → A → Grammar A
 ending x = Next (Remainder false) (λ ignored. Done x)
 
+-- Configuration, type 1
 unfoldable pub configuration : Grammar Message
 configuration = do
   ending (Config (record {
@@ -54,6 +59,7 @@ configuration = do
     syscap = (← must (Extensible 12));
   }))
 
+-- Attributes, type 2
 unfoldable pub attributes : Grammar Message
 attributes = do
   bits ← menu 6 21
@@ -81,6 +87,7 @@ attributes = do
     sbn = (← optional bits 20 (Image 5));
   }))
 
+-- Access, type 3
 unfoldable pub access : Grammar Message
 access = do
   func ← must Byte
@@ -92,6 +99,7 @@ access = do
   password ← or_empty 40
   ending (Access (record { func = func; opt = opt; name = name; fac = fac; shr = shr; display = display; password = password }))
 
+-- Control, type 4
 unfoldable pub control : Grammar Message
 control = do
   func ← must Byte
@@ -104,14 +112,17 @@ control = do
   display ← optional bits 5 (Extensible 4)
   ending (Control (record { func = func; rac = rac; key = key; krf = krf; rop = rop; hsh = hsh; display = display }))
 
+-- Continue Transfer, type 5
 unfoldable pub continuation : Grammar Message
 continuation = do
   func ← must Byte
   ending (Contran func)
 
+-- Acknowledge, type 6
 unfoldable pub acknowledge : Grammar Message
 acknowledge = ending Ack
 
+-- Access Complete, type 7
 unfoldable pub completion : Grammar Message
 completion = do
   func ← must Byte
@@ -119,12 +130,14 @@ completion = do
   check ← UnlessEnd Word any
   ending (Accomp (record { func = func; fop = fop; check = check }))
 
+-- Data, type 8: the record number, and the record up to the end
 unfoldable pub file_data : Grammar Message
 file_data = do
   recnum ← must (Image 8)
   payload ← Remainder true
   Done (Filedata recnum payload)
 
+-- Status, type 9
 unfoldable pub status : Grammar Message
 status = do
   code ← must Word
@@ -133,6 +146,7 @@ status = do
   stv ← or_empty 8
   ending (Status (record { code = code; rfa = rfa; recnum = recnum; stv = stv }))
 
+-- any other type: all bytes are kept
 unfoldable pub other : ℕ → Grammar Message
 other number = do
   body ← Remainder true
@@ -170,6 +184,8 @@ type_number (Other number body) = number
 abbrev pub flags_are_known : ℕ → Bool
 flags_are_known flags = nat_lt flags 8 && (has flags 1 || not (has flags 2))
 
+-- The header: the type, 1 to 16, or UnknownType; FLAGS, or BadFlags; STREAMID, which is 0, or BadStream; LENGTH and
+-- LEN256 where their bits are set.
 unfoldable pub header : Grammar Header
 header = do
   number ← Must Byte (refuses UnknownType (λ number. nat_lt 0 number && nat_le number greatest_type))

@@ -1,4 +1,5 @@
--- The messages, whose bytes are lists of numbers.
+-- The messages, whose bytes are lists of numbers (`MessageValue` of the program). All definitions speak of messages
+-- by these.
 use Rattle.std.specs.Prelude.{ℕ, ◌+◌, ◌*◌, Option, Some, None}
 pub use Rattle.dap_msg.specs.declared.message.Message.{Message}
 pub use Rattle.dap_msg.specs.declared.message.Configuration.{Configuration}
@@ -11,6 +12,7 @@ pub use Rattle.dap_msg.specs.declared.message.Message.TheVariants.{Config, Attri
 
 -- ---- The header.
 
+-- the header of a message: its type, FLAGS, and the length of the operand if FLAGS has it
 pub record Header : Type 0 where
   -- the type of the message
   pub number : ℕ

@@ -1,10 +1,12 @@
--- The value of a message with named fields: its images and bytes are lists of numbers, wherever they lie.
+-- The value of the program's `Message`, whose fields are named and whose bytes are borrowed: the same fields, with
+-- lists of numbers.
 use Rattle.std.specs.Prelude.{ℕ, option_copied, Result, Ok, Err}
 use Rattle.dap_msg.specs.declared.dap_message.Message.{Message}
 use Rattle.dap_msg.specs.declared.dap_message.Message.TheVariants as message
 use Rattle.dap_msg.specs.declared.fault.MsgFault.{MsgFault}
 use Rattle.dap_msg.specs.Message.{Message as MessageValue, Config, Attrib, Access, Control, Contran, Ack, Accomp, Filedata, Status, Other}
 
+-- the value with the same fields
 abbrev pub value_of : Message → MessageValue
 value_of (message.Config bufsiz ostype filesys vernum econum usrnum softver usrsoft syscap) = Config (record {
   bufsiz = bufsiz;
@@ -65,7 +67,7 @@ value_of (message.Filedata recnum payload) = Filedata recnum.now payload.now
 value_of (message.Status code rfa recnum stv) = Status (record { code = code; rfa = rfa.now; recnum = recnum.now; stv = stv.now })
 value_of (message.Other number body) = Other number body.now
 
--- an answer with the message's value in its place
+-- the same of an answer of `decode`
 abbrev pub value_of_answer : Result (Message × ℕ) MsgFault → Result (MessageValue × ℕ) MsgFault
 value_of_answer (Ok x) = Ok (value_of x.0, x.1)
 value_of_answer (Err fault) = Err fault

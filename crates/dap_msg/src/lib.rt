@@ -1,9 +1,9 @@
-//! DAP messages as bytes, both ways (DAP 5.6.0, message formats).
+//! DAP messages as bytes, both ways. Their formats are those of DAP 5.6.0, message formats.
 //!
-//! [`decode`] tells the [`Message`] that stands in front of bytes, or the first fault in reading order; [`encode`] appends
-//! the one canonical spelling of a message; what was written is read as the same message, whatever follows it. A crate whose
-//! contracts speak of messages holds them as a [`MessageValue`]: [`item_at`] goes through those of an NSP message,
-//! [`encode_value`] writes one, and [`append_blocked`] puts several into one NSP message.
+//! [`decode`] returns the [`Message`] that bytes begin with, or the first fault; [`encode`] appends the one
+//! canonical spelling of a message; what was written is read as the same message, whatever follows it. A crate
+//! whose contracts speak of messages holds them as a [`MessageValue`]: [`item_at`] goes through those of an NSP
+//! message, [`encode_value`] writes one, and [`append_blocked`] puts several into one NSP message.
 #![tactic(auto)]
 
 mod blocking;

@@ -15,7 +15,7 @@ use Rattle.dap_text.specs.Words.{ends, field, long, one_of, short, word, words_o
 abbrev pub end_of : List ℕ → Option End
 end_of word = lookup (bytes_eq word) ((codes "a", A) ∷ (codes "b", B) ∷ [])
 
--- the event that a line says, by its first word and those after it
+-- the event of a line, by its first word and those after it
 abbrev pub event_of : List ℕ → Option Event
 event_of line = one_of (
     word (codes "ask") (λ words. option_map event.Ask (request_of words))
@@ -28,7 +28,7 @@ event_of line = one_of (
     ∷ word (codes "read") (ends event.Read)
     ∷ []) (words_of line)
 
--- the setup that a line says: setup SEG WINDOW BUFA BUFB
+-- `setup SEG WINDOW BUFA BUFB`; whether a world may have these sizes isn't checked here
 abbrev pub setup_of : List ℕ → Option WorldSetup
 setup_of line =
     word (codes "setup") (field long (λ seg_size. field long (λ window. field short (λ bufsiz_a. field short (λ bufsiz_b.

@@ -7,27 +7,27 @@ use Rattle.dap_orders.specs.Orders.{event_of, setup_of}
 use Rattle.dap_listing.specs.declared.fault.CaptureFault.{CaptureFault}
 use Rattle.dap_listing.specs.declared.fault.CaptureFault.TheVariants.{BadLine}
 
--- a line behind its number
+-- a line and its number
 abbrev pub Numbered : Type 0
 Numbered = ℕ × List ℕ
 
--- the lines that say something, and aren't skipped; the first of all lines has the number
+-- the lines that aren't skipped, each with its number; the first of all lines has this one
 abbrev pub said_from : ℕ → List ℕ → List Numbered
 said_from number input = filter (λ line. not (is_skipped line.1)) (enumerate_from number (lines input))
 
--- those of a whole input, whose first line is 1
+-- those of a whole input, whose first line has number 1
 abbrev pub said : List ℕ → List Numbered
 said = said_from 1
 
--- the fault of a line that has to say something that it doesn't
+-- the fault of a line that isn't what it has to be
 abbrev pub fault_unless : {X : Type 0} → ℕ → Option X → Option CaptureFault
 fault_unless number said = if is_some said then None else Some (BadLine number)
 
--- the fault of a line that has to say an event
+-- the fault of a line that has to be an event
 abbrev pub event_fault : Numbered → Option CaptureFault
 event_fault line = fault_unless line.0 (event_of line.1)
 
--- what is wrong with the lines: the first has to say the setup, and the others events
+-- what is wrong with the lines: the first has to be the setup, and the others events
 abbrev pub schedule_faults : List Numbered → List CaptureFault
 schedule_faults [] = []
 schedule_faults (first ∷ others) =

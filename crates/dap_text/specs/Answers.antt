@@ -1,4 +1,4 @@
--- How it is told what became of a packet, or of a request that is not asked.
+-- The words for what became of a packet, and for a request that isn't asked.
 use Rattle.std.specs.Prelude.{ℕ, List, [], ◌∷◌, codes, Option, Some, None}
 use Rattle.std.specs.List.{concat}
 use Rattle.std.specs.Fmt.{decimal}
@@ -13,14 +13,14 @@ use Rattle.nsp_seg.specs.declared.packet.FlagKind.{FlagKind}
 use Rattle.nsp_seg.specs.declared.packet.FlagKind.TheVariants.{LinkService, Interrupt, OtherAck, ConnectAck, Control}
 use Rattle.dap_text.specs.Text.{line_feed}
 
--- a packet that a link end takes
+-- a packet that a link received
 abbrev pub got_text : Got → List ℕ
 got_text Accepted = codes "accepted"
 got_text Repeat = codes "repeat"
 got_text Early = codes "early"
 got_text AckOnly = codes "ack-only"
 
--- a request that is not asked; want of memory has no word
+-- why a request isn't asked; out of memory has no word
 abbrev pub ask_text : AskFault → Option (List ℕ)
 ask_text ask.Failed = Some (codes "ask-failed")
 ask_text ask.Busy = Some (codes "ask-busy")
@@ -28,7 +28,7 @@ ask_text ask.WrongPhase = Some (codes "ask-phase")
 ask_text ask.TooLarge = Some (codes "ask-too-large")
 ask_text ask.NoMemory = None
 
--- a packet of another kind, by its first byte
+-- the kind of a packet that isn't decoded, by its first byte
 abbrev pub flag_text : FlagKind → List ℕ
 flag_text LinkService = codes "link-service"
 flag_text Interrupt = codes "interrupt"
@@ -37,7 +37,7 @@ flag_text ConnectAck = codes "connect-ack"
 flag_text Control = codes "control"
 flag_text _ = codes "unknown"
 
--- bytes that are no packet
+-- the line of bytes that are no packet: the kind of another packet, or what is wrong and at which offset
 abbrev pub fault_line : SegFault → List ℕ
 fault_line (NotHere flag) = concat (codes "not-here " ∷ flag_text (flag_kind_of flag) ∷ line_feed ∷ [])
 fault_line (Truncated at) = concat (codes "bad truncated at=" ∷ decimal at ∷ line_feed ∷ [])

@@ -1,4 +1,5 @@
--- The lines of a file and of a record, as they are printed, read back.
+-- The lines of a file and of a record, read back. Whether there may be such a file or record isn't checked here. By
+-- the laws `files_are_read_back` and `records_are_read_back` what is printed is read back.
 use Rattle.std.specs.Prelude.{ℕ, List, [], ◌∷◌, codes, bytes_eq, Option}
 use Rattle.std.specs.Map.{lookup}
 use Rattle.dap_msg.specs.Codes.{org, rfm}
@@ -14,13 +15,13 @@ org_of word = lookup (bytes_eq word) ((codes "seq", org.sequential) ∷ (codes "
 abbrev pub rfm_of : List ℕ → Option ℕ
 rfm_of word = lookup (bytes_eq word) ((codes "fixed", rfm.fixed) ∷ (codes "variable", rfm.variable) ∷ [])
 
--- `file`, and NAME ORG RFM MRS MRN
+-- `file NAME ORG RFM MRS MRN`
 abbrev pub file_of : List ℕ → Option FileLine
 file_of line =
     word (codes "file") (field text_of (λ name. field org_of (λ org. field rfm_of (λ rfm. field short (λ mrs. field long (λ mrn.
     ends (record { name = name; org = org; rfm = rfm; mrs = mrs; mrn = mrn }))))))) (words_of line)
 
--- two empty words, as the line begins with two spaces, and N BODY
+-- two spaces, that is two empty words, and `NUMBER BODY`
 abbrev pub record_of : List ℕ → Option RecordLine
 record_of line =
     word [] (word [] (field long (λ number. field text_of (λ body. ends (record { number = number; body = body }))))) (words_of line)

@@ -1,4 +1,4 @@
--- The request that words say.
+-- A request in words.
 use Rattle.std.specs.Prelude.{◌∷◌, [], codes, Option, Some, None, option_map}
 use Rattle.dap_accessing.specs.Request.{Request}
 use Rattle.dap_accessing.specs.declared.request.Request.TheVariants as request
@@ -6,7 +6,7 @@ use Rattle.dap_accessing.specs.declared.request.By.TheVariants.{Next, Key, Rfa}
 use Rattle.dap_accessing.specs.declared.request.How.TheVariants.{Again, Skip, Abort}
 use Rattle.dap_text.specs.Words.{Words, decimal_of, ends, field, long, one_of, short, text_of, texts_of, word}
 
--- the first word, and those after it
+-- the request that these words are, all of them: one of fourteen words, and its arguments
 abbrev pub request_of : Words → Option Request
 request_of = one_of (
     word (codes "hello") (ends request.Hello)

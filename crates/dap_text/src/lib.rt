@@ -1,4 +1,4 @@
-//! Numbers, bytes, reports and files as text, and what words and lines of such text say (own).
+//! Numbers, bytes, requests, reports and files as text, written and read.
 #![tactic(auto)]
 
 mod answers;

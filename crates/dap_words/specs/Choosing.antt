@@ -6,17 +6,17 @@ use Rattle.cli_faults.specs.Programs.{new_program}
 use Rattle.dap_words.specs.declared.choice.Choice.{Choice}
 use Rattle.dap_words.specs.declared.choice.Choice.TheVariants.{Show, Msg, Run}
 
--- the word of a command
+-- the name of a command
 abbrev pub word_of : Choice → Text
 word_of Show = codes "show"
 word_of Msg = codes "msg"
 word_of Run = codes "run"
 
--- the program's command line: one of three subcommands is wanted
+-- the command line: one of three subcommands
 abbrev pub dapnsp : App
 dapnsp = fold (λ app name. with_subcommand app ((new_app name).top)) (new_program (codes "dapnsp"))
     (word_of Show ∷ word_of Msg ∷ word_of Run ∷ [])
 
--- the words name the command
+-- `clap` finds the subcommand of this command in the words
 abbrev pub Chooses : List Text → Choice → Type 0
 Chooses words choice = option_map (λ p. p.0) (subcommand_of dapnsp words) ≡ Some (word_of choice)

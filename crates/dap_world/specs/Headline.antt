@@ -10,9 +10,9 @@ use Rattle.dap_accessing.specs.Asked.{Asked}
 use Rattle.dap_accessing.specs.Told.{Told}
 use Rattle.dap_world.specs.Machine.{State, sent_by, taken_of, files_of, reported}
 
--- The messages that were sent are a front of what the requests ask. Those that were taken are the first of those sent,
--- each once and in order. The files are those after what was taken. The reports are what is told of the requests and
--- the first answers to what was taken.
+-- The messages that A sent are a prefix of those that the requests ask. Those that B served are the first of these,
+-- each once and in order. The files are those after what was served. The reports are those of the requests and of the
+-- first answers to what was served.
 pub record Headline (own_a own_b : ℕ) (requests : List Request) (sent taken : List Message) (taken_count : ℕ) (files : Files) (reports : List Report) (read_count : ℕ) : Type 0 where
   pub sent_in_order : (rest : List Message) × (sent ++ rest ≡ Asked own_a requests)
   pub taken_in_order : taken ≡ take taken_count sent
@@ -21,7 +21,8 @@ pub record Headline (own_a own_b : ℕ) (requests : List Request) (sent taken : 
   pub reports_told : reports ≡ Told requests (map Whole (take read_count (Answers own_b [] (map Whole taken))))
   pub answers_there : read_count ≤ length (Answers own_b [] (map Whole taken))
 
--- the same of what the readers of a world in this state answer
+-- The same of what the readers of a world in this state answer. Three clauses hold by the definitions of these
+-- readers (`taken_in_order`, `files_after`, `reports_told`); the other three are proved of every run.
 abbrev pub HeadlineOf : State → Type 0
 HeadlineOf s =
     Headline s.own_a s.own_b s.requests (sent_by s.a) (taken_of s) s.served (files_of s) (reported s) s.read

@@ -7,11 +7,11 @@ use Rattle.dap_events.specs.declared.event.End.{End}
 use Rattle.dap_events.specs.declared.event.End.TheVariants.{A, B}
 use Rattle.dap_world.specs.Machine.{State, end_of, other}
 
--- the segments of what the other end handed over
+-- the segments of what the other end passed to its link
 abbrev pub coming_to : State → End → List Piece
 coming_to s end = cut s.seg_size (all_joined (end_of s (other end)).handed)
 
--- what those that the end took come to, one after another: whole messages, and the bytes of one that is begun
+-- what those that the end took make: whole messages, and the bytes of one that is begun
 abbrev pub came_to : State → End → Coming
 came_to s end = taken_all nothing_came (take (end_of s end).taken (coming_to s end))
 
@@ -20,11 +20,11 @@ abbrev pub gone_through : State → End → ℕ
 gone_through s A = s.read
 gone_through s B = s.served
 
--- of some NSP messages the first ones, whose DAP messages are all among the first n
+-- the first of these NSP messages, as many as are whole in the first n DAP messages
 abbrev pub whole_among : ℕ → List NspMessage → List NspMessage
 whole_among n [] = []
 whole_among n (packet ∷ packets) = if nat_le (length packet) n then packet ∷ whole_among (n - length packet) packets else []
 
--- the NSP messages that left the link: the end went through all of each
+-- the NSP messages that left the link: the end has gone through them
 abbrev pub left_link : State → End → List (List ℕ)
 left_link s end = all_joined (whole_among (gone_through s end) (end_of s (other end)).handed)

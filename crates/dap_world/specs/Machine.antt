@@ -29,12 +29,12 @@ use Rattle.dap_events.specs.declared.event.WorldFault.{WorldFault}
 use Rattle.dap_events.specs.declared.event.WorldFault.TheVariants as fault
 use Rattle.dap_events.specs.declared.setup.WorldSetup.{WorldSetup}
 
--- a packet on a wire: the number of its segment, if it has one, and how many segments it acknowledges
+-- a packet: the number of its segment, if it has one, and how many segments it acknowledges
 pub record Sending : Type 0 where
   pub segment : Option ℕ
   pub acks : ℕ
 
--- One end: what it has to send and how far that came, and what it took of the other.
+-- one end of a link, and what it ever wrote
 pub record EndState : Type 0 where
   pub waiting : List NspMessage  -- not yet handed to the link
   pub handed : List NspMessage  -- handed to the link
@@ -44,6 +44,7 @@ pub record EndState : Type 0 where
   pub held : List ℕ  -- early segments that it holds, the lowest first
   pub wire : List Sending  -- every packet that it ever wrote
 
+-- a client A, a server B, and the network between them
 pub record State : Type 0 where
   pub seg_size : ℕ
   pub window : ℕ
@@ -55,10 +56,11 @@ pub record State : Type 0 where
   pub served : ℕ  -- DAP messages that B served
   pub read : ℕ  -- answers that A read
 
+-- an end at which nothing has happened
 abbrev pub idle : EndState
 idle = record { waiting = []; handed = []; sent = 0; acked = 0; taken = 0; held = []; wire = [] }
 
--- where a world begins
+-- a new world
 abbrev pub fresh : WorldSetup → State
 fresh setup =
     record {
@@ -73,14 +75,17 @@ fresh setup =
       read = 0;
     }
 
+-- the other end
 abbrev pub other : End → End
 other A = B
 other B = A
 
+-- one of the two ends
 abbrev pub end_of : State → End → EndState
 end_of s A = s.a
 end_of s B = s.b
 
+-- the state with this end in the place of one of the two
 abbrev pub with_end : State → End → EndState → State
 with_end s A e = record s { a = e }
 with_end s B e = record s { b = e }
@@ -92,18 +97,18 @@ abbrev pub segments_of : ℕ → List NspMessage → ℕ
 segments_of seg_size [] = 0
 segments_of seg_size (message ∷ messages) = count_of seg_size (length (joined message)) + segments_of seg_size messages
 
--- the NSP messages whose last segment, and so all, is among the first r
+-- the NSP messages that are whole in the first r segments
 abbrev pub arrived : ℕ → ℕ → List NspMessage → List NspMessage
 arrived seg_size r [] = []
 arrived seg_size r (message ∷ messages) =
     let n = count_of seg_size (length (joined message)) in
     if nat_le n r then message ∷ arrived seg_size (r - n) messages else []
 
--- the messages that an end handed to its link
+-- the messages that an end passed to its link
 abbrev pub sent_by : EndState → List Message
 sent_by e = messages_in e.handed
 
--- those of the other end whose NSP message an end has whole
+-- those of the other end that have arrived whole at an end
 abbrev pub arrived_at : State → End → List Message
 arrived_at s end = messages_in (arrived s.seg_size (end_of s end).taken (end_of s (other end)).handed)
 
@@ -127,53 +132,58 @@ files_of s = After s.own_b [] (map Whole (taken_of s))
 
 -- ---- What an event makes of a state.
 
--- the NSP messages of a request, joined as far as the limit of B goes that A knows
+-- the NSP messages of a request, joined within the limit of B that A knows
 abbrev pub asking : State → Request → List NspMessage
 asking s request = Blocked (limit_after (reported s)) (messages_of s.own_a request)
 
+-- a request is asked: its messages wait
 abbrev pub asked : State → Request → State
 asked s request =
     record s { requests = s.requests ++ request ∷ []; a = record s.a { waiting = s.a.waiting ++ asking s request } }
 
--- all that waits is handed over
+-- all that waits is passed to the link
 abbrev pub posted : EndState → EndState
 posted e = record e { waiting = []; handed = e.handed ++ e.waiting }
 
--- the packet of a segment, or of none, is written: it acknowledges what the end has taken
+-- a packet with a segment, or without one, is written: it acknowledges what the end has taken, and is the last on its
+-- wire
 abbrev pub wrote : EndState → (sent : ℕ) → Option ℕ → EndState
 wrote e sent k = record e { sent = sent; wire = e.wire ++ record { segment = k; acks = e.taken } ∷ [] }
 
--- What an end took and holds once a segment came: the next one is taken, with all held ones that follow it without a hole;
--- a later one is held, if the end keeps it; one that was taken moves nothing.
+-- What an end has taken and holds once a segment came. The next one is taken, with all held ones that follow it
+-- without a hole. A later one is held, if the end keeps it. One that was taken changes nothing.
 abbrev pub came : (keep : Bool) → (taken : ℕ) → (held : List ℕ) → Option ℕ → ℕ × List ℕ
 came keep taken held None = (taken, held)
 came keep taken held (Some k) =
     if k == taken + 1 then closed_up k held else (taken, if nat_lt taken k && keep then insert_key nat_cmp held k else held)
 
--- a packet comes; of the acknowledgements the greatest counts
+-- a packet comes; the greatest acknowledgement counts
 abbrev pub delivered : (keep : Bool) → EndState → Sending → EndState
 delivered keep e p =
     let got = came keep e.taken e.held p.segment in record e { acked = max e.acked p.acks; taken = got.0; held = got.1 }
 
--- more than 2,047 numbers behind
+-- more than 2,047 below
 abbrev pub is_old : ℕ → ℕ → Bool
 is_old number now = nat_lt (number + greatest_age) now
 
--- the segment is, behind the next one that the end takes, or the acknowledgement, behind those that came to it
+-- the segment is more than 2,047 below the next one, or the acknowledgement more than 2,047 below the count
+-- acknowledged
 abbrev pub is_stale : EndState → Sending → Bool
 is_stale e p = option_map_or (λ k. is_old k (e.taken + 1)) p.segment false || is_old p.acks e.acked
 
--- the answers to one message more, joined as far as the limit of A goes that B knows
+-- the answers to one message more, joined within the limit of A that B knows
 abbrev pub answering : State → Message → List NspMessage
 answering s m = let taken = map Whole (taken_of s) in Blocked (limit_for s.own_b [] taken) (added s.own_b [] taken (Whole m))
 
+-- B serves a message, and its answers wait
 abbrev pub served_one : State → Message → State
 served_one s m = record s { b = record s.b { waiting = answering s m }; served = s.served + 1 }
 
+-- A reads an answer
 abbrev pub read_one : State → State
 read_one s = record s { read = s.read + 1 }
 
--- whether a report came of it
+-- whether there is a report more
 abbrev pub told_by : State → State → Step
 told_by old new = if length (reported new) == length (reported old) then step.Nothing else step.Reported
 
@@ -184,16 +194,17 @@ abbrev pub MayEmit : State → End → Type 0
 MayEmit s end =
     let e = end_of s end in (e.sent < segments_of s.seg_size e.handed) × (e.sent - e.acked < s.window)
 
--- the next message that B can serve, and A read
+-- the next message that B can serve
 abbrev pub next_to_serve : State → Option Message
 next_to_serve s = slice_get (arrived_at s B) s.served
 
+-- the next answer that A can read
 abbrev pub next_to_read : State → Option Message
 next_to_read s = slice_get (arrived_at s A) s.read
 
 -- ---- Events.
 
--- the other end wrote the packet at this place of its wire, and it isn't stale at this one
+-- the other end wrote a packet at this index of its wire, and it isn't stale at this end
 abbrev pub IsDue : State → End → ℕ → Sending → Type 0
 IsDue s end j p = (slice_get (end_of s (other end)).wire j ≡ Some p) × (is_stale (end_of s end) p ≡ false)
 
@@ -203,7 +214,7 @@ Delivers keep s end j answer new =
     let e = end_of s end in
     (p : Sending) × IsDue s end j p × (answer ≡ step.Delivered (got_of e.taken p.segment)) × (new ≡ with_end s end (delivered keep e p))
 
--- The event happens: it is answered so, and leads from the old state to the new. Each early segment is kept.
+-- The event happens, has this answer, and leads from one state to another. Early segments are kept.
 unfoldable pub Steps : State → Event → Step → State → Type 0
 Steps s (event.Ask request) answer new =
     IsAdmissible s.own_a s.requests (answers_read s) request × (answer ≡ step.Asked (length (asking s request))) × (new ≡ asked s request)
@@ -225,12 +236,13 @@ Steps s event.Serve answer new =
 Steps s event.Read answer new =
     (m : Message) × (next_to_read s ≡ Some m) × (answer ≡ told_by s (read_one s)) × (new ≡ read_one s)
 
--- The same of ends that are free to let an early segment go.
+-- The same of ends that may also let an early segment go.
 abbrev pub StepsFreely : State → Event → Step → State → Type 0
 StepsFreely s (event.Deliver end j) answer new = (keep : Bool) × Delivers keep s end j answer new
 StepsFreely s e answer new = Steps s e answer new
 
--- The event has no step, and this is why: the first reason that holds. Want of memory is no reason of the machine's.
+-- The event has no step, and this is the first reason. Out of memory is none. By the law `events_are_decided` an
+-- event has either one step or one reason.
 unfoldable pub Refuses : State → Event → WorldFault → Type 0
 Refuses s (event.Ask request) (fault.Ask ask_fault.NoMemory) = ⊥
 Refuses s (event.Ask request) (fault.Ask f) = IsRefused s.own_a s.requests (answers_read s) request f

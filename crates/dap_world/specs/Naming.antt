@@ -7,7 +7,7 @@ use Rattle.dap_events.specs.declared.event.Step.TheVariants as step
 use Rattle.dap_world.specs.Machine.{State, end_of, reported}
 use Rattle.dap_world.specs.Runs.{writing_end}
 
--- What an answer names is there: the packet stands at its place of the writer's wire, and there is a newest report.
+-- What an answer names is there: a packet at its index of the writer's wire, or a newest report.
 abbrev pub NamedIsThere : Event → Step → State → Type 0
 NamedIsThere e (step.Packet place) s = (end : End) × (writing_end e ≡ Some end) × (place < length (end_of s end).wire)
 NamedIsThere e step.Reported s = 0 < length (reported s)

@@ -13,13 +13,13 @@ use Rattle.dap_world.specs.Machine.{State, Steps, StepsFreely, Refuses, fresh}
 use Rattle.dap_world.specs.Setups.{IsWorldSetup}
 use Rattle.dap_events.specs.declared.setup.WorldSetup.{WorldSetup}
 
--- an event that comes to this may take memory: any but a delivery of no segment, or of one that was taken
+-- Memory may be refused to an event with this answer: any but a delivery without a segment, or of one that was taken.
 abbrev pub TakesMemory : Step → Type 0
 TakesMemory (step.Delivered got.AckOnly) = ⊥
 TakesMemory (step.Delivered got.Repeat) = ⊥
 TakesMemory answer = Unit {0}
 
--- Memory was refused: only to an event that has a step, and may take some.
+-- Memory was refused to an event that has a step and may need some.
 abbrev pub WantsMemory : State → Event → Type 0
 WantsMemory s e = (answer : Step) × (new : State) × Steps s e answer new × TakesMemory answer
 

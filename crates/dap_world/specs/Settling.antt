@@ -17,7 +17,7 @@ use Rattle.dap_events.specs.declared.event.WorldFault.TheVariants as fault
 use Rattle.dap_world.specs.Machine.{State, Refuses, end_of, segments_of, sent_by, taken_of, answers_read, reported}
 use Rattle.dap_world.specs.Runs.{Runs}
 
--- so many events lead from the one state to the other, and none of them asks: there is no request more
+-- n events lead from one state to another, and none of them asks.
 pub record RanBy (old new : State) (n : ℕ) : Type 0 where
   pub events : List Event
   pub ran : Runs old events new
@@ -28,15 +28,15 @@ pub record RanBy (old new : State) (n : ℕ) : Type 0 where
 abbrev pub unacked : State → End → ℕ
 unacked s end = (end_of s end).sent - (end_of s end).acked
 
--- what is done, in the events that it takes: four for each segment first sent, two for each message served and each
--- answer read
+-- What was done so far, in events: four for each segment first sent, two for each message served and for each answer
+-- read.
 abbrev pub work : State → ℕ
 work s = 4 * (s.a.sent + s.b.sent) + 2 * (s.served + s.read)
 
 -- ---- One end is settled.
 
--- After so many events all segments that the end sent are acknowledged: none where all were before, else two for each
--- that wasn't and two more.
+-- After n events all segments that the end sent are acknowledged: 0 where all were before, else two for each that
+-- wasn't, and two more.
 pub record Settled (old new : State) (end : End) (n : ℕ) : Type 0 where
   pub ran : RanBy old new n
   pub done : unacked new end ≡ 0
@@ -57,14 +57,14 @@ pub record IsFinished (s : State) : Type 0 where
   pub served : taken_of s ≡ sent_by s.a
   pub read : answers_read s ≡ map Whole (Answers s.own_b [] (map Whole (taken_of s)))
 
--- All that the requests ask was sent and served, so that the files are those after it, and every request has its report.
+-- All that the requests ask was sent and served, so the files are those after it, and each request has its report.
 pub record AllTold (s : State) : Type 0 where
   pub sent : sent_by s.a ≡ Asked s.own_a s.requests
   pub taken : taken_of s ≡ Asked s.own_a s.requests
   pub reports : reported s ≡ reports_of s.own_a s.own_b s.requests
   pub each : length (reported s) ≡ length s.requests
 
--- After so many events nothing is left to do, and every request has its report, whatever was lost before.
+-- After n events nothing is left to do, and each request has its report, whatever was lost before.
 pub record Finished (old new : State) (n : ℕ) : Type 0 where
   pub ran : RanBy old new n
   pub finished : IsFinished new
@@ -73,16 +73,16 @@ pub record Finished (old new : State) (n : ℕ) : Type 0 where
   pub bound : n + work old ≤ 4 * old.window + 6 + work new
   pub only : IsFinished old → n ≡ 0
 
--- What waits at an end is due to be handed over: all that was sent is acknowledged, and at B's turn A has nothing left.
+-- It is time to pass on what waits at an end: all that was sent is acknowledged, and for B nothing is left at A.
 abbrev pub IsPostDue : State → End → Type 0
 IsPostDue s A = (unacked s A ≡ 0) × (unacked s B ≡ 0)
 IsPostDue s B = IsEmpty s A × (unacked s B ≡ 0)
 
--- the Post that is due would make too many segments
+-- what is passed on then would make more than 2^40 segments
 abbrev pub IsExhausted : State → Type 0
 IsExhausted s = (end : End) × IsPostDue s end × Refuses s (event.Post end) fault.Exhausted
 
--- why not all is finished: one of these two, and the state tells which
+-- why not all is finished: that, or else memory was refused
 abbrev pub FinishFault : State → WorldFault → Type 0
 FinishFault s fault.Exhausted = IsExhausted s
 FinishFault s fault.NoMemory = IsExhausted s → ⊥
@@ -90,6 +90,7 @@ FinishFault s _ = ⊥
 
 -- ---- Requests over perfect delivery.
 
+-- no request was asked, and no packet was written
 abbrev pub IsFresh : State → Type 0
 IsFresh s = (s.requests ≡ []) × (s.a.wire ≡ []) × (s.b.wire ≡ [])
 
@@ -99,7 +100,7 @@ pub record AllDone (requests : List Request) (new : State) : Type 0 where
   pub admissible : AreAdmissible new.own_a new.own_b [] requests
   pub told : AllTold new
 
--- The request at this place isn't asked, after those before it, each of which has its report.
+-- The request at this index isn't admissible. Those before it have their reports.
 pub record StopsWith (requests : List Request) (new : State) (i : ℕ) (f : AskFault) : Type 0 where
   pub done : AllDone (take i requests) new
   pub request : Request
@@ -107,8 +108,8 @@ pub record StopsWith (requests : List Request) (new : State) (i : ℕ) (f : AskF
   pub refused : IsRefused new.own_a new.requests (answers_read new) request f
   pub why : (f ≡ ask_fault.WrongPhase) ⊎ (f ≡ ask_fault.TooLarge)
 
--- Memory or the numbers ran out at the request of this place, which may have been asked, and is admissible after those before
--- it, as each of these is after those before it. The reports are those of the requests before it.
+-- Memory or sequence numbers ran out at the request of this index, which is admissible. The reports are those of the
+-- requests before it.
 pub record RanOut (requests : List Request) (new : State) (i : ℕ) (f : WorldFault) : Type 0 where
   pub there : i < length requests
   pub asked : (new.requests ≡ take i requests) ⊎ (new.requests ≡ take (i + 1) requests)
@@ -116,6 +117,7 @@ pub record RanOut (requests : List Request) (new : State) (i : ℕ) (f : WorldFa
   pub reports : reported new ≡ reports_of new.own_a new.own_b (take i requests)
   pub why : FinishFault new f
 
+-- why a list of requests stops at this index; there is no other reason
 abbrev pub StopsAtRequest : List Request → State → ℕ × WorldFault → Type 0
 StopsAtRequest requests new (i, fault.Ask f) = StopsWith requests new i f
 StopsAtRequest requests new (i, f) = RanOut requests new i f

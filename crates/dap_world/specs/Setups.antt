@@ -15,7 +15,7 @@ pub record IsWorldSetup (s : WorldSetup) : Type 0 where
   pub own_a : IsBufsiz s.bufsiz_a
   pub own_b : IsBufsiz s.bufsiz_b
 
--- why there is no world of these sizes
+-- why there is no world with this setup
 abbrev pub NewFault : WorldSetup → WorldFault → Type 0
 NewFault setup fault.BadSetup = IsWorldSetup setup → ⊥
 NewFault setup fault.NoMemory = IsWorldSetup setup

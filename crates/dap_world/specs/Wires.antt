@@ -13,11 +13,12 @@ abbrev pub address_of : End → ℕ
 address_of A = 0x0101
 address_of B = 0x0202
 
--- These are the bytes that the end writes, from its address to the other's: the packet of the segment of this number, of
--- those into which the NSP messages are cut that were handed over, or of none, with its acknowledgement.
+-- The bytes of a packet of this end: the segment with this number, of what was passed to the link, or none, and an
+-- acknowledgement. There are no other such bytes.
 unfoldable pub IsOnWire : State → End → Sending → List ℕ → Type 0
 IsOnWire s end sending bytes =
     IsWritten (address_of end) (address_of (other end)) (cut s.seg_size (all_joined (end_of s end).handed)) sending.segment sending.acks bytes
 
+-- the numbers of a packet of the program
 abbrev pub sending_of : Wired → Sending
 sending_of w = record { segment = w.segment; acks = w.acks }

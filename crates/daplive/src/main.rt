@@ -1,4 +1,4 @@
-//! `daplive`: one end of a DECnet file access, over lines.
+//! The program `daplive`: one end of a DECnet file access, over lines; and listings of captures.
 #![tactic(auto)]
 
 use cli_faults::{ErrorOutput, Output, exit_status};

@@ -1,9 +1,9 @@
-//! Hostile use of every crate: growths that are refused, bytes that were altered, and devices that fail.
+//! A program for the gate: calls of every library where memory is refused, bytes were altered, and devices fail.
 //!
-//! Without input all of it is run. With any input the growing calls alone are made, so that an allocator
-//! which refuses growths can be put under them: a call that wants memory is made again, where no reader
-//! answers otherwise than before it. The status is then 0, or 4 where a call wanted memory twice, or 3 where
-//! this program itself did; 1 says that something went wrong.
+//! Without input all of it is run. With any input only the calls that allocate are made, for an allocator that
+//! refuses: a call that is out of memory is made again, and no reader may return another value than before it. The
+//! status is then 0, or 4 where a call was out of memory twice, or 3 where this program itself was; 1 says that
+//! something went wrong.
 #![tactic(auto)]
 
 mod altered;

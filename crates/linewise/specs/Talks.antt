@@ -1,4 +1,4 @@
--- What an end and a partner say to each other, line by line.
+-- A conversation: each line of an input has an answer.
 use Rattle.std.specs.Prelude.{◌≡◌, ◌≢◌, ◌⊎◌, ℕ, ◌<◌, ◌≤◌, ◌==◌, Bool, true, false, List, [], ◌∷◌, ◌++◌, length, codes, Some, None, Option}
 use Rattle.std.specs.Fmt.{decimal}
 use Rattle.std.specs.List.{AllByRecursion, concat}
@@ -14,53 +14,54 @@ use Rattle.linewise.specs.declared.talking.TalkFault.TheVariants.{ReadFailed, Wr
 
 -- ---- A line.
 
--- the most bytes of a line, without its end
+-- how many bytes a line has at most, without its end (LF, CR LF or the end of the input)
 abbrev pub longest : ℕ
 longest = 16777216
 
--- an empty line, and one that begins with `#`, say nothing
+-- empty lines, and those that begin with `#`, have no answer
 abbrev pub is_skipped : List ℕ → Bool
 is_skipped [] = true
 is_skipped (first ∷ others) = first == 35
 
 -- ---- An answer.
 
--- the line of a refusal that every end may give
+-- the line of a refusal that every end may answer
 abbrev pub refusal_of : Became → List ℕ
 refusal_of Done = []
 refusal_of BadLine = codes "refused bad-line\n"
 refusal_of NoMemory = codes "refused no-memory\n"
 
--- An answer is the end's text, the line of a refusal, and a last line: so many packets would be sent again, and one more where
--- something is left to do. A line that says nothing has none.
+-- An answer is the end's text, the line of a refusal, and `waits N`: N packets aren't acknowledged, and one more is
+-- counted where something is left to do. A line that is skipped has none.
 abbrev pub said_of : List ℕ → Option Became → ℕ → List ℕ
 said_of text None count = []
 said_of text (Some became) count = text ++ (refusal_of became ++ (codes "waits " ++ (decimal count ++ codes "\n")))
 
--- what an end does by a line: what it is then, the text that it says, and what became of the line
+-- what an end does by a line: the end then, its text, and what became of the line
 abbrev pub Answering : Type 0 → Type 1
 Answering E = E → List ℕ → E → List ℕ → Became → Type 0
 
--- An answer that is said piece by piece: all of its pieces, or those before the first one to which memory was refused.
+-- An answer that is given in pieces: all of them, or those before the first one to which memory was refused.
 abbrev pub ComesIn : List (List ℕ) → List ℕ → Became → Type 0
 ComesIn pieces text Done = text ≡ concat pieces
 ComesIn pieces text BadLine = ⊥
 ComesIn pieces text NoMemory = (front rest : List (List ℕ)) × (pieces ≡ front ++ rest) × (0 < length rest) × (text ≡ concat front)
 
--- What was done by a line, and the whole text that is said; or its front, which is an answer with whatever its pieces from a
--- place on come to.
+-- What was done by a line, and its whole text; or a prefix of the text, which is an answer together with whatever
+-- comes of the pieces from a place on.
 abbrev pub Begins : {E L P : Type 0} → (answered : E → L → E → List ℕ → Became → Type 0) → (pieces : E → P → List (List ℕ))
     → E → L → E → List ℕ → Answer P → Type 0
 Begins answered pieces old line new text (Whole became) = answered old line new text became
 Begins answered pieces old line new text (Begun place) =
     (more : List ℕ) (became : Became) → ComesIn (pieces new place) more became → answered old line new (text ++ more) became
 
--- The text is the piece at a place, and the others are those from the next place on; or there is none.
+-- The text is the piece at this place, and the other pieces are those from the next place on; or there is none.
 abbrev pub GivesPiece : {P : Type 0} → (pieces : P → List (List ℕ)) → P → List ℕ → Option P → Type 0
 GivesPiece pieces place text None = (pieces place ≡ []) × (text ≡ [])
 GivesPiece pieces place text (Some next) = pieces place ≡ text ∷ pieces next
 
--- What comes of a line. The end doesn't get one that is too long, or to which memory was refused.
+-- What comes of a line. A line that is too long is a bad line. The end isn't given it, nor a line to which memory was
+-- refused.
 abbrev pub AnswersLine : {E : Type 0} → Answering E → E → List ℕ → E → List ℕ → Option Became → Type 0
 AnswersLine answered old line new text None =
     (is_skipped line ≡ true) × (length line ≤ longest) × (new ≡ old) × (text ≡ [])
@@ -68,7 +69,7 @@ AnswersLine answered old line new text (Some became) =
     ((((became ≡ BadLine) × (longest < length line)) ⊎ (became ≡ NoMemory)) × (new ≡ old) × (text ≡ []))
     ⊎ ((is_skipped line ≡ false) × (length line ≤ longest) × answered old line new text became)
 
--- and what is said to it
+-- what is answered to a line
 pub record SaysTo {E : Type 0} (answered : Answering E) (waiting : E → ℕ) (old : E) (line : List ℕ) (new : E) (said : List ℕ) (became : Option Became) : Type 0 where
   pub text : List ℕ
   pub answers : AnswersLine answered old line new text became
@@ -76,12 +77,13 @@ pub record SaysTo {E : Type 0} (answered : Answering E) (waiting : E → ℕ) (o
 
 -- ---- A conversation.
 
+-- the line was a bad one
 abbrev pub is_bad : Option Became → Bool
 is_bad (Some BadLine) = true
 is_bad _ = false
 
--- The end answered the lines of an input up to this rest, one after another, and came from old to new; the text is its
--- answers, end to end, and this became of the lines.
+-- The end answered the lines of an input, one after another, up to this rest. The text is its answers, joined, and
+-- the list is what became of the lines.
 pub data Talked {E : Type 0} (answered : Answering E) (waiting : E → ℕ) : E → List ℕ → E → List ℕ → List ℕ → List (Option Became) → Type 0 where
   begins : {e : E} {input : List ℕ} → Talked answered waiting e input e input [] []
   goes : {old new : E} {input : List ℕ} (now : E) (rest said more : List ℕ) (lines : List (Option Became)) (became : Option Became)
@@ -89,15 +91,16 @@ pub data Talked {E : Type 0} (answered : Answering E) (waiting : E → ℕ) : E 
       → SaysTo answered waiting now (first_line rest) new more became
       → Talked answered waiting old input new (drop_through 10 rest) (said ++ more) (lines ++ became ∷ [])
 
--- Two such talks of the same ends over one input have one text, and the same became of the lines, where none wants memory.
+-- Two such conversations of ends of one value over one input have the same text, and the same became of each line,
+-- unless memory was refused.
 abbrev pub HaveOneText : {E : Type 0} → Answering E → (E → ℕ) → (AreSame : E → E → Type 0) → Type 0
 HaveOneText answered waiting AreSame =
     (one other new end : _) (input text more : List ℕ) (lines others : List (Option Became)) → AreSame one other
     → Talked answered waiting one input new [] text lines → Talked answered waiting other input end [] more others
     → AllByRecursion (λ became. became ≢ Some NoMemory) (lines ++ others) → (text ≡ more) × (lines ≡ others)
 
--- What was said where a talk ended before its input did: the lines up to some rest were answered, and nothing else was written;
--- but where the writer failed, it holds a front of one answer more.
+-- What was written where a conversation ended before its input. The reader failed: the answers to all lines before.
+-- The writer failed: these, and a prefix of the next answer.
 abbrev pub Fails : {E : Type 0} → Answering E → (E → ℕ) → E → List ℕ → E → Option (List ℕ) → Option (List ℕ) → TalkFault → Type 0
 Fails answered waiting old input new written holds ReadFailed =
     (rest said : List ℕ) × (lines : List (Option Became)) × Talked answered waiting old input new rest said lines × Appends written holds said

@@ -1,4 +1,4 @@
-//! An end that answers lines, each as soon as it has come.
+//! A program that answers lines, each before it reads the next.
 #![tactic(auto)]
 
 mod input;

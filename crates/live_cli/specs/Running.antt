@@ -1,4 +1,4 @@
--- What the program answers to an input, and its exit status.
+-- What `daplive` does with an input, and its exit status.
 use Rattle.std.specs.Prelude.{◌≡◌, ◌⊎◌, ℕ, List, [], if◌then◌else◌, Option}
 use Rattle.std.specs.List.{list_any}
 use Rattle.std.specs.Io.KnownBytes.{Appends, Keeps}
@@ -22,21 +22,23 @@ use Rattle.live_cli.specs.declared.words.Task.TheVariants.{End, Follow}
 abbrev pub setup_of : Options → LinkSetup
 setup_of o = record { local = o.local; remote = o.remote; seg_size = o.segment; window = o.window; max_message = 65535 }
 
--- all lines of the input were answered by this end, or those up to where the reader or the writer failed
+-- The end answers all lines of the input, and the status is 1 if some line was bad and 0 otherwise; or the reader or
+-- the writer fails, and it is 3.
 abbrev pub AnswersAll : {E : Type 0} → Answering E → (E → ℕ) → E → List ℕ → (written holds : Option (List ℕ)) → ℕ → Type 0
 AnswersAll {E} answered waiting first input written holds status =
     ((last : E) × (text : List ℕ) × (lines : List (Option Became)) × Talked answered waiting first input last [] text lines
     × Appends written holds text × (status ≡ (if list_any is_bad lines then 1 else 0)))
     ⊎ ((last : E) × (fault : TalkFault) × Fails answered waiting first input last written holds fault × (status ≡ 3))
 
+-- a new end with these options, without files, answers
 abbrev pub GivesAs : Role → Options → List ℕ → (written holds : Option (List ℕ)) → ℕ → Type 0
 GivesAs Serve o input written holds status =
     (first : Serving) × serving.IsNew (setup_of o) o.buffer o.waiting [] first × AnswersAll serving.answered serving.waiting first input written holds status
 GivesAs Ask o input written holds status =
     (first : Asking) × asking.IsNew (setup_of o) o.buffer first × AnswersAll asking.answered asking.waiting first input written holds status
 
--- What the program answers, and its exit status: what an end that is set up so answers, or nothing was written, for want of
--- memory; or the listing of a capture.
+-- An end answers; or memory is refused before there is one, nothing is written, and the status is 3; or a capture is
+-- listed.
 abbrev pub TaskGives : Task → List ℕ → (written holds : Option (List ℕ)) → ℕ → Type 0
 TaskGives (End o) input written holds status = GivesAs o.role o input written holds status ⊎ (Keeps written holds × (status ≡ 3))
 TaskGives Follow input written holds status = HasStatus (FollowGives input written holds) status

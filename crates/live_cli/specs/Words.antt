@@ -1,4 +1,4 @@
--- What the words of the program name.
+-- The command line of `daplive`.
 use Rattle.std.specs.Prelude.{ℕ, List, [], ◌∷◌, codes, bytes_eq, fold, if◌then◌else◌, pos, max, Option, Some, option_map, option_and_then}
 use Rattle.std.specs.Fmt.{decimal}
 use Rattle.clap.specs.Words.{App, Row, Rule, Text, first_of, new_app, new_rule, subcommand_of, with_rule, with_subcommand}
@@ -15,60 +15,62 @@ use Rattle.live_cli.specs.declared.words.Role.TheVariants.{Serve, Ask}
 use Rattle.live_cli.specs.declared.words.Task.{Task}
 use Rattle.live_cli.specs.declared.words.Task.TheVariants.{End, Follow}
 
--- the bytes that may wait while an end serves more: between these, and what is usual
+-- how many bytes of answers may wait: at least this
 abbrev pub least_waiting : ℕ
 least_waiting = 64
 
+-- at most this
 abbrev pub greatest_waiting : ℕ
 greatest_waiting = 1073741824
 
+-- and this where nothing is said
 abbrev pub usual_waiting : ℕ
 usual_waiting = 1048576
 
--- the word of an end, and how it is set up by that word alone
+-- the name of an end, and its options by default
 abbrev pub usual : Role → Text × Options
 usual Serve = (codes "serve", record { role = Serve; local = 514; remote = 257; segment = 512; window = 8; buffer = 1024; waiting = usual_waiting })
 usual Ask = (codes "ask", record { role = Ask; local = 257; remote = 514; segment = 512; window = 8; buffer = 1024; waiting = usual_waiting })
 
 -- ---- The command line, in the words of `clap`.
 
--- an option with a value, and the one that is usual
+-- an option with a value, and its default
 abbrev pub option : Text → (usual : Text) → Rule
 option name usual = record (new_rule name) { long = Some name; value_names = 1; defaults = usual ∷ [] }
 
--- whose value is a number of this range
+-- an option whose value is a number of this range
 abbrev pub number : Text → (usual : Text) → (least most : ℕ) → Rule
 number name usual least most = record (option name usual) { parser = Some (parser.Signed (pos least) (pos most)) }
 
--- the word of an end, and the options behind it, of which these are usual
+-- the subcommand of an end, with these options as defaults
 abbrev pub end_line : Text × Options → App
 end_line (word, o) = fold with_rule (new_app word)
     (option (codes "local") (word_text o.local) ∷ option (codes "remote") (word_text o.remote)
     ∷ number (codes "segment") (decimal o.segment) 1 largest_segment ∷ number (codes "window") (decimal o.window) 1 largest_window
     ∷ number (codes "buffer") (decimal o.buffer) least_buffer greatest_message ∷ [])
 
--- those of the end that serves
+-- the subcommand `serve`, which has one option more
 abbrev pub serve_line : App
 serve_line = with_rule (end_line (usual Serve)) (number (codes "waiting") (decimal usual_waiting) least_waiting greatest_waiting)
 
--- all words: one of three names is wanted
+-- all words: one of three subcommands
 abbrev pub daplive : App
 daplive = fold with_subcommand (new_program (codes "daplive"))
     (serve_line.top ∷ (end_line (usual Ask)).top ∷ (new_app (codes "follow")).top ∷ [])
 
 -- ---- What they say.
 
--- an option's value is read, and then what follows
+-- the value of an option is read, and then what follows
 abbrev pub value : {X : Type 0} → List Row → (read : Text → Option ℕ) → (name : Text) → (ℕ → Option X) → Option X
 value rows read name next = option_and_then next (option_and_then read (first_of name rows))
 
--- how many bytes may wait while an end serves more; an end that asks isn't told
+-- how many bytes may wait; `ask` has no such option
 abbrev pub waiting_of : Role → List Row → Option ℕ
 waiting_of Serve rows = option_and_then (decimal_of greatest_waiting) (first_of (codes "waiting") rows)
 waiting_of Ask rows = Some usual_waiting
 
--- How an end is set up: each address is four hex digits, each number decimal digits. Those of a buffer have 64 at least,
--- else they are at fault.
+-- The options of an end. An address is four hex digits, a number is decimal digits, and a buffer has at least 64
+-- bytes.
 abbrev pub options_of : Role → List Row → Option Options
 options_of role rows =
     value rows address_of (codes "local") (λ local.
@@ -86,6 +88,7 @@ options_of role rows =
       waiting = waiting;
     })) (waiting_of role rows))))))
 
+-- what a subcommand and its options name
 abbrev pub task_in : Text × List Row → Option Task
 task_in p =
     if bytes_eq p.0 (codes "serve") then option_map End (options_of Serve p.1)

@@ -1,5 +1,4 @@
-//! The words of the program `daplive`: which end they name, how it is set up, what it answers, the listing of a capture
-//! with its messages joined, and the exit status.
+//! The command line of the program `daplive`: its options, what it answers or lists, and the exit status.
 #![tactic(auto)]
 
 mod laws;

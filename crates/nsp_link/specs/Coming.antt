@@ -1,18 +1,18 @@
--- Segments that are taken in, and the messages that come of them.
+-- Segments that are received, and the messages that they make.
 use Rattle.std.specs.Prelude.{◌≡◌, ◌≢◌, ℕ, ◌+◌, ◌<◌, ◌≤◌, ◌⊎◌, List, [], ◌∷◌, ◌++◌, length, Option, Some, None, is_none, unwrap_or, if◌then◌else◌}
 use Rattle.nsp_link.specs.declared.fault.LinkFault.{LinkFault}
 use Rattle.nsp_link.specs.declared.fault.LinkFault.TheVariants.{BadSequence, MessageTooLong, Exhausted, NoMemory}
 use Rattle.nsp_link.specs.Cutting.{Piece}
 use Rattle.nsp_link.specs.Limits.{most_segments}
 
--- how many segments were taken in order, the bytes of a message whose last segment is still to come,
--- and the whole messages that were not handed out
+-- How many segments were taken in order, the bytes of the message that is begun, and the whole messages that weren't
+-- handed out.
 pub record Coming : Type 0 where
   pub received : ℕ
   pub partial : Option (List ℕ)
   pub inbox : List (List ℕ)
 
--- nothing came yet
+-- before the first segment
 abbrev pub nothing_came : Coming
 nothing_came = record { received = 0; partial = None; inbox = [] }
 
@@ -20,7 +20,7 @@ nothing_came = record { received = 0; partial = None; inbox = [] }
 abbrev pub body_with : Coming → List ℕ → List ℕ
 body_with c payload = unwrap_or c.partial [] ++ payload
 
--- one segment is taken
+-- One segment more. Its bytes follow those of its message, which is whole where the segment is the last one.
 abbrev pub taken : Coming → Piece → Coming
 taken c p = record {
   received = c.received + 1;
@@ -28,11 +28,11 @@ taken c p = record {
   inbox = if p.last then c.inbox ++ body_with c p.payload ∷ [] else c.inbox;
 }
 
--- a first mark stands exactly where no message is begun, and the message is no longer than the limit
+-- the segment is marked first exactly where no message is begun, and the message is then within the limit
 abbrev pub FitsBehind : ℕ → Coming → Piece → Type 0
 FitsBehind limit c p = (p.first ≡ is_none c.partial) × (length (body_with c p.payload) ≤ limit)
 
--- why a segment doesn't fit: its mark comes before its length
+-- why a segment doesn't fit: its mark, and if that is right, the length
 abbrev pub Misfits : ℕ → Coming → Piece → LinkFault → Type 0
 Misfits limit c p BadSequence = p.first ≢ is_none c.partial
 Misfits limit c p MessageTooLong = (p.first ≡ is_none c.partial) × (limit < length (body_with c p.payload))
@@ -40,10 +40,12 @@ Misfits limit c p _ = ⊥
 
 -- ---- several segments, one after the other
 
+-- the segments are taken, one after another
 unfoldable pub taken_all : Coming → List Piece → Coming
 taken_all c [] = c
 taken_all c (p ∷ ps) = taken_all (taken c p) ps
 
+-- each fits after those before it
 unfoldable pub AllFit : ℕ → Coming → List Piece → Type 0
 AllFit limit c [] = Unit {0}
 AllFit limit c (p ∷ ps) = FitsBehind limit c p × AllFit limit (taken c p) ps
@@ -53,8 +55,8 @@ unfoldable pub MisfitsOne : ℕ → Coming → List Piece → LinkFault → Type
 MisfitsOne limit c [] e = ⊥
 MisfitsOne limit c (p ∷ ps) e = Misfits limit c p e ⊎ (FitsBehind limit c p × MisfitsOne limit (taken c p) ps e)
 
--- Why none of several segments is taken: the marks and lengths of all of them come before their number, and this
--- before memory.
+-- Why none of several segments is taken: the mark or length of one of them; or more than 2^40 would be taken; or
+-- memory was refused. An earlier reason comes first.
 abbrev pub RefusesAll : ℕ → Coming → List Piece → LinkFault → Type 0
 RefusesAll limit c ps BadSequence = MisfitsOne limit c ps BadSequence
 RefusesAll limit c ps MessageTooLong = MisfitsOne limit c ps MessageTooLong

@@ -1,4 +1,4 @@
--- A packet of a peer that is due, and what becomes of it by the counts for which its numbers stand.
+-- A packet of a peer that is due, and what it does to an end, by numbers without modulus.
 use Rattle.std.specs.Prelude.{◌≡◌, ◌⊎◌, ℕ, ◌+◌, ◌-◌, ◌<◌, ◌≤◌, ◌==◌, max, false, List, length, drop, Option, Some, None, if◌then◌else◌}
 use Rattle.nsp_seg.specs.declared.packet.Packet.{Packet}
 use Rattle.nsp_link.specs.declared.fault.LinkFault.{LinkFault}
@@ -8,7 +8,7 @@ use Rattle.nsp_link.specs.Holding.{following}
 use Rattle.nsp_link.specs.Limits.{most_segments}
 use Rattle.nsp_link.specs.Link.{LinkValue, Stands, IsOfPeer, Keeps, held_after}
 
--- The end hasn't failed and stands after some of the peer's messages, and the packet is of that peer.
+-- The end hasn't failed and has taken some of the peer's messages, and the packet is of that peer.
 abbrev pub IsDue : LinkValue → (size : ℕ) → (messages given : List (List ℕ)) → Packet → Option ℕ → ℕ → Type 0
 IsDue v size messages given p k a = (v.failed ≡ false) × Stands v size messages given × IsOfPeer v size messages p k a
 
@@ -17,9 +17,10 @@ abbrev pub taken_after : LinkValue → Option ℕ → ℕ
 taken_after v None = v.coming.received
 taken_after v (Some k) = if k == v.coming.received + 1 then k + length (following k v.held) else v.coming.received
 
--- An end got the k-th segment, or none, and an acknowledgement of the first a. Of the acknowledgements the greatest counts,
--- and what is acknowledged leaves the queue. The next segment is taken with all that follow it without a hole, which are held
--- no longer; an early one is held, where the window has a place for it that is free; one that was taken moves nothing.
+-- The k-th segment was received, or none, with an acknowledgement of the first a. The greatest acknowledgement
+-- counts, and what is acknowledged leaves the queue. The next segment is taken with all held ones that follow it
+-- without a hole. An early one is held if the window has room for it and it isn't held yet. One that was taken
+-- changes nothing.
 pub record Delivered (old new : LinkValue) (k : Option ℕ) (a : ℕ) : Type 0 where
   pub acked : new.acked ≡ max old.acked a
   pub queue : new.queue ≡ drop (a - old.acked) old.queue
@@ -30,9 +31,8 @@ pub record Delivered (old new : LinkValue) (k : Option ℕ) (a : ℕ) : Type 0 w
   pub setup : new.setup ≡ old.setup
   pub failed : new.failed ≡ old.failed
 
--- Why a packet that is due is refused. One that only acknowledges never is, nor one whose segment was taken, is held or has no
--- place in the window: these take no memory. The next one and an early one that is kept may want memory, and the next one is
--- too much where the segments taken with it would be more than 2^40.
+-- Why a packet that is due is refused. Memory may be refused to the next segment, and to an early one that would be
+-- held. The next segment is also refused where more than 2^40 segments would be taken. Nothing else is refused.
 abbrev pub MayRefuse : LinkValue → Option ℕ → LinkFault → Type 0
 MayRefuse v None e = ⊥
 MayRefuse v (Some k) e =

@@ -12,8 +12,8 @@ unfoldable pub following : ℕ → List (ℕ × Piece) → List Piece
 following k [] = []
 following k (h ∷ held) = if h.0 == k + 1 then h.1 ∷ following (k + 1) held else []
 
--- By their numbers alone: with the segments up to the k-th taken, those that are held are taken in as far as there is no
--- hole. How far that goes, and what is still held.
+-- By their numbers alone: once the segments up to the k-th are taken, those that follow without a hole are taken too.
+-- The number of the last one taken, and the numbers that are still held.
 unfoldable pub closed_up : ℕ → List ℕ → ℕ × List ℕ
 closed_up k [] = (k, [])
 closed_up k (n ∷ held) = if n == k + 1 then closed_up n held else (k, n ∷ held)

@@ -20,6 +20,7 @@ use Rattle.nsp_link.specs.Coming.{Coming, nothing_came, taken_all}
 use Rattle.nsp_link.specs.Holding.{AreHeld, following}
 use Rattle.nsp_link.specs.Limits.{largest_segment, largest_window, greatest_age, least_limit, largest_limit, most_segments}
 
+-- what an end keeps
 pub record LinkValue : Type 0 where
   pub setup : LinkSetup
   -- how many segments were sent, how many of these are acknowledged, and the segments after those, sent or not
@@ -34,6 +35,7 @@ pub record LinkValue : Type 0 where
   -- whether a packet showed that the two ends have lost each other
   pub failed : Bool
 
+-- the limits of a setup: segments of 1 to 1,400 bytes, a window of 1 to 2,047, messages of 64 to 65,535 bytes
 abbrev pub IsSetup : LinkSetup → Type 0
 IsSetup s =
     (1 ≤ s.seg_size) × (s.seg_size ≤ largest_segment) × (1 ≤ s.window) × (s.window ≤ largest_window)
@@ -43,6 +45,7 @@ IsSetup s =
 abbrev pub SetupFault : LinkSetup → LinkFault → Type 0
 SetupFault s e = ((e ≡ BadSetup) × (IsSetup s → ⊥)) ⊎ ((e ≡ NoMemory) × IsSetup s)
 
+-- an end that has sent and taken nothing
 abbrev pub new_link : LinkSetup → LinkValue
 new_link s = record {
   setup = s;
@@ -67,6 +70,7 @@ pub record IsLink (v : LinkValue) : Type 0 where
   -- those that are held lie above the next one, within the window
   pub held : AreHeld (v.coming.received + 1) (v.coming.received + 1 + v.setup.window) v.held
 
+-- an end that has failed, otherwise as before
 abbrev pub failed_link : LinkValue → LinkValue
 failed_link v = record v { failed = true }
 
@@ -76,7 +80,8 @@ AreShort v messages = All (λ m. length m ≤ v.setup.max_message) messages
 
 -- ---- sending
 
--- These are the messages sent: what is queued are their segments after those that are acknowledged.
+-- These are the messages sent: what is queued are their segments after those that are acknowledged. The messages
+-- themselves are stored nowhere. So contracts hold for every list of messages that fits what is queued.
 pub record Sends (v : LinkValue) (messages : List (List ℕ)) : Type 0 where
   pub queue : v.queue ≡ drop v.acked (cut v.setup.seg_size messages)
   pub acked : v.acked ≤ length (cut v.setup.seg_size messages)
@@ -89,16 +94,16 @@ pub record AreUnfinished (size : ℕ) (messages : List (List ℕ)) (acked : ℕ)
   pub whole : length (cut size done) ≤ acked
   pub next : (m : List ℕ) (later : List (List ℕ)) → left ≡ m ∷ later → acked < length (cut size (done ++ m ∷ []))
 
--- How many bytes wait at this end: those of each message that was sent, the whole message until its last segment is
--- acknowledged.
+-- The bytes that wait at this end: of each message that was sent, all its bytes until its last segment is
+-- acknowledged. The law `whole_messages_wait` says this of `AreUnfinished` messages.
 abbrev pub waiting_bytes : LinkValue → ℕ
 waiting_bytes v = v.part + bytes_in v.queue
 
--- whatever messages were sent, they are those that were sent still
+-- whichever messages were sent, the same are sent afterwards
 abbrev pub SendsStill : LinkValue → LinkValue → Type 0
 SendsStill old new = (messages : List (List ℕ)) → Sends old messages → Sends new messages
 
--- behind whatever messages were sent, these were sent
+-- whichever messages were sent, these are sent after them
 abbrev pub SendsMore : LinkValue → LinkValue → List (List ℕ) → Type 0
 SendsMore old new more = (messages : List (List ℕ)) → Sends old messages → Sends new (messages ++ more)
 
@@ -113,9 +118,11 @@ abbrev pub plain_ack : Option AckField → Option ℕ
 plain_ack None = None
 plain_ack (Some a) = if a.qual == 0 then Some a.number else None
 
+-- the number of the first of two fields that acknowledges segments of this subchannel
 abbrev pub first_ack : Option AckField → Option AckField → Option ℕ
 first_ack ack1 ack2 = option_or (plain_ack ack1) (plain_ack ack2)
 
+-- a segment without its number and addresses
 abbrev pub piece_of : SegmentFields → Piece
 piece_of s = record { first = s.first; last = s.last; payload = s.payload }
 
@@ -127,6 +134,7 @@ Carries (Segment s) pieces (Some k) a =
 Carries (DataAck s) pieces None a = first_ack (Some s.ack1) s.ack2 ≡ Some (residue a)
 Carries _ pieces _ a = ⊥
 
+-- the packet goes from one address to the other
 abbrev pub IsBetween : ℕ → ℕ → Packet → Type 0
 IsBetween src dst (Segment s) = (s.src ≡ src) × (s.dst ≡ dst)
 IsBetween src dst (DataAck s) = (s.src ≡ src) × (s.dst ≡ dst)
@@ -165,7 +173,7 @@ IsPacketOf src dst pieces None a p = p ≡ written_ack src dst a
 abbrev pub IsSpelling : Packet → List ℕ → Type 0
 IsSpelling p bytes = FitsFields p × (bytes ≡ spelling p)
 
--- the bytes are that packet's: these values leave no other
+-- The bytes are those of that one packet: addresses, segments, k and a determine each bit.
 abbrev pub IsWritten : ℕ → ℕ → List Piece → Option ℕ → ℕ → List ℕ → Type 0
 IsWritten src dst pieces k a bytes =
     (p : Packet) × IsPacketOf src dst pieces k a p × IsSpelling p bytes
@@ -176,13 +184,15 @@ Writes v messages k a bytes = IsWritten v.setup.local v.setup.remote (cut v.setu
 
 -- ---- taking
 
--- An end that has taken the first segments of these messages, cut by this size, and holds others of them. Those taken, one
--- after another from nothing on, come to what it has, with the messages that it handed out in front of those that wait.
+-- An end that has taken the first segments of these messages, cut by this size, and holds others of them. The
+-- messages in the segments taken are those handed out, those that wait, and one that is begun. By the law
+-- `whole_messages_are_taken` the messages handed out and those that wait are the first messages, as many as are whole
+-- in the segments taken.
 pub record Stands (v : LinkValue) (size : ℕ) (messages given : List (List ℕ)) : Type 0 where
   pub taken : taken_all nothing_came (take v.coming.received (cut size messages)) ≡ record v.coming { inbox = given ++ v.coming.inbox }
   pub held : AllByRecursion (λ h. slice_get (cut size messages) (h.0 - 1) ≡ Some h.1) v.held
 
--- whatever was taken and handed out, it is so still
+-- whatever was taken and handed out before, the same is afterwards
 abbrev pub StandsStill : LinkValue → LinkValue → Type 0
 StandsStill old new = (size : ℕ) (messages given : List (List ℕ)) → Stands old size messages given → Stands new size messages given
 
@@ -194,10 +204,12 @@ with_inbox v inbox = record v { coming = record v.coming { inbox = inbox } }
 abbrev pub HandsOut : LinkValue → LinkValue → List ℕ → Type 0
 HandsOut old new message = (old.coming.inbox ≡ message ∷ new.coming.inbox) × (new ≡ with_inbox old new.coming.inbox)
 
--- neither the segment nor the acknowledgement is more than 2,047 old
+-- The segment is at most 2,047 below the next one to be taken, and the acknowledgement at most 2,047 below the count
+-- acknowledged.
 abbrev pub IsTimely : LinkValue → Option ℕ → ℕ → Type 0
 IsTimely v k a = IfSome k (λ n. v.coming.received + 1 ≤ n + greatest_age) × (v.acked ≤ a + greatest_age)
 
+-- how a segment is answered, or a packet without one
 abbrev pub got_of : ℕ → Option ℕ → Got
 got_of received None = AckOnly
 got_of received (Some k) = if k == received + 1 then Accepted else (if nat_lt received k then Early else Repeat)
@@ -206,7 +218,7 @@ got_of received (Some k) = if k == received + 1 then Accepted else (if nat_lt re
 abbrev pub Keeps : LinkValue → ℕ → Type 0
 Keeps v k = (v.coming.received + 1 < k) × (k < v.coming.received + 1 + v.setup.window) × AllByRecursion (λ h. h.0 ≢ k) v.held
 
--- What is held once the k-th came, which says this: what follows it without a hole leaves, and an
+-- What is held once the k-th segment came, which says this: what follows it without a hole is taken with it, and an
 -- early one within the window is held, the first copy of it.
 abbrev pub held_after : LinkValue → Option ℕ → Piece → List (ℕ × Piece)
 held_after v None p = v.held

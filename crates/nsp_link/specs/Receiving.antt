@@ -1,4 +1,5 @@
--- What receiving computes, by the numbers that a packet shows.
+-- What `receive` does with any packet, by the 12-bit numbers that it shows (NSP 4.0.0, data segment message and data
+-- acknowledgement message). An address that is wrong is refused first, then an acknowledgement, then the segment.
 use Rattle.std.specs.Prelude.{◌≡◌, ◌≢◌, ℕ, ◌+◌, ◌-◌, ◌≤◌, ◌&&◌, Bool, true, false, List, ◌∷◌, length, ◌⊎◌, Result, Ok, Err, IsOk, Option, Some, None, IfSome, MatchResult, nat_lt, ◌==◌, if◌then◌else◌}
 use Rattle.nsp_seg.specs.Numbers.{residue}
 use Rattle.nsp_link.specs.declared.fault.LinkFault.{LinkFault}
@@ -16,8 +17,9 @@ use Rattle.nsp_link.specs.Limits.{most_segments}
 use Rattle.nsp_link.specs.Link.{LinkValue, got_of, held_after, Stands, SendsStill, failed_link, first_ack, piece_of, IsBetween, Keeps, forgotten}
 use Rattle.nsp_link.specs.Due.{IsDue, Delivered, MayRefuse}
 
--- How many segments a field acknowledges anew: 0 where its number is 2,048 or more ahead, which is old, and nothing where
--- it is less far ahead, and of a segment never sent.
+-- How many segments a field acknowledges anew. A number that is 2,048 or more ahead is old, and acknowledges none;
+-- nor does a packet without a field. There is none where more are acknowledged than were sent: that is a bad
+-- sequence. Everything else is believed.
 abbrev pub newly_acked : LinkValue → Option ℕ → Option ℕ
 newly_acked v None = Some 0
 newly_acked v (Some n) =
@@ -28,7 +30,7 @@ newly_acked v (Some n) =
 abbrev pub run : LinkValue → Piece → List Piece
 run v p = p ∷ following (v.coming.received + 1) v.held
 
--- the segment for which a number stands: less than 2,048 ahead of the one that is wanted next, or behind it
+-- The segment that has a number: less than 2,048 ahead of the next one, or else before it.
 abbrev pub segment_of : LinkValue → ℕ → ℕ
 segment_of v number =
     let ahead = residue (number + 4096 - residue (v.coming.received + 1)) in
@@ -40,13 +42,13 @@ taking_in v k p =
     let c = if k == v.coming.received + 1 then taken_all v.coming (run v p) else v.coming in
     record v { coming = c; held = held_after v (Some k) p }
 
--- the refusals that show that the two ends have lost each other
+-- the refusals after which the end has failed
 abbrev pub is_end : LinkFault → Bool
 is_end BadSequence = true
 is_end MessageTooLong = true
 is_end _ = false
 
--- what is left where segments were not taken
+-- the end after a refusal
 abbrev pub stopped : LinkFault → LinkValue → LinkValue
 stopped e v = if is_end e then failed_link v else v
 
@@ -54,7 +56,8 @@ stopped e v = if is_end e then failed_link v else v
 abbrev pub Acknowledges : LinkValue → Option ℕ → LinkValue → LinkValue → Type 0
 Acknowledges old number mid new = (count : ℕ) × (newly_acked old number ≡ Some count) × (new ≡ forgotten mid count)
 
--- why the k-th segment isn't taken: the next one and those that follow it, or an early one, for want of memory alone
+-- why the k-th segment isn't taken: the next one and those that follow it misfit; or memory is refused to an early
+-- one
 abbrev pub NotTaken : LinkValue → ℕ → Piece → LinkFault → Type 0
 NotTaken v k p e = ((k ≡ v.coming.received + 1) × RefusesAll v.setup.max_message v.coming (run v p) e) ⊎ (Keeps v k × (e ≡ NoMemory))
 
@@ -82,16 +85,16 @@ Received old p (Err e) new =
 
 -- ---- What an end does with any bytes.
 
--- the bytes are malformed, which changes nothing, or they are a packet, and its numbers tell what becomes of it
+-- the bytes are malformed, and nothing changes; or they are a packet, and its numbers decide
 abbrev pub ReceivedBytes : (old new : LinkValue) → List ℕ → Result Got LinkFault → Type 0
 ReceivedBytes old new bytes result =
     ((f : SegFault) × (result ≡ Err (Malformed f)) × HasFault f bytes × (new ≡ old))
     ⊎ ((p : Packet) × Spells p bytes × Received old p result new)
 
--- A packet that is due: what it is answered follows from the number k of its segment and the number of segments that were taken;
--- the counts of segments taken and acknowledged and what is held move as is said there; and the end stands after the first of
--- the same messages still, so that it hands out just those whose last segment it has taken, each once and in order. Only want
--- of memory, or the limit of 2^40 segments, refuses it, and then nothing has changed.
+-- A packet that is due. The answer follows from the number k of its segment and the number of segments taken. The
+-- counts and what is held move as `Delivered` says. The end has still taken the first segments of the same messages,
+-- so it hands out exactly those whose last segment it has taken, each once and in order. Only a refused allocation,
+-- or the limit of 2^40 segments, refuses it, and then nothing changes.
 abbrev pub ReceivedDue : (old new : LinkValue) → List ℕ → Result Got LinkFault → Type 0
 ReceivedDue old new bytes result =
     (size : ℕ) (messages given : List (List ℕ)) (p : Packet) (k : Option ℕ) (a : ℕ)
@@ -133,7 +136,8 @@ BoundedBytes old new bytes result =
     ((f : SegFault) × (result ≡ Err (Malformed f)) × HasFault f bytes × (new ≡ old))
     ⊎ ((p : Packet) × Spells p bytes × Bounded old p result new)
 
--- all that such an end does with any bytes
+-- All that such an end does with any bytes. By the law `receiving_is_determined` two outcomes of one call on the same
+-- end are equal, unless memory was refused.
 pub record Receives (old new : LinkValue) (bytes : List ℕ) (result : Result Got LinkFault) : Type 0 where
   pub failed : old.failed ≡ true → (result ≡ Err Failed) × (new ≡ old)
   pub any : old.failed ≡ false → BoundedBytes old new bytes result

@@ -12,10 +12,11 @@ use Rattle.nsp_link.specs.Link.{LinkValue, AreShort, may_send, Sends, Writes, Is
 abbrev pub segment_packet : LinkValue → Piece → ℕ → Packet
 segment_packet v piece number = written_segment v.setup.local v.setup.remote piece number v.coming.received
 
+-- a packet that only acknowledges
 abbrev pub ack_packet_of : LinkValue → Packet
 ack_packet_of v = written_ack v.setup.local v.setup.remote v.coming.received
 
--- the bytes are the segment at this place of the queue, if one stands there, under this number
+-- if the queue has a segment at this index, the bytes are that segment under this number
 abbrev pub WritesQueued : LinkValue → ℕ → ℕ → List ℕ → Type 0
 WritesQueued v place number bytes =
     (piece : Piece) → slice_get v.queue place ≡ Some piece → IsSpelling (segment_packet v piece number) bytes
@@ -29,7 +30,7 @@ WritesNext old new bytes =
 abbrev pub NextFault : LinkValue → LinkFault → Type 0
 NextFault v e = ((e ≡ NoMemory) × IsTrue (may_send v)) ⊎ ((e ≡ Failed) × IsTrue v.failed)
 
--- of whatever messages were sent, the bytes are what this end writes of their k-th segment, or of none
+-- whichever messages were sent, the bytes are what this end writes of their k-th segment, or of none
 abbrev pub WritesSent : LinkValue → Option ℕ → List ℕ → Type 0
 WritesSent v k bytes = (messages : List (List ℕ)) → Sends v messages → Writes v messages k v.coming.received bytes
 
@@ -37,13 +38,14 @@ WritesSent v k bytes = (messages : List (List ℕ)) → Sends v messages → Wri
 abbrev pub queued_link : LinkValue → List Piece → LinkValue
 queued_link v pieces = record v { queue = v.queue ++ pieces }
 
--- memory aside, the end takes these messages: it runs, each is short enough, and their segments are few enough
+-- Apart from memory, the end takes these messages, all or none: it hasn't failed, each is within the limit, and the
+-- direction then has at most 2^40 segments.
 abbrev pub may_queue : LinkValue → List (List ℕ) → Bool
 may_queue v messages =
     not v.failed && (list_all (λ m. nat_le (length m) v.setup.max_message) messages
     && nat_le (v.acked + length v.queue + length (cut v.setup.seg_size messages)) most_segments)
 
--- why messages are not sent, none of them, in the order of the tests
+-- Why none of the messages is sent: the first reason in this order. An empty list is never out of memory.
 abbrev pub SendAllFault : LinkValue → List (List ℕ) → LinkFault → Type 0
 SendAllFault v messages Failed = IsTrue v.failed
 SendAllFault v messages MessageTooLong =

@@ -1,4 +1,6 @@
--- How far the numbers on the way lie from those that an end expects.
+-- Numbers modulo 4,096 identify what isn't stale. Laws: a fresh segment that was sent is near, and so is a fresh
+-- acknowledgement of what was sent; two near segments that are equal modulo 4,096 are the same one, and so are two
+-- near acknowledgements.
 use Rattle.std.specs.Prelude.{ℕ, ◌+◌, ◌≤◌}
 use Rattle.nsp_link.specs.Limits.{largest_window, greatest_age}
 

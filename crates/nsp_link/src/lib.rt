@@ -1,4 +1,4 @@
-//! One end of a link: messages cut into segments, and segments taken in order.
+//! One end of an open NSP link: messages are cut into segments, and segments are received in order.
 #![tactic(auto)]
 
 mod cutting;

@@ -3,7 +3,7 @@ use Rattle.std.specs.Prelude.{ℕ, ◌==◌, ◌||◌, if◌then◌else◌}
 use Rattle.nsp_seg.specs.declared.packet.FlagKind.{FlagKind}
 use Rattle.nsp_seg.specs.declared.packet.FlagKind.TheVariants.{Segment, DataAck, LinkService, Interrupt, OtherAck, ConnectAck, Control, Unknown}
 
--- The table of first bytes; no byte stands in two of its lines.
+-- The kind of a packet by its first byte (NSP 4.0.0, message formats).
 abbrev pub flag_kind_of : ℕ → FlagKind
 flag_kind_of flag =
     if flag == 0x00 || flag == 0x20 || flag == 0x40 || flag == 0x60 then Segment else

@@ -1,8 +1,8 @@
-//! Packets of a link, data segments and data acknowledgements, both ways, and their 12-bit numbers
-//! (NSP 4.0.0).
+//! NSP packets as bytes, both ways: data segments, data acknowledgements, and their 12-bit numbers. Their formats
+//! are those of NSP 4.0.0, data segment message and data acknowledgement message.
 //!
-//! [`decode_packet`] reads a [`Packet`], and [`encode_packet`] writes one. A crate whose contracts speak of packets holds
-//! them as a [`PacketValue`], which [`decode_value`] reads and [`encode_value`] writes.
+//! [`decode_packet`] reads a [`Packet`], and [`encode_packet`] writes one. A crate whose contracts speak of packets
+//! holds them as a [`PacketValue`], which [`decode_value`] reads and [`encode_value`] writes.
 #![tactic(auto)]
 
 mod decode;

@@ -1,4 +1,4 @@
--- What an operation on a stream does to a file and to the stream.
+-- What an operation on a stream does to a file and to the stream, in the manner of RMS.
 use Rattle.std.specs.Prelude.{◌≡◌, ℕ, ◌+◌, Bool, true, false, not, ◌&&◌, ◌||◌, nat_le, nat_eq, List, [], ◌∷◌, length, Option, None, Some, is_none, unwrap_or, Result, Ok, Err, IsOk, option_and_then, MatchBool, if◌then◌else◌}
 use Rattle.std.specs.Option.{option_map_or}
 use Rattle.std.specs.FinMap.{get}
@@ -11,13 +11,13 @@ use Rattle.rec_file.specs.declared.picks.Pick.TheVariants.{Next, Key, Rfa}
 use Rattle.rec_file.specs.Shapes.{is_seq, limit_of, allows_length}
 use Rattle.rec_file.specs.Files.{FileVal, lowest_from, highest_of, stored, removed}
 
--- a stream: what its user may do, where it reads next, and the number of its current record, or none
+-- a stream: its user's rights, the number from which it reads next, and the number of its current record, or none
 pub record StreamVal : Type 0 where
   pub rights : Rights
   pub next : ℕ
   pub current : Option ℕ
 
--- an operation, with what it is given
+-- an operation, with its arguments
 pub data Operation : Type 0 where
   get_record : Pick → Operation
   put_record : Option ℕ → List ℕ → Operation
@@ -28,6 +28,7 @@ pub data Operation : Type 0 where
 abbrev pub out_of_range : Shape → ℕ → Bool
 out_of_range shape n = nat_eq n 0 || not (nat_le n (limit_of shape))
 
+-- no record has the number
 abbrev pub is_free : FileVal → ℕ → Bool
 is_free file n = is_none (get file.records n)
 
@@ -44,7 +45,9 @@ keeps_length file current body =
 abbrev pub free_place : FileVal → StreamVal → ℕ
 free_place file stream = if is_seq file.shape.org then highest_of file.records + 1 else stream.next
 
--- the number that an operation is about
+-- The number that an operation is about, 0 where there is none. A get of the next record: the lowest occupied number
+-- from the stream's next on. A put without a key: the number after the highest in a sequential file, and the stream's
+-- next in a relative one. An update or a delete: the current record's.
 abbrev pub target_number : Operation → FileVal → StreamVal → ℕ
 target_number (get_record Next) file stream = unwrap_or (lowest_from file.records stream.next) 0
 target_number (get_record (Key n)) file stream = n
@@ -54,7 +57,8 @@ target_number (put_record (Some n) body) file stream = n
 target_number (update_record body) file stream = unwrap_or (current_of file stream) 0
 target_number delete_record file stream = unwrap_or (current_of file stream) 0
 
--- why an operation is refused: each reason beside its condition, and the first that holds counts
+-- Why an operation is refused: each reason with its condition, in order. The first whose condition holds is the
+-- answer.
 abbrev pub refusals_of : Operation → FileVal → StreamVal → List (Bool × Refusal)
 refusals_of (get_record Next) file stream =
     (not stream.rights.get, NotPermitted)
@@ -106,11 +110,12 @@ pub record Outcome : Type 0 where
   pub stream : StreamVal
   pub reply : Result ℕ Refusal
 
--- it was about the record under n, and leaves this file, where the stream reads next, and its current record
+-- the operation was about the record under n, and leaves this file, this next number and this current record
 abbrev pub leaves : ℕ → FileVal → StreamVal → (next : ℕ) → (current : Option ℕ) → Outcome
 leaves n file stream next current = record { file = file; stream = record stream { next = next; current = current }; reply = Ok n }
 
--- an operation about the record under n that isn't refused: a get alone makes a current record
+-- What an operation leaves that isn't refused. A get moves the stream after the record and makes it the current one.
+-- A put without a key moves it by one in a relative file. All others leave no current record.
 abbrev pub done : Operation → ℕ → FileVal → StreamVal → Outcome
 done (get_record pick) n file stream = leaves n file stream (n + 1) (Some n)
 done (put_record key body) n file stream =
@@ -123,6 +128,7 @@ abbrev pub outcome_of : Option Refusal → Operation → FileVal → StreamVal �
 outcome_of None operation file stream = done operation (target_number operation file stream) file stream
 outcome_of (Some refusal) operation file stream = record { file = file; stream = record stream { current = None }; reply = Err refusal }
 
+-- what an operation leaves, and its answer
 abbrev pub act : Operation → FileVal → StreamVal → Outcome
 act operation file stream = outcome_of (first_refusal (refusals_of operation file stream)) operation file stream
 
@@ -130,13 +136,13 @@ act operation file stream = outcome_of (first_refusal (refusals_of operation fil
 abbrev pub IsOutcome : Outcome → FileVal → StreamVal → Result ℕ Refusal → Type 0
 IsOutcome outcome file stream reply = (file ≡ outcome.file) × (stream ≡ outcome.stream) × (reply ≡ outcome.reply)
 
--- whether the answer is want of memory
+-- whether the answer is out of memory
 abbrev pub is_no_memory : Result ℕ Refusal → Bool
 is_no_memory (Err NoMemory) = true
 is_no_memory _ = false
 
--- An operation that needs memory has its outcome; or it lacks memory, and nothing has changed, though it was not to be
--- refused.
+-- An operation has its outcome. Or it is out of memory, and nothing has changed; then it wasn't to be refused
+-- otherwise.
 abbrev pub Acts : Operation → FileVal → StreamVal → FileVal → StreamVal → Result ℕ Refusal → Type 0
 Acts operation old_file old_stream file stream reply =
     MatchBool (is_no_memory reply)

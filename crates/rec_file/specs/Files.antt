@@ -10,11 +10,12 @@ use Rattle.rec_file.specs.Shapes.{is_shape, is_seq, limit_of, allows_length}
 abbrev pub Records : Type 0
 Records = FinMap nat_cmp (List ℕ)
 
+-- a shape, and the records
 pub record FileVal : Type 0 where
   pub shape : Shape
   pub records : Records
 
--- the lowest occupied number from n on: the keys of a finite map stand in order
+-- the lowest occupied number from n on: the keys of a finite map are in order
 abbrev pub lowest_from : Records → ℕ → Option ℕ
 lowest_from m n = slice_get (filter (nat_le n) (keys m)) 0
 
@@ -35,7 +36,7 @@ pub record IsFile (file : FileVal) : Type 0 where
   pub dense : IsTrue (is_seq file.shape.org) → (n : ℕ) → 1 ≤ n → n ≤ highest_of file.records → IsSome (get file.records n)
   pub lengths : (n : ℕ) → IfSome (get file.records n) (λ body. IsTrue (allows_length file.shape (length body)))
 
--- the file with the body under n
+-- the file with these bytes under n, whatever was there
 abbrev pub stored : FileVal → ℕ → List ℕ → FileVal
 stored file n body = record file { records = insert file.records n body }
 

@@ -1,7 +1,7 @@
 -- The limits of every record file.
 use Rattle.std.specs.Prelude.{ℕ}
 
--- the bytes of a record at most
+-- how many bytes a record has at most
 abbrev pub longest_record : ℕ
 longest_record = 32767
 

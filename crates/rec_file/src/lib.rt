@@ -1,10 +1,8 @@
-//! Record files as finite maps from numbers to records, and streams over them (own, in the manner
-//! of RMS).
+//! Record files in memory, and streams over them, in the manner of RMS.
 //!
-//! A [`RecordFile`] has a [`Shape`] and records under numbers: [`SeqFile`] is a list of records,
-//! [`RelFile`] keeps pages of 64 cells, [`AnyFile`] is either. A [`Stream`] is a user's place in a
-//! file: it gets, puts, updates and deletes records, and each refusal is the first of the
-//! operation's whose condition holds.
+//! A [`RecordFile`] has a [`Shape`] and records under numbers: [`SeqFile`] is a list of records, [`RelFile`] has
+//! pages of 64 cells, [`AnyFile`] is either. A [`Stream`] is a user's position in a file: it gets, puts, updates
+//! and deletes records, and each refusal is the first one of the operation whose condition holds.
 #![tactic(auto)]
 
 mod any;
