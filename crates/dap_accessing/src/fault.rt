@@ -6,36 +6,54 @@ use thiserror::Error;
 /// Why a request isn't asked, in the order in which it is looked at. Each leaves the end unchanged.
 /// Own.
 #[derive(Clone, Copy, Drop, Debug, PartialEq, Eq, Error)]
+#[error("{}", self.text())]
 pub enum AskFault {
     /// An answer had no place, so the end has failed.
-    #[error("an answer had no place, so the end has failed")]
     Failed,
     /// A report is still due.
-    #[error("a report is still due")]
     Busy,
     /// The request isn't asked in this phase.
-    #[error("the request isn't asked in this phase")]
     WrongPhase,
     /// A message has no spelling, or is longer than the peer takes.
-    #[error("a message has no spelling, or is longer than the peer takes")]
     TooLarge,
     /// Memory ran out.
-    #[error("memory ran out")]
     NoMemory,
+}
+
+impl AskFault {
+    /// What is printed of it.
+    fn text(self) -> &'static str {
+        match self {
+            AskFault::Failed => "an answer had no place, so the end has failed",
+            AskFault::Busy => "a report is still due",
+            AskFault::WrongPhase => "the request isn't asked in this phase",
+            AskFault::TooLarge => "a message has no spelling, or is longer than the peer takes",
+            AskFault::NoMemory => "memory ran out",
+        }
+    }
 }
 
 /// Why an answer isn't read. Own.
 #[derive(Clone, Copy, Drop, Debug, PartialEq, Eq, Error)]
+#[error("{}", self.text())]
 pub enum ReadFault {
     /// An earlier answer had no place, so the end has failed.
-    #[error("an earlier answer had no place, so the end has failed")]
     Failed,
     /// The answer has no place. Afterwards every call answers `Failed`.
-    #[error("the answer has no place")]
     Unexpected,
     /// Memory ran out. Nothing has changed, and the same call may be made again.
-    #[error("memory ran out")]
     NoMemory,
+}
+
+impl ReadFault {
+    /// What is printed of it.
+    fn text(self) -> &'static str {
+        match self {
+            ReadFault::Failed => "an earlier answer had no place, so the end has failed",
+            ReadFault::Unexpected => "the answer has no place",
+            ReadFault::NoMemory => "memory ran out",
+        }
+    }
 }
 
 /// An answer that was read. Own.

@@ -3,7 +3,7 @@
 ghost use Rattle.std.specs.Prelude.{◌≡◌};
 ghost use Rattle.dap_text.specs.Filed.{file_of, org_of, record_of, rfm_of};
 
-use crate::words::{Text, Words, is, read_number, read_text};
+use crate::words::{Text, Words, is};
 use dap_msg::codes::{ORG_RELATIVE, ORG_SEQUENTIAL, RFM_FIXED, RFM_VARIABLE};
 
 /// What the line of a file says: its name, which is still digits, and ORG, RFM, MRS in bytes and MRN (DAP 5.6.0,
@@ -60,11 +60,11 @@ pub fn read_file_line(line: &[u8]) -> Option<FileLine<'_>>
     if !is(words.next()?, "file") {
         return None;
     }
-    let name = read_text(words.next()?)?;
+    let name = words.text()?;
     let org = read_org(words.next()?)?;
     let rfm = read_rfm(words.next()?)?;
-    let mrs = read_number(words.next()?, 65535)? as u16;
-    let mrn = read_number(words.next()?, u32::MAX)?;
+    let mrs = words.number(65535)? as u16;
+    let mrn = words.number(u32::MAX)?;
     words.end()?;
     Some(FileLine {
         name,
@@ -83,8 +83,8 @@ pub fn read_record_line(line: &[u8]) -> Option<RecordLine<'_>>
     if !words.next()?.is_empty() || !words.next()?.is_empty() {
         return None;
     }
-    let number = read_number(words.next()?, u32::MAX)?;
-    let body = read_text(words.next()?)?;
+    let number = words.number(u32::MAX)?;
+    let body = words.text()?;
     words.end()?;
     Some(RecordLine { number, body })
 }

@@ -6,7 +6,7 @@ ghost use Rattle.dap_text.specs.Requests.{request_of};
 ghost use Rattle.dap_text.specs.Inner.Requests.{continue_of, get_of, put_of};
 ghost use Rattle.dap_text.specs.Words.{decimal_of, ends, field, long, short, text_of};
 
-use crate::words::{Text, Texts, Words, is, read_number, read_text, read_texts};
+use crate::words::{Text, Texts, Words, is, read_text, read_texts};
 use dap_accessing::{By, How, Octets, OctetsList, RequestOf};
 
 /// A request whose names and bodies are still the digits of a line. Contracts see the request. Own.
@@ -31,12 +31,12 @@ fn read_create<'a>(mut words: Words<'a>) -> Option<RequestText<'a>>
         field (decimal_of 15) (λ fac. ends (request.Create name org rfm mrs mrn fac)))))))
         words.entry }
 {
-    let name = Octets(read_text(words.next()?)?);
-    let org = read_number(words.next()?, 255)? as u8;
-    let rfm = read_number(words.next()?, 255)? as u8;
-    let mrs = read_number(words.next()?, 65535)? as u16;
-    let mrn = read_number(words.next()?, u32::MAX)?;
-    let fac = read_number(words.next()?, ACCESS_MOST)?;
+    let name = Octets(words.text()?);
+    let org = words.number(255)? as u8;
+    let rfm = words.number(255)? as u8;
+    let mrs = words.number(65535)? as u16;
+    let mrn = words.number(u32::MAX)?;
+    let fac = words.number(ACCESS_MOST)?;
     words.end()?;
     Some(RequestText::Create {
         name,
@@ -53,8 +53,8 @@ fn read_open<'a>(mut words: Words<'a>) -> Option<RequestText<'a>>
     ensures { result ≡ field text_of
         (λ name. field (decimal_of 15) (λ fac. ends (request.OpenFile name fac))) words.entry }
 {
-    let name = Octets(read_text(words.next()?)?);
-    let fac = read_number(words.next()?, ACCESS_MOST)?;
+    let name = Octets(words.text()?);
+    let fac = words.number(ACCESS_MOST)?;
     words.end()?;
     Some(RequestText::OpenFile { name, fac })
 }
@@ -67,8 +67,8 @@ fn read_get<'a>(mut words: Words<'a>) -> Option<RequestText<'a>>
         return Some(RequestText::Get(By::Next));
     };
     let by = match word {
-        b"key" => By::Key(read_number(words.next()?, u32::MAX)?),
-        b"rfa" => By::Rfa(read_number(words.next()?, u32::MAX)?),
+        b"key" => By::Key(words.number(u32::MAX)?),
+        b"rfa" => By::Rfa(words.number(u32::MAX)?),
         _ => return None,
     };
     words.end()?;
@@ -81,8 +81,8 @@ fn read_put<'a>(mut words: Words<'a>) -> Option<RequestText<'a>>
 {
     match words.next()? {
         b"key" => {
-            let key = Some(read_number(words.next()?, u32::MAX)?);
-            let body = Octets(read_text(words.next()?)?);
+            let key = Some(words.number(u32::MAX)?);
+            let body = Octets(words.text()?);
             words.end()?;
             Some(RequestText::Put { key, body })
         }
@@ -98,7 +98,7 @@ fn read_put<'a>(mut words: Words<'a>) -> Option<RequestText<'a>>
 fn read_update<'a>(mut words: Words<'a>) -> Option<RequestText<'a>>
     ensures { result ≡ field text_of (λ body. ends (request.Update body)) words.entry }
 {
-    let body = Octets(read_text(words.next()?)?);
+    let body = Octets(words.text()?);
     words.end()?;
     Some(RequestText::Update { body })
 }

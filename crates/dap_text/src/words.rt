@@ -38,8 +38,9 @@ fn first_word(line: &[u8]) -> (&[u8], Option<&[u8]>)
 }
 
 impl<'a> Words<'a> {
-    ghost use Rattle.std.specs.Prelude.{◌≡◌, ◌≢◌, ◌∷◌, [], MatchOption};
-    ghost use Rattle.dap_text.specs.Words.{words_of};
+    ghost use Rattle.std.specs.Prelude.{◌≡◌, ◌≢◌, ◌≤◌, ◌∷◌, ℕ, List, [], IfSome, Option, MatchOption};
+    ghost use Rattle.std.specs.Option.{option_and_then};
+    ghost use Rattle.dap_text.specs.Words.{decimal_of, field, text_of, words_of};
 
     /// All words of a line. It takes no memory. Own.
     pub fn of(line: &'a [u8]) -> Self
@@ -64,6 +65,24 @@ impl<'a> Words<'a> {
         let (word, rest) = first_word(line);
         self.rest = rest;
         Some(word)
+    }
+
+    /// The next word as a number that isn't above this one (`read_number`); or None, also where no word is left. Own.
+    pub fn number(&mut self, most: u32) -> Option<u32>
+        ensures value { {X : Type 0} (next : ℕ → List (List ℕ) → Option X)
+            → field (decimal_of most) next self.old
+            ≡ option_and_then (λ number. next number self.new) result }
+        ensures within { IfSome result (λ number. number ≤ most) }
+    {
+        read_number(self.next()?, most)
+    }
+
+    /// The next word as the bytes of a name or a record; or None, also where no word is left.
+    pub(crate) fn text(&mut self) -> Option<Text<'a>>
+        ensures { {X : Type 0} (next : List ℕ → List (List ℕ) → Option X)
+            → field text_of next self.old ≡ option_and_then (λ bytes. next bytes self.new) result }
+    {
+        read_text(self.next()?)
     }
 
     /// Nothing, where no word is left, and else None. It takes no memory. Own.

@@ -75,11 +75,20 @@ pub trait Answers {
 
 /// Why a conversation ended before its input did (own).
 #[derive(Clone, Copy, Debug, PartialEq, Eq, Error)]
+#[error("{}", self.text())]
 pub enum TalkFault {
-    #[error("read failed")]
     ReadFailed,
-    #[error("write failed")]
     WriteFailed,
+}
+
+impl TalkFault {
+    /// What is printed of it.
+    fn text(self) -> &'static str {
+        match self {
+            TalkFault::ReadFailed => "read failed",
+            TalkFault::WriteFailed => "write failed",
+        }
+    }
 }
 
 /// A line without that byte at its end.

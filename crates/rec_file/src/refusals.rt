@@ -7,40 +7,49 @@ use thiserror::Error;
 
 /// Why an operation on a stream is refused (own, in the manner of RMS).
 #[derive(Clone, Copy, Debug, PartialEq, Eq, Error)]
+#[error("{}", self.text())]
 pub enum Refusal {
     /// The stream lacks the right.
-    #[error("the stream lacks the right")]
     NotPermitted,
     /// No current record, or the file has none under its number.
-    #[error("there is no current record")]
     NoCurrent,
     /// The number is free.
-    #[error("no record has the number")]
     RecordNotFound,
     /// The number is occupied.
-    #[error("the number is occupied")]
     RecordExists,
     /// The number is 0 or above the file's limit.
-    #[error("the number is 0 or above the file's limit")]
     NumberOutOfRange,
     /// A record may not have this length.
-    #[error("a record may not have this length")]
     BadLength,
     /// A key in a sequential file.
-    #[error("a sequential file takes no key")]
     BadAccessMode,
     /// A removal in a sequential file.
-    #[error("a sequential file allows no removal")]
     DeleteNotAllowed,
     /// A key that isn't 1 to 4 bytes long.
-    #[error("the key isn't 1 to 4 bytes long")]
     BadKey,
     /// No record from the stream's next on.
-    #[error("there is no further record")]
     EndOfFile,
     /// Memory was refused: nothing has changed. It comes last, from `put` and `update` alone.
-    #[error("memory ran out")]
     NoMemory,
+}
+
+impl Refusal {
+    /// What is printed of it.
+    fn text(self) -> &'static str {
+        match self {
+            Refusal::NotPermitted => "the stream lacks the right",
+            Refusal::NoCurrent => "there is no current record",
+            Refusal::RecordNotFound => "no record has the number",
+            Refusal::RecordExists => "the number is occupied",
+            Refusal::NumberOutOfRange => "the number is 0 or above the file's limit",
+            Refusal::BadLength => "a record may not have this length",
+            Refusal::BadAccessMode => "a sequential file takes no key",
+            Refusal::DeleteNotAllowed => "a sequential file allows no removal",
+            Refusal::BadKey => "the key isn't 1 to 4 bytes long",
+            Refusal::EndOfFile => "there is no further record",
+            Refusal::NoMemory => "memory ran out",
+        }
+    }
 }
 
 /// The number that a key's 1 to 4 bytes spell, the least significant first; refused as BadKey at
