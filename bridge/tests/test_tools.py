@@ -13,6 +13,7 @@ ODD = {
     "bridge/check": ["--no-such"],
     "build.py": [],
     "wrong_bodies": ["--no-such", "nowhere"],
+    "wrong_bodies_tests.py": ["--no-such"],
     "docs/check": ["--no-such", "--help"],
     "examples/pcap_to_capture.py": ["--no-such a b c", "nowhere", "x 1.\u00b2 1.2", "x 1.1", "/"],
     "examples/lossy.py": ["--no-such", "--loss 1000", "--loss x", "--reach 0", "--seed x", "--daplive /nowhere"],
