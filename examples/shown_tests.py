@@ -5,7 +5,8 @@ block of text.
 usage: shown_tests.py              runs the commands, by the programs at the top of the repository, which are built where
                                    they aren't; those over two nodes are skipped where examples/two_nodes can't run
        shown_tests.py --stored     runs nothing, and looks whether no commands lack their text, each text is in an .out
-                                   file of this folder, and each readme_* file is in a page
+                                   file of this folder, and each readme_* file is in a page; and whether the pages show
+                                   the words of the definitions of what is printed, and their tables no others
 """
 import pathlib
 import re
@@ -20,11 +21,31 @@ PAGES = ["README.md", "docs/LISTING.md", "docs/LIVE.md", "docs/SCHEDULES.md"]
 BLOCK = r"((?:(?!```).*\n)+)```\n"
 SHOWN = re.compile(rf"^```sh\n{BLOCK}\n```\n{BLOCK}", re.M)
 TWO_NODES = "examples/two_nodes"
+PRINTED = ["dap_text", "dap_listing", "dap_follow", "dap_capture", "dap_live", "linewise"]  # their definitions have texts
+LITERAL = re.compile(r'codes "((?:[^"\\]|\\.)*)"')
+CODE = re.compile(r"^```.*?^```|^    .*?$|`[^`\n]*`", re.M | re.S)
+WORD = re.compile(r"(?<![\w-])[a-z][a-z-]*")
 SECONDS = 60
 
 
 def run(commands):
     return subprocess.run(["bash", "-c", commands], cwd=ROOT, capture_output=True, text=True, timeout=SECONDS)
+
+
+def wrong_words():
+    """What is wrong with the words that the pages explain, or nothing."""
+    pages = {page: (ROOT / page).read_text() for page in PAGES}
+    explained = {word for text in pages.values() for code in CODE.findall(text) for word in WORD.findall(code)}
+    printed = set()
+    for file in sorted(file for name in PRINTED for file in (ROOT / "crates" / name / "specs").glob("*.antt")):
+        words = {word for literal in LITERAL.findall(file.read_text()) for word in WORD.findall(literal.replace("\\n", " "))}
+        printed |= words
+        if words - explained:
+            return f"no page explains {', '.join(sorted(words - explained))}, of {file.relative_to(ROOT)}"
+    listing = pages["docs/LISTING.md"].partition("\n## Packets\n")[2].partition("\n## Numbers in messages\n")[0]
+    cells = [cell for row in re.findall(r"^\| ([^|]*) \|", listing, re.M) for cell in re.findall(r"`([^`]*)`", row)]
+    others = {word for cell in cells for word in WORD.findall(cell)} - printed
+    return f"docs/LISTING.md: no listing has {', '.join(sorted(others))}" if others else None
 
 
 def wrong_stored():
@@ -63,7 +84,7 @@ def play():
 
 def main():
     if sys.argv[1:] == ["--stored"]:
-        wrong = wrong_stored()
+        wrong = wrong_stored() or wrong_words()
         if wrong:
             raise program.Fault(wrong)
     elif sys.argv[1:]:

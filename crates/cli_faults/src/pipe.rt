@@ -7,7 +7,7 @@ use std::io;
 use std::io::{Error, ErrorKind, Write};
 
 /// The exit status where the reader of standard output went away: the one that a shell shows of a program that
-/// SIGPIPE, signal 13, ended (own).
+/// SIGPIPE, signal 13, ended.
 pub const CLOSED_PIPE: u8 = 128 + 13;
 
 /// Standard output, which notes where its reader went away (own).
@@ -60,7 +60,7 @@ pub struct ErrorOutput<'a, E> {
 }
 
 impl<'a, E: Write> ErrorOutput<'a, E> {
-    /// The cell tells whether the reader of standard output went away.
+    /// The cell says whether the reader of standard output went away.
     pub fn new(writer: E, is_closed: &'a Cell<bool>) -> Self
         ensures { result.writer ≡ writer }
     {
@@ -83,7 +83,7 @@ impl<E: Write> Write for ErrorOutput<'_, E> {
     }
 }
 
-/// The exit status of a program that would end with this one (own).
+/// The exit status of a program that would end with this one.
 pub fn exit_status(status: u8, is_closed: bool) -> u8
     ensures open { is_closed ≡ false → result ≡ status }
     ensures closed { is_closed ≡ true → result ≡ 141 }

@@ -11,7 +11,7 @@ use dap_listing::{CaptureFault, finish, write_text};
 use std::alloc::Global;
 use std::io::Write;
 
-/// Tells what is at fault in the words, and answers the exit status (own): help goes to the writer, and what is wrong to
+/// Reports what is wrong with the arguments, and returns the exit status: help goes to the writer, and what is wrong to
 /// the error writer, whose failure changes nothing.
 ///
 /// 0: help was asked for and written. 2: a mistake. 3: memory was refused, or help couldn't be written.

@@ -42,8 +42,8 @@ fn help<E: Write>(reading: Reading, front: &[u8], fault: CaptureFault, error_wri
     }
 }
 
-/// The exit status of an outcome, whose fault is told in its line, and behind that in one that helps, where a line is at
-/// fault or the input is a file of captured frames, of which the first four bytes are given. Own.
+/// The exit status of an outcome, whose fault is reported in its line, and after that in one that helps, where a
+/// line is at fault or the input is a file of captured frames, of which the first four bytes are given.
 pub fn finish_reading<E: Write>(
     reading: Reading,
     front: &[u8],

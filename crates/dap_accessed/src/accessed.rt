@@ -107,8 +107,8 @@ fn refused_access<'a>(reason: u8) -> Answer<'a>
 }
 
 impl Accessed {
-    /// An end with no files that waits for the peer's Config, with a buffer of so many bytes, at least
-    /// 64 (own). It takes no memory.
+    /// An end with no files that waits for the peer's Config, with a buffer of this many bytes, at least 64. It
+    /// takes no memory.
     pub fn new(alloc: Global, bufsiz: u16) -> Accessed
         requires low { least_buffer ≤ bufsiz }
         requires high { bufsiz ≤ greatest_message }
@@ -125,8 +125,7 @@ impl Accessed {
         }
     }
 
-    /// The files, in the order in which they were made: what all groups of messages so far have made of
-    /// them. It takes no memory. Own.
+    /// The files, in the order in which they were made: what all groups of messages so far have made of them.
     pub fn files(&self) -> &FileTable
         ensures held { result.now ≡ self.now.files }
         ensures after { (first : Files) (items : List TheItem) → StandsAfter first items self.now
@@ -194,7 +193,7 @@ impl Accessed {
         Ok(answers)
     }
 
-    /// Answers the Config of a peer that takes messages of so many bytes.
+    /// Answers the Config of a peer that takes messages of this many bytes.
     fn configure(&mut self, limit: u16) -> Result<Vec<Vec<u8>>, NoMemory>
         requires { least_buffer ≤ limit }
         ensures ok { Makes (done (steps.Configure limit) self.old) self.old self.new result }
@@ -280,12 +279,12 @@ impl Accessed {
         Ok(answers)
     }
 
-    /// Serves the one DAP message that begins at a place of an NSP message (DAP 5.6.0, message
-    /// sequences): `at` is a place in bytes within it, or 0 where it has none. Bytes of which no
-    /// message can be read are answered by one Status, and nothing behind them is read.
+    /// Serves the one DAP message that begins at a place of an NSP message (DAP 5.6.0, message sequences): `at` is
+    /// a place in bytes within it, or 0 where it has none. Bytes of which no message can be read are answered by
+    /// one Status, and nothing after them is read.
     ///
-    /// The only refusal is [`NoMemory`]. Nothing has changed then, and the same call may be made
-    /// again. A message that has no answer and stores no record takes no memory.
+    /// The only refusal is [`NoMemory`]. Nothing has changed then, and the same call may be made again. A message
+    /// that has no answer and stores no record takes no memory.
     pub fn serve(&mut self, nsp_message: &[u8], at: usize) -> Result<Served, NoMemory>
         requires { IsPlace at nsp_message.now }
         ensures serves { IfOk result (Serves nsp_message.now at self.old self.new) }
@@ -300,8 +299,7 @@ impl Accessed {
         self.serve_item(item, next)
     }
 
-    /// The same of what was read already: the message or fault that `item_at` answered, and the place
-    /// behind it. Own.
+    /// The same of what was read already: the message or fault that `item_at` answered, and the place after it.
     pub fn serve_item(&mut self, item: Item<'_>, next: usize) -> Result<Served, NoMemory>
         requires { (m : TheMessage) → item ≡ Whole m → IsSpelled m }
         ensures serves { (bytes : List ℕ) (at : ℕ) → ItemAt bytes at item.entry next

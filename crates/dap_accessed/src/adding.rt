@@ -16,8 +16,8 @@ use dap_msg::LEAST_BUFFER;
 use rec_file::{AnyFile, OneWalk, RecordFile, Refusal, Shape};
 
 impl Accessed {
-    /// The same files for another link: the end waits for a peer's Config again, an open file is closed, and a
-    /// PUT or an UPDATE that waits for its record is dropped. It takes no memory. Own.
+    /// The same files for another link: the end waits for a peer's Config again, an open file is closed, and a PUT
+    /// or an UPDATE that waits for its record is dropped.
     pub fn renew(&mut self)
         ensures own { self.new.own ≡ self.old.own }
         ensures stands { StandsAfter self.old.files [] self.new }
@@ -27,8 +27,8 @@ impl Accessed {
         self.phase = Phase::Fresh;
     }
 
-    /// A file without records behind the others, before the peer's Config was served (own). Its shape is one
-    /// that [`Shape::check`] gives.
+    /// A file without records after the others, before the peer's Config was served. Its shape is one that
+    /// [`Shape::check`] gives.
     ///
     /// Refusals in order: Busy, FileExists, NoMemory; each leaves the end unchanged.
     pub fn add(&mut self, name: &[u8], shape: Shape) -> Result<(), AddFault>
@@ -52,11 +52,11 @@ impl Accessed {
         Ok(())
     }
 
-    /// A record more in the newest file, under its number, before the peer's Config was served (own). In a
-    /// sequential file the number is the next one.
+    /// A record more in the newest file, under its number, before the peer's Config was served. In a sequential
+    /// file the number is the next one.
     ///
-    /// Refusals in order: Busy, NoFile; as of a PUT with this number BadLength, NumberOutOfRange,
-    /// RecordExists; NoMemory. Each leaves the end unchanged.
+    /// Refusals in order: Busy, NoFile; as of a PUT with this number BadLength, NumberOutOfRange, RecordExists;
+    /// NoMemory. Each leaves the end unchanged.
     pub fn add_record(&mut self, number: u32, body: &[u8]) -> Result<(), AddFault>
         ensures may { OnOk result (MayAddRecord self.old number body.now) }
         ensures files { OnOk result (self.new.files ≡ with_record number body.now self.old.files) }

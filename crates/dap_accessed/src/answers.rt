@@ -169,7 +169,7 @@ pub(crate) fn one(alloc: Global, limit: u16, answer: Answer<'_>) -> Result<Vec<V
     Ok(answers)
 }
 
-/// Puts an answer behind the others, joined to the last NSP message where the limit allows it.
+/// Puts an answer after the others, joined to the last NSP message where the limit allows it.
 pub(crate) fn append(
     alloc: Global,
     limit: u16,
@@ -219,7 +219,7 @@ impl Model for Room {
 }
 
 impl Room {
-    /// Room for one answer, unless memory is wanting.
+    /// Room for one answer, unless memory is refused.
     pub(crate) fn new(alloc: Global) -> Result<Room, NoMemory> {
         let answers = Vec::with_capacity(alloc, 1)?;
         let bytes = Vec::with_capacity(alloc, usize::from(LEAST_BUFFER))?;

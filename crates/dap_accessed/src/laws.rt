@@ -21,28 +21,28 @@ pub fn answers_grow()
         ≡ Answers own first items ++ added own first items item }
 {}
 
-/// Where each file at first obeyed its shape, and no two had the same name, it is so after any messages; each
-/// shape is one that `Shape::check` gives, the file that is open is in the table, and what the peer takes is 64
-/// to 65,535 bytes. Own.
+/// Where each file at first obeyed its shape, and no two had the same name, it is so after any messages; each shape
+/// is one that `Shape::check` gives, the file that is open is in the table, and what the peer takes is 64 to 65,535
+/// bytes.
 pub fn stays_sound()
     ensures { (own : ℕ) (first : Files) (items : List TheItem)
         → AreFiles first → IsSound (stands_after own first items) }
 {}
 
-/// Each answer to one message more that was read has a spelling, and none is longer than the peer takes. Own.
+/// Each answer to one message more that was read has a spelling, and none is longer than the peer takes.
 pub fn answers_are_sendable()
     ensures { (own : ℕ) → own < 2 ^ 16 → (first : Files) (items : List TheItem)
         (item : TheItem) → AreFiles first → IsRead item
         → AreSendable (limit_for own first items) (added own first items item) }
 {}
 
-/// All answers to messages that were read have spellings. Own.
+/// All answers to messages that were read have spellings.
 pub fn answers_fit()
     ensures { (own : ℕ) → own < 2 ^ 16 → (first : Files) (items : List TheItem)
         → AreFiles first → AllByRecursion IsRead items → AllFit (Answers own first items) }
 {}
 
-/// A file and a record that an end is given leave files that obey their shapes and have different names. Own.
+/// A file and a record that an end is given leave files that obey their shapes and have different names.
 pub fn given_files_are_sound()
     ensures file { (files : Files) (name : List ℕ) (shape : Shape) → AreFiles files
         → IsTrue (is_shape shape) → place_of name files ≡ None

@@ -1,4 +1,4 @@
-//! Where the accessed end stands between two messages.
+//! Where the accessed end is between two messages.
 
 ghost use Rattle.std.specs.Prelude.{◌≡◌};
 ghost use Rattle.dap_accessed.specs.Inner.Steps.{phase_behind};
@@ -40,7 +40,7 @@ pub enum Phase {
 }
 
 impl Phase {
-    /// The phase behind an item that is refused: a group of two ends.
+    /// The phase after an item that is refused: a group of two ends.
     pub(crate) fn behind(self) -> Phase
         ensures { result ≡ phase_behind self }
     {

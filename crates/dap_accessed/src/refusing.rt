@@ -13,8 +13,7 @@ use dap_msg::codes::{
 };
 use rec_file::Refusal;
 
-/// The one byte of STV for the reason of a refusal of an operation on a record, 0 where it has none (own). Takes no
-/// memory.
+/// The one byte of STV for the reason of a refusal of an operation on a record, 0 where it has none.
 pub fn reason_number(refusal: Refusal) -> u8
     ensures { result ≡ reason_of refusal }
 {

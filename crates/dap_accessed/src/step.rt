@@ -41,7 +41,7 @@ pub(crate) enum Step<'a> {
     Enter(Phase),
     /// One short answer, and the phase after it.
     Reply(Answer<'a>, Phase),
-    /// A peer that takes messages of so many bytes.
+    /// A peer that takes messages of this many bytes.
     Configure(u16),
     /// The shape that an Access would give a new file.
     Keep(Option<Shape>),

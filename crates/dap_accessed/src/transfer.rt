@@ -70,7 +70,7 @@ impl Accessed {
         Ok(answers)
     }
 
-    /// The records from the stream's next on, and the phase behind them.
+    /// The records from the stream's next on, and the phase after them.
     fn batch(&self, opened: OpenFile, stream: Stream) -> Result<(Vec<Vec<u8>>, Phase), NoMemory>
         requires { opened.at < length self.now.files }
         ensures place { IfOk result (λ r. r.1 ≡ fetched_phase self.now opened stream) }

@@ -56,8 +56,7 @@ impl Model for Accessing {
 }
 
 impl Accessing {
-    /// An end that nothing was asked of, with a buffer of so many bytes, at least 64 (own). It takes no
-    /// memory.
+    /// An end that nothing was asked of, with a buffer of this many bytes, at least 64. It takes no memory.
     pub fn new(alloc: Global, bufsiz: u16) -> Accessing
         requires low { least_buffer ≤ bufsiz }
         requires high { bufsiz ≤ greatest_message }
@@ -74,7 +73,7 @@ impl Accessing {
         }
     }
 
-    /// The same end for another link: nothing was asked of it. It takes no memory. Own.
+    /// The same end for another link: nothing was asked of it.
     pub fn renew(&mut self)
         ensures own { self.new.own ≡ self.old.own }
         ensures stands { StandsAfter [] [] self.new }
@@ -102,7 +101,7 @@ impl Accessing {
         self.ask_prepared(request, prepared)
     }
 
-    /// Whether `ask` would take the request, memory aside; refused as there. It takes no memory. Own.
+    /// Whether `ask` would take the request, memory aside; refused as there. It takes no memory.
     pub fn check(&self, request: &Request) -> Result<(), AskFault>
         ensures works { OnOk result (self.now.failed ≡ false) }
         ensures admissible { OnOk result (IsAdmittedBy self.now request.now) }
@@ -114,8 +113,8 @@ impl Accessing {
         }
     }
 
-    /// The messages of a request that `ask` would take, memory aside, for `ask_prepared`; refused as there. `number` has
-    /// the bytes of the request's `number`. It takes no memory. Own.
+    /// The messages of a request that `ask` would take, memory aside, for `ask_prepared`; refused as there.
+    /// `number` has the bytes of the request's `number`. It takes no memory.
     pub fn prepare<'a>(
         &self,
         request: &'a Request,
@@ -143,8 +142,8 @@ impl Accessing {
         }
     }
 
-    /// Asks a request by the messages that `prepare` made of it. They aren't looked at again, and it is refused for want
-    /// of memory alone. Own.
+    /// Asks a request by the messages that `prepare` made of it. They aren't looked at again, and it fails only if
+    /// memory is refused.
     pub fn ask_prepared(
         &mut self,
         request: &Request,
@@ -225,9 +224,9 @@ impl Accessing {
         }
     }
 
-    /// What `read` answers where there is no room for a report: why the one DAP message that begins at `at` isn't read. In
-    /// order: Failed; Unexpected, after which the end has failed, and keeps nothing of its requests; NoMemory, which changes
-    /// nothing. It takes no memory.
+    /// What `read` answers where there is no room for a report: why the one DAP message that begins at `at` isn't
+    /// read. In order: Failed; Unexpected, after which the end has failed, and keeps nothing of its requests;
+    /// NoMemory, which changes nothing.
     pub fn refuse(&mut self, nsp_message: &[u8], at: usize) -> ReadFault
         requires { IsPlace at nsp_message.now }
         ensures refused { ReadRefused nsp_message.now at self.old self.new result }
@@ -259,16 +258,15 @@ impl Accessing {
     }
 }
 
-/// More answers never take a report back: the reports are a function of the requests and of a front of
-/// the answers. Own.
+/// More answers never take a report back: the reports are a function of the requests and of a prefix of the
+/// answers.
 pub fn reports_grow()
     ensures { (requests : List TheRequest) (answers more : List TheItem)
         → (reports : List TheReport)
         × (Told requests (answers ++ more) ≡ Told requests answers ++ reports) }
 {}
 
-/// What an end keeps follows from the requests and answers that it stands after, and from its own buffer; and it
-/// works. Own.
+/// What an end keeps follows from the requests and answers that it is after, and from its own buffer; and it works.
 pub fn standing_is_one()
     ensures one { (requests : List TheRequest) (answers : List TheItem) (one two : Present)
         → StandsAfter requests answers one → StandsAfter requests answers two

@@ -138,7 +138,7 @@ fn first_message<'a>(own: u16, request: &'a Request, number: &'a [u8]) -> Messag
     }
 }
 
-/// The message behind the first and the records, where there is one.
+/// The message after the first and the records, where there is one.
 fn last_message(request: &Request) -> Option<MessageValue<'_>>
     ensures { result ≡ last_of request.now }
 {
@@ -178,7 +178,7 @@ fn sendable_len(message: &MessageValue<'_>, limit: u16) -> Option<usize>
     }
 }
 
-/// What stands before a record in its Filedata where that has a header of 3 bytes, and where it has one of 4.
+/// What is before a record in its Filedata where that has a header of 3 bytes, and where it has one of 4.
 const BEFORE_SHORT_RECORD: usize = 4;
 
 const BEFORE_LONG_RECORD: usize = 5;

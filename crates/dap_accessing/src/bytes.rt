@@ -5,7 +5,7 @@ ghost use Rattle.std.specs.Prelude.{◌≡◌, IfOk, List, ℕ};
 use std::alloc::{AllocError, Global};
 use std::marker::Model;
 
-/// What holds the bytes of a name or a record. Own.
+/// What holds the bytes of a name or a record.
 pub trait ToBytes {
     ghost bytes: { Self → List ℕ };
 
@@ -49,7 +49,7 @@ impl PartialEq for Octets {
     }
 }
 
-/// What holds records in order. Own.
+/// What holds records in order.
 pub trait ToRecords {
     ghost records: { Self → List (List ℕ) };
 

@@ -25,7 +25,7 @@ impl<L: ToRecords> OctetsList<L> {
 }
 
 impl<H: ToBytes, L: ToRecords> Request<Octets<H>, OctetsList<L>> {
-    /// The same request, in memory of its own. The only refusal is want of memory. Own.
+    /// The same request, in memory of its own. The only refusal is out of memory.
     pub fn to_request(&self, alloc: Global) -> Result<Request, AllocError>
         ensures { IfOk result (λ request. request ≡ self.now) }
     {
@@ -71,7 +71,7 @@ impl<H: ToBytes, L: ToRecords> Request<Octets<H>, OctetsList<L>> {
 }
 
 impl Request {
-    /// The same of a request that is held so already. Own.
+    /// The same of a request that is held so already.
     pub fn copy(&self, alloc: Global) -> Result<Request, AllocError>
         ensures { IfOk result (λ copy. copy ≡ self.now) }
     {

@@ -107,7 +107,7 @@ impl Pending {
         }
     }
 
-    /// Whether a message is expected as the next answer. It takes no memory.
+    /// Whether a message is expected as the next answer.
     #[tactic(auto, using(crate::proofs::Expecting::heard_place, crate::proofs::Expecting::record_place, crate::proofs::Expecting::batch_place))]
     pub(crate) fn expects(&self, answer: &MessageValue<'_>) -> bool
         requires { HasShortNumbers answer.now }
@@ -205,7 +205,7 @@ fn hear_attributes(message: &MessageValue<'_>) -> Heard
     }
 }
 
-/// What a message comes to where the Acknowledge behind these attributes is due.
+/// What a message comes to where the Acknowledge after these attributes is due.
 fn hear_opened(org: u8, rfm: u8, mrs: u16, mrn: u32, message: &MessageValue<'_>) -> Heard
     ensures { Hears (pending.Opened org rfm mrs mrn) (Whole message.now) result }
 {
@@ -282,7 +282,7 @@ fn hear_body(alloc: Global, bodies: Numbered, number: u64, payload: &[u8]) -> He
     }
 }
 
-/// What a message comes to in a fetch, behind these records.
+/// What a message comes to in a fetch, after these records.
 fn hear_batch(alloc: Global, bodies: Numbered, message: &MessageValue<'_>) -> Heard
     requires { HasShortNumbers message.now }
     ensures { Hears (pending.Batch bodies) (Whole message.now) result }

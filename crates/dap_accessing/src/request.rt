@@ -9,7 +9,7 @@ pub enum By {
     Next,
     /// That of a record number.
     Key(u32),
-    /// That of a record file address, which is the record's number. Own.
+    /// That of a record file address, which is the record's number.
     Rfa(u32),
 }
 
@@ -18,7 +18,7 @@ pub enum By {
 pub enum How {
     /// With the record at which it stopped.
     Again,
-    /// With the record behind it.
+    /// With the record after it.
     Skip,
     /// Not at all.
     Abort,
@@ -28,7 +28,7 @@ pub enum How {
 /// exported as `RequestOf`; where they are bytes of their own it is [`crate::Request`].
 #[derive(Drop, Debug, PartialEq)]
 pub enum Request<B = Octets, L = OctetsList> {
-    /// The first request: each end tells its buffer size.
+    /// The first request: each end sends its buffer size.
     Hello,
     /// A new file of a name, with ORG, RFM, MRS in bytes, MRN and FAC (DAP 5.6.0, Attributes and
     /// Access messages).

@@ -68,7 +68,7 @@ impl Model for AskingEnd {
 }
 
 impl AskingEnd {
-    /// An end of which nothing was asked, with a buffer of so many bytes, at least 64 (own). A setup with `max_message`
+    /// An end of which nothing was asked, with a buffer of this many bytes, at least 64. A setup with `max_message`
     /// 65,535 takes all that an end may send. Refused: `BadSetup` where a limit of the setup isn't in its range;
     /// `NoMemory`.
     pub fn new(alloc: Global, bufsiz: u16, setup: LinkSetup) -> Result<AskingEnd, LinkFault>
@@ -85,7 +85,7 @@ impl AskingEnd {
         })
     }
 
-    /// The same end for another link: nothing was asked of it, and all that waits is dropped (own). Refused, with nothing
+    /// The same end for another link: nothing was asked of it, and all that waits is dropped. Refused, with nothing
     /// changed: `BadSetup` where a limit of the setup isn't in its range; `NoMemory`.
     pub fn renew(&mut self, alloc: Global, setup: LinkSetup) -> Result<(), LinkFault>
         ensures ok { OnOk result (HasAsked nothing_asked self.new
@@ -100,8 +100,8 @@ impl AskingEnd {
         Ok(())
     }
 
-    /// Asks a request: its NSP messages wait then, and so many they are (DAP 5.6.0, message sequences). Refused as
-    /// [`dap_accessing::Accessing::ask`] is, and nothing has changed then.
+    /// Asks a request: its NSP messages wait then, and their number is returned (DAP 5.6.0, message sequences).
+    /// Refused as [`dap_accessing::Accessing::ask`] is, and nothing has changed then.
     pub fn ask(&mut self, request: &Request) -> Result<usize, AskFault>
         ensures ok { IfOk result (λ n. AskedOne request.now self.old self.new n) }
         ensures err { IfErr result (λ f. (self.new ≡ self.old)
@@ -112,7 +112,7 @@ impl AskingEnd {
         self.ask_prepared(request, prepared)
     }
 
-    /// Whether `ask` would take the request, memory aside; refused as there. It takes no memory. Own.
+    /// Whether `ask` would take the request, memory aside; refused as there. It takes no memory.
     pub fn check(&self, request: &Request) -> Result<(), AskFault>
         ensures works { OnOk result (self.now.present.failed ≡ false) }
         ensures admissible { OnOk result (IsAdmittedBy self.now.present request.now) }
@@ -123,8 +123,8 @@ impl AskingEnd {
     }
 
     /// The messages of a request that `ask` would take, memory aside, for `ask_prepared`, as
-    /// [`dap_accessing::Accessing::prepare`] makes them; refused as `ask` is. `number` has the bytes of the request's
-    /// `number`. It takes no memory. Own.
+    /// [`dap_accessing::Accessing::prepare`] makes them; refused as `ask` is. `number` has the bytes of the
+    /// request's `number`. It takes no memory.
     pub fn prepare<'a>(
         &self,
         request: &'a Request,
@@ -140,8 +140,8 @@ impl AskingEnd {
         self.accessing.prepare(request, number)
     }
 
-    /// Asks a request by the messages that `prepare` made of it, as `ask` does. They aren't looked at again, and it is
-    /// refused for want of memory alone, with nothing changed. Own.
+    /// Asks a request by the messages that `prepare` made of it, as `ask` does. They aren't looked at again, and it
+    /// fails only if memory is refused, with nothing changed.
     pub fn ask_prepared(
         &mut self,
         request: &Request,
@@ -165,7 +165,7 @@ impl AskingEnd {
         self.port.receive(packet)
     }
 
-    /// Whether something came that wasn't read. It takes no memory. Own.
+    /// Whether something came that wasn't read.
     pub fn may_read(&self) -> bool
         ensures yes { result ≡ true → 0 < length self.now.port.link.coming.inbox }
         ensures no { result ≡ false → self.now.port.link.coming.inbox ≡ [] }
@@ -198,8 +198,8 @@ impl AskingEnd {
         }
     }
 
-    /// The same where something came that wasn't read, as `may_read` tells: it isn't looked at again. Gives the report
-    /// that the answer completes. Refused as `read` is. Own.
+    /// The same where something came that wasn't read, as `may_read` says: it isn't looked at again. Gives the
+    /// report that the answer completes. Refused as `read` is.
     pub fn read_next(&mut self) -> Result<Option<Report>, ReadFault>
         requires { 0 < length self.old.port.link.coming.inbox }
         ensures ok { IfOk result (λ report. ReadOne self.old self.new report) }
@@ -251,9 +251,9 @@ impl AskingEnd {
         }
     }
 
-    /// Reads all that came, hands over what waits, and writes all segments that were never sent, as far as the window
-    /// allows. The packets stand behind those in `out`, the reports behind those in `reports` (own). Refused as `read`
-    /// and `post` are, or for want of memory. What was done before that stays done, and the same call goes on.
+    /// Reads all that came, hands over what waits, and writes all segments that were never sent, as far as the
+    /// window allows. The packets follow those in `out`, the reports those in `reports`. Refused as `read` and
+    /// `post` are, or if memory is refused. What was done before that stays done, and the same call goes on.
     pub fn go_on(
         &mut self,
         out: &mut Vec<Vec<u8>>,
@@ -270,12 +270,12 @@ impl AskingEnd {
         ended(self.port.emit_all(out))
     }
 
-    /// Takes a packet in, and tells what became of it; reads all that came, hands over what waits, and writes all segments
-    /// that were never sent, as far as the window allows; or where a segment came and none is written, one acknowledgement.
-    /// The packets stand behind those in `out`, the reports behind those in `reports` (own).
+    /// Takes a packet in, and returns what became of it; reads all that came, hands over what waits, and writes all
+    /// segments that were never sent, as far as the window allows; or where a segment came and none is written, one
+    /// acknowledgement. The packets follow those in `out`, the reports those in `reports`.
     ///
-    /// Refusals: `Refused` as `receive` is, and nothing of the packet was taken; `Unfinished`, once it was taken in: `go_on`
-    /// does what is left, and the same packet is answered again.
+    /// Refusals: `Refused` as `receive` is, and nothing of the packet was taken; `Unfinished`, once it was taken
+    /// in: `go_on` does what is left, and the same packet is answered again.
     pub fn take(
         &mut self,
         packet: &[u8],
@@ -308,9 +308,9 @@ impl AskingEnd {
         ended(self.port.answer(got, out))
     }
 
-    /// Hands all that waits to the link, and tells how many NSP messages these are (own). Refused, with nothing changed:
-    /// `Failed`; `MessageTooLong`, above the setup's `max_message`, which never comes where that is 65,535; `Exhausted`,
-    /// where this end would have had more than 2^40 segments; `NoMemory`.
+    /// Hands all that waits to the link, and returns how many NSP messages these are. Refused, with nothing
+    /// changed: `Failed`; `MessageTooLong`, above the setup's `max_message`, which never comes where that is
+    /// 65,535; `Exhausted`, where this end would have had more than 2^40 segments; `NoMemory`.
     pub fn post(&mut self) -> Result<usize, LinkFault>
         ensures ok { IfOk result (λ n. HandsOver self.old self.new n) }
         ensures err { IfErr result (λ f. (self.new ≡ self.old)
@@ -321,8 +321,8 @@ impl AskingEnd {
         self.port.post()
     }
 
-    /// The same of messages that the link takes, as [`nsp_link::LinkEnd::check_messages`] tells: they aren't looked at
-    /// again. Refused for want of memory alone, with nothing changed. Own.
+    /// The same of messages that the link takes, as [`nsp_link::LinkEnd::check_messages`] says: they aren't looked
+    /// at again. Fails only if memory is refused, with nothing changed.
     pub fn post_checked(&mut self) -> Result<usize, LinkFault>
         requires { IsTrue (may_queue self.old.port.link self.old.port.outbox) }
         ensures ok { IfOk result (λ n. HandsOver self.old self.new n) }
@@ -346,8 +346,8 @@ impl AskingEnd {
         self.port.emit()
     }
 
-    /// The same of an end whose link runs and has one to send, as [`nsp_link::LinkEnd::may_send`] tells: neither is looked
-    /// at again. Refused for want of memory alone, with nothing changed. Own.
+    /// The same of an end whose link runs and has one to send, as [`nsp_link::LinkEnd::may_send`] says: neither is
+    /// looked at again. Fails only if memory is refused, with nothing changed.
     pub fn write_next(&mut self) -> Result<Vec<u8>, LinkFault>
         requires works { self.old.port.link.failed ≡ false }
         requires may { IsTrue (may_send self.old.port.link) }
@@ -386,14 +386,14 @@ impl AskingEnd {
         self.port.link.ack_packet()
     }
 
-    /// The link, with its counts. It takes no memory. Own.
+    /// The link, with its counts.
     pub fn link(&self) -> &LinkEnd
         ensures { result.now ≡ self.now.port.link }
     {
         &self.port.link
     }
 
-    /// The NSP messages that wait to be handed to the link, the oldest first. It takes no memory. Own.
+    /// The NSP messages that wait to be handed to the link, the oldest first.
     pub fn waiting(&self) -> &[Vec<u8>]
         ensures { bodies result.now ≡ self.now.port.outbox }
     {

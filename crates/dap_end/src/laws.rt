@@ -114,8 +114,8 @@ pub fn asking_ends_stand()
         × (new.port.link ≡ with_inbox old.port.link new.port.link.coming.inbox) }
 {}
 
-/// Each call of an end that serves, refused or not, is a run, with the packet that came in it. No call is one, and two are one
-/// where the second begins as the first ends. Own.
+/// Each call of a server, refused or not, is a run, with the packet that came in it. No call is one, and two are
+/// one where the second begins as the first ends.
 pub fn calls_are_runs()
     ensures none { (v : ServingValue) → Runs [] v v [] }
     ensures more { (came later : List Arrival) (old mid new : ServingValue)
@@ -156,8 +156,8 @@ pub fn calls_are_runs()
         × (all ≡ out ++ bytes_of wrote) }
 {}
 
-/// Each call of an end that asks is a run, refused or not, but one in which an answer has no place. No call is one, and two are
-/// one where the second begins as the first ends. Own.
+/// Each call of a client is a run, refused or not, but one in which an answer has no place. No call is one, and two
+/// are one where the second begins as the first ends.
 pub fn asking_calls_are_runs()
     ensures none { (v : AskingValue) → AskingRuns [] [] v v [] [] }
     ensures more { (came later : List Arrival) (requests others : List TheRequest)
@@ -211,9 +211,9 @@ pub fn asking_calls_are_runs()
         × (all ≡ out ++ bytes_of wrote) × (after ≡ before ++ reports) }
 {}
 
-/// Whatever bytes come to an end that served nothing yet, and whatever it was called to do, there is a list of items that it
-/// served: its files are those after them, what it handed to its link is a front of the answers to them, and each packet
-/// that it wrote carries its segment of that. Own.
+/// Whatever bytes come to an end that served nothing yet, and whatever it was called to do, there is a list of
+/// items that it served: its files are those after them, what it handed to its link is a prefix of the answers to
+/// them, and each packet that it wrote carries its segment of that.
 pub fn every_run_is_served()
     ensures { (came : List Arrival) (first : Files) (old new : ServingValue)
         (wrote : List Written) → IsAfter (nothing_yet first) old → Runs came old new wrote
@@ -222,8 +222,8 @@ pub fn every_run_is_served()
         × AreWrittenOf new.port.link past.handed wrote }
 {}
 
-/// Where the packets are those of a peer that sends some NSP messages, lost, repeated and reordered as they may be, what the
-/// end served is a front of the items in them, each once and in order. Own.
+/// Where the packets are those of a peer that sends some NSP messages, lost, repeated and reordered as they may be,
+/// what the end served is a prefix of the items in them, each once and in order.
 pub fn a_peer_is_served_in_order()
     ensures { (setup : TheSetup) (first : Files) (size : ℕ) (messages : List (List ℕ))
         (came : List Arrival) (old new : ServingValue) (wrote : List Written)
@@ -233,8 +233,8 @@ pub fn a_peer_is_served_in_order()
         × AreFrontOf messages past.items }
 {}
 
-/// Whatever an end that serves is called to do by itself leaves one end, and writes one list of packets, by what the end did
-/// before: also where it is refused half-way, but for want of memory. Own.
+/// Whatever a server is called to do by itself leaves one end, and writes one list of packets, by what the end did
+/// before: also where it is refused half-way, unless memory is refused.
 pub fn serving_is_determined()
     ensures serve { (past : Past) (old one two : ServingValue) (n m : ℕ) → IsAfter past old
         → ServedOne old one n → ServedOne old two m → (one ≡ two) × (n ≡ m) }
@@ -249,9 +249,9 @@ pub fn serving_is_determined()
         → WentOn (serves most) old two out ys s → (one ≡ two) × (r ≡ s) × (xs ≡ ys) }
 {}
 
-/// Once an end that serves has gone on, or has taken a packet and gone on, no more bytes wait than before, or fewer than it was
-/// told and the answers to one message; and where it was told more than none, and all that it sent is acknowledged, it has
-/// served all that came. Own.
+/// Once a server has gone on, or has taken a packet and gone on, no more bytes wait than before, or fewer than its
+/// limit and the answers to one message; and if the limit is above 0, and all that it sent is
+/// acknowledged, it has served all that came.
 pub fn answers_are_bounded()
     ensures go_on { (most : ℕ) (old new : ServingValue) (out all : List (List ℕ))
         (r : Result (Unit {0}) TheEndFault) → 0 < old.port.link.setup.seg_size
@@ -267,8 +267,9 @@ pub fn answers_are_bounded()
         → new.port.link.sent ≡ new.port.link.acked → new.port.link.coming.inbox ≡ [] }
 {}
 
-/// A request that is asked, an answer that is read, and whatever an end that asks does by itself leave one end, one list of
-/// reports and one of packets, by what the end did before: also where it is refused half-way, but for want of memory. Own.
+/// A request that is asked, an answer that is read, and whatever a client does by itself leave one end, one list of
+/// reports and one of packets, by what the end did before: also where it is refused half-way, unless memory is
+/// refused.
 pub fn asking_is_determined()
     ensures ask { (past : AskingPast) (request : TheRequest) (old one two : AskingValue) (n m : ℕ)
         → HasAsked past old → AskedOne request old one n → AskedOne request old two m
@@ -287,8 +288,8 @@ pub fn asking_is_determined()
         → (one ≡ two) × (r ≡ s) × (xs ≡ ys) × (rs ≡ ss) × HasDone one }
 {}
 
-/// A packet that is taken in leaves one end, and is answered by one list of packets, and of reports, by what the end did
-/// before; so is one that is refused, or of which not all is done, but for want of memory. Own.
+/// A packet that is taken in leaves one end, and is answered by one list of packets, and of reports, by what the
+/// end did before; so is one that is refused, or of which not all is done, unless memory is refused.
 pub fn taking_is_determined()
     ensures serving { (most : ℕ) (past : Past) (old one two : ServingValue) (bytes : List ℕ)
         (out xs ys : List (List ℕ)) (r s : Result TheGot TheTakeFault) → AreBytes bytes
@@ -305,7 +306,7 @@ pub fn taking_is_determined()
         → (one ≡ two) × (r ≡ s) × (xs ≡ ys) × (rs ≡ ss) × HasDone one }
 {}
 
-/// What is handed over is handed over or refused by what waits, want of memory aside. Own.
+/// What is handed over is handed over or refused by what waits, unless memory is refused.
 pub fn posting_is_determined()
     ensures one { (old one two : ServingValue) (n m : ℕ) → HandsOver old one n → HandsOver old two m
         → (one ≡ two) × (n ≡ m) }
@@ -317,9 +318,10 @@ pub fn posting_is_determined()
         → SendAllFault old.link old.outbox f → SendAllFault old.link old.outbox g → f ≡ g }
 {}
 
-/// Whatever bytes come to an end of which nothing was asked, and whatever is asked of it, up to the first answer that has no
-/// place: its reports are those that the definition tells of the requests and of the answers that it read, what it handed to
-/// its link is a front of the requests' messages, and each packet that it wrote carries its segment of that. Own.
+/// Whatever bytes come to an end of which nothing was asked, and whatever is asked of it, up to the first answer
+/// that has no place: its reports are those of the definition for the requests and of the answers that it
+/// read, what it handed to its link is a prefix of the requests' messages, and each packet that it wrote carries
+/// its segment of that.
 pub fn every_run_is_told()
     ensures { (came : List Arrival) (requests : List TheRequest) (old new : AskingValue)
         (reports : List TheReport) (wrote : List Written)
@@ -329,8 +331,8 @@ pub fn every_run_is_told()
         × AreWrittenOf new.port.link past.handed wrote }
 {}
 
-/// Where the packets are those of a peer that sends some NSP messages, lost, repeated and reordered as they may be, the
-/// answers read are a front of the items in them, each once and in order. Own.
+/// Where the packets are those of a peer that sends some NSP messages, lost, repeated and reordered as they may be,
+/// the answers read are a prefix of the items in them, each once and in order.
 pub fn a_peer_is_heard_in_order()
     ensures { (setup : TheSetup) (size : ℕ) (messages : List (List ℕ))
         (came : List Arrival) (requests : List TheRequest) (old new : AskingValue)
@@ -387,8 +389,8 @@ pub fn peers_are_taken_in()
         → ((f ≡ fault.NoMemory) ⊎ (f ≡ fault.Exhausted)) × (new ≡ mid) }
 {}
 
-/// A run of one of two ends, in which the packets that come are of those that the other wrote before, unaltered and not more than
-/// 2,047 numbers old, is a run of both; and two are one where the second begins as the first ends. Own.
+/// A run of one of two ends, in which the packets that come are of those that the other wrote before, unaltered and
+/// not more than 2,047 numbers old, is a run of both; and two are one where the second begins as the first ends.
 pub fn runs_of_two_ends()
     ensures asking { (old : Pair) (a : AskingValue) (came : List Arrival)
         (requests : List TheRequest) (reports : List TheReport) (wrote : List Written)
@@ -407,10 +409,10 @@ pub fn runs_of_two_ends()
     ensures more { (old mid new : Pair) → PairRuns old mid → PairRuns mid new → PairRuns old new }
 {}
 
-/// Two new ends of one link, whose setups have each other's addresses and the same limit, keep the headline, over every list of
-/// their calls and every packet that one wrote and the other gets, unaltered and not more than 2,047 numbers old: what was
-/// served is a front of what the requests ask, each once and in order, the files are those after it, and the reports are those
-/// that the definition tells of a front of the answers to it. Own.
+/// Two new ends of one link, whose setups have each other's addresses and the same limit, keep the headline, over
+/// every list of their calls and every packet that one wrote and the other gets, unaltered and not more than 2,047
+/// numbers old: what was served is a prefix of what the requests ask, each once and in order, the files are those
+/// after it, and the reports are those of the definition for a prefix of the answers to it.
 pub fn two_ends_keep_the_headline()
     ensures { (s t : TheSetup) (first : Files) (a : AskingValue) (b : ServingValue) (new : Pair)
         → IsSetup s → IsSetup t → t ≡ record s {

@@ -58,10 +58,10 @@ impl Model for ServingEnd {
 }
 
 impl ServingEnd {
-    /// An end with no files that waits for a packet of its peer, with a buffer of so many bytes, at least 64 (own). A
+    /// An end with no files that waits for a packet of its peer, with a buffer of this many bytes, at least 64. A
     /// setup with `max_message` 65,535 takes all that an end may send; with less, a peer that names a larger buffer
-    /// can be answered by a message that `post` refuses from then on. Refused: `BadSetup` where a limit of the setup
-    /// isn't in its range; `NoMemory`.
+    /// can be answered by a message that `post` refuses from then on. Refused: `BadSetup` where a limit of the
+    /// setup isn't in its range; `NoMemory`.
     pub fn new(alloc: Global, bufsiz: u16, setup: LinkSetup) -> Result<ServingEnd, LinkFault>
         requires { least_buffer ≤ bufsiz }
         ensures ok { IfOk result (λ end. IsAfter (nothing_yet []) end
@@ -76,8 +76,7 @@ impl ServingEnd {
         })
     }
 
-    /// The files, in the order in which they were made: what all groups of messages so far have made of them. It takes
-    /// no memory. Own.
+    /// The files, in the order in which they were made: what all groups of messages so far have made of them.
     pub fn files(&self) -> &FileTable
         ensures held { result.now ≡ self.now.present.files }
         ensures after { (past : Past) → IsAfter past self.now
@@ -87,7 +86,7 @@ impl ServingEnd {
     }
 
     /// The same files for another link: an open file is closed, a PUT or an UPDATE that waits for its record is
-    /// dropped, and so is all that waits (own). Refused, with nothing changed: `BadSetup` where a limit of the setup
+    /// dropped, and so is all that waits. Refused, with nothing changed: `BadSetup` where a limit of the setup
     /// isn't in its range; `NoMemory`.
     pub fn renew(&mut self, alloc: Global, setup: LinkSetup) -> Result<(), LinkFault>
         ensures ok { OnOk result (IsAfter (nothing_yet self.old.present.files) self.new
@@ -102,7 +101,7 @@ impl ServingEnd {
         Ok(())
     }
 
-    /// A file without records behind the others, before a segment came on this link (own). Its shape is one that
+    /// A file without records after the others, before a segment came on this link. Its shape is one that
     /// [`Shape::check`] gives.
     ///
     /// Refusals in order: Busy, FileExists, NoMemory; each leaves the end unchanged.
@@ -125,8 +124,8 @@ impl ServingEnd {
         self.accessed.add(name, shape)
     }
 
-    /// A record more in the newest file, under its number, before a segment came on this link (own). In a sequential
-    /// file the number is the next one.
+    /// A record more in the newest file, under its number, before a segment came on this link. In a sequential file
+    /// the number is the next one.
     ///
     /// Refusals in order: Busy, NoFile; as of a PUT with this number BadLength, NumberOutOfRange, RecordExists;
     /// NoMemory. Each leaves the end unchanged.
@@ -160,9 +159,9 @@ impl ServingEnd {
         self.port.receive(packet)
     }
 
-    /// Serves the next DAP message of the oldest NSP message that came, and tells how many NSP messages with answers
-    /// wait after it; none where an answer waits already, or nothing that came is left (DAP 5.6.0, message sequences).
-    /// Where memory is refused, nothing has changed, and the same call may be made again.
+    /// Serves the next DAP message of the oldest NSP message that came, and returns how many NSP messages with
+    /// answers wait after it; none where an answer waits already, or nothing that came is left (DAP 5.6.0, message
+    /// sequences). Where memory is refused, nothing has changed, and the same call may be made again.
     pub fn serve(&mut self) -> Result<Option<usize>, NoMemory>
         ensures ok { IfOk result (λ o. MatchOption o
             ((self.new ≡ self.old) × (MayServe self.old → ⊥))
@@ -172,9 +171,9 @@ impl ServingEnd {
         serve_next(&mut self.port, &mut self.accessed)
     }
 
-    /// Hands all answers that wait to the link, and tells how many NSP messages these are (own). Refused, with nothing
-    /// changed: `Failed`; `MessageTooLong`, above the setup's `max_message`, which never comes where that is 65,535;
-    /// `Exhausted`, where this end would have had more than 2^40 segments; `NoMemory`.
+    /// Hands all answers that wait to the link, and returns how many NSP messages these are. Refused, with nothing
+    /// changed: `Failed`; `MessageTooLong`, above the setup's `max_message`, which never comes where that is
+    /// 65,535; `Exhausted`, where this end would have had more than 2^40 segments; `NoMemory`.
     pub fn post(&mut self) -> Result<usize, LinkFault>
         ensures ok { IfOk result (λ n. HandsOver self.old self.new n) }
         ensures err { IfErr result (λ f. (self.new ≡ self.old)
@@ -185,8 +184,8 @@ impl ServingEnd {
         self.port.post()
     }
 
-    /// The same of messages that the link takes, as [`nsp_link::LinkEnd::check_messages`] tells: they aren't looked at
-    /// again. Refused for want of memory alone, with nothing changed. Own.
+    /// The same of messages that the link takes, as [`nsp_link::LinkEnd::check_messages`] says: they aren't looked
+    /// at again. Fails only if memory is refused, with nothing changed.
     pub fn post_checked(&mut self) -> Result<usize, LinkFault>
         requires { IsTrue (may_queue self.old.port.link self.old.port.outbox) }
         ensures ok { IfOk result (λ n. HandsOver self.old self.new n) }
@@ -210,8 +209,8 @@ impl ServingEnd {
         self.port.emit()
     }
 
-    /// The same of an end whose link runs and has one to send, as [`nsp_link::LinkEnd::may_send`] tells: neither is looked
-    /// at again. Refused for want of memory alone, with nothing changed. Own.
+    /// The same of an end whose link runs and has one to send, as [`nsp_link::LinkEnd::may_send`] says: neither is
+    /// looked at again. Fails only if memory is refused, with nothing changed.
     pub fn write_next(&mut self) -> Result<Vec<u8>, LinkFault>
         requires works { self.old.port.link.failed ≡ false }
         requires may { IsTrue (may_send self.old.port.link) }
@@ -223,10 +222,10 @@ impl ServingEnd {
         self.port.write_next()
     }
 
-    /// Serves what came, message by message, while fewer than `most_waiting` bytes wait, and hands each group of answers to
-    /// the link (own). The bytes that wait are those of the NSP messages that were not handed over and of those that the link
-    /// has, the whole message until its last segment is acknowledged. Refused as `post` and `serve` are. What was served and
-    /// handed over before that stays so, and the same call goes on.
+    /// Serves what came, message by message, while fewer than `most_waiting` bytes wait, and hands each group of
+    /// answers to the link. The bytes that wait are those of the NSP messages that were not handed over and of
+    /// those that the link has, the whole message until its last segment is acknowledged. Refused as `post` and
+    /// `serve` are. What was served and handed over before that stays so, and the same call goes on.
     pub fn serve_all(&mut self, most_waiting: u64) -> Result<(), LinkFault>
         ensures ok { OnOk result (DidAll (serves most_waiting) self.old self.new (Ok tt)) }
         // What follows from it, for callers.
@@ -253,9 +252,9 @@ impl ServingEnd {
         }
     }
 
-    /// Serves what came while fewer than `most_waiting` bytes wait, hands each group of answers to the link, and writes all
-    /// segments that were never sent, as far as the window allows, after the packets in `out` (own). Refused as `post` is, or
-    /// out of memory. What was done before that stays done, and the same call goes on.
+    /// Serves what came while fewer than `most_waiting` bytes wait, hands each group of answers to the link, and
+    /// writes all segments that were never sent, as far as the window allows, after the packets in `out`. Refused
+    /// as `post` is, or out of memory. What was done before that stays done, and the same call goes on.
     pub fn go_on(&mut self, most_waiting: u64, out: &mut Vec<Vec<u8>>) -> Result<(), LinkFault>
         ensures went { WentOn (serves most_waiting) self.old self.new (bodies out.old.items)
             (bodies out.new.items) (result_map_both (λ done. done) end_fault.Link result) }
@@ -267,12 +266,13 @@ impl ServingEnd {
         self.port.emit_all(out)
     }
 
-    /// Takes a packet in, and tells what became of it; serves what came while fewer than `most_waiting` bytes wait, hands each
-    /// group of answers to the link, and writes all segments that were never sent, as far as the window allows; or where a
-    /// segment came and none is written, one acknowledgement. The packets stand after those in `out` (own).
+    /// Takes a packet in, and returns what became of it; serves what came while fewer than `most_waiting` bytes
+    /// wait, hands each group of answers to the link, and writes all segments that were never sent, as far as the
+    /// window allows; or where a segment came and none is written, one acknowledgement. The packets follow those in
+    /// `out`.
     ///
-    /// Refusals: `Refused` as `receive` is, and nothing of the packet was taken; `Unfinished`, once it was taken in: `go_on`
-    /// does what is left, and the same packet is answered again.
+    /// Refusals: `Refused` as `receive` is, and nothing of the packet was taken; `Unfinished`, once it was taken
+    /// in: `go_on` does what is left, and the same packet is answered again.
     pub fn take(
         &mut self,
         packet: &[u8],
@@ -332,14 +332,14 @@ impl ServingEnd {
         self.port.link.ack_packet()
     }
 
-    /// The link, with its counts. It takes no memory. Own.
+    /// The link, with its counts.
     pub fn link(&self) -> &LinkEnd
         ensures { result.now ≡ self.now.port.link }
     {
         &self.port.link
     }
 
-    /// The NSP messages that wait to be handed to the link, the oldest first. It takes no memory. Own.
+    /// The NSP messages that wait to be handed to the link, the oldest first.
     pub fn waiting(&self) -> &[Vec<u8>]
         ensures { bodies result.now ≡ self.now.port.outbox }
     {

@@ -44,7 +44,7 @@ fn list_streams(
     Ok(rest)
 }
 
-/// All lines, and the text behind them.
+/// All lines, and the text after them.
 fn join(alloc: Global, lines: &[Vec<u8>], rest: &[u8]) -> Result<Vec<u8>, AllocError>
     ensures { IfOk result (λ text. text.items ≡ texts_of lines.now ++ rest.now) }
 {
@@ -83,7 +83,7 @@ fn check_lines(input: &[u8]) -> Result<(), CaptureFault>
     Ok(())
 }
 
-/// The listing of an input. A line at fault is told also where memory was wanting before it.
+/// The listing of an input. A line at fault is reported also where memory was refused before it.
 fn follow_input(alloc: Global, input: &[u8]) -> Result<Vec<u8>, CaptureFault>
     requires { length input.now ≤ INPUT_LIMIT }
     ensures whole { IfOk result (λ text. IsFollowed (captures packet_limit input.now) text.items) }
@@ -100,12 +100,12 @@ fn follow_input(alloc: Global, input: &[u8]) -> Result<Vec<u8>, CaptureFault>
 }
 
 /// Reads a capture of NSP packets, of at most 4,096 bytes each, to its end and writes its listing, in which the DAP
-/// messages stand under the packet with which their NSP message is whole. Own.
+/// messages are under the packet with which their NSP message is whole.
 ///
-/// The whole input is read, and all lines are checked, before anything is written. `TooLarge`: the input has more than
-/// 16,777,216 bytes, of which no more than one is read, or the first line at fault a packet that is too long.
+/// The whole input is read, and all lines are checked, before anything is written. `TooLarge`: the input has more
+/// than 16,777,216 bytes, of which no more than one is read, or the first line at fault a packet that is too long.
 /// `BadLine`: the first line at fault is no line of a capture. `ReadFailed` and `NoMemory`: nothing is written.
-/// `WriteFailed`: a front of the listing is.
+/// `WriteFailed`: a prefix of the listing is.
 pub fn follow<R: Read, W: Write>(
     alloc: Global,
     reader: &mut R,

@@ -73,7 +73,7 @@ impl Room {
     }
 }
 
-/// The digits of a piece, one segment behind the other.
+/// The digits of a piece, one segment after the other.
 fn gather(piece: &[Counted<'_>], digits: &mut Vec<u8>) -> Result<(), AllocError>
     ensures { OnOk result (digits.new.items ≡ digits_of piece.now) }
 {
@@ -153,7 +153,7 @@ fn push_part(
     push_length(text, count)
 }
 
-/// Lists a piece: its message under a packet, or a part behind all.
+/// Lists a piece: its message under a packet, or a part after all packets.
 fn list_piece(
     stream: &Stream,
     packet: usize,
@@ -201,7 +201,7 @@ fn push_gap(
     push_str(text, "\n")
 }
 
-/// Lists a stream: its messages under their packets, its parts and gaps behind all.
+/// Lists a stream: its messages under their packets, its parts and gaps after all packets.
 pub(crate) fn list_stream(
     stream: &Stream,
     ordered: &[Counted<'_>],

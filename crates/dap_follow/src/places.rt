@@ -11,7 +11,7 @@ use std::alloc::{AllocError, Global};
 /// So many numbers of segments there are (NSP 4.0.0, segment numbers).
 pub(crate) const ROUND: u64 = 4096;
 
-/// How far below the highest place before it a segment may lie. Own.
+/// How far below the highest place before it a segment may lie.
 const BELOW: u64 = 2047;
 
 /// A segment that counts: its place, the number of its packet, its marks, and the hex digits of its payload.
@@ -36,7 +36,7 @@ fn place_near(highest: u64, number: Seq12) -> u64
     lowest + u64::from(number.ahead_of(Seq12::of(lowest)))
 }
 
-/// Puts a segment in its place, unless another stands there.
+/// Puts a segment in its place, unless another is there.
 fn put_in<'a>(ordered: &mut Vec<Counted<'a>>, counted: Counted<'a>) -> Result<(), AllocError>
     requires { Rises ordered.old.items }
     ensures { OnOk result (IsPutIn ordered.old.items counted.entry ordered.new.items) }
@@ -69,7 +69,7 @@ impl<'a> Places<'a> {
         }
     }
 
-    /// Takes the segment of a packet, unless another stands in its place.
+    /// Takes the segment of a packet, unless another is in its place.
     pub(crate) fn add(
         &mut self,
         packet: usize,

@@ -51,7 +51,7 @@ impl<'a> Streams<'a> {
         Ok(index)
     }
 
-    /// Takes the segment of the packet behind some packets.
+    /// Takes the segment of the packet after some packets.
     pub(crate) fn add(
         &mut self,
         packet: usize,

@@ -12,7 +12,7 @@ use crate::listing::{Listed, read_line};
 use dap_text::{push_decimal, push_str};
 use std::alloc::AllocError;
 
-/// The most bytes of a packet in a capture. Own.
+/// The most bytes of a packet in a capture.
 pub const PACKET_LIMIT: usize = 4096;
 
 /// A captured packet among lines: the way that it went and the hex digits of its bytes; and the number of the line behind
@@ -25,9 +25,9 @@ pub struct Found<'a> {
     pub rest: &'a [u8],
 }
 
-/// The first captured packet among lines, of which the first has the number. Takes no memory. Own.
+/// The first captured packet among lines, of which the first has the number. Takes no memory.
 ///
-/// `BadLine` and `TooLarge`: the first line at fault, where it stands before a packet.
+/// `BadLine` and `TooLarge`: the first line at fault, where it is before a packet.
 pub fn next_packet<'a>(at: usize, bytes: &'a [u8]) -> Result<Option<Found<'a>>, CaptureFault>
     requires { at + length bytes.now < 2 ^ 32 }
     ensures captured { IfOk result
@@ -79,7 +79,7 @@ pub fn arrow(direction: Direction) -> &'static str
     }
 }
 
-/// Appends the number of what was captured, and its direction. Refused for want of memory alone. Own.
+/// Appends the number of what was captured, and its direction. Fails only if memory is refused.
 pub fn push_heading(
     text: &mut Vec<u8>,
     number: usize,

@@ -29,12 +29,12 @@ fn list<R: Read, W: Write>(
     Ok(Outcome::Good)
 }
 
-/// Reads a capture of NSP packets, of at most 4,096 bytes each, to its end and writes its listing. Own.
+/// Reads a capture of NSP packets, of at most 4,096 bytes each, to its end and writes its listing.
 ///
-/// The whole input is read, and all lines are checked, before anything is written. `TooLarge`: the input
-/// has more than 16,777,216 bytes, of which no more than one is read, or the first line at fault a packet
-/// that is too long. `BadLine`: the first line at fault is no line of a capture. `ReadFailed` and
-/// `NoMemory`: nothing is written. `WriteFailed`: a front of the listing is.
+/// The whole input is read, and all lines are checked, before anything is written. `TooLarge`: the input has more
+/// than 16,777,216 bytes, of which no more than one is read, or the first line at fault a packet that is too long.
+/// `BadLine`: the first line at fault is no line of a capture. `ReadFailed` and `NoMemory`: nothing is written.
+/// `WriteFailed`: a prefix of the listing is.
 pub fn show<R: Read, W: Write>(
     alloc: Global,
     reader: &mut R,
@@ -51,7 +51,7 @@ pub fn show<R: Read, W: Write>(
     list(Listed::Packets, alloc, reader, writer)
 }
 
-/// Reads a capture of NSP messages, of at most 65,535 bytes each, to its end and writes its listing. Own.
+/// Reads a capture of NSP messages, of at most 65,535 bytes each, to its end and writes its listing.
 ///
 /// The faults are those of `show`.
 pub fn messages<R: Read, W: Write>(

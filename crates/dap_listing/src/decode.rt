@@ -4,7 +4,7 @@ ghost use Rattle.std.specs.Prelude.{◌≡◌, ◌≤◌, ◌*◌, ℕ, length, 
 ghost use Rattle.dap_listing.specs.Captured.{AreDecoded, Spell};
 
 /// How many bytes are decoded to find out what they are: more than the headers of a segment or of a Data message
-/// take. Own.
+/// take.
 pub(crate) const FRONT: usize = 32;
 
 /// Decodes the bytes of digits up to an end, or to their own where that is sooner. So many in front need no decoding;

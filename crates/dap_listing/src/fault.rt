@@ -45,7 +45,7 @@ impl From<AllocError> for CaptureFault {
     }
 }
 
-/// The exit status of an outcome, whose fault is told in one line. Own.
+/// The exit status of an outcome, whose fault is reported in one line.
 pub fn finish<E: Write>(outcome: Result<Outcome, CaptureFault>, error_writer: &mut E) -> u8
     ensures { result ≡ status_of outcome }
 {

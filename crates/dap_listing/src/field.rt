@@ -75,7 +75,7 @@ pub(crate) fn control_fields<'a>(c: &ControlFields<'a>) -> [Field<'a>; 6]
     ]
 }
 
-/// Appends a number behind its name.
+/// Appends a number after its name.
 fn push_value<I: Integer>(text: &mut Vec<u8>, name: &str, value: I) -> Result<(), AllocError>
     ensures { OnOk result (Adds text.old text.new
         (concat (codes " " ∷ name.now ∷ codes "=" ∷ I.text value ∷ []))) }

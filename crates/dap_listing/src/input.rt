@@ -11,7 +11,7 @@ use linewise::LONGEST;
 use std::alloc::Global;
 use std::io::Read;
 
-/// The most bytes that an input may have: those of the longest line. Own.
+/// The most bytes that an input may have: those of the longest line.
 pub const INPUT_LIMIT: usize = LONGEST;
 
 /// How many bytes are read at a time.
@@ -93,7 +93,7 @@ pub(crate) fn skip_unread<R: Read>(
 }
 
 /// All that the reader has left, where it is no more than the limit. No byte past the one that breaks the limit is
-/// read. Own.
+/// read.
 ///
 /// `TooLarge`: there is more. `ReadFailed`: the reader failed. `NoMemory`: a growth was refused.
 pub fn read_input<R: Read>(alloc: Global, reader: &mut R) -> Result<Vec<u8>, CaptureFault>

@@ -4,7 +4,7 @@ ghost use Rattle.std.specs.Prelude.{◌≡◌, ℕ, List};
 ghost use Rattle.dap_listing.specs.Listing.{CaptureLines, captures, limit_of};
 ghost use Rattle.dap_listing.specs.declared.listing.Listed.{Listed};
 
-/// No input has two listings of a kind. Own.
+/// No input has two listings of a kind.
 pub fn listings_are_one()
     ensures { (listed : Listed) (input a b : List ℕ)
         → CaptureLines listed 1 (captures (limit_of listed) input) a

@@ -38,7 +38,7 @@ fn without_carriage_return(line: &[u8]) -> &[u8]
     }
 }
 
-/// The first line, without its end, and what stands after it. A line ends with LF, or CR LF, or with the bytes. Own.
+/// The first line, without its end, and what is after it. A line ends with LF, or CR LF, or with the bytes.
 #[tactic(auto, using(crate::proofs::LineLemmas::first_line, crate::proofs::LineLemmas::last_line))]
 pub fn next_line(bytes: &[u8]) -> Option<(&[u8], &[u8])>
     ensures first { MatchOption result (bytes.now ≡ [])
@@ -56,7 +56,7 @@ pub fn next_line(bytes: &[u8]) -> Option<(&[u8], &[u8])>
     }
 }
 
-/// The first line that has its end, without that, and what stands after it.
+/// The first line that has its end, without that, and what is after it.
 #[tactic(auto, using(crate::proofs::LineLemmas::first_line, crate::proofs::LineLemmas::ended_first))]
 fn ended_line(bytes: &[u8]) -> Option<(&[u8], &[u8])>
     ensures first { IfSome result (λ cut. IsCut false bytes.now cut.0.now cut.1.now
@@ -68,7 +68,7 @@ fn ended_line(bytes: &[u8]) -> Option<(&[u8], &[u8])>
     Some((without_carriage_return(&bytes[..end]), &bytes[end + 1..]))
 }
 
-/// The first line and what stands after it, where the line has its end or the bytes are the last.
+/// The first line and what is after it, where the line has its end or the bytes are the last.
 pub(crate) fn cut_line(bytes: &[u8], is_last: bool) -> Option<(&[u8], &[u8])>
     ensures first { IfSome result (λ cut. IsCut is_last bytes.now cut.0.now cut.1.now
         × (length cut.1.now < length bytes.now)) }

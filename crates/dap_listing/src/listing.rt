@@ -33,7 +33,7 @@ pub enum Listed {
 }
 
 impl Listed {
-    /// The most bytes of a line. Own.
+    /// The most bytes of a line.
     pub(crate) fn limit(self) -> usize
         ensures { result ≡ limit_of self }
     {
@@ -44,7 +44,7 @@ impl Listed {
     }
 }
 
-/// Refuses what are no hex digits of bytes, of which there may be so many, in the line of a number.
+/// Refuses what are no hex digits of bytes, of which there may be this many, in the line of a number.
 fn check_digits(number: usize, digits: &[u8], limit: usize) -> Result<(), CaptureFault>
     requires { limit < 2 ^ 32 }
     ensures good { OnOk result ((direction : Direction)
@@ -63,7 +63,7 @@ fn check_digits(number: usize, digits: &[u8], limit: usize) -> Result<(), Captur
     Ok(())
 }
 
-/// What the line of a number captured: the direction, and the hex digits of at most so many bytes.
+/// What the line of a number captured: the direction, and the hex digits of at most this many bytes.
 pub(crate) fn read_line(
     number: usize,
     line: &[u8],
@@ -231,8 +231,8 @@ fn check_cut<'a>(
     Ok(rest)
 }
 
-/// Lists the lines in front of the bytes, or only checks them where memory is wanting for the text, and answers
-/// how many bytes are left.
+/// Lists the lines in front of the bytes, or only checks them where memory is refused for the text, and answers how
+/// many bytes are left.
 fn take_lines(
     listed: Listed,
     progress: &mut Progress,
@@ -271,7 +271,7 @@ fn take_lines(
     Ok(left.len())
 }
 
-/// Drops all bytes but so many at the end.
+/// Drops all bytes but this many at the end.
 fn keep_end(bytes: &mut Vec<u8>, left: usize)
     requires { left ≤ length bytes.old.items }
     ensures { bytes.new.items ≡ drop (length bytes.old.items - left) bytes.old.items }
@@ -282,7 +282,7 @@ fn keep_end(bytes: &mut Vec<u8>, left: usize)
 }
 
 /// Reads an input to its end and lists what was captured. Lines are listed as they come, so that no more of the
-/// input is kept than a line that has no end yet. A line at fault is told also where memory was wanting before
+/// input is kept than a line that has no end yet. A line at fault is reported also where memory was refused before
 /// it for a line's bytes or for the text.
 fn list_as_read<R: Read>(
     listed: Listed,
@@ -331,7 +331,7 @@ fn list_as_read<R: Read>(
     }
 }
 
-/// The listing of what was captured in an input, which is read to its end. Want of memory for the text is told
+/// The listing of what was captured in an input, which is read to its end. Out of memory for the text is reported
 /// where no line is at fault.
 pub(crate) fn list_input<R: Read>(
     listed: Listed,

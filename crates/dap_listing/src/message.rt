@@ -217,8 +217,8 @@ fn record_size(item: &Item<'_>) -> usize
     }
 }
 
-/// Appends the line of what stands at a place of an NSP message. The digits are those of its record, where it is
-/// a Data message.
+/// Appends the line of what is at a place of an NSP message. The digits are those of its record, where it is a Data
+/// message.
 #[inline(always)]
 fn push_item(text: &mut Vec<u8>, item: &Item<'_>, digits: &[u8]) -> Result<(), AllocError>
     requires { Spell digits.now (length digits.now / 2) }
@@ -231,8 +231,9 @@ fn push_item(text: &mut Vec<u8>, item: &Item<'_>, digits: &[u8]) -> Result<(), A
     }
 }
 
-/// Appends the lines of the NSP message that the digits spell, of which so many bytes in front are decoded. More are
-/// decoded as they are needed, but a record's are not: its line repeats its digits. Refused for want of memory alone. Own.
+/// Appends the lines of the NSP message that the digits spell, of which this many bytes in front are decoded. More
+/// are decoded as they are needed, but a record's are not: its line repeats its digits. Fails only if memory is
+/// refused.
 pub fn push_messages(
     text: &mut Vec<u8>,
     digits: &[u8],

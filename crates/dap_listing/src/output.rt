@@ -6,8 +6,8 @@ ghost use Rattle.linewise.specs.Output.{WritesFront};
 use crate::CaptureFault;
 use std::io::Write;
 
-/// Writes the text and flushes (own). A write that fails or takes nothing ends it, and it is WriteFailed then, and
-/// where the flush fails.
+/// Writes the text and flushes. A write that fails or takes nothing ends it, and it is WriteFailed then, and where
+/// the flush fails.
 pub fn write_text<W: Write>(text: &[u8], writer: &mut W) -> Result<(), CaptureFault>
     ensures whole { OnOk result (Appends (W.contents writer.old) (W.contents writer.new) text.now) }
     ensures fault { IfErr result (λ fault. fault ≡ CaptureFault.WriteFailed) }

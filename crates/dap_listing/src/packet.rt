@@ -52,7 +52,7 @@ fn push_ends(text: &mut Vec<u8>, dst: u16, src: u16) -> Result<(), AllocError>
     push_word(text, " src=", src)
 }
 
-/// Appends the line of a segment, which carries so many bytes.
+/// Appends the line of a segment, which carries this many bytes.
 fn push_segment(
     text: &mut Vec<u8>,
     line: &CapturedSegment<'_>,

@@ -37,13 +37,13 @@ pub struct Asking {
     pub end: AskingEnd,
     /// How its link is set up.
     pub setup: LinkSetup,
-    /// The reports that wait to be told: more than those of one line only where memory was refused.
+    /// The reports that wait to be printed: more than those of one line only where memory was refused.
     pub reports: Vec<Report>,
 }
 
 impl Asking {
-    /// An end of which nothing was asked, with a buffer of so many bytes, at least 64. Refused as [`AskingEnd::new`]
-    /// is. Own.
+    /// An end of which nothing was asked, with a buffer of this many bytes, at least 64. Refused as
+    /// [`AskingEnd::new`] is.
     pub fn new(alloc: Global, bufsiz: u16, setup: LinkSetup) -> Result<Asking, LinkFault>
         requires { least_buffer ≤ bufsiz }
         ensures after { IfOk result (λ a. HasAsked nothing_asked a.end) }
@@ -133,7 +133,7 @@ fn go_on(
 /// What is said before what going on comes to.
 #[derive(Clone, Copy)]
 pub(crate) enum Front {
-    /// A request was asked, by so many messages.
+    /// A request was asked, by this many messages.
     Asked(usize),
     /// None was, since a report is due.
     Busy,
@@ -152,7 +152,7 @@ fn push_front(text: &mut Vec<u8>, front: Front) -> Result<(), AllocError>
     }
 }
 
-/// Goes on, and says what comes of it behind this.
+/// Goes on, and says what comes of it after this.
 fn go_on_behind(asking: &mut Asking, front: Front, text: &mut Vec<u8>) -> Result<Came, AllocError>
     requires { text.old.items ≡ [] }
     ensures end { OnEnd asking.old asking.new }
@@ -181,7 +181,7 @@ fn goes_on(end: &AskingEnd) -> bool
     !has_failed(end) && (has_message(end.link()) || is_left(end.link(), end.waiting(), false))
 }
 
-/// Goes on behind segments that are sent again, and says what comes of it behind their lines.
+/// Goes on after segments that are sent again, and says what comes of it after their lines.
 fn go_on_again(asking: &mut Asking, text: &mut Vec<u8>) -> Result<Came, AllocError>
     ensures end { OnEnd asking.old asking.new }
     ensures ok { IfOk result (GoesOn asking.old.end asking.old.reports.items text.old.items
@@ -194,7 +194,7 @@ fn go_on_again(asking: &mut Asking, text: &mut Vec<u8>) -> Result<Came, AllocErr
     Ok(Came::Told(push_done(text, &asking.reports, &packets, gone)?))
 }
 
-/// Goes on where something is left, or tells the reports that wait.
+/// Goes on where something is left, or prints the reports that wait.
 fn go_on_if_left(asking: &mut Asking, text: &mut Vec<u8>) -> Result<Came, AllocError>
     ensures end { OnEnd asking.old asking.new }
     ensures ok { IfOk result (λ came. MatchBool (goes_on_by asking.old.end)

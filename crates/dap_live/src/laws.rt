@@ -9,9 +9,9 @@ ghost use Rattle.linewise.specs.Talks.{HaveOneText};
 ghost use Rattle.dap_live.specs.Serving as serving;
 ghost use Rattle.dap_live.specs.Asking as asking;
 
-/// An input has one text: two talks over it, of ends of one value, in which no answer wants memory, have the same text, and
-/// the same became of each line. An end that serves came to its value by its calls, and before a segment came it
-/// did nothing. Own.
+/// An input has one text: two talks over it, of ends of one value, in which no answer is out of memory, have the
+/// same text, and the same became of each line. A server came to its value by its calls, and before a segment came
+/// it did nothing.
 pub fn inputs_have_one_text()
     ensures serving { HaveOneText serving.answered serving.waiting (λ one other.
         (one.end ≡ other.end) × (one.setup ≡ other.setup)

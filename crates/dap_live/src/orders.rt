@@ -17,7 +17,7 @@ pub(crate) enum Anew {
     Same,
     /// Between these addresses, the own one first.
     Between(u16, u16),
-    /// Between these, with so many bytes in a segment at most.
+    /// Between these, with this many bytes in a segment at most.
     Cut(u16, u16, u32),
 }
 
@@ -43,7 +43,7 @@ fn read_packet<'a>(mut words: Words<'a>) -> Option<Order<'a>>
     Some(Order::Packet(bytes))
 }
 
-/// A link address, by four hex digits of either case; or None. It takes no memory. Own.
+/// A link address, by four hex digits of either case; or None.
 pub fn read_address(word: &[u8]) -> Option<u16>
     ensures { result ≡ address_of word.now }
 {
@@ -86,7 +86,7 @@ fn read_plain<'a>(words: Words<'a>, order: Order<'a>) -> Option<Order<'a>>
     Some(order)
 }
 
-/// What a line says. It takes no memory.
+/// What a line says.
 pub(crate) fn read_order(line: &[u8]) -> Option<Order<'_>>
     ensures { result ≡ order_of line.now }
 {

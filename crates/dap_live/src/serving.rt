@@ -43,8 +43,8 @@ pub struct Serving {
 }
 
 impl Serving {
-    /// An end without files, with a buffer of so many bytes, at least 64, which serves what came while fewer than
-    /// `most_waiting` bytes wait. Refused as [`ServingEnd::new`] is. Own.
+    /// An end without files, with a buffer of this many bytes, at least 64, which serves what came while fewer than
+    /// `most_waiting` bytes wait. Refused as [`ServingEnd::new`] is.
     pub fn new(
         alloc: Global,
         bufsiz: u16,
@@ -122,7 +122,7 @@ fn go_on(
     }
 }
 
-/// Goes on, and says what comes of it behind the text.
+/// Goes on, and says what comes of it after the text.
 fn go_on_behind(
     alloc: Global,
     end: &mut ServingEnd,
@@ -150,7 +150,7 @@ fn is_behind(end: &ServingEnd, most_waiting: u64) -> bool
     is_left(link, end.waiting(), is_served_next)
 }
 
-/// Goes on where something is left, and says what comes of it behind the text.
+/// Goes on where something is left, and says what comes of it after the text.
 fn go_on_if_left(
     alloc: Global,
     end: &mut ServingEnd,

@@ -29,7 +29,7 @@ pub const TYPE_DATA: u8 = 8;
 
 /// The type of a Status message.
 pub const TYPE_STATUS: u8 = 9;
-/// No message has a greater type; those above 9 are kept as bytes (own).
+/// No message has a greater type; those above 9 are kept as bytes.
 pub const GREATEST_TYPE: u8 = 16;
 
 /// ACCFUNC (DAP 5.6.0, Access message): to open a file that is there.
@@ -61,7 +61,7 @@ pub const RAC_WHOLE_FILE: u8 = 3;
 
 /// CONFUNC (DAP 5.6.0, Continue Transfer message): to try the record again.
 pub const CONFUNC_AGAIN: u8 = 1;
-/// To go on behind the record.
+/// To go on after the record.
 pub const CONFUNC_SKIP: u8 = 2;
 /// To end the transfer.
 pub const CONFUNC_ABORT: u8 = 3;
@@ -103,7 +103,7 @@ pub const RECORD_REFUSED: u16 = 0x5000;
 /// No record follows.
 pub const END_OF_FILE: u16 = 0x5027;
 
-/// STV (own): the one byte beside [`ACCESS_REFUSED`] and [`RECORD_REFUSED`]. There is a file of the name.
+/// STV: the one byte beside [`ACCESS_REFUSED`] and [`RECORD_REFUSED`]. There is a file of the name.
 pub const REASON_FILE_EXISTS: u8 = 1;
 /// The file was not opened for the operation.
 pub const REASON_NOT_PERMITTED: u8 = 2;
@@ -139,7 +139,6 @@ const OUT_OF_PLACE: u16 = 0xa000;
 const TYPE_UNIT: u16 = 64;
 
 /// The STSCODE where a message of this type asks for what is not supported: MACCODE 2 (DAP 5.6.0, Status message).
-/// Takes no memory.
 pub fn unsupported(message_type: u8) -> u16
     ensures { result ≡ codes.unsupported message_type }
 {
@@ -147,15 +146,13 @@ pub fn unsupported(message_type: u8) -> u16
 }
 
 /// The STSCODE where a message of this type has a value that is not allowed: MACCODE 9 (DAP 5.6.0, Status message).
-/// Takes no memory.
 pub fn invalid(message_type: u8) -> u16
     ensures { result ≡ codes.invalid message_type }
 {
     INVALID + TYPE_UNIT * u16::from(message_type)
 }
 
-/// The STSCODE where a message of this type has no place in the exchange: MACCODE 10, with the type as MICCODE (own).
-/// Takes no memory.
+/// The STSCODE where a message of this type has no place in the exchange: MACCODE 10, with the type as MICCODE.
 pub fn out_of_place(message_type: u8) -> u16
     ensures { result ≡ codes.out_of_place message_type }
 {
@@ -173,7 +170,7 @@ pub(crate) fn malformed(message_type: u8) -> u16
     }
 }
 
-/// A law: the constants are the numbers that the definitions name (own).
+/// A law: the constants are the numbers that the definitions name.
 pub fn names_the_numbers()
     ensures config { TYPE_CONFIGURATION ≡ codes.types.config }
     ensures attributes { TYPE_ATTRIBUTES ≡ codes.types.attrib }

@@ -147,7 +147,7 @@ pub enum Message<'a> {
     },
     /// Type 9, Status.
     Status {
-        /// MACCODE and MICCODE, as [`crate::StatusCode`] tells them apart.
+        /// MACCODE and MICCODE, as [`crate::StatusCode`] separates them.
         code: u16,
         /// The record file address, at most 8 bytes, the least first.
         rfa: &'a [u8],
@@ -179,9 +179,9 @@ fn image_of<'a>(value: Option<Bytes<'a>>) -> Option<&'a [u8]>
     value.map(|value| value.0)
 }
 
-/// Makes one form of a message of the other by `$convert`. The messages here have a struct of fields as their value, of
-/// which each name stands alike in both forms: in the first list are numbers, in the second images that may be missing,
-/// in the third bytes.
+/// Makes one form of a message of the other by `$convert`. The messages here have a struct of fields as their
+/// value, of which each name is alike in both forms: in the first list are numbers, in the second images that may
+/// be missing, in the third bytes.
 macro_rules! by_names {
     ($convert:ident, $message:expr) => {
         $convert!($message;
@@ -243,14 +243,14 @@ macro_rules! message_by_names {
 }
 
 impl<'a> Message<'a> {
-    /// The value of the message. Made into a message again it has the same fields. Takes no memory.
+    /// The value of the message. Made into a message again it has the same fields.
     pub fn to_value(&self) -> MessageValue<'a>
         ensures { result ≡ value_of self.now }
     {
         by_names!(value_by_names, *self)
     }
 
-    /// The message that has this value. Takes no memory.
+    /// The message that has this value.
     pub fn from_value(value: MessageValue<'a>) -> Message<'a>
         ensures { value_of result ≡ value.entry }
     {
@@ -261,11 +261,11 @@ impl<'a> Message<'a> {
 /// The message in front of the input, and the number of its bytes (DAP 5.6.0, message format).
 ///
 /// A message with LENGTH ends where that says, and further bytes may follow it; one without takes all the bytes.
-/// The refusal tells the first field in reading order that is at fault, with its offset in bytes from the input's
+/// The refusal names the first field in reading order that is at fault, with its offset in bytes from the input's
 /// start. It is never out of memory, since none is taken. A value that its field holds but that the document gives
 /// no meaning, as a CTLFUNC of 99, is no fault.
 ///
-/// The clauses behind `only` follow from `exact`, and spare each caller the proof.
+/// The clauses after `only` follow from `exact`, and spare each caller the proof.
 #[inline(always)]
 pub fn decode(input: &[u8]) -> Result<(Message<'_>, usize), MsgFault>
     ensures exact { IsDecoded input.now (value_of_answer result) }
@@ -283,8 +283,8 @@ pub fn decode(input: &[u8]) -> Result<(Message<'_>, usize), MsgFault>
 }
 
 /// Whether the message has a spelling, the condition of [`encode`]: every value fits its field, the number of an
-/// `Other` is 10 to 16, and the operand has at most 65,535 bytes (the fields are those of DAP 5.6.0, message formats).
-/// Takes no memory.
+/// `Other` is 10 to 16, and the operand has at most 65,535 bytes (the fields are those of DAP 5.6.0, message
+/// formats).
 pub fn fits(message: &Message<'_>) -> bool
     ensures { IsTrue result ↔ Fits (value_of message.now) }
 {
@@ -292,10 +292,10 @@ pub fn fits(message: &Message<'_>) -> bool
 }
 
 /// Appends the canonical spelling of a message: LENGTH always, LEN256 exactly where the operand has 256 bytes or
-/// more, all fields, numbers in their shortest spelling, nothing after the last field (own; the formats are those
-/// of DAP 5.6.0).
+/// more, all fields, numbers in their shortest spelling, nothing after the last field (the formats are those of DAP
+/// 5.6.0).
 ///
-/// The message must fit, as [`fits`] tells. The only refusal is `FaultKind::NoMemory`, with type and offset 0, which
+/// The message must fit, as [`fits`] says. The only refusal is `FaultKind::NoMemory`, with type and offset 0, which
 /// comes only where `out` lacked the room and leaves it unchanged. Room is reserved once, and none is given back.
 pub fn encode(message: &Message<'_>, out: &mut Vec<u8>) -> Result<(), MsgFault>
     requires { Fits (value_of message.now) }

@@ -256,7 +256,7 @@ fn control_fields<'a>(here: &ControlFields<'a>) -> [Field<'a>; 8]
     fields
 }
 
-/// The fields of an Attributes message, in order, behind their menu.
+/// The fields of an Attributes message, in order, after their menu.
 fn attributes_fields<'a>(here: &Attributes<'a>) -> [Field<'a>; 22]
     requires { FieldsFit (Attrib here.now) }
     ensures bytes { fields_bytes result ≡ operand_bytes (Attrib here.now) }
@@ -399,8 +399,7 @@ fn operand_len(message: &Message<'_>) -> usize
     with_fields!(message, fields_len)
 }
 
-/// The number of bytes that [`encode_value`] appends for a message that fits (own; DAP 5.6.0, message formats). Takes no
-/// memory.
+/// The number of bytes that [`encode_value`] appends for a message that fits (DAP 5.6.0, message formats).
 pub fn encoded_len(message: &Message<'_>) -> usize
     requires { Fits message.now }
     ensures { result ≡ length (canon message.now) }

@@ -1,4 +1,4 @@
-//! The fields that no menu tells, by their kind and limit (DAP 5.6.0, message formats).
+//! The fields that are in no menu, by their kind and limit (DAP 5.6.0, message formats).
 
 use crate::kind::{Extensible, Image};
 

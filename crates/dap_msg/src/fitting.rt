@@ -110,7 +110,7 @@ fn fields_fit(message: &Message<'_>) -> bool
 /// What LENGTH and LEN256 can tell, in bytes.
 const LONGEST_OPERAND: usize = 65535;
 
-/// Whether the operand of a message whose values fit has a length that can be told.
+/// Whether the operand of a message whose values fit has a length that LENGTH and LEN256 can express.
 fn operand_fits(message: &Message<'_>) -> bool
     requires { FieldsFit message.now }
     ensures { IsTrue result ↔ (length (operand_bytes message.now) < 2 ^ 16) }
@@ -122,8 +122,8 @@ fn operand_fits(message: &Message<'_>) -> bool
     }
 }
 
-/// Whether the message that has this value has a spelling, for crates that hold messages as values; as [`crate::fits`]
-/// tells, which see.
+/// Whether the message that has this value has a spelling, for crates that hold messages as values; as
+/// [`crate::fits`] says, which see.
 pub fn fits_value(message: &Message<'_>) -> bool
     ensures { IsTrue result ↔ Fits message.now }
 {

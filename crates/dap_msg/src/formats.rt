@@ -100,7 +100,7 @@ pub(crate) fn read_attributes(mut cursor: Cursor<'_>) -> Result<Message<'_>, Fau
     read_later_attributes(bits, first, cursor)
 }
 
-/// The later attributes, from the runtime system on, behind these.
+/// The later attributes, from the runtime system on, after these.
 #[tactic(auto, unfolding(crate::specs::Inner::Attributes::later_attributes))]
 #[inline(always)]
 fn read_later_attributes<'a>(
@@ -165,7 +165,7 @@ pub(crate) fn read_configuration(mut cursor: Cursor<'_>) -> Result<Message<'_>, 
     }))
 }
 
-/// The Access that the operand spells; the fields behind FILESPEC may be absent.
+/// The Access that the operand spells; the fields after FILESPEC may be absent.
 #[tactic(auto, unfolding(crate::specs::Formats::access))]
 #[inline(always)]
 pub(crate) fn read_access(mut cursor: Cursor<'_>) -> Result<Message<'_>, Fault>
@@ -211,7 +211,7 @@ pub(crate) fn read_completion(mut cursor: Cursor<'_>) -> Result<Message<'_>, Fau
     Ok(Message::Accomp(Completion { func, fop, check }))
 }
 
-/// The Filedata that the operand spells: all that stands behind RECNUM is its payload.
+/// The Filedata that the operand spells: all that is after RECNUM is its payload.
 #[tactic(auto, unfolding(crate::specs::Formats::file_data))]
 #[inline(always)]
 pub(crate) fn read_file_data(mut cursor: Cursor<'_>) -> Result<Message<'_>, Fault>
@@ -224,7 +224,7 @@ pub(crate) fn read_file_data(mut cursor: Cursor<'_>) -> Result<Message<'_>, Faul
     })
 }
 
-/// The message of another type, with its operand as it stands.
+/// The message of another type, with its operand as it is.
 #[tactic(auto, unfolding(crate::specs::Formats::other))]
 #[inline(always)]
 pub(crate) fn read_other(number: u8, cursor: Cursor<'_>) -> Result<Message<'_>, Fault>

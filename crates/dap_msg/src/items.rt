@@ -1,4 +1,4 @@
-//! What stands in an NSP message.
+//! What is in an NSP message.
 
 ghost use Rattle.std.specs.Prelude.{◌≡◌, ◌<◌, ℕ, ◌≤◌, length};
 ghost use Rattle.dap_msg.specs.Items.{Item as TheItem, ItemAt, Whole};
@@ -20,9 +20,9 @@ pub enum Item<'a> {
     Malformed(MsgFault),
 }
 
-/// The item that begins at a place of an NSP message, and the place in bytes where the next one begins, which is the
-/// NSP message's length where none follows (own). Takes no memory. The place is at most the length; before the end
-/// the next place is always further on.
+/// The item that begins at a place of an NSP message, and the place in bytes where the next one begins, which is
+/// the NSP message's length where none follows. The place is at most the length; before the end the next place is
+/// always further on.
 #[inline(always)]
 pub fn item_at(nsp_message: &[u8], at: usize) -> (Item<'_>, usize)
     requires { at ≤ length nsp_message.now }

@@ -116,7 +116,7 @@ pub enum Message<'a> {
 }
 
 impl<'a> Message<'a> {
-    /// The type of the message as its header tells it, 1 to 16 where the message fits (DAP 5.6.0, message format).
+    /// The type of the message as its header says it, 1 to 16 where the message fits (DAP 5.6.0, message format).
     pub fn number(&self) -> u8
         ensures { result ≡ type_number self.now }
     {

@@ -1,4 +1,4 @@
-//! How it is told what became of a packet, or of a request that is not asked.
+//! The words for what became of a packet, and for a request that isn't asked.
 
 ghost use Rattle.std.specs.Prelude.{◌≡◌, ◌∷◌, [], OnOk, option_copied};
 ghost use Rattle.std.specs.Fmt.{decimal};
@@ -13,7 +13,7 @@ use nsp_link::Got;
 use nsp_seg::{FlagKind, SegFault, flag_kind};
 use std::alloc::AllocError;
 
-/// The word for a packet that a link end takes. It takes no memory. Own.
+/// The word for a packet that a link end takes.
 pub fn got_word(got: Got) -> &'static str
     ensures { result.now ≡ got_text got }
 {
@@ -25,7 +25,7 @@ pub fn got_word(got: Got) -> &'static str
     }
 }
 
-/// The word for a request that is not asked; want of memory has none. It takes no memory. Own.
+/// The word for a request that is not asked; out of memory has none.
 pub fn ask_word(fault: AskFault) -> Option<&'static str>
     ensures { option_copied result ≡ ask_text fault }
 {
@@ -52,7 +52,7 @@ fn flag_word(kind: FlagKind) -> &'static str
     }
 }
 
-/// Appends a place behind a word, and ends the line.
+/// Appends a place after a word, and ends the line.
 #[tactic(auto, unfolding(crate::specs::Adding::StillBegins))]
 fn push_place(text: &mut Vec<u8>, word: &str, at: usize) -> Result<(), AllocError>
     ensures added { OnOk result (Adds text.old text.new
@@ -63,7 +63,7 @@ fn push_place(text: &mut Vec<u8>, word: &str, at: usize) -> Result<(), AllocErro
     push_str(text, "\n")
 }
 
-/// Appends the line of bytes that are no packet, as a listing has it behind their number and direction. Own.
+/// Appends the line of bytes that are no packet, as a listing has it after their number and direction.
 #[tactic(auto, unfolding(crate::specs::Adding::StillBegins))]
 pub fn push_packet_fault(text: &mut Vec<u8>, fault: SegFault) -> Result<(), AllocError>
     ensures added { OnOk result (Adds text.old text.new (fault_line fault)) }

@@ -1,4 +1,4 @@
-//! Hex digits, and where a byte stands.
+//! Hex digits, and where a byte is.
 
 ghost use Rattle.std.specs.Prelude.{◌≡◌, ◌==◌};
 ghost use Rattle.std.specs.List.{list_all, position};
@@ -7,7 +7,7 @@ ghost use Rattle.dap_text.specs.Words.{is_hex_text as spelled};
 
 use memchr::memchr;
 
-/// Where a byte stands first, or None where it stands nowhere. It takes no memory. Own.
+/// Where a byte is first, or None where it is nowhere.
 #[tactic(auto, using(crate::proofs::PlaceLemmas::first_place))]
 pub fn find_byte(wanted: u8, bytes: &[u8]) -> Option<usize>
     ensures { result ≡ position (λ byte. byte == wanted) bytes.now }
@@ -15,7 +15,7 @@ pub fn find_byte(wanted: u8, bytes: &[u8]) -> Option<usize>
     memchr(wanted, bytes)
 }
 
-/// Whether it is an even number of hex digits, of either case, and at least two. It takes no memory. Own.
+/// Whether it is an even number of hex digits, of either case, and at least two.
 pub fn is_hex_text(digits: &[u8]) -> bool
     ensures { result ≡ spelled digits.now }
 {

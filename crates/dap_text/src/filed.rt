@@ -51,7 +51,7 @@ fn read_rfm(word: &[u8]) -> Option<u8>
 }
 
 /// The file that a line says, `file NAME seq|rel fixed|variable MRS MRN`, or None where it says none. Whether files
-/// of such a shape are there is not asked. It takes no memory. Own.
+/// of such a shape are there is not asked.
 #[tactic(auto, using(crate::proofs::RequestLemmas::ends_none))]
 pub fn read_file_line(line: &[u8]) -> Option<FileLine<'_>>
     ensures { result ≡ file_of line.now }
@@ -75,7 +75,7 @@ pub fn read_file_line(line: &[u8]) -> Option<FileLine<'_>>
     })
 }
 
-/// The record that a line says, `  N BODY`, or None where it says none. It takes no memory. Own.
+/// The record that a line says, `  N BODY`, or None where it says none.
 pub fn read_record_line(line: &[u8]) -> Option<RecordLine<'_>>
     ensures { result ≡ record_of line.now }
 {

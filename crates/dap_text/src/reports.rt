@@ -85,7 +85,7 @@ fn push_batch(text: &mut Vec<u8>, count: usize, ending: Ending) -> Result<(), Al
     push_ending(text, ending)
 }
 
-/// Appends a report. Own.
+/// Appends a report.
 #[tactic(auto, unfolding(crate::specs::Adding::StillBegins))]
 pub fn push_report(text: &mut Vec<u8>, report: &Report) -> Result<(), AllocError>
     ensures added { OnOk result (Adds text.old text.new (report_text report.now)) }

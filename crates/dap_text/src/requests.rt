@@ -9,7 +9,7 @@ ghost use Rattle.dap_text.specs.Words.{decimal_of, ends, field, long, short, tex
 use crate::words::{Text, Texts, Words, is, read_text, read_texts};
 use dap_accessing::{By, How, Octets, OctetsList, RequestOf};
 
-/// A request whose names and bodies are still the digits of a line. Contracts see the request. Own.
+/// A request whose names and bodies are still the digits of a line. Contracts see the request.
 pub type RequestText<'a> = RequestOf<Octets<Text<'a>>, OctetsList<Texts<'a>>>;
 
 /// The greatest FAC.
@@ -117,7 +117,7 @@ fn read_continue<'a>(mut words: Words<'a>) -> Option<RequestText<'a>>
     Some(RequestText::Continue(how))
 }
 
-/// The request that words say, as behind `ask` in a schedule, or None where they say none. It takes no memory. Own.
+/// The request that words say, as after `ask` in a schedule, or None where they say none.
 pub fn read_request<'a>(mut words: Words<'a>) -> Option<RequestText<'a>>
     ensures { result ≡ request_of words.entry }
 {

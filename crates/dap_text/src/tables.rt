@@ -30,7 +30,7 @@ fn format_word(format: Format) -> &'static str
     }
 }
 
-/// Appends a word behind a space.
+/// Appends a word after a space.
 #[tactic(auto, unfolding(crate::specs::Adding::StillBegins))]
 fn push_behind(text: &mut Vec<u8>, word: &str) -> Result<(), AllocError>
     ensures added { OnOk result (Adds text.old text.new (codes " " ++ word.now)) }
@@ -40,7 +40,7 @@ fn push_behind(text: &mut Vec<u8>, word: &str) -> Result<(), AllocError>
     push_str(text, word)
 }
 
-/// Appends two sizes, each behind a space.
+/// Appends two sizes, each after a space.
 #[tactic(auto, unfolding(crate::specs::Adding::StillBegins))]
 pub(crate) fn push_sizes(text: &mut Vec<u8>, mrs: u16, mrn: u32) -> Result<(), AllocError>
     ensures added { OnOk result (Adds text.old text.new (sizes_text mrs mrn)) }
@@ -50,7 +50,7 @@ pub(crate) fn push_sizes(text: &mut Vec<u8>, mrs: u16, mrn: u32) -> Result<(), A
     push_number(text, " ", mrn)
 }
 
-/// Appends the organization, the record format and the sizes of a file, each behind a space.
+/// Appends the organization, the record format and the sizes of a file, each after a space.
 #[tactic(auto, unfolding(crate::specs::Adding::StillBegins))]
 fn push_shape(text: &mut Vec<u8>, shape: Shape) -> Result<(), AllocError>
     ensures added { OnOk result (Adds text.old text.new (shape_text shape)) }
@@ -134,8 +134,8 @@ fn push_record_from(
     }
 }
 
-/// Appends the line at a place in the listing of all files; the place of the next one. Where all lines are before it,
-/// nothing. Own.
+/// Appends the line at a place in the listing of all files; the place of the next one. Where all lines are before
+/// it, nothing.
 #[tactic(auto, unfolding(crate::specs::Adding::StillBegins))]
 pub fn push_files_line(
     text: &mut Vec<u8>,
@@ -152,7 +152,7 @@ pub fn push_files_line(
     }
 }
 
-/// Appends the lines of all files, in the order in which they were made. Own.
+/// Appends the lines of all files, in the order in which they were made.
 #[tactic(auto, unfolding(crate::specs::Adding::StillBegins))]
 pub fn push_files(text: &mut Vec<u8>, files: &FileTable) -> Result<(), AllocError>
     ensures added { OnOk result (Adds text.old text.new (files_text files.now)) }

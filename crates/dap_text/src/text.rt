@@ -1,4 +1,4 @@
-//! How numbers and bytes are printed. Where memory is wanting a front of what is appended may stand there.
+//! How numbers and bytes are printed. Where memory is refused a prefix of what is appended may be there.
 
 ghost use Rattle.std.specs.Prelude.{◌≡◌, ◌≤◌, ◌/◌, ◌++◌, OnErr, OnOk, length};
 ghost use Rattle.hex.specs.Hex.{encode_lower};
@@ -8,7 +8,7 @@ ghost use Rattle.dap_text.specs.Text.{image_text, word_text};
 use itoa::{Buffer, Integer};
 use std::alloc::AllocError;
 
-/// Appends a word. Own.
+/// Appends a word.
 #[tactic(auto, unfolding(crate::specs::Adding::StillBegins))]
 pub fn push_str(text: &mut Vec<u8>, word: &str) -> Result<(), AllocError>
     ensures added { OnOk result (Adds text.old text.new word.now) }
@@ -17,7 +17,7 @@ pub fn push_str(text: &mut Vec<u8>, word: &str) -> Result<(), AllocError>
     text.extend_from_slice(word.as_bytes())
 }
 
-/// Appends a decimal number. Own.
+/// Appends a decimal number.
 #[tactic(auto, unfolding(crate::specs::Adding::StillBegins))]
 pub fn push_decimal<I: Integer>(text: &mut Vec<u8>, number: I) -> Result<(), AllocError>
     ensures added { OnOk result (Adds text.old text.new (I.text number)) }
@@ -27,7 +27,7 @@ pub fn push_decimal<I: Integer>(text: &mut Vec<u8>, number: I) -> Result<(), All
     push_str(text, buffer.format(number))
 }
 
-/// Appends a decimal number behind a word. Own.
+/// Appends a decimal number after a word.
 #[tactic(auto, unfolding(crate::specs::Adding::StillBegins))]
 #[inline(always)]
 pub fn push_number<I: Integer>(text: &mut Vec<u8>, word: &str, number: I) -> Result<(), AllocError>
@@ -50,7 +50,7 @@ fn word_digits(number: u16) -> [u8; 4]
     digits
 }
 
-/// Appends a two-byte number as four lower hex digits, behind a word. Own.
+/// Appends a two-byte number as four lower hex digits, after a word.
 #[tactic(auto, unfolding(crate::specs::Adding::StillBegins))]
 #[inline(always)]
 pub fn push_word(text: &mut Vec<u8>, word: &str, number: u16) -> Result<(), AllocError>
@@ -64,8 +64,8 @@ pub fn push_word(text: &mut Vec<u8>, word: &str, number: u16) -> Result<(), Allo
 /// The most bytes of a number's image.
 const NUMBER: usize = 8;
 
-/// Appends bytes as lower hex digits. Those of a number are made beside the text, which is faster for a
-/// few than to make room in it. Own.
+/// Appends bytes as lower hex digits. Those of a number are made beside the text, which is faster for a few than to
+/// make room in it.
 #[tactic(auto, unfolding(crate::specs::Adding::StillBegins))]
 pub fn push_hex(text: &mut Vec<u8>, bytes: &[u8]) -> Result<(), AllocError>
     ensures added { OnOk result (Adds text.old text.new (encode_lower bytes.now)) }
@@ -108,7 +108,7 @@ fn push_many(text: &mut Vec<u8>, bytes: &[u8]) -> Result<(), AllocError>
     Ok(())
 }
 
-/// Appends an image as lower hex digits, or `-` where it is empty, behind a word. Own.
+/// Appends an image as lower hex digits, or `-` where it is empty, after a word.
 #[tactic(auto, unfolding(crate::specs::Adding::StillBegins))]
 #[inline(always)]
 pub fn push_image(text: &mut Vec<u8>, word: &str, image: &[u8]) -> Result<(), AllocError>

@@ -27,7 +27,7 @@ impl<'a> Model for Words<'a> {
     ghost view = { λ w. words_left (option_copied w.rest) };
 }
 
-/// The first word of a line, and what stands behind the space after it.
+/// The first word of a line, and what is after the space after it.
 fn first_word(line: &[u8]) -> (&[u8], Option<&[u8]>)
     ensures { words_of line.now ≡ result.0.now ∷ words_left (option_copied result.1) }
 {
@@ -42,7 +42,7 @@ impl<'a> Words<'a> {
     ghost use Rattle.std.specs.Option.{option_and_then};
     ghost use Rattle.dap_text.specs.Words.{decimal_of, field, text_of, words_of};
 
-    /// All words of a line. It takes no memory. Own.
+    /// All words of a line.
     pub fn of(line: &'a [u8]) -> Self
         ensures { result ≡ words_of line.now }
     {
@@ -56,7 +56,7 @@ impl<'a> Words<'a> {
         Words { rest: self.rest }
     }
 
-    /// The next word, or None where none is left. It takes no memory. Own.
+    /// The next word, or None where none is left.
     pub fn next(&mut self) -> Option<&'a [u8]>
         ensures { MatchOption result ((self.old ≡ []) × (self.new ≡ []))
             (λ word. self.old ≡ word.now ∷ self.new) }
@@ -67,7 +67,7 @@ impl<'a> Words<'a> {
         Some(word)
     }
 
-    /// The next word as a number that isn't above this one (`read_number`); or None, also where no word is left. Own.
+    /// The next word as a number that isn't above this one (`read_number`); or None, also where no word is left.
     pub fn number(&mut self, most: u32) -> Option<u32>
         ensures value { {X : Type 0} (next : ℕ → List (List ℕ) → Option X)
             → field (decimal_of most) next self.old
@@ -85,7 +85,7 @@ impl<'a> Words<'a> {
         read_text(self.next()?)
     }
 
-    /// Nothing, where no word is left, and else None. It takes no memory. Own.
+    /// Nothing, where no word is left, and else None.
     pub fn end(&self) -> Option<()>
         ensures { MatchOption result (self.now ≢ []) (λ _. self.now ≡ []) }
     {
@@ -96,7 +96,7 @@ impl<'a> Words<'a> {
     }
 }
 
-/// Whether a word is this one. It takes no memory. Own.
+/// Whether a word is this one.
 pub fn is(word: &[u8], name: &str) -> bool
     ensures { result ≡ bytes_eq word.now name.now }
 {
@@ -110,7 +110,7 @@ fn are_digits(word: &[u8]) -> bool
     word.iter().all(|digit| digit.is_ascii_digit())
 }
 
-/// A number of 1 to 10 decimal digits, at most so much; or None. It takes no memory. Own.
+/// A number of 1 to 10 decimal digits, at most so much; or None.
 pub fn read_number(word: &[u8], most: u32) -> Option<u32>
     ensures value { result ≡ decimal_of most word.now }
     ensures within { IfSome result (λ number. number ≤ most) }
@@ -156,7 +156,7 @@ pub(crate) fn read_text(word: &[u8]) -> Option<Text<'_>>
     }
 }
 
-/// The bytes that hex digits spell, an even number of them and at least two; or None. It takes no memory. Own.
+/// The bytes that hex digits spell, an even number of them and at least two; or None.
 pub fn read_hex(digits: &[u8]) -> Option<Text<'_>>
     ensures { result ≡ hex_of digits.now }
 {
@@ -170,7 +170,7 @@ pub fn read_hex(digits: &[u8]) -> Option<Text<'_>>
 impl<'a> Text<'a> {
     ghost use Rattle.std.specs.Prelude.{◌≡◌, IfOk};
 
-    /// The bytes, in memory of their own. Own.
+    /// The bytes, in memory of their own.
     pub fn to_vec(&self, alloc: Global) -> Result<Vec<u8>, AllocError>
         ensures { IfOk result (λ bytes. bytes.items ≡ self.now) }
     {

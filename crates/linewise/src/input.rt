@@ -9,7 +9,7 @@ use memchr::memchr;
 use std::alloc::Global;
 use std::io::{BufRead, Error, ErrorKind, Result};
 
-/// The most bytes of a line, without its end. Own.
+/// The most bytes of a line, without its end.
 pub const LONGEST: usize = 16_777_216;
 
 /// A carriage return and a line feed.
@@ -82,7 +82,7 @@ impl Line {
     }
 }
 
-/// How many bytes stand up to and with the first line feed, or how many there are.
+/// How many bytes are up to and with the first line feed, or how many there are.
 fn len_through(bytes: &[u8]) -> usize
     ensures bound { result ≤ length bytes.now }
     ensures some { 0 < length bytes.now → 0 < result }

@@ -27,7 +27,7 @@ pub(crate) fn write_text<W: Write>(text: &[u8], writer: &mut W) -> Result<(), Ta
     Ok(())
 }
 
-/// Writes a text behind another.
+/// Writes a text after another.
 fn write_both<W: Write>(first: &[u8], second: &[u8], writer: &mut W) -> Result<(), TalkFault>
     ensures whole { OnOk result (Appends (W.contents writer.old) (W.contents writer.new)
         (first.now ++ second.now)) }
@@ -91,7 +91,7 @@ fn write_parts<W: Write>(
     write_ending(became, waits, writer)
 }
 
-/// Flushes behind what was written.
+/// Flushes after what was written.
 fn flush<W: Write>(writer: &mut W) -> Result<(), TalkFault>
     ensures keeps { Keeps (W.contents writer.old) (W.contents writer.new) }
     ensures fault { IfErr result (λ fault. fault ≡ TalkFault.WriteFailed) }

@@ -36,7 +36,7 @@ pub enum Answer<P> {
     Begun(P),
 }
 
-/// An end that answers lines (own).
+/// An end that answers lines.
 pub trait Answers {
     ghost use Rattle.linewise.specs.declared.talking.Became.{Became};
     ghost use Rattle.linewise.specs.Talks.{Begins, GivesPiece};
@@ -58,7 +58,8 @@ pub trait Answers {
         requires { text.old.items ≡ [] }
         ensures { Begins answered pieces self.old line.now self.new text.new.items result };
 
-    /// The next piece of an answer, and where it goes on behind that; nothing where all is said. The text comes empty.
+    /// The next piece of an answer, and where it goes on after that; nothing where all is said. The text comes
+    /// empty.
     fn more(
         &self,
         place: Self::Place,
@@ -68,7 +69,7 @@ pub trait Answers {
         ensures piece { IfOk result (GivesPiece (pieces self.now) place text.new.items) }
         ensures refused { OnErr result (0 < length (pieces self.now place)) };
 
-    /// How many packets it waits to be acknowledged, and one more where it has something left to do. It takes no memory.
+    /// How many packets it waits to be acknowledged, and one more where it has something left to do.
     fn waits(&self) -> usize
         ensures { result ≡ waiting self.now };
 }
@@ -111,7 +112,7 @@ fn without_end(line: &[u8]) -> &[u8]
     }
 }
 
-/// Whether a line says nothing: it is empty, or begins with `#`. It takes no memory. Own.
+/// Whether a line says nothing: it is empty, or begins with `#`.
 pub fn is_skipped(line: &[u8]) -> bool
     ensures { result ≡ says_nothing line.now }
 {
@@ -284,14 +285,15 @@ fn is_bad(became: Option<Became>) -> bool
     matches!(became, Some(Became::BadLine))
 }
 
-/// Answers the lines of an input until it ends, and tells whether some line was none of the end's (own).
+/// Answers the lines of an input until it ends, and returns whether some line was none of the end's.
 ///
-/// Each line is answered, and its answer written and flushed, before the next one is read; of an answer that is said piece
-/// by piece, each piece is written before the next one is asked for. A line has at most 16,777,216 bytes, and ends with a
-/// line feed, or a carriage return and a line feed, or with the input; of a longer one nothing is kept. A bad line is told
-/// to the error writer by its number, from 1, before its answer is written.
+/// Each line is answered, and its answer written and flushed, before the next one is read; of an answer that is
+/// said piece by piece, each piece is written before the next one is asked for. A line has at most 16,777,216
+/// bytes, and ends with a line feed, or a carriage return and a line feed, or with the input; of a longer one
+/// nothing is kept. A bad line is reported to the error writer by its number, from 1, before its answer is written.
 ///
-/// Faults: the reader failed, and all lines before are answered; the writer failed, and a front of the answers stands.
+/// Faults: the reader failed, and all lines before are answered; the writer failed, and a prefix of the answers is
+/// written.
 pub fn talk<E: Answers, R: BufRead, W: Write, F: Write>(
     alloc: Global,
     end: &mut E,

@@ -7,8 +7,8 @@ ghost use Rattle.dap_live.specs.Asking as asking;
 ghost use Rattle.live_cli.specs.declared.words.Options.{Options as TheOptions};
 ghost use Rattle.live_cli.specs.Running.{setup_of};
 
-/// By the same options an input has one text, and one exit status: whatever two new ends answer to all its lines, where no
-/// answer wants memory. Own.
+/// By the same options an input has one text, and one exit status: whatever two new ends answer to all its lines,
+/// where no answer is out of memory.
 pub fn inputs_have_one_text()
     ensures serving { (options : TheOptions)
         → HaveOneText serving.answered serving.waiting

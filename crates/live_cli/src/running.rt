@@ -76,7 +76,7 @@ fn no_end<E: Write>(_fault: LinkFault, error_writer: &mut E) -> u8
     tell("no memory", error_writer)
 }
 
-/// Answers the lines of the input by an end that serves, and answers the exit status.
+/// Answers the lines of the input by a server, and answers the exit status.
 fn serve<R: BufRead, W: Write, E: Write>(
     alloc: Global,
     options: Options,
@@ -96,7 +96,7 @@ fn serve<R: BufRead, W: Write, E: Write>(
     }
 }
 
-/// Answers the lines of the input by an end that asks, and answers the exit status.
+/// Answers the lines of the input by a client, and answers the exit status.
 fn ask<R: BufRead, W: Write, E: Write>(
     alloc: Global,
     options: Options,
@@ -115,8 +115,8 @@ fn ask<R: BufRead, W: Write, E: Write>(
     }
 }
 
-/// Answers the lines of the input by an end that is set up so, and answers the exit status: 0, or 1 where some line was none
-/// of the end's; 3 where the reader or the writer failed, or memory was refused before the first line. Own.
+/// Answers the lines of the input by an end that is set up so, and answers the exit status: 0, or 1 where some line
+/// was none of the end's; 3 where the reader or the writer failed, or memory was refused before the first line.
 pub fn run_options<R: BufRead, W: Write, E: Write>(
     alloc: Global,
     options: Options,
@@ -134,7 +134,7 @@ pub fn run_options<R: BufRead, W: Write, E: Write>(
     }
 }
 
-/// What tells of the lines of the listing.
+/// What is said of the lines of the listing.
 const FOLLOWING: Reading = Reading {
     program: "daplive",
     command: "follow",
@@ -182,12 +182,13 @@ fn refuse_word<E: Write>(misspelt: Misspelt<'_>, error_writer: &mut E) -> u8
     2
 }
 
-/// Does what the words name, the program's name first, and answers the exit status. Own.
+/// Does what the words name, the program's name first, and answers the exit status.
 ///
-/// 0: the input ended, or help was asked for and written. 1: the input ended, and some line was none of the end's; of a
-/// capture, that some line is at fault, or too large, which is told. 2: the words name nothing. 3: the reader or the writer
-/// failed, or memory was refused; of an end, before the first line. Nothing is read where the words name nothing or ask for
-/// help. What is wrong is told to the error writer, whose failure changes nothing.
+/// 0: the input ended, or help was asked for and written. 1: the input ended, and some line was none of the end's;
+/// of a capture, that some line is at fault, or too large, which is reported. 2: the words name nothing. 3: the
+/// reader or the writer failed, or memory was refused; of an end, before the first line. Nothing is read where the
+/// words name nothing or ask for help. What is wrong is reported to the error writer, whose failure changes
+/// nothing.
 pub fn run_words<R: BufRead, W: Write, E: Write>(
     alloc: Global,
     words: &[String],

@@ -178,7 +178,7 @@ fn waitings<'a>() -> ValueParser<'a>
     value_parser!(u32).range(LEAST_WAITING..=GREATEST_WAITING as i64)
 }
 
-/// The option that only the end that serves has.
+/// The option that only the server has.
 fn with_waiting<'a>(alloc: Global, command: Command<'a>) -> Result<Command<'a>, Error>
     ensures added { IfOk result (HasWaiting command.entry) }
     ensures memory { IfErr result (λ error. kind_of error ≡ ErrorKind.OutOfMemory) }
@@ -241,7 +241,7 @@ fn end_command<'a>(alloc: Global, usual: &Usual) -> Result<Command<'a>, Error>
     with_limits(alloc, command)
 }
 
-/// The command line of the end that serves.
+/// The command line of the server.
 fn serve_command<'a>(alloc: Global) -> Result<Command<'a>, Error>
     ensures line { IfOk result IsServeLine }
     ensures memory { IfErr result (λ error. kind_of error ≡ ErrorKind.OutOfMemory) }
@@ -292,7 +292,7 @@ pub struct Options {
     pub window: u16,
     /// At least 64.
     pub buffer: u16,
-    /// The bytes that may wait while the end that serves goes on; of no meaning to the end that asks.
+    /// The bytes that may wait while the server goes on; of no meaning to the client.
     pub waiting: u32,
 }
 
@@ -393,7 +393,7 @@ fn read_short(text: &str) -> Option<u16>
     Some(number as u16)
 }
 
-/// How many bytes may wait while an end serves more; an end that asks isn't told.
+/// How many bytes may wait while an end serves more; a client has no such option.
 fn waiting_in<'a>(role: Role, matches: &ArgMatches<'a>) -> Result<u32, Misspelt<'a>>
     ensures value { result_ok result ≡ waiting_of role (rows_of (found_of matches.now)) }
     ensures misspelt { IfErr result (IsMisspelt (rows_of (found_of matches.now))) }
@@ -437,7 +437,7 @@ fn options_in<'a>(role: Role, matches: &ArgMatches<'a>) -> Result<Options, Missp
     })
 }
 
-/// What a word and those behind it name.
+/// What a word and those after it name.
 fn task_in<'a>(name: &str, matches: &ArgMatches<'a>) -> Result<Task, Misspelt<'a>>
     ensures task { result_ok result ≡ task_of_rows (name.now, rows_of (found_of matches.now)) }
     ensures room { IfOk result HasRoom }

@@ -40,20 +40,20 @@ pub enum Got {
     AckOnly,
 }
 
-/// How old a segment or an acknowledgement is at most that is told from its 12-bit number (NSP 4.0.0, segment
+/// How old a segment or an acknowledgement is at most that its 12-bit number identifies (NSP 4.0.0, segment
 /// numbers).
 pub const GREATEST_AGE: u64 = 2047;
 
-/// The bytes of a segment at most (own).
+/// The bytes of a segment at most.
 pub const LARGEST_SEGMENT: usize = 1400;
 
-/// The segments sent and not acknowledged at most (own): fewer than half of the 4,096 numbers.
+/// The segments sent and not acknowledged at most: fewer than half of the 4,096 numbers.
 pub const LARGEST_WINDOW: usize = GREATEST_AGE as usize;
 
-/// The limit on a message lies between this and [`LARGEST_LIMIT`] (own).
+/// The limit on a message lies between this and [`LARGEST_LIMIT`].
 const LEAST_LIMIT: usize = 64;
 
-/// The bytes of a message at most (own).
+/// The bytes of a message at most.
 pub const LARGEST_LIMIT: usize = 65535;
 
 /// One end of an open link (NSP 4.0.0, data segments and their acknowledgement). What it hands out is a part from
@@ -89,8 +89,8 @@ impl Model for LinkEnd {
 }
 
 impl LinkEnd {
-    /// A new end, which sent and took nothing. `BadSetup` where a limit of the setup isn't in its range;
-    /// else `NoMemory` alone (own).
+    /// A new end, which sent and took nothing. `BadSetup` where a limit of the setup isn't in its range; else
+    /// `NoMemory` alone.
     pub fn new(alloc: Global, setup: LinkSetup) -> Result<LinkEnd, LinkFault>
         ensures ok { IfOk result (λ v. IsSetup setup × (v ≡ new_link setup)) }
         ensures err { IfErr result (SetupFault setup) }
@@ -118,7 +118,7 @@ impl LinkEnd {
         })
     }
 
-    /// The segments that were sent, each counted once, however often it was sent (own). It takes no memory.
+    /// The segments that were sent, each counted once, however often it was sent.
     pub fn sent_count(&self) -> u64
         ensures value { result ≡ self.now.sent }
         ensures valid { IsLink self.now }
@@ -126,7 +126,7 @@ impl LinkEnd {
         self.sent
     }
 
-    /// The segments that were sent and are acknowledged (own). It takes no memory.
+    /// The segments that were sent and are acknowledged.
     pub fn acked_count(&self) -> u64
         ensures value { result ≡ self.now.acked }
         ensures valid { IsLink self.now }
@@ -134,14 +134,14 @@ impl LinkEnd {
         self.acked
     }
 
-    /// Whether a packet showed that the two ends have lost each other (own). It takes no memory.
+    /// Whether a packet showed that the two ends have lost each other.
     pub fn has_failed(&self) -> bool
         ensures { result ≡ self.now.failed }
     {
         self.failed
     }
 
-    /// The segments that were taken in order (own). It takes no memory.
+    /// The segments that were taken in order.
     pub fn received_count(&self) -> u64
         ensures value { result ≡ self.now.coming.received }
         ensures valid { IsLink self.now }
@@ -149,7 +149,7 @@ impl LinkEnd {
         self.incoming.received
     }
 
-    /// The segments that were sent and aren't acknowledged: at most the window (own). It takes no memory.
+    /// The segments that were sent and aren't acknowledged: at most the window.
     pub fn unacked(&self) -> usize
         ensures value { result ≡ self.now.sent - self.now.acked }
         ensures small { result ≤ self.now.setup.window }
@@ -158,8 +158,8 @@ impl LinkEnd {
         (self.sent - self.acked) as usize
     }
 
-    /// The bytes of the messages that were sent and aren't acknowledged, the whole message until its last segment is
-    /// acknowledged (own). It takes no memory.
+    /// The bytes of the messages that were sent and aren't acknowledged, the whole message until its last segment
+    /// is acknowledged.
     pub fn waiting_bytes(&self) -> u64
         ensures value { result ≡ waiting_bytes self.now }
         ensures valid { IsLink self.now }
@@ -167,14 +167,14 @@ impl LinkEnd {
         self.waiting
     }
 
-    /// The oldest whole message, which stays (own). It takes no memory.
+    /// The oldest whole message, which stays.
     pub fn peek_message(&self) -> Option<&[u8]>
         ensures { option_copied result ≡ slice_get self.now.coming.inbox 0 }
     {
         self.incoming.inbox.front().map(Vec::as_slice)
     }
 
-    /// The early segments that are held: fewer than the window (own). It takes no memory.
+    /// The early segments that are held: fewer than the window.
     pub fn held_count(&self) -> usize
         ensures value { result ≡ length self.now.held }
         ensures small { result ≤ self.now.setup.window - 1 }
@@ -182,8 +182,7 @@ impl LinkEnd {
         self.early
     }
 
-    /// The bytes of the message whose last segment is still to come; 0 where there is none (own). It takes
-    /// no memory.
+    /// The bytes of the message whose last segment is still to come; 0 where there is none.
     pub fn partial_len(&self) -> usize
         ensures value { result ≡ length (unwrap_or self.now.coming.partial []) }
         ensures small { result ≤ self.now.setup.max_message }

@@ -21,12 +21,12 @@ use crate::ring::{advance, fill, is_free};
 use nsp_seg::{AckField, PacketValue, SegmentFields, Seq12, decode_value};
 use std::collections::VecDeque;
 
-/// A number that is so far ahead of another, or farther, is behind it: half of the 4,096 numbers (NSP 4.0.0,
-/// segment numbers).
+/// A number that is so far ahead of another, or farther, is after it: half of the 4,096 numbers (NSP 4.0.0, segment
+/// numbers).
 const HALF_ROUND: u16 = 2048;
 
 impl LinkEnd {
-    /// The oldest whole message, which leaves (own). It takes no memory.
+    /// The oldest whole message, which leaves.
     pub fn take_message(&mut self) -> Option<Vec<u8>>
         ensures value { MatchOption result ((self.old.coming.inbox ≡ []) × (self.new ≡ self.old))
             (λ m. HandsOut self.old self.new m.items) }
@@ -39,18 +39,18 @@ impl LinkEnd {
         self.incoming.inbox.pop_front()
     }
 
-    /// Takes a packet from the other end (NSP 4.0.0, data segment message and data acknowledgement message).
-    /// Its first acknowledgement field with qualifier 0 counts and no other (own); a number that is 2,048 or
-    /// more ahead of the last one acknowledged, modulo 4,096, is behind it, and acknowledges nothing. An early
-    /// segment is held where its distance from the next one is below the window, the first copy of it; the
-    /// segment that closes the gap is taken with all that follow it without a hole, or none of them is (own).
+    /// Takes a packet from the other end (NSP 4.0.0, data segment message and data acknowledgement message). Its
+    /// first acknowledgement field with qualifier 0 counts and no other; a number that is 2,048 or more ahead of
+    /// the last one acknowledged, modulo 4,096, is after it, and acknowledges nothing. An early segment is held
+    /// where its distance from the next one is below the window, the first copy of it; the segment that closes the
+    /// gap is taken with all that follow it without a hole, or none of them is.
     ///
-    /// Refused, in this order: `Failed`; `Malformed`; `WrongLink`, where it isn't from the other end to this
-    /// one; `BadSequence`, where it acknowledges what wasn't sent; of the next segment, or of the first at
-    /// fault of those that follow it, `BadSequence`, where a first mark stands elsewhere than in front of a
-    /// message, or `MessageTooLong`, above `max_message`; `Exhausted`, where all of these would be more than
-    /// 2^40 segments; `NoMemory`. After `BadSequence` and `MessageTooLong` nothing of the packet was taken
-    /// and every later call that can refuse answers `Failed`; every other refusal changes nothing.
+    /// Refused, in this order: `Failed`; `Malformed`; `WrongLink`, where it isn't from the other end to this one;
+    /// `BadSequence`, where it acknowledges what wasn't sent; of the next segment, or of the first at fault of
+    /// those that follow it, `BadSequence`, where a first mark is elsewhere than in front of a message, or
+    /// `MessageTooLong`, above `max_message`; `Exhausted`, where all of these would be more than 2^40 segments;
+    /// `NoMemory`. After `BadSequence` and `MessageTooLong` nothing of the packet was taken and every later call
+    /// that can refuse answers `Failed`; every other refusal changes nothing.
     pub fn receive(&mut self, packet: &[u8]) -> Result<Got, LinkFault>
         ensures failed { IsTrue self.old.failed → (result ≡ Err Failed) × (self.new ≡ self.old) }
         // Any packet, by the numbers that it shows.
@@ -80,9 +80,9 @@ impl LinkEnd {
         }
     }
 
-    /// As [`LinkEnd::receive`], save that an early segment with more than `max_message` bytes isn't held: it is answered
-    /// as early, and of its packet the acknowledgement alone is taken (own). No message that this end takes has such a
-    /// segment, and a peer can't fill the window with them.
+    /// As [`LinkEnd::receive`], save that an early segment with more than `max_message` bytes isn't held: it is
+    /// answered as early, and of its packet the acknowledgement alone is taken. No message that this end takes has
+    /// such a segment, and a peer can't fill the window with them.
     pub fn receive_bounded(&mut self, packet: &[u8]) -> Result<Got, LinkFault>
         ensures failed { IsTrue self.old.failed → (result ≡ Err Failed) × (self.new ≡ self.old) }
         // Any packet, by the numbers that it shows, and its length.
@@ -278,7 +278,7 @@ impl LinkEnd {
         Ok(())
     }
 
-    /// Keeps an early segment, so many numbers after the next one, unless it is beyond the window or there
+    /// Keeps an early segment, this many numbers after the next one, unless it is beyond the window or there
     /// already.
     fn keep(&mut self, place: usize, piece: &Piece<&[u8]>) -> Result<(), LinkFault>
         requires { 0 < place }
@@ -308,8 +308,8 @@ fn ends_link(fault: LinkFault) -> bool
     matches!(fault, LinkFault::BadSequence | LinkFault::MessageTooLong)
 }
 
-/// Drops so many from the front, and tells how many bytes of the message to which the next one belongs are gone, and how many
-/// bytes wait then, where these were so many.
+/// Drops this many from the front, and returns how many bytes of the message to which the next one belongs are
+/// gone, and how many bytes wait then, where these were this many.
 fn drop_front(queue: &mut VecDeque<Segment>, part: u64, waiting: u64, count: usize) -> (u64, u64)
     requires few { count ≤ length queue.old.items }
     requires counted { waiting ≡ part + bytes_in (pieces queue.old.items) }

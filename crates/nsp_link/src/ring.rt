@@ -43,7 +43,7 @@ pub(crate) fn is_free(ring: &Ring, place: usize) -> bool
     ring.get(place).is_some_and(Option::is_none)
 }
 
-/// The front places leave, and free ones come behind the last.
+/// The front places leave, and free ones come after the last.
 pub(crate) fn advance(ring: &mut Ring, count: usize)
     requires full { length ring.old.items ≡ ring.old.capacity }
     requires some { count ≤ length ring.old.items }

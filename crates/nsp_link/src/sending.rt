@@ -73,8 +73,8 @@ impl LinkEnd {
         self.send_checked(messages)
     }
 
-    /// The same of messages that `check_messages` lets through: they aren't looked at again. Refused for want of memory
-    /// alone, with nothing changed (own).
+    /// The same of messages that `check_messages` lets through: they aren't looked at again. Fails only if memory
+    /// is refused, with nothing changed.
     pub fn send_checked(&mut self, messages: &[Vec<u8>]) -> Result<(), LinkFault>
         requires { IsTrue (may_queue self.old (map (λ v. v.items) messages.now)) }
         ensures ok { OnOk result (self.new
@@ -99,7 +99,7 @@ impl LinkEnd {
         }
     }
 
-    /// Whether `send_all` would take the messages, memory aside; refused as there (own). It takes no memory.
+    /// Whether `send_all` would take the messages, memory aside; refused as there. It takes no memory.
     #[tactic(auto, using(crate::proofs::Allowed::queueing))]
     pub fn check_messages(&self, messages: &[Vec<u8>]) -> Result<(), LinkFault>
         ensures ok { OnOk result (IsTrue (may_queue self.now (map (λ v. v.items) messages.now))) }
@@ -122,7 +122,7 @@ impl LinkEnd {
     }
 
     /// Whether a segment that was never sent waits and the window has room, so that `next_packet` writes one,
-    /// unless the end has failed (own). It takes no memory.
+    /// unless the end has failed.
     pub fn may_send(&self) -> bool
         ensures { result ≡ may_send self.now }
     {
@@ -198,8 +198,8 @@ impl LinkEnd {
         Ok(Some(packet))
     }
 
-    /// The same of an end that hasn't failed, and of a segment of which `may_send` tells: neither is looked
-    /// at again. Refused for want of memory alone, with nothing changed (own).
+    /// The same of an end that hasn't failed, and of a segment of which `may_send` says: neither is looked at
+    /// again. Fails only if memory is refused, with nothing changed.
     pub fn write_next(&mut self) -> Result<Vec<u8>, LinkFault>
         requires works { self.old.failed ≡ false }
         requires may { IsTrue (may_send self.old) }

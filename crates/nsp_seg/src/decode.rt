@@ -11,7 +11,7 @@ use crate::packet::{
 use crate::seq12::Seq12;
 use byteorder::{ByteOrder, LittleEndian};
 
-/// The two-byte number in front, which stands at the offset `at` of the packet, and what follows it.
+/// The two-byte number in front, which is at the offset `at` of the packet, and what follows it.
 fn take_word(bytes: &[u8], at: usize) -> Result<(u16, &[u8]), SegFault>
     ensures { Gives (λ x. (x.0, x.1.now)) result (word_at at bytes.now) }
 {
@@ -96,7 +96,7 @@ fn second_ack(bytes: &[u8]) -> Result<Option<AckField>, SegFault>
     }
 }
 
-/// The data acknowledgement with these bytes behind its flag byte.
+/// The data acknowledgement with these bytes after its flag byte.
 #[tactic(auto, unfolding(crate::specs::Inner::Reading::data_ack_of))]
 fn data_ack(bytes: &[u8]) -> Result<Packet<'_>, SegFault>
     ensures { result ≡ data_ack_of bytes.now }

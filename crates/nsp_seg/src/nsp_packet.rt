@@ -47,7 +47,7 @@ pub enum Packet<'a> {
 }
 
 impl<'a> Packet<'a> {
-    /// The value of the packet. Made into a packet again it has the same fields. Takes no memory.
+    /// The value of the packet. Made into a packet again it has the same fields.
     pub fn to_value(&self) -> PacketValue<'a>
         ensures { result ≡ value_of self.now }
     {
@@ -85,7 +85,7 @@ impl<'a> Packet<'a> {
         }
     }
 
-    /// The packet that has this value. Takes no memory.
+    /// The packet that has this value.
     pub fn from_value(value: PacketValue<'a>) -> Packet<'a>
         ensures { value_of result ≡ value.entry }
     {
@@ -110,9 +110,9 @@ impl<'a> Packet<'a> {
     }
 }
 
-/// The packet that the bytes, all of them, spell; its payload is a part of them. It takes no memory.
-/// Bytes that spell none have one fault, and that is told (NSP 4.0.0, data segment message and data
-/// acknowledgement message; other messages are not read here: own).
+/// The packet that the bytes, all of them, spell; its payload is a part of them. It takes no memory. Bytes that
+/// spell none have one fault, and that is reported (NSP 4.0.0, data segment message and data acknowledgement
+/// message; other messages are not read here).
 pub fn decode_packet(bytes: &[u8]) -> Result<Packet<'_>, SegFault>
     // What is spelled is read, and what is read is spelled.
     ensures only { (p : PacketValue) → Spells p bytes.now → value_of_answer result ≡ Ok p }
@@ -127,11 +127,10 @@ pub fn decode_packet(bytes: &[u8]) -> Result<Packet<'_>, SegFault>
     }
 }
 
-/// Appends the packet's bytes; the free bits of a segment's number are written 0 (own). The caller sees
-/// to it that each qualifier is at most 7, and that a second acknowledgement field stands only beside a
-/// first. It is refused for want of memory alone, which leaves `out` as it was, and never where `out`
-/// has the room already; no room is given back (NSP 4.0.0, data segment message and data
-/// acknowledgement message).
+/// Appends the packet's bytes; the free bits of a segment's number are written 0. The caller sees to it that each
+/// qualifier is at most 7, and that a second acknowledgement field is only beside a first. It fails only if memory
+/// is refused, which leaves `out` as it was, and never where `out` has the room already; no room is given back (NSP
+/// 4.0.0, data segment message and data acknowledgement message).
 pub fn encode_packet(packet: &Packet<'_>, out: &mut Vec<u8>) -> Result<(), SegFault>
     requires { IsWritable (value_of packet.now) }
     ensures ok { OnOk result (out.new.items ≡ out.old.items ++ spelling (value_of packet.now)) }

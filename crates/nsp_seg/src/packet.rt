@@ -96,14 +96,14 @@ pub enum SegFault {
     /// The field that begins at this offset is missing, or not whole.
     #[error("the field at byte {0} is missing or not whole")]
     Truncated(usize),
-    /// What stands from this offset on may not follow an acknowledgement.
+    /// What is from this offset on may not follow an acknowledgement.
     #[error("what stands from byte {0} on may not follow an acknowledgement")]
     Trailing(usize),
     /// This first byte is neither that of a data segment nor that of a data acknowledgement.
     #[error("the first byte {0:#04x} is neither that of a data segment nor of a data acknowledgement")]
     NotHere(u8),
-    /// The number at this offset has the wrong highest bit: it is set where a segment's own number has to
-    /// stand, or clear where an acknowledgement field has to.
+    /// The number at this offset has the wrong highest bit: it is set where a segment's own number has to be, or
+    /// clear where an acknowledgement field has to.
     #[error("the number at byte {0} has the wrong highest bit")]
     BadNumber(usize),
     /// Memory ran out in writing.
@@ -140,7 +140,7 @@ pub enum FlagKind {
     Unknown,
 }
 
-/// What a packet with this first byte is (NSP 4.0.0, message formats). Takes no memory.
+/// What a packet with this first byte is (NSP 4.0.0, message formats).
 pub fn flag_kind(flag: u8) -> FlagKind
     ensures { result ≡ flag_kind_of flag }
 {

@@ -25,7 +25,7 @@ impl Model for Seq12 {
 }
 
 impl Seq12 {
-    /// The number modulo 4,096 (NSP 4.0.0, segment numbers). Takes no memory.
+    /// The number modulo 4,096 (NSP 4.0.0, segment numbers).
     #[tactic(auto, unfolding(crate::specs::Numbers::residue))]
     pub fn of(number: u64) -> Seq12
         ensures { result ≡ residue number }
@@ -33,7 +33,7 @@ impl Seq12 {
         Seq12((number % u64::from(ROUND)) as u16)
     }
 
-    /// The number itself, below 4,096 (NSP 4.0.0, segment numbers). Takes no memory.
+    /// The number itself, below 4,096 (NSP 4.0.0, segment numbers).
     pub fn get(self) -> u16
         ensures value { result ≡ self }
         ensures small { result < 4096 }
@@ -41,7 +41,7 @@ impl Seq12 {
         self.0
     }
 
-    /// The number that follows: 0 after 4,095 (NSP 4.0.0, segment numbers). Takes no memory.
+    /// The number that follows: 0 after 4,095 (NSP 4.0.0, segment numbers).
     #[tactic(auto, unfolding(crate::specs::Numbers::residue))]
     pub fn after(self) -> Seq12
         ensures { result ≡ residue (self + 1) }
@@ -49,8 +49,7 @@ impl Seq12 {
         Seq12((self.0 + 1) % ROUND)
     }
 
-    /// How far this number is ahead of the other, going round: this one minus the other, modulo 4,096 (own). Takes no
-    /// memory.
+    /// How far this number is ahead of the other, going round: this one minus the other, modulo 4,096.
     #[tactic(auto, unfolding(crate::specs::Numbers::residue))]
     pub fn ahead_of(self, other: Seq12) -> u16
         ensures ahead { result ≡ residue (self + 4096 - other) }

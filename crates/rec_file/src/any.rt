@@ -20,8 +20,8 @@ pub enum AnyFile {
 }
 
 impl AnyFile {
-    /// An empty file of the shape's organization, the shape being one that [`Shape::check`] gives
-    /// (own). It takes no memory.
+    /// An empty file of the shape's organization, the shape being one that [`Shape::check`] gives. It takes no
+    /// memory.
     pub fn new(alloc: Global, shape: Shape) -> AnyFile
         requires { IsTrue (is_shape shape) }
         ensures { any_value result ≡ record { shape = shape; records = map.empty } }

@@ -19,8 +19,7 @@ pub trait OneWalk {
     /// The shape and the records.
     ghost value: { Self → FileVal };
 
-    /// The record of the lowest occupied number from this one on, behind its number, or None where
-    /// there is none.
+    /// The record of the lowest occupied number from this one on, after its number, or None where there is none.
     fn record_from(&self, number: u32) -> Option<(u32, &[u8])>
         ensures none { IfNone result (lowest_from (value self.now).records number ≡ None) }
         ensures lowest { IfSome result
@@ -127,7 +126,7 @@ pub trait RecordFile: OneWalk {
         Ok(())
     }
 
-    /// Removes the record of an occupied number of a relative file. It takes no memory.
+    /// Removes the record of an occupied number of a relative file.
     fn remove(&mut self, number: u32)
         requires relative { is_seq (Self.value self.old).shape.org ≡ false }
         requires occupied { IsSome (map.get (Self.value self.old).records number) }
@@ -137,8 +136,8 @@ pub trait RecordFile: OneWalk {
     }
 }
 
-/// The record of the lowest occupied number from this one on, behind its number: one step through
-/// the records of a file in order (own). None where there is no such record. It takes no memory.
+/// The record of the lowest occupied number from this one on, after its number: one step through the records of a
+/// file in order. None where there is no such record.
 pub fn first_record<F: RecordFile>(file: &F, number: u32) -> Option<(u32, &[u8])>
     ensures none { IfNone result (records_from (F.value file.now).records number ≡ []) }
     ensures some { IfSome result (λ r. records_from (F.value file.now).records number

@@ -33,7 +33,7 @@ pub(crate) fn cell_of(number: u32) -> usize
 pub(crate) struct Page {
     /// Bit k is set exactly where cell k is occupied.
     mask: u64,
-    /// The records of the occupied cells, in the order of the cells. A single one stands in the page itself.
+    /// The records of the occupied cells, in the order of the cells. A single one is in the page itself.
     bodies: SmallVec<Vec<u8>, 1>,
 }
 
@@ -71,7 +71,7 @@ impl Page {
         Some(self.bodies.as_slice()[self.rank(at)].as_slice())
     }
 
-    /// Stores a record in an empty cell. An error is want of memory: nothing has changed.
+    /// Stores a record in an empty cell. An error is a refused allocation: nothing has changed.
     pub(crate) fn put(&mut self, at: usize, body: Vec<u8>) -> Result<(), AllocError>
         requires within { at < 64 }
         requires empty { cell self.old at ≡ None }
@@ -84,7 +84,7 @@ impl Page {
         Ok(())
     }
 
-    /// Stores another record in an occupied cell. It takes no memory.
+    /// Stores another record in an occupied cell.
     pub(crate) fn replace(&mut self, at: usize, body: Vec<u8>)
         requires within { at < 64 }
         requires occupied { IsSome (cell self.old at) }
@@ -94,7 +94,7 @@ impl Page {
         self.bodies.as_mut_slice()[rank] = body;
     }
 
-    /// Empties an occupied cell. It takes no memory.
+    /// Empties an occupied cell.
     pub(crate) fn clear(&mut self, at: usize)
         requires within { at < 64 }
         requires occupied { IsSome (cell self.old at) }

@@ -1,4 +1,4 @@
-//! Where the pages of a relative file stand.
+//! Where the pages of a relative file are.
 ghost use Rattle.std.specs.Prelude.{◌≡◌, ◌≤◌, ◌<◌, ℕ, [], ◌∷◌, length, map, slice_index, true, None, IfOk, IfErr, IfSome, IfNone, IsSome, OnErr, OnOk};
 ghost use Rattle.std.specs.Ordering.{nat_cmp};
 ghost use Rattle.std.specs.FinMap.{is_sorted};
@@ -41,8 +41,8 @@ impl Model for Places {
 /// How many places to each side of the likely one are looked at first.
 const NEAR: usize = 4;
 
-/// A part of a group outside of which a page doesn't stand: near the place where it would stand if the pages were
-/// spread evenly over the group, or else all up to there, or behind it.
+/// A part of a group outside of which a page isn't: near the place where it would be if the pages were spread
+/// evenly over the group, or else all up to there, or after it.
 fn part(group: &[(u32, usize)], page: u32) -> (usize, usize)
     requires { IsInOrder (map (λ e. e.0) group.now) }
     ensures within { (result.0 ≤ result.1) × (result.1 ≤ length group.now) }
@@ -64,7 +64,7 @@ fn part(group: &[(u32, usize)], page: u32) -> (usize, usize)
     (low, high)
 }
 
-/// Where a page stands in its group, or where it would.
+/// Where a page is in its group, or where it would.
 fn seek(group: &[(u32, usize)], page: u32) -> Result<usize, usize>
     requires { IsInOrder (map (λ e. e.0) group.now) }
     ensures found { IfOk result (IsPlaceOf (map (λ e. e.0) group.now) page) }
@@ -97,7 +97,7 @@ pub(crate) enum Put {
     Begun(Vec<u8>),
 }
 
-/// Makes room for a page more, with a record: its place, and the record. An error is want of memory.
+/// Makes room for a page more, with a record: its place, and the record. An error is a refused allocation.
 fn room_for(
     pages: &mut Slab<Page>,
     alloc: Global,
@@ -113,8 +113,8 @@ fn room_for(
     Ok((pages.vacant_key(), record))
 }
 
-/// Puts a page into its group, where it has no place. An error is want of memory: it has no place, and nothing has
-/// changed.
+/// Puts a page into its group, where it has no place. An error is a refused allocation: it has no place, and
+/// nothing has changed.
 fn put_in(
     group: &mut Vec<(u32, usize)>,
     alloc: Global,
@@ -196,7 +196,8 @@ impl Places {
         place_in(group, page)
     }
 
-    /// Puts a page, where it has no place. An error is want of memory: it has no place, and nothing has changed.
+    /// Puts a page, where it has no place. An error is a refused allocation: it has no place, and nothing has
+    /// changed.
     pub(crate) fn put(
         &mut self,
         alloc: Global,
@@ -224,8 +225,7 @@ impl Places {
         Ok(Put::Begun(record))
     }
 
-    /// Empties a cell of a page, where it is occupied; a page that has no record then goes. Whether it was. It takes no
-    /// memory.
+    /// Empties a cell of a page, where it is occupied; a page that has no record then goes. Whether it was.
     pub(crate) fn clear(&mut self, page: u32, cell: usize, pages: &mut Slab<Page>) -> bool
         requires within { cell < 64 }
         requires stands { IfSome (place_of self.old page) (λ i. IsSome (get pages.old i)) }

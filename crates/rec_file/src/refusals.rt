@@ -52,8 +52,8 @@ impl Refusal {
     }
 }
 
-/// The number that a key's 1 to 4 bytes spell, the least significant first; refused as BadKey at
-/// any other length (own). It takes no memory.
+/// The number that a key's 1 to 4 bytes spell, the least significant first; refused as BadKey at any other length.
+/// It takes no memory.
 pub fn key_number(key: &[u8]) -> Result<u32, Refusal>
     ensures { result ≡ number_of_key key.now }
 {

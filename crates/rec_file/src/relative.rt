@@ -57,7 +57,7 @@ impl Model for RelFile {
 }
 
 impl RelFile {
-    /// An empty file of a relative shape that [`Shape::check`] gives (own). It takes no memory.
+    /// An empty file of a relative shape that [`Shape::check`] gives. It takes no memory.
     pub fn new(alloc: Global, shape: Shape) -> RelFile
         requires valid { IsTrue (is_shape shape) }
         requires relative { is_seq shape.org ≡ false }
@@ -71,8 +71,7 @@ impl RelFile {
         }
     }
 
-    /// How many pages are kept: as many as the occupied numbers n have different values of
-    /// `(n - 1) / 64` (own). It takes no memory.
+    /// How many pages are kept: as many as the occupied numbers n have different values of `(n - 1) / 64`.
     pub fn page_count(&self) -> usize
         ensures { result ≡ occupied_pages self.now.records }
     {
@@ -110,8 +109,8 @@ impl RelFile {
     }
 }
 
-/// Stores a record in a page that is kept, or else in a new one: whether its cell was empty. An error is want of memory:
-/// the cell is empty. Where it wasn't stored nothing has changed.
+/// Stores a record in a page that is kept, or else in a new one: whether its cell was empty. An error is a refused
+/// allocation: the cell is empty. Where it wasn't stored nothing has changed.
 fn put_in(
     places: &mut Places,
     pages: &mut Slab<Page>,

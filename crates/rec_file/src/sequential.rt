@@ -34,7 +34,7 @@ impl Model for SeqFile {
 }
 
 impl SeqFile {
-    /// An empty file of a sequential shape that [`Shape::check`] gives (own). It takes no memory.
+    /// An empty file of a sequential shape that [`Shape::check`] gives. It takes no memory.
     pub fn new(alloc: Global, shape: Shape) -> SeqFile
         requires valid { IsTrue (is_shape shape) }
         requires sequential { IsTrue (is_seq shape.org) }

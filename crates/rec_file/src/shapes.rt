@@ -5,7 +5,7 @@ ghost use Rattle.rec_file.specs.Shapes.{checked_shape, is_shape, limit_of, allow
 /// How the numbers of a file's records are given out (own, in the manner of RMS).
 #[derive(Clone, Copy, Debug, PartialEq, Eq)]
 pub enum Org {
-    /// Records stand in the order in which they came, numbered 1, 2, 3, .. without a gap.
+    /// Records are in the order in which they came, numbered 1, 2, 3, .. without a gap.
     Seq,
     /// Each number from 1 to the limit has a record or none.
     Rel,
@@ -37,19 +37,19 @@ pub struct Shape {
     pub mrn: u32,
 }
 
-/// No record has more bytes (own).
+/// No record has more bytes.
 pub const MAX_RECORD: u16 = 32767;
 
-/// No record has a greater number (own).
+/// No record has a greater number.
 pub const MAX_NUMBER: u32 = 2147483647;
 
 impl Shape {
-    /// The shape that four attributes name, or None where they name none (DAP 5.6.0, Attributes message; the
-    /// bounds are own). It takes no memory.
+    /// The shape that four attributes name, or None where they name none (DAP 5.6.0, Attributes message; the bounds
+    /// are own).
     ///
-    /// `org` is 0 (sequential) or 16 (relative), `rfm` 1 (fixed) or 2 (variable), `mrs` at most
-    /// [`MAX_RECORD`] bytes and at least 1 where the format is fixed, and `mrn` at most
-    /// [`MAX_NUMBER`]; a sequential file holds it as 0.
+    /// `org` is 0 (sequential) or 16 (relative), `rfm` 1 (fixed) or 2 (variable), `mrs` at most [`MAX_RECORD`]
+    /// bytes and at least 1 where the format is fixed, and `mrn` at most [`MAX_NUMBER`]; a sequential file holds it
+    /// as 0.
     pub fn check(org: u8, rfm: u8, mrs: u16, mrn: u64) -> Option<Shape>
         ensures value { result ≡ checked_shape org rfm mrs mrn }
         ensures good { IfSome result (λ shape. IsTrue (is_shape shape)) }
@@ -85,22 +85,21 @@ impl Shape {
         })
     }
 
-    /// Whether the organization is the sequential one (own). It takes no memory.
+    /// Whether the organization is the sequential one.
     pub fn is_sequential(&self) -> bool
         ensures { result ≡ is_seq self.now.org }
     {
         self.org == Org::Seq
     }
 
-    /// The greatest number that a record of the file can have: `mrn`, or [`MAX_NUMBER`] where that
-    /// is 0 (own). It takes no memory.
+    /// The greatest number that a record of the file can have: `mrn`, or [`MAX_NUMBER`] where that is 0.
     pub fn limit(&self) -> u32
         ensures { result ≡ limit_of self.now }
     {
         if self.mrn == 0 { MAX_NUMBER } else { self.mrn }
     }
 
-    /// Whether a record of the file can have this many bytes (own). It takes no memory.
+    /// Whether a record of the file can have this many bytes.
     pub fn allows(&self, length: usize) -> bool
         ensures { result ≡ allows_length self.now length }
     {

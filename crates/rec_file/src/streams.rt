@@ -41,7 +41,7 @@ impl Model for Stream {
 }
 
 impl Stream {
-    /// A stream at number 1, with no current record (own). It takes no memory.
+    /// A stream at number 1, with no current record.
     pub fn new(rights: Rights) -> Stream
         ensures { result ≡ record { rights = rights; next = 1; current = None } }
     {
@@ -52,14 +52,14 @@ impl Stream {
         }
     }
 
-    /// What its user may do (own). It takes no memory.
+    /// What its user may do.
     pub fn rights(&self) -> Rights
         ensures { result ≡ self.now.rights }
     {
         self.rights
     }
 
-    /// The number from which the next get searches: 1 to one above [`MAX_NUMBER`] (own). It takes no memory.
+    /// The number from which the next get searches: 1 to one above [`MAX_NUMBER`].
     pub fn next(&self) -> u32
         ensures same { result ≡ self.now.next }
         ensures above { 1 ≤ result }
@@ -68,7 +68,7 @@ impl Stream {
         self.next
     }
 
-    /// The next get searches from n on, and no record is current (own). It takes no memory.
+    /// The next get searches from n on, and no record is current.
     pub fn seek(&mut self, n: u32)
         requires above { 1 ≤ n }
         requires within { n ≤ greatest_number + 1 }
@@ -81,14 +81,14 @@ impl Stream {
         };
     }
 
-    /// The next get searches from 1 on, and no record is current (own). It takes no memory.
+    /// The next get searches from 1 on, and no record is current.
     pub fn rewind(&mut self)
         ensures { self.new ≡ record self.old { next = 1; current = None } }
     {
         self.seek(1);
     }
 
-    /// No record is current then, and nothing else changes (own). It takes no memory.
+    /// No record is current then, and nothing else changes.
     pub fn forget(&mut self)
         ensures { self.new ≡ record self.old { current = None } }
     {
@@ -96,11 +96,11 @@ impl Stream {
         *self = Stream { current, ..*self };
     }
 
-    /// Finds a record (own). It becomes the current one, and the next get searches behind it; a refused
-    /// get leaves where the next one searches. It takes no memory.
+    /// Finds a record. It becomes the current one, and the next get searches after it; a refused get leaves where
+    /// the next one searches. It takes no memory.
     ///
-    /// Refusals in order: NotPermitted; by `Next` EndOfFile; by `Key` BadAccessMode in a sequential
-    /// file, NumberOutOfRange, RecordNotFound; by `Rfa` NumberOutOfRange, RecordNotFound.
+    /// Refusals in order: NotPermitted; by `Next` EndOfFile; by `Key` BadAccessMode in a sequential file,
+    /// NumberOutOfRange, RecordNotFound; by `Rfa` NumberOutOfRange, RecordNotFound.
     pub fn get<F: RecordFile>(&mut self, file: &F, pick: Pick) -> Result<u32, Refusal>
         ensures reply { result ≡ (act (get_record pick) (F.value file.now) self.old).reply }
         ensures stream { self.new ≡ (act (get_record pick) (F.value file.now) self.old).stream }
@@ -110,7 +110,7 @@ impl Stream {
         Ok(number)
     }
 
-    /// A get that answers the record too, behind its number (own). It takes no memory. Its refusals are those of
+    /// A get that answers the record too, after its number. It takes no memory. Its refusals are those of
     /// [`Stream::get`].
     pub fn read<'a, F: RecordFile>(
         &mut self,
@@ -140,7 +140,7 @@ impl Stream {
         }
     }
 
-    /// The record that a get finds, behind its number.
+    /// The record that a get finds, after its number.
     fn found<'a, F: RecordFile>(&self, file: &'a F, pick: Pick) -> Result<(u32, &'a [u8]), Refusal>
         ensures refused { IfErr result (λ refusal.
             (act (get_record pick) (F.value file.now) self.now).reply ≡ Err refusal) }
@@ -173,11 +173,11 @@ impl Stream {
         }
     }
 
-    /// Stores a new record (own): under the key; without one at the end of a sequential file, and in a
-    /// relative file at the stream's next, which moves behind it.
+    /// Stores a new record: under the key; without one at the end of a sequential file, and in a relative file at
+    /// the stream's next, which moves after it.
     ///
-    /// Refusals in order: NotPermitted, BadAccessMode (a key in a sequential file), BadLength,
-    /// NumberOutOfRange, RecordExists, NoMemory.
+    /// Refusals in order: NotPermitted, BadAccessMode (a key in a sequential file), BadLength, NumberOutOfRange,
+    /// RecordExists, NoMemory.
     pub fn put<F: RecordFile>(
         &mut self,
         file: &mut F,
@@ -249,7 +249,7 @@ impl Stream {
         Ok(number)
     }
 
-    /// Replaces the current record, in a sequential file by one of the same length (own).
+    /// Replaces the current record, in a sequential file by one of the same length.
     ///
     /// Refusals in order: NotPermitted, NoCurrent, BadLength, NoMemory.
     pub fn update<F: RecordFile>(&mut self, file: &mut F, body: &[u8]) -> Result<u32, Refusal>
@@ -307,7 +307,7 @@ impl Stream {
         }
     }
 
-    /// Removes the current record of a relative file (own). It takes no memory.
+    /// Removes the current record of a relative file. It takes no memory.
     ///
     /// Refusals in order: NotPermitted, DeleteNotAllowed (a sequential file), NoCurrent.
     pub fn delete<F: RecordFile>(&mut self, file: &mut F) -> Result<u32, Refusal>
