@@ -5,7 +5,7 @@ use nsp_link::Got;
 use std::alloc::{AllocError, AllocFailed};
 use thiserror::Error;
 
-/// The two ends (own).
+/// The two ends.
 #[derive(Clone, Copy, Drop, PartialEq, Eq)]
 pub enum End {
     /// The one that asks.
@@ -14,20 +14,20 @@ pub enum End {
     B,
 }
 
-/// What happens in a world (own).
+/// What happens in a world.
 #[derive(Drop, PartialEq)]
 pub enum Event {
-    /// A request is asked of A; its messages wait.
+    /// The client A asks a request; its messages wait.
     Ask(Request),
-    /// What waits at an end is handed to its link.
+    /// The messages that wait at an end are handed to its link.
     Post(End),
     /// An end writes its next segment.
     Emit(End),
-    /// An end writes a segment again: the one at this place, from 0, of those that aren't acknowledged.
+    /// An end retransmits a segment: the one at this index, from 0, of those that aren't acknowledged.
     Resend(End, usize),
     /// An end writes an acknowledgement.
     Ack(End),
-    /// An end gets the packet at this place, from 0, of those that the other end wrote.
+    /// An end receives the packet at this index, from 0, of those that the other end wrote.
     Deliver(End, usize),
     /// B serves its next DAP message; the answers wait.
     Serve,
@@ -35,18 +35,18 @@ pub enum Event {
     Read,
 }
 
-/// What came of an event (own).
+/// What came of an event.
 #[derive(Clone, Copy, Drop, Debug, PartialEq, Eq)]
 pub enum Step {
-    /// So many NSP messages wait more.
+    /// This number of NSP messages was added to those that wait.
     Asked(usize),
-    /// So many NSP messages were handed over.
+    /// This number of NSP messages was handed over.
     Posted(usize),
-    /// The packet stands at this place of the wire, from 0.
+    /// The packet is at this index of the wire, from 0.
     Packet(usize),
     /// What became of the packet.
     Delivered(Got),
-    /// So many NSP messages answer.
+    /// This number of NSP messages answers.
     Served(usize),
     /// An answer was read, and no report came of it.
     Nothing,
@@ -54,7 +54,7 @@ pub enum Step {
     Reported,
 }
 
-/// Why an event has no step, or a call none (own). A refused event leaves the world unchanged.
+/// Why an event has no step, or a call none. A refused event leaves the world unchanged.
 #[derive(Clone, Copy, Drop, Debug, PartialEq, Eq, Error)]
 pub enum WorldFault {
     /// The other end wrote no packet of this place.
@@ -69,7 +69,7 @@ pub enum WorldFault {
     /// The request isn't asked.
     #[error("the request isn't asked: {0}")]
     Ask(AskFault),
-    /// Memory was refused.
+    /// Memory ran out.
     #[error("memory ran out")]
     NoMemory,
     /// A direction would have more than 2^40 segments.

@@ -1,5 +1,5 @@
 //! What happens between two ends of a DAP file access and their network, as values: the events, what comes of each, and
-//! the sizes of both ends (own).
+//! the sizes of both ends.
 #![tactic(auto)]
 
 mod event;

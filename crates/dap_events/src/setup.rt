@@ -1,6 +1,6 @@
 //! The sizes of a world.
 
-/// The numbers of a world (own).
+/// The sizes of a world.
 #[derive(Clone, Copy, PartialEq, Eq)]
 pub struct WorldSetup {
     /// The bytes of a segment, 1 to 1,400.

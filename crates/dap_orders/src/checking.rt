@@ -9,7 +9,7 @@ use crate::meaningful::MeaningfulLines;
 use crate::orders::{read_order, read_setup};
 use dap_listing::{CaptureFault, INPUT_LIMIT};
 
-/// Whether the lines are events, or else the first fault.
+/// Whether the lines are events, or else the first line that is none (`BadLine`).
 pub fn check_orders<'a>(mut lines: MeaningfulLines<'a>) -> Result<(), CaptureFault>
     ensures faults { TellsFirst result (filter_map event_fault lines.entry) }
     ensures of_line { IfErr result IsOfLine }
@@ -22,8 +22,8 @@ pub fn check_orders<'a>(mut lines: MeaningfulLines<'a>) -> Result<(), CaptureFau
     Ok(())
 }
 
-/// Whether the first line that says something is a setup, and the others are events, or else the
-/// first fault.
+/// Whether the first line that isn't skipped is a setup, and the others are events, or else the first
+/// line at fault (`BadLine`).
 pub fn check_schedule(input: &[u8]) -> Result<(), CaptureFault>
     requires { length input.now ≤ INPUT_LIMIT }
     ensures faults { TellsFirst result (schedule_faults (said input.now)) }

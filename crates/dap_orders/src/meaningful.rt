@@ -1,4 +1,4 @@
-//! The lines of a schedule that say something.
+//! The lines of a schedule that aren't skipped.
 
 ghost use Rattle.std.specs.Prelude.{◌≡◌, ◌≤◌, ◌+◌, ◌∷◌, [], length, IfSome, MatchOption};
 ghost use Rattle.dap_orders.specs.Schedules.{said_from};
@@ -7,8 +7,8 @@ use dap_listing::{INPUT_LIMIT, next_line};
 use linewise::is_skipped;
 use std::marker::Model;
 
-/// The first line that says something, behind its number, and what stands after it. The first of
-/// all lines has the number.
+/// The first line that isn't skipped, after its number, and the bytes after it. The first of all
+/// lines has this number.
 fn next_meaningful(number: usize, bytes: &[u8]) -> Option<(usize, &[u8], &[u8])>
     requires { number + length bytes.now ≤ INPUT_LIMIT + 1 }
     ensures said { MatchOption result (said_from number bytes.now ≡ [])
@@ -28,7 +28,7 @@ fn next_meaningful(number: usize, bytes: &[u8]) -> Option<(usize, &[u8], &[u8])>
     None
 }
 
-/// The lines that say something, from a place of the input on, each behind its number.
+/// The lines that aren't skipped, from an offset of the input on, each after its number.
 #[derive(Drop)]
 pub struct MeaningfulLines<'a> {
     number: usize,

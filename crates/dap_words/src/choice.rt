@@ -8,7 +8,7 @@ use clap::error::ErrorKind;
 use clap::{Command, Error};
 use std::alloc::Global;
 
-/// A command of the program (own).
+/// A command of the program.
 #[derive(Clone, Copy, PartialEq, Eq)]
 pub enum Choice {
     Show,
