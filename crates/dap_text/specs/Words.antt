@@ -50,10 +50,14 @@ abbrev pub word : {X : Type 0} → List ℕ → (Words → Option X) → Words �
 word name next [] = None
 word name next (w ∷ words) = if bytes_eq w name then next words else None
 
+-- the next word as it is read, and the words after it
+abbrev pub read_next : {X : Type 0} → (List ℕ → Option X) → Words → Option (X × Words)
+read_next read [] = None
+read_next read (word ∷ words) = option_map (λ x. (x, words)) (read word)
+
 -- the next word is read, and the rest is read by what follows
 abbrev pub field : {X Y : Type 0} → (List ℕ → Option X) → (X → Words → Option Y) → Words → Option Y
-field read next [] = None
-field read next (word ∷ words) = option_and_then (λ x. next x words) (read word)
+field read next words = option_and_then (λ p. next p.0 p.1) (read_next read words)
 
 -- the first of these forms that the words have
 abbrev pub one_of : {X : Type 0} → List (Words → Option X) → Words → Option X

@@ -38,9 +38,8 @@ fn first_word(line: &[u8]) -> (&[u8], Option<&[u8]>)
 }
 
 impl<'a> Words<'a> {
-    ghost use Rattle.std.specs.Prelude.{◌≡◌, ◌≢◌, ◌≤◌, ◌∷◌, ℕ, List, [], IfSome, Option, MatchOption};
-    ghost use Rattle.std.specs.Option.{option_and_then};
-    ghost use Rattle.dap_text.specs.Words.{decimal_of, field, text_of, words_of};
+    ghost use Rattle.std.specs.Prelude.{◌≡◌, ◌≢◌, ◌≤◌, ◌∷◌, [], IfSome, MatchOption, None, Some};
+    ghost use Rattle.dap_text.specs.Words.{decimal_of, read_next, text_of, words_of};
 
     /// All words of a line.
     pub fn of(line: &'a [u8]) -> Self
@@ -69,9 +68,8 @@ impl<'a> Words<'a> {
 
     /// The next word as a number that isn't above this one (`read_number`); or None, also where no word is left.
     pub fn number(&mut self, most: u32) -> Option<u32>
-        ensures value { {X : Type 0} (next : ℕ → List (List ℕ) → Option X)
-            → field (decimal_of most) next self.old
-            ≡ option_and_then (λ number. next number self.new) result }
+        ensures value { MatchOption result (read_next (decimal_of most) self.old ≡ None)
+            (λ number. read_next (decimal_of most) self.old ≡ Some (number, self.new)) }
         ensures within { IfSome result (λ number. number ≤ most) }
     {
         read_number(self.next()?, most)
@@ -79,8 +77,8 @@ impl<'a> Words<'a> {
 
     /// The next word as the bytes of a name or a record; or None, also where no word is left.
     pub(crate) fn text(&mut self) -> Option<Text<'a>>
-        ensures { {X : Type 0} (next : List ℕ → List (List ℕ) → Option X)
-            → field text_of next self.old ≡ option_and_then (λ bytes. next bytes self.new) result }
+        ensures { MatchOption result (read_next text_of self.old ≡ None)
+            (λ bytes. read_next text_of self.old ≡ Some (bytes, self.new)) }
     {
         read_text(self.next()?)
     }
