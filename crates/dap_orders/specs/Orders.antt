@@ -9,21 +9,29 @@ use Rattle.dap_events.specs.declared.setup.WorldSetup.{WorldSetup}
 use Rattle.dap_orders.specs.declared.orders.Order.{Order}
 use Rattle.dap_orders.specs.declared.orders.Order.TheVariants as order
 use Rattle.dap_text.specs.Requests.{request_of}
-use Rattle.dap_text.specs.Words.{ends, field, long, one_of, short, word, words_of}
+use Rattle.dap_text.specs.Words.{Words, ends, field, long, one_of, short, word, words_of}
 
 -- an end
 abbrev pub end_of : List ℕ → Option End
 end_of word = lookup (bytes_eq word) ((codes "a", A) ∷ (codes "b", B) ∷ [])
 
+-- an end, and no word after it
+abbrev pub one_end : (End → Event) → Words → Option Event
+one_end event = field end_of (λ end. ends (event end))
+
+-- an end and a number, and no word after them
+abbrev pub end_and_number : (End → ℕ → Event) → Words → Option Event
+end_and_number event = field end_of (λ end. field long (λ number. ends (event end number)))
+
 -- the event of a line, by its first word and those after it
 abbrev pub event_of : List ℕ → Option Event
 event_of line = one_of (
     word (codes "ask") (λ words. option_map event.Ask (request_of words))
-    ∷ word (codes "post") (field end_of (λ end. ends (event.Post end)))
-    ∷ word (codes "emit") (field end_of (λ end. ends (event.Emit end)))
-    ∷ word (codes "resend") (field end_of (λ end. field long (λ number. ends (event.Resend end number))))
-    ∷ word (codes "ack") (field end_of (λ end. ends (event.Ack end)))
-    ∷ word (codes "deliver") (field end_of (λ end. field long (λ number. ends (event.Deliver end number))))
+    ∷ word (codes "post") (one_end event.Post)
+    ∷ word (codes "emit") (one_end event.Emit)
+    ∷ word (codes "resend") (end_and_number event.Resend)
+    ∷ word (codes "ack") (one_end event.Ack)
+    ∷ word (codes "deliver") (end_and_number event.Deliver)
     ∷ word (codes "serve") (ends event.Serve)
     ∷ word (codes "read") (ends event.Read)
     ∷ []) (words_of line)
