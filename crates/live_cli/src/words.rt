@@ -25,21 +25,21 @@ use std::fmt;
 use std::fmt::Display;
 
 const ABOUT: &str =
-    "One end of a DECnet file access, over lines of standard input and output: whoever carries the \
-lines has the network and the timers. And a listing of captured lines with their messages joined.";
+    "A client or a server for DECnet file access, over lines of standard input and output. A bridge carries \
+the lines, and has the network and the timers. It also lists captured packets, with messages reassembled.";
 
-const LINES: &str =
-    "Each line is answered before the next is read, and its answer ends with 'waits N': so many packets \
-would be sent again, and one more where a line ran out of memory and something is left to do. Empty lines, and those that begin with #, have no answer.
+const LINES: &str = "\
+Each line is answered before the next is read. Each answer ends with 'waits N': N packets aren't acknowledged yet, and one
+more is counted where a line ran out of memory. Empty lines, and those that begin with #, have no answer.
 
-  > HEX                       takes a packet: accepted, repeat, early or ack-only; reports; packets to send, each '< HEX'
-  resend                      the packets that aren't acknowledged, the oldest first; then what was left undone
-  ack                         an acknowledgement of all that came
-  new [LOCAL REMOTE [BYTES]]  a new link, between these addresses, with so many bytes in a segment; serve keeps its files
+  > HEX                       a packet that arrived: accepted, repeat, early or ack-only; reports; packets to send, each '< HEX'
+  resend                      the packets that aren't acknowledged, the oldest first; then what was left to do
+  ack                         an acknowledgement of all that arrived
+  new [LOCAL REMOTE [BYTES]]  a new link, with these addresses and segments of at most BYTES; serve keeps its files
   files                       serve: the files, as the two lines below
   file NAME seq|rel fixed|variable MRS MRN
-                              serve, before a packet came: a file more, without records
-    N BODY                    a record of it, behind two spaces; names and bodies are hex digits, or - for none
+                              serve, before a packet arrived: one file more, without records
+    N BODY                    a record of it, after two spaces; names and bodies are hex digits, or - for none
   ask ..                      ask: hello, create NAME ORG RFM MRS MRN FAC, open NAME FAC, connect, get [key N|rfa N],
                               put [key N] BODY, update BODY, delete, rewind, fetch, store BODY .., continue again|skip|abort,
                               close, purge
@@ -50,9 +50,9 @@ Example: echo 'ask hello' | ./daplive ask
   waits 1";
 
 const FOLLOW: &str = "\
-Reads lines of > or <, for the way that a packet went, a space, and its bytes in hex, at most 4,096.
-Empty lines, and lines that begin with #, are skipped. The messages of a link stand behind 'message', under the packet
-with which they are whole; what is missing, and what is left over, stands behind 'gap' and 'part' at the end.
+Reads lines of > or <, for the direction of a packet, a space, and its bytes in hex, at most 4,096.
+Empty lines, and lines that begin with #, are skipped. Messages are listed after 'message', under the packet that completes
+them. At the end 'gap' has the segments that are missing, and 'part' those that belong to no whole message.
 
 Example: echo '> 600201040305800100060200' | ./daplive follow
 
@@ -68,14 +68,14 @@ struct Usual {
 
 const SERVING: Usual = Usual {
     name: "serve",
-    about: "The end that holds the files",
+    about: "A server: it has the files",
     local: "0202",
     remote: "0101",
 };
 
 const ASKING: Usual = Usual {
     name: "ask",
-    about: "The end that asks",
+    about: "A client",
     local: "0101",
     remote: "0202",
 };
@@ -188,7 +188,7 @@ fn with_waiting<'a>(alloc: Global, command: Command<'a>) -> Result<Command<'a>, 
         "waiting",
         "BYTES",
         "1048576",
-        "Serves the next message while fewer bytes of answers wait, 64 to 1073741824",
+        "Serves no more while this many bytes of answers wait, 64 to 1073741824",
         waitings(),
     );
     let command = command.arg(waiting)?;
@@ -205,7 +205,7 @@ fn with_limits<'a>(alloc: Global, command: Command<'a>) -> Result<Command<'a>, E
         "segment",
         "BYTES",
         "512",
-        "The most bytes of a segment, 1 to 1400",
+        "Bytes of a segment at most, 1 to 1400",
         segments(),
     );
     let window = number(
@@ -213,7 +213,7 @@ fn with_limits<'a>(alloc: Global, command: Command<'a>) -> Result<Command<'a>, E
         "window",
         "COUNT",
         "8",
-        "The most segments that wait for an acknowledgement, 1 to 2047",
+        "Segments that may be unacknowledged, 1 to 2047",
         windows(),
     );
     let buffer = number(
@@ -221,7 +221,7 @@ fn with_limits<'a>(alloc: Global, command: Command<'a>) -> Result<Command<'a>, E
         "buffer",
         "BYTES",
         "1024",
-        "The most bytes of a message to this end, 64 to 65535",
+        "BUFSIZ: bytes of a message to this end at most, 64 to 65535",
         buffers(),
     );
     let command = command.arg(segment)?.arg(window)?.arg(buffer)?;
@@ -256,7 +256,7 @@ fn follow_command<'a>(alloc: Global) -> Command<'a>
     ensures local { (out-Command result).has_globals ≡ false }
 {
     Command::new(alloc, "follow")
-        .about("Lists captured NSP packets with the DAP messages of each link joined")
+        .about("Lists captured NSP packets, with DAP messages reassembled")
         .after_help(FOLLOW)
 }
 
