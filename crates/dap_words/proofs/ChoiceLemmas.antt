@@ -1,8 +1,7 @@
 -- What the program's command line makes of words.
-use Rattle.std.proofs.Common.{◌≡◌, ◌⊎◌, inl, inr, ℕ, List, [], ◌∷◌, Bool, true, false, refl, ap, ◌∙◌, arith, codes, Option, Some, None, Err, option_map, cond}
-use Rattle.std.proofs.Common.{sym}
-use Rattle.std.specs.Prelude.{Box, IfSome, is_some, slice_get, slice_index, unwrap_or}
-use Rattle.clap.specs.Words.{Text, Row, subcommand_of, subcommand_rows_of, subcommand_name_of, has_subcommand, fault_of, is_simple, is_simple_and_free}
+use Rattle.std.proofs.Common.{◌≡◌, ◌⊎◌, inl, inr, ℕ, List, [], Bool, true, false, refl, ap, ◌∙◌, codes, Option, Some, None, option_map, cond}
+use Rattle.std.specs.Prelude.{Box, is_some, slice_get, unwrap_or}
+use Rattle.clap.specs.Words.{Text, Row, subcommand_of, subcommand_rows_of, subcommand_name_of, has_subcommand, is_simple, is_simple_and_free}
 use Rattle.clap.specs.Simple.{built, entered, label_of, rows_at, subcommand_rows, argument_words, names_of, new_app, Shape}
 use Rattle.clap.specs.Walk.{answers_to, stop_after}
 use Rattle.std.specs.Box.{box_value}
@@ -10,8 +9,6 @@ use Rattle.clap.specs.declared.parser.matches.ArgMatches.{ArgMatches}
 use Rattle.clap.specs.declared.parser.matches.ArgMatches.TheViews.{out-ArgMatches, out-SubCommand}
 use Rattle.clap.specs.declared.parser.matches.SubCommand.{SubCommand}
 use Rattle.clap.proofs.OnLiterals.{clap_on_literals}
-use Rattle.std.specs.Io.KnownBytes.{Keeps}
-use Rattle.dap_listing.specs.declared.fault.CaptureFault.TheVariants.{NoMemory}
 use Rattle.dap_words.specs.declared.choice.Choice.{Choice}
 use Rattle.dap_words.specs.declared.choice.Choice.TheVariants.{Show, Msg, Run}
 use Rattle.dap_words.specs.Choosing.{Chooses, dapnsp, word_of}

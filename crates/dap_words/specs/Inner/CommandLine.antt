@@ -3,7 +3,7 @@ use Rattle.std.specs.Prelude.{◌≡◌, true, false}
 use Rattle.clap.specs.declared.builder.command.Command.{Command}
 use Rattle.clap.specs.declared.builder.command.Command.TheViews.{out-Command}
 use Rattle.clap.specs.Words.{app_of, Text, new_app, with_subcommand}
-use Rattle.dap_cli.specs.Run.{dapnsp}
+use Rattle.dap_words.specs.Choosing.{dapnsp}
 
 -- a command that is the program's command line
 pub record IsCommandLine (command : Command) : Type 0 where
