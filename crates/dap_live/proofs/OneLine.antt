@@ -70,7 +70,8 @@ ends_fit order [] h = h
 ends_fit order (w ∷ words) h = tt
 
 next_fits : {X : Type 0} (next : X → Words → Option Order) (o : Option X) (words : Words)
-    → ((x : X) → o ≡ Some x → (more : Words) → Fits (next x more)) → Fits (option_and_then (λ x. next x words) o)
+    → ((x : X) → o ≡ Some x → (more : Words) → Fits (next x more))
+    → Fits (option_and_then {T = X × Words} (λ p. next p.0 p.1) (option_map (λ x. (x, words)) o))
 next_fits next None words h = tt
 next_fits next (Some x) words h = h x refl words
 
