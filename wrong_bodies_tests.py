@@ -35,6 +35,13 @@ pub fn double_and_one(n: u8) -> u16
     double(n) + 1
 }
 
+pub fn named(n: u8) -> u16
+    ensures { result ≡ n + n }
+{
+    let twice = double(n);
+    twice
+}
+
 pub fn at_most(n: u8) -> u8
     ensures { result ≤ n }
 {
@@ -53,12 +60,21 @@ pub fn second_step(n: u8) -> u16
     STEP + u16::from(n)
 }
 """
+# the proof of one, which names a call of its body
+ANSWERS = """\
+use Rattle.small.proofs.named.Goals as goal
+
+pub returns : goal.returns
+returns c = c.double-twice.ensures
+"""
 # the wrong bodies of the crate: the function, the old text and the new one, and what is told of it
 SMALL_EDITS = {
     "doubled_thrice": ("double", "    u16::from(n) + u16::from(n)", "    u16::from(n) + u16::from(n) + u16::from(n)",
                        "refused: double: `returns`"),
     "right_beside_a_wrong_one": ("double_and_one", "    double(n) + 1", "    1 + double(n)",
                                  "NOT REFUSED: double_and_one: proved"),
+    "right_with_another_call": ("named", "    let twice = double(n);", "    let twice = 2 * u16::from(n);",
+                                "NOT REFUSED: named: not proved, and its proof only names what is gone: "),
     "let_through": ("at_most", "    n", "    0", "NOT REFUSED: at_most: proved"),
     "constant": ("first_step", "const STEP: u16 = 3;", "const STEP: u16 = 4;", "refused: first_step: `returns`"),
     "right_beside_a_constant": ("second_step", "    STEP + u16::from(n)", "    u16::from(n) + STEP",
@@ -96,9 +112,12 @@ class ToolCase(unittest.TestCase):
         cls.rooms = cls.folder / "rooms"
         cls.rooms.mkdir()
         shutil.copy(ROOT / TOOL, cls.folder)
+        answers = cls.folder / "crates" / "small" / "proofs" / "named"
+        answers.mkdir(parents=True)
+        (answers / "Answers.antt").write_text(ANSWERS)
         (cls.folder / "crates.txt").write_text("".join(f"{name}:\n" for name in cls.crates))
         for name, (text, edits) in cls.crates.items():
-            (cls.folder / "crates" / name / "src").mkdir(parents=True)
+            (cls.folder / "crates" / name / "src").mkdir(parents=True, exist_ok=True)
             (cls.folder / "crates" / name / "src" / "lib.rt").write_text(text)
             (cls.folder / "crates" / name / "wrong").mkdir()
             for edit, (function, old, new, _) in edits.items():
@@ -134,6 +153,9 @@ class TriedTest(ToolCase):
         """The prover says of it at first only that it calls a function that isn't proved, which is another's edit."""
         self.is_told("right_beside_a_wrong_one")
 
+    def test_a_proof_that_names_what_is_gone_says_nothing(self):
+        self.is_told("right_with_another_call")
+
     def test_a_body_that_the_contract_lets_through_is_found(self):
         self.is_told("let_through")
 
@@ -143,7 +165,7 @@ class TriedTest(ToolCase):
         self.is_told("right_beside_a_constant")
 
     def test_they_are_counted(self):
-        self.assertEqual((self.status, self.told[-1]), (1, "2 refused, 3 not"), self.said)
+        self.assertEqual((self.status, self.told[-1]), (1, "2 refused, 4 not"), self.said)
 
     def test_nothing_is_left(self):
         self.assertEqual(list(self.rooms.iterdir()), [])
