@@ -7,8 +7,8 @@ use dap_listing::{INPUT_LIMIT, next_line};
 use linewise::is_skipped;
 use std::marker::Model;
 
-/// The first line that says something, behind its number, and what stands after it. The first of
-/// all lines has the number.
+/// The first line that says something, after its number, and what is after it. The first of all lines has the
+/// number.
 fn next_meaningful(number: usize, bytes: &[u8]) -> Option<(usize, &[u8], &[u8])>
     requires { number + length bytes.now ≤ INPUT_LIMIT + 1 }
     ensures said { MatchOption result (said_from number bytes.now ≡ [])
