@@ -4,9 +4,11 @@
 mod asking;
 mod ends;
 mod faults;
+mod fields;
 mod files;
 mod links;
 mod messages;
+mod packets;
 mod serving;
 mod trouble;
 mod worlds;
@@ -17,7 +19,9 @@ use trouble::{Lines, Trouble};
 
 /// Calls each library.
 fn call_all(alloc: Global, out: &mut Lines) -> Result<(), Trouble> {
+    fields::call(alloc, out)?;
     messages::call(alloc, out)?;
+    packets::call(alloc, out)?;
     links::call(alloc, out)?;
     files::call(alloc, out)?;
     asking::call(alloc, out)?;

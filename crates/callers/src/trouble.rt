@@ -3,9 +3,11 @@
 use dap_accessed::NoMemory;
 use dap_accessing::{AskFault, ReadFault};
 use dap_end::{EndFault, TakeFault};
+use dap_fields::FieldFault;
 use dap_msg::MsgFault;
 use dap_world::WorldFault;
 use nsp_link::LinkFault;
+use nsp_seg::SegFault;
 use rec_file::Refusal;
 use std::alloc::{AllocError, AllocFailed};
 use std::fmt::Display;
@@ -39,6 +41,18 @@ impl<T: Drop> From<AllocFailed<T>> for Trouble {
 impl From<AllocError> for Trouble {
     fn from(_e: AllocError) -> Trouble {
         Trouble("no memory")
+    }
+}
+
+impl From<FieldFault> for Trouble {
+    fn from(_e: FieldFault) -> Trouble {
+        Trouble("a field")
+    }
+}
+
+impl From<SegFault> for Trouble {
+    fn from(_e: SegFault) -> Trouble {
+        Trouble("a packet")
     }
 }
 

@@ -1,5 +1,4 @@
-//! The runs over an input: the listing of captured packets or of messages, and a schedule of both ends with what it comes to.
-//! The listings are `dap_listing`'s, on which programs stand that play no schedules.
+//! Schedules, which play events over a world; and the listings of `dap_listing`, passed on.
 #![tactic(auto)]
 
 mod commands;

@@ -112,7 +112,7 @@ fn play_lines(alloc: Global, input: &[u8]) -> Result<(Outcome, Vec<u8>), Capture
     }
 }
 
-/// Plays a schedule. A bad line is told also where memory was wanting before it.
+/// Plays a schedule. A bad line is reported also where memory was refused before it.
 pub(crate) fn play(alloc: Global, input: &[u8]) -> Result<(Outcome, Vec<u8>), CaptureFault>
     requires small { length input.now ≤ INPUT_LIMIT }
     ensures played { IfOk result

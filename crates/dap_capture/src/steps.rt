@@ -26,7 +26,7 @@ fn end_word(end: End) -> &'static str
     }
 }
 
-/// The word for a refusal; want of memory has none.
+/// The word for a refusal; out of memory has none.
 pub(crate) fn refusal_word(fault: WorldFault) -> Option<&'static str>
     ensures { option_copied result ≡ refusal_text fault }
 {

@@ -204,7 +204,7 @@ fn prepare<'a>(
     }
 }
 
-/// Asks a request by its messages, and is refused for want of memory alone.
+/// Asks a request by its messages, and fails only if memory is refused.
 fn ask_prepared(
     end: &mut AskingEnd,
     request: &Request,
@@ -298,7 +298,7 @@ fn deliver_b(end: &mut ServingEnd, wire: &[Wired], j: usize) -> Result<Step, Wor
     }
 }
 
-/// What a delivery comes to: what the link got, or want of memory.
+/// What a delivery comes to: what the link got, or out of memory.
 fn delivered(got: Result<Got, LinkFault>) -> Result<Step, WorldFault>
     ensures { result ≡ delivered_as got }
 {

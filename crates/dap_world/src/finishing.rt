@@ -247,11 +247,11 @@ impl World {
         }
     }
 
-    /// Settles both ends, and then hands over, sends, delivers, acknowledges, serves and reads until nothing
-    /// is left to do (own): every request then has its report, whatever was lost before. How many events that
-    /// were, 0 where there was nothing to do, which takes no memory. Refused for want of memory, or where a
-    /// direction would have more than 2^40 segments, as the last event that wasn't refused left the world: no
-    /// report more was told.
+    /// Settles both ends, and then hands over, sends, delivers, acknowledges, serves and reads until nothing is
+    /// left to do: every request then has its report, whatever was lost before. How many events that were, 0 where
+    /// there was nothing to do, which takes no memory. Refused if memory is refused, or where a direction would
+    /// have more than 2^40 segments, as the last event that wasn't refused left the world: no report was
+    /// added.
     pub fn finish(&mut self) -> Result<usize, WorldFault>
         ensures ok { IfOk result (λ n. Finished self.old self.new n) }
         ensures err { IfErr result (λ f. FinishFault self.new f
@@ -291,10 +291,10 @@ impl World {
         Ok(())
     }
 
-    /// Each request to its report, over perfect delivery, in a world of which `is_fresh` holds (own). Refused
-    /// with the place, from 0, of the first request that isn't admissible after those before it and why, or of
-    /// that at which memory or the numbers ran out, which is admissible: the reports are then those of the
-    /// requests before it. The empty list takes no memory.
+    /// Each request to its report, over perfect delivery, in a world of which `is_fresh` holds. Refused with the
+    /// place, from 0, of the first request that isn't admissible after those before it and why, or of that at which
+    /// memory or the numbers ran out, which is admissible: the reports are then those of the requests before it.
+    /// The empty list takes no memory.
     pub fn direct(&mut self, requests: &[Request]) -> Result<(), (usize, WorldFault)>
         requires { IsFresh self.old }
         ensures ok { OnOk result (AllDone requests.now self.new) }

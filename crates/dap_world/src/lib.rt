@@ -1,5 +1,5 @@
-//! Both ends and the network, as events; and what both ends of a DAP file access come to together: laws
-//! over their definitions (own; the exchange is that of DAP 5.6.0, message sequences).
+//! A simulator of a client, a server and the network between them, as events; and the laws of their exchange (DAP
+//! 5.6.0, message sequences).
 #![tactic(auto)]
 
 mod calls;

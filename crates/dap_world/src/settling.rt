@@ -73,7 +73,7 @@ impl World {
         }
     }
 
-    /// Settles an end with so many segments that aren't acknowledged, and says how many events that were.
+    /// Settles an end with this many segments that aren't acknowledged, and says how many events that were.
     fn settle_some(&mut self, end: End, count: usize) -> Result<usize, WorldFault>
         requires world { IsWorld self.old }
         requires all { count ≡ unacked self.old end }
@@ -100,10 +100,10 @@ impl World {
         }
     }
 
-    /// Writes all segments of an end that aren't acknowledged again, delivers them, and then one
-    /// acknowledgement (own): afterwards none is left. How many events that were: twice the segments and 2, or
-    /// 0 where there was nothing to do, which takes no memory. Refused for want of memory alone, as the last
-    /// event that wasn't refused left the world.
+    /// Writes all segments of an end that aren't acknowledged again, delivers them, and then one acknowledgement:
+    /// afterwards none is left. How many events that were: twice the segments and 2, or 0 where there was nothing
+    /// to do, which takes no memory. Fails only if memory is refused, as the last event that wasn't refused left
+    /// the world.
     pub fn settle(&mut self, end: End) -> Result<usize, WorldFault>
         ensures ok { IfOk result (λ n. Settled self.old self.new end n) }
         ensures work { work self.new ≡ work self.old }

@@ -106,7 +106,7 @@ pub(crate) fn acknowledge(
     Ok(put(wire, packet, None, link.received_count()))
 }
 
-/// A count is more than 2,047 behind another.
+/// A count is more than 2,047 below another.
 fn is_stale(number: u64, now: u64) -> bool
     ensures { result ≡ is_old number now }
 {

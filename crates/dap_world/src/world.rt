@@ -71,8 +71,7 @@ impl World {
         }
     }
 
-    /// One event: a step of the machine, or refused as there, or for want of memory (own). A refusal changes
-    /// nothing.
+    /// One event: a step of the machine, or refused as there, or if memory is refused. A refusal changes nothing.
     pub fn apply(&mut self, event: &Event) -> Result<Step, WorldFault>
         ensures went { Went self.old event.now result self.new }
         ensures headline { HeadlineOf self.new }
@@ -82,8 +81,8 @@ impl World {
         result
     }
 
-    /// Asks a request, as its event does, but makes no copy of it: it goes into the ledger (own). Refused as
-    /// there; a refusal changes nothing, and drops the request.
+    /// Asks a request, as its event does, but makes no copy of it: it goes into the ledger. Refused as there; a
+    /// refusal changes nothing, and drops the request.
     pub fn ask(&mut self, request: Request) -> Result<Step, WorldFault>
         ensures went { Went self.old (Event.Ask request) result self.new }
         ensures headline { HeadlineOf self.new }
@@ -135,7 +134,7 @@ impl World {
         Ok(())
     }
 
-    /// The events, up to the first that is refused: its place, from 0, and why (own).
+    /// The events, up to the first that is refused: its place, from 0, and why.
     pub fn run(&mut self, events: &[Event]) -> Result<(), (usize, WorldFault)>
         ensures all { OnOk result (Runs self.old events.now self.new) }
         ensures stopped { IfErr result (λ stop. StopsAt events.now self.old self.new stop) }
@@ -146,36 +145,35 @@ impl World {
         result
     }
 
-    /// The requests that were asked (own). It takes no memory.
+    /// The requests that were asked.
     pub fn requests(&self) -> &[Request]
         ensures { result.now ≡ self.now.requests }
     {
         &self.requests
     }
 
-    /// The DAP messages that were handed to A's link, in order (own). It takes no memory.
+    /// The DAP messages that were handed to A's link, in order.
     pub fn sent(&self) -> &[Vec<u8>]
         ensures { bodies result.now ≡ map canon (sent_by self.now.a) }
     {
         &self.sent
     }
 
-    /// The DAP messages that B served: a part from the front of those that were handed to A's link (own). It
-    /// takes no memory.
+    /// The DAP messages that B served: a prefix of those that were handed to A's link.
     pub fn taken(&self) -> &[Vec<u8>]
         ensures { bodies result.now ≡ map canon (taken_of self.now) }
     {
         &self.sent[..self.served]
     }
 
-    /// How many answers A read (own). It takes no memory.
+    /// How many answers A read.
     pub fn read_count(&self) -> u64
         ensures { result ≡ self.now.read }
     {
         self.read
     }
 
-    /// What A was told (own). It takes no memory.
+    /// The reports of A.
     pub fn reports(&self) -> &[Report]
         ensures told { result.now ≡ reported self.now }
         ensures headline { HeadlineOf self.now }
@@ -183,7 +181,7 @@ impl World {
         &self.reports
     }
 
-    /// The files that B holds (own). It takes no memory.
+    /// The files that B holds.
     pub fn files(&self) -> &FileTable
         ensures files { result.now ≡ files_of self.now }
         ensures headline { HeadlineOf self.now }
@@ -191,7 +189,7 @@ impl World {
         self.serving.files()
     }
 
-    /// The packets that an end wrote (own). It takes no memory.
+    /// The packets that an end wrote.
     pub fn wire(&self, end: End) -> &[Wired]
         ensures sendings { map sending_of result.now ≡ (end_of self.now end).wire }
         ensures packets { AllByRecursion
@@ -203,7 +201,7 @@ impl World {
         }
     }
 
-    /// The link of an end (own). It takes no memory.
+    /// The link of an end.
     pub fn link(&self, end: End) -> &LinkEnd
         ensures way { (result.now.setup.local ≡ address_of end)
             × (result.now.setup.remote ≡ address_of (other end)) }
