@@ -3,7 +3,7 @@
 use crate::playing::Suite;
 use crate::printing::{push_all, push_fault, push_next};
 use crate::trouble::Trouble;
-use crate::words::{buffer, bytes, number, place, request, word};
+use crate::words::{buffer, bytes, number, octet, place, request, short, word};
 use dap_accessing::{Accessing, AskFault, Octets, ReadFault, ReadStep, Request};
 use dap_text::{Words, is, push_number, push_report, push_str};
 use std::alloc::Global;
@@ -55,7 +55,12 @@ fn read(end: &mut Accessing, message: &[u8], at: usize) -> Result<ReadStep, Read
 }
 
 /// What an answer comes to: a report, or that more is to come, or why it isn't read.
-fn hear(alloc: Global, end: &mut Accessing, words: &mut Words<'_>, text: &mut Vec<u8>) -> Result<(), Trouble> {
+fn hear(
+    alloc: Global,
+    end: &mut Accessing,
+    words: &mut Words<'_>,
+    text: &mut Vec<u8>,
+) -> Result<(), Trouble> {
     let message = bytes(alloc, words)?;
     match read(end, &message, place(words)?) {
         Ok(step) => {
@@ -76,13 +81,38 @@ fn opening(alloc: Global, words: &mut Words<'_>) -> Result<Request, Trouble> {
     Ok(Request::OpenFile { name, fac })
 }
 
+/// A request to make a file with any FAC: `NAME ORG RFM MRS MRN FAC`.
+fn making(alloc: Global, words: &mut Words<'_>) -> Result<Request, Trouble> {
+    let name = Octets(bytes(alloc, words)?);
+    let org = octet(words)?;
+    let rfm = octet(words)?;
+    let mrs = short(words)?;
+    let mrn = number(words, u32::MAX)?;
+    let fac = number(words, u32::MAX)?;
+    Ok(Request::Create {
+        name,
+        org,
+        rfm,
+        mrs,
+        mrn,
+        fac,
+    })
+}
+
 /// A call of an end.
-fn act(alloc: Global, end: &mut Accessing, call: &[u8], mut words: Words<'_>, text: &mut Vec<u8>) -> Result<(), Trouble> {
+fn act(
+    alloc: Global,
+    end: &mut Accessing,
+    call: &[u8],
+    mut words: Words<'_>,
+    text: &mut Vec<u8>,
+) -> Result<(), Trouble> {
     match call {
         b"ask" => push_asked(text, end.ask(&request(alloc, words)?)),
         b"steps" => push_asked(text, ask_in_steps(end, &request(alloc, words)?)),
         b"lengths" => push_lengths(text, end.ask(&request(alloc, words)?)),
-        b"rights" => push_asked(text, end.ask(&opening(alloc, &mut words)?)),
+        b"open" => push_asked(text, end.ask(&opening(alloc, &mut words)?)),
+        b"create" => push_asked(text, end.ask(&making(alloc, &mut words)?)),
         b"hear" => hear(alloc, end, &mut words, text),
         _ => Err(Trouble::BadLine),
     }

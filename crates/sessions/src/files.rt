@@ -3,12 +3,12 @@
 use crate::playing::Suite;
 use crate::printing::{push_bytes, push_number_or};
 use crate::trouble::Trouble;
-use crate::words::{bytes, number, octet, request, short, size, word};
+use crate::words::{bytes, number, request, shape, size, word};
 use dap_accessing::{By, Request};
 use dap_text::{Words, is, push_number, push_str};
 use rec_file::{
-    AnyFile, Format, MAX_NUMBER, Org, Pick, RecordFile, Refusal, RelFile, Rights, SeqFile, Shape, Stream,
-    first_record, key_number,
+    AnyFile, Format, MAX_NUMBER, Org, Pick, RecordFile, Refusal, RelFile, Rights, SeqFile, Shape,
+    Stream, first_record, key_number,
 };
 use std::alloc::Global;
 
@@ -39,15 +39,6 @@ impl Filing {
             here: 0,
         }
     }
-}
-
-/// `ORG RFM MRS MRN`
-fn shape(words: &mut Words<'_>) -> Result<Option<Shape>, Trouble> {
-    let org = octet(words)?;
-    let rfm = octet(words)?;
-    let mrs = short(words)?;
-    let mrn = number(words, u32::MAX)?;
-    Ok(Shape::check(org, rfm, mrs, u64::from(mrn)))
 }
 
 /// A new file: `any`, or the one of its organization.
@@ -261,9 +252,7 @@ impl Suite for Filing {
                 self.here = size(&mut words)?.saturating_sub(1);
                 self.moved(call, &mut words, text)
             }
-            call if is_move(call) => self.moved(
-                call, &mut words, text,
-            ),
+            call if is_move(call) => self.moved(call, &mut words, text),
             call if is(call, "record") || is(call, "first") || is(call, "highest") => {
                 self.look(call, &mut words, text)
             }

@@ -74,7 +74,13 @@ fn come_all(end: &mut LinkEnd, first: u16, last: u16, text: &mut Vec<u8>) -> Res
 }
 
 /// Calls that write.
-fn write(alloc: Global, end: &mut LinkEnd, call: &[u8], mut words: Words<'_>, text: &mut Vec<u8>) -> Result<(), Trouble> {
+fn write(
+    alloc: Global,
+    end: &mut LinkEnd,
+    call: &[u8],
+    mut words: Words<'_>,
+    text: &mut Vec<u8>,
+) -> Result<(), Trouble> {
     match call {
         b"send" => push_done(text, end.send(&bytes(alloc, &mut words)?)),
         b"send-all" => push_done(text, end.send_all(&all_bytes(alloc, words)?)),
@@ -92,7 +98,13 @@ fn write(alloc: Global, end: &mut LinkEnd, call: &[u8], mut words: Words<'_>, te
 }
 
 /// Calls that take what comes, or tell how an end stands.
-fn take(alloc: Global, end: &mut LinkEnd, call: &[u8], mut words: Words<'_>, text: &mut Vec<u8>) -> Result<(), Trouble> {
+fn take(
+    alloc: Global,
+    end: &mut LinkEnd,
+    call: &[u8],
+    mut words: Words<'_>,
+    text: &mut Vec<u8>,
+) -> Result<(), Trouble> {
     match call {
         b"receive" => push_word_or(text, end.receive(&bytes(alloc, &mut words)?).map(got_word)),
         b"come" => {

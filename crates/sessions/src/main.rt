@@ -3,26 +3,38 @@
 //! 3 where memory ran out.
 #![tactic(auto)]
 
+mod asking;
+mod ends;
 mod files;
 mod links;
 mod playing;
 mod printing;
+mod serving;
 mod trouble;
 mod words;
+mod worlds;
 
+use asking::Asking;
+use ends::Ending;
 use files::Filing;
 use links::Linking;
-use playing::{Play, Suite, play_all};
+use playing::{Script, Tally, play_all};
+use serving::Serving;
+use std::alloc::Global;
 use std::fs;
-use std::io::Stdout;
 use std::process::ExitCode;
 use trouble::Trouble;
+use worlds::Worlds;
 
 /// Plays a file by its suite.
-fn play_file(play: &mut Play<'_>) -> Result<(), Trouble> {
-    match play.suite() {
-        "files" => play_all(play, Filing::new(play.alloc)),
-        "links" => play_all(play, Linking::new(play.alloc)),
+fn play_file(alloc: Global, script: &Script, tally: &mut Tally) -> Result<(), Trouble> {
+    match script.suite() {
+        "files" => play_all(script, tally, Filing::new(alloc)),
+        "links" => play_all(script, tally, Linking::new(alloc)),
+        "serving" => play_all(script, tally, Serving::new(alloc)),
+        "asking" => play_all(script, tally, Asking::new(alloc)),
+        "ends" => play_all(script, tally, Ending::new(alloc)),
+        "worlds" => play_all(script, tally, Worlds::new(alloc)),
         _ => Err(Trouble::NoSuite),
     }
 }
@@ -32,9 +44,10 @@ fn play_each(rt: &HostRuntime) -> Result<bool, Trouble> {
     let mut is_good = true;
     for name in std::env::args(rt)?.skip(1) {
         let text = fs::read_to_string(rt, name.as_str())?;
-        let mut play = Play::new(rt.alloc(), rt.stdout(), name.as_str(), text.as_str());
-        play_file(&mut play)?;
-        is_good &= play.end()?;
+        let script = Script::new(rt.alloc(), text.as_str())?;
+        let mut tally = Tally::new(rt.stdout(), name);
+        play_file(rt.alloc(), &script, &mut tally)?;
+        is_good &= tally.end()?;
     }
     Ok(is_good)
 }

@@ -3,6 +3,7 @@
 use crate::trouble::Trouble;
 use dap_accessed::FileTable;
 use dap_text::{push_decimal, push_files, push_image, push_number, push_str};
+use itoa::Integer;
 use std::fmt::Display;
 use std::io::Write;
 
@@ -13,9 +14,9 @@ pub fn push_fault<E: Display>(text: &mut Vec<u8>, fault: &E) -> Result<(), Troub
 }
 
 /// A number, or a refusal.
-pub fn push_number_or<E: Display + Drop>(
+pub fn push_number_or<I: Integer, E: Display + Drop>(
     text: &mut Vec<u8>,
-    came: Result<u32, E>,
+    came: Result<I, E>,
 ) -> Result<(), Trouble> {
     match came {
         Ok(number) => Ok(push_decimal(text, number)?),
@@ -32,7 +33,10 @@ pub fn push_bytes(text: &mut Vec<u8>, bytes: Option<&[u8]>) -> Result<(), Troubl
 }
 
 /// That a call is done, or a refusal.
-pub fn push_done<E: Display + Drop>(text: &mut Vec<u8>, came: Result<(), E>) -> Result<(), Trouble> {
+pub fn push_done<E: Display + Drop>(
+    text: &mut Vec<u8>,
+    came: Result<(), E>,
+) -> Result<(), Trouble> {
     match came {
         Ok(()) => Ok(push_str(text, "done")?),
         Err(fault) => push_fault(text, &fault),

@@ -16,7 +16,12 @@ pub struct Serving {
 }
 
 /// Serves a message: all bytes, or those from a place on.
-fn serve(alloc: Global, end: &mut Accessed, words: &mut Words<'_>, text: &mut Vec<u8>) -> Result<(), Trouble> {
+fn serve(
+    alloc: Global,
+    end: &mut Accessed,
+    words: &mut Words<'_>,
+    text: &mut Vec<u8>,
+) -> Result<(), Trouble> {
     let message = bytes(alloc, words)?;
     let at = place(words)?;
     let served = if at < message.len() {
@@ -29,7 +34,12 @@ fn serve(alloc: Global, end: &mut Accessed, words: &mut Words<'_>, text: &mut Ve
 }
 
 /// The place of the file of a name.
-fn find(alloc: Global, end: &Accessed, words: &mut Words<'_>, text: &mut Vec<u8>) -> Result<(), Trouble> {
+fn find(
+    alloc: Global,
+    end: &Accessed,
+    words: &mut Words<'_>,
+    text: &mut Vec<u8>,
+) -> Result<(), Trouble> {
     match end.files().find(&bytes(alloc, words)?) {
         Some(at) => Ok(push_decimal(text, at)?),
         None => push_bytes(text, None),

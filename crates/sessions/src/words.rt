@@ -1,9 +1,14 @@
 //! The words of a call.
 
+ghost use Rattle.std.specs.Prelude.{◌≤◌, IfOk};
+ghost use Rattle.dap_msg.specs.BothEnds.{least_buffer};
+
 use crate::trouble::Trouble;
 use dap_accessing::Request;
+use dap_msg::LEAST_BUFFER;
 use dap_text::{Words, is, read_hex, read_number, read_request};
 use nsp_link::LinkSetup;
+use rec_file::Shape;
 use std::alloc::Global;
 
 /// The next word.
@@ -103,5 +108,25 @@ pub fn place(words: &mut Words<'_>) -> Result<usize, Trouble> {
             None => Err(Trouble::BadLine),
         },
         None => Ok(0),
+    }
+}
+
+/// The shape that attributes name, `ORG RFM MRS MRN`, if they name one.
+pub fn shape(words: &mut Words<'_>) -> Result<Option<Shape>, Trouble> {
+    let org = octet(words)?;
+    let rfm = octet(words)?;
+    let mrs = short(words)?;
+    let mrn = number(words, u32::MAX)?;
+    Ok(Shape::check(org, rfm, mrs, u64::from(mrn)))
+}
+
+/// How many bytes may wait, or no limit where none is said.
+pub fn most(words: &mut Words<'_>) -> Result<u64, Trouble> {
+    match words.next() {
+        Some(word) => match read_number(word, u32::MAX) {
+            Some(most) => Ok(u64::from(most)),
+            None => Err(Trouble::BadLine),
+        },
+        None => Ok(u64::MAX),
     }
 }
