@@ -1,7 +1,9 @@
 //! The suite `ends`: one end over its link, for any peer, which serves or asks.
 
 use crate::playing::Suite;
-use crate::printing::{push_all, push_bytes, push_done, push_packet, push_table, push_word_or, push_number_or};
+use crate::printing::{
+    push_all, push_bytes, push_done, push_number_or, push_packet, push_table, push_word_or,
+};
 use crate::trouble::Trouble;
 use crate::words::{buffer, bytes, link_setup, most, number, request, shape, size, word};
 use dap_accessing::Report;
@@ -29,7 +31,14 @@ pub struct Ending {
 fn push_sizes(link: &LinkEnd, text: &mut Vec<u8>) -> Result<(), Trouble> {
     push_number(text, "unacked ", link.unacked())?;
     push_number(text, " waiting ", link.waiting_bytes())?;
-    Ok(push_str(text, if link.has_failed() { " failed" } else { " runs" })?)
+    Ok(push_str(
+        text,
+        if link.has_failed() {
+            " failed"
+        } else {
+            " runs"
+        },
+    )?)
 }
 
 /// What an end did: a word or a refusal, the packets that it wrote, and what it reported.
@@ -43,14 +52,19 @@ fn push_came<E: Display + Drop>(
     push_str(text, ", ")?;
     push_all(text, packets)?;
     for report in reports.iter() {
-        push_str(text, ", ")?;
+        push_str(text, " report ")?;
         push_report(text, report)?;
     }
     Ok(())
 }
 
 /// A packet comes to an end that serves: `PACKET [MOST]`.
-fn take_to_serve(alloc: Global, end: &mut ServingEnd, words: &mut Words<'_>, text: &mut Vec<u8>) -> Result<(), Trouble> {
+fn take_to_serve(
+    alloc: Global,
+    end: &mut ServingEnd,
+    words: &mut Words<'_>,
+    text: &mut Vec<u8>,
+) -> Result<(), Trouble> {
     let packet = bytes(alloc, words)?;
     let mut out = Vec::new(alloc);
     let came = end.take(&packet, most(words)?, &mut out);
@@ -65,7 +79,12 @@ fn serve_on(alloc: Global, end: &mut ServingEnd, text: &mut Vec<u8>) -> Result<(
 }
 
 /// A file is added: `NAME ORG RFM MRS MRN`.
-fn add(alloc: Global, end: &mut ServingEnd, words: &mut Words<'_>, text: &mut Vec<u8>) -> Result<(), Trouble> {
+fn add(
+    alloc: Global,
+    end: &mut ServingEnd,
+    words: &mut Words<'_>,
+    text: &mut Vec<u8>,
+) -> Result<(), Trouble> {
     let name = bytes(alloc, words)?;
     match shape(words)? {
         Some(shape) => push_done(text, end.add(&name, shape)),
@@ -74,7 +93,12 @@ fn add(alloc: Global, end: &mut ServingEnd, words: &mut Words<'_>, text: &mut Ve
 }
 
 /// A record is added: `N BODY`.
-fn add_record(alloc: Global, end: &mut ServingEnd, words: &mut Words<'_>, text: &mut Vec<u8>) -> Result<(), Trouble> {
+fn add_record(
+    alloc: Global,
+    end: &mut ServingEnd,
+    words: &mut Words<'_>,
+    text: &mut Vec<u8>,
+) -> Result<(), Trouble> {
     let at = number(words, u32::MAX)?;
     push_done(text, end.add_record(at, &bytes(alloc, words)?))
 }
@@ -88,7 +112,13 @@ fn serve(end: &mut ServingEnd, text: &mut Vec<u8>) -> Result<(), Trouble> {
 }
 
 /// A call of an end that serves.
-fn call_serving(alloc: Global, end: &mut ServingEnd, call: &[u8], mut words: Words<'_>, text: &mut Vec<u8>) -> Result<(), Trouble> {
+fn call_serving(
+    alloc: Global,
+    end: &mut ServingEnd,
+    call: &[u8],
+    mut words: Words<'_>,
+    text: &mut Vec<u8>,
+) -> Result<(), Trouble> {
     match call {
         b"take" => take_to_serve(alloc, end, &mut words, text),
         b"go-on" => serve_on(alloc, end, text),
@@ -108,7 +138,12 @@ fn call_serving(alloc: Global, end: &mut ServingEnd, call: &[u8], mut words: Wor
 }
 
 /// A packet comes to an end that asks.
-fn take_to_read(alloc: Global, end: &mut AskingEnd, words: &mut Words<'_>, text: &mut Vec<u8>) -> Result<(), Trouble> {
+fn take_to_read(
+    alloc: Global,
+    end: &mut AskingEnd,
+    words: &mut Words<'_>,
+    text: &mut Vec<u8>,
+) -> Result<(), Trouble> {
     let packet = bytes(alloc, words)?;
     let mut out = Vec::new(alloc);
     let mut reports = Vec::new(alloc);
@@ -135,7 +170,13 @@ fn read(end: &mut AskingEnd, text: &mut Vec<u8>) -> Result<(), Trouble> {
 }
 
 /// A call of an end that asks.
-fn call_asking(alloc: Global, end: &mut AskingEnd, call: &[u8], mut words: Words<'_>, text: &mut Vec<u8>) -> Result<(), Trouble> {
+fn call_asking(
+    alloc: Global,
+    end: &mut AskingEnd,
+    call: &[u8],
+    mut words: Words<'_>,
+    text: &mut Vec<u8>,
+) -> Result<(), Trouble> {
     match call {
         b"ask" => push_number_or(text, end.ask(&request(alloc, words)?)),
         b"take" => take_to_read(alloc, end, &mut words, text),

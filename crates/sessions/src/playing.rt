@@ -214,7 +214,11 @@ fn play_call<S: Suite>(
     match other(script, suite, at) {
         Ok(None) => Ok(()),
         Ok(Some(came)) => tally.tell(at, script.line(at), came.as_str()),
-        Err(Trouble::BadLine) => tally.tell(at, script.line(at), "a line that is none of the suite's"),
+        Err(Trouble::BadLine) => tally.tell(
+            at,
+            script.line(at),
+            "a line that is none of the suite's",
+        ),
         Err(trouble) => Err(trouble),
     }
 }

@@ -196,7 +196,12 @@ fn push_record(world: &World, words: &mut Words<'_>, text: &mut Vec<u8>) -> Resu
 }
 
 /// A call that tells how a world stands.
-fn look(world: &World, call: &[u8], mut words: Words<'_>, text: &mut Vec<u8>) -> Result<(), Trouble> {
+fn look(
+    world: &World,
+    call: &[u8],
+    mut words: Words<'_>,
+    text: &mut Vec<u8>,
+) -> Result<(), Trouble> {
     match call {
         b"report" => push_told(world, size(&mut words)?.saturating_sub(1), text),
         b"newest" => push_newest_report(world, text),
@@ -204,13 +209,22 @@ fn look(world: &World, call: &[u8], mut words: Words<'_>, text: &mut Vec<u8>) ->
         b"record" => push_record(world, &mut words, text),
         b"sizes" => push_sizes(world, text),
         b"fresh" => Ok(push_str(text, if world.is_fresh() { "yes" } else { "no" })?),
-        b"acknowledgement" => push_packet(text, world.link(end(&mut words)?).ack_packet().map(Some)),
+        b"acknowledgement" => push_packet(
+            text,
+            world.link(end(&mut words)?).ack_packet().map(Some),
+        ),
         _ => Err(Trouble::BadLine),
     }
 }
 
 /// A call of a world: many events at once, or one, or how it stands.
-fn act(alloc: Global, world: &mut World, call: &[u8], mut words: Words<'_>, text: &mut Vec<u8>) -> Result<(), Trouble> {
+fn act(
+    alloc: Global,
+    world: &mut World,
+    call: &[u8],
+    mut words: Words<'_>,
+    text: &mut Vec<u8>,
+) -> Result<(), Trouble> {
     match call {
         b"turn" => push_turn(world, request(alloc, words)?, text),
         b"settle" => push_number_or(text, world.settle(end(&mut words)?)),
@@ -244,7 +258,15 @@ impl Worlds {
         let bufsiz_a = short(words)?;
         let bufsiz_b = short(words)?;
         self.begin();
-        match World::new(self.alloc, WorldSetup { seg_size, window, bufsiz_a, bufsiz_b }) {
+        match World::new(
+            self.alloc,
+            WorldSetup {
+                seg_size,
+                window,
+                bufsiz_a,
+                bufsiz_b,
+            },
+        ) {
             Ok(world) => {
                 self.world = Some(world);
                 Ok(push_str(text, "made")?)
