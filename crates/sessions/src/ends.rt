@@ -2,16 +2,15 @@
 
 use crate::playing::Suite;
 use crate::printing::{
-    push_all, push_bytes, push_done, push_number_or, push_packet, push_table, push_word_or,
+    push_all, push_bytes, push_done, push_got, push_number_or, push_packet, push_table,
 };
 use crate::trouble::Trouble;
 use crate::words::{buffer, bytes, link_setup, most, number, request, shape, size, word};
 use dap_accessing::Report;
 use dap_end::{AskingEnd, Heard, ServingEnd};
-use dap_text::{Words, got_word, is, push_number, push_report, push_str};
+use dap_text::{Words, is, push_number, push_report, push_str};
 use nsp_link::{LinkEnd, LinkFault};
 use std::alloc::Global;
-use std::fmt::Display;
 
 /// An end.
 #[derive(Drop)]
@@ -41,14 +40,8 @@ fn push_sizes(link: &LinkEnd, text: &mut Vec<u8>) -> Result<(), Trouble> {
     )?)
 }
 
-/// What an end did: a word or a refusal, the packets that it wrote, and what it reported.
-fn push_came<E: Display + Drop>(
-    text: &mut Vec<u8>,
-    came: Result<&'static str, E>,
-    packets: &[Vec<u8>],
-    reports: &[Report],
-) -> Result<(), Trouble> {
-    push_word_or(text, came)?;
+/// Behind what an end did: the packets that it wrote, and what it reported.
+fn push_left(text: &mut Vec<u8>, packets: &[Vec<u8>], reports: &[Report]) -> Result<(), Trouble> {
     push_str(text, ", ")?;
     push_all(text, packets)?;
     for report in reports.iter() {
@@ -68,14 +61,16 @@ fn take_to_serve(
     let packet = bytes(alloc, words)?;
     let mut out = Vec::new(alloc);
     let came = end.take(&packet, most(words)?, &mut out);
-    push_came(text, came.map(got_word), &out, &[])
+    push_got(text, came)?;
+    push_left(text, &out, &[])
 }
 
 /// An end that serves goes on.
 fn serve_on(alloc: Global, end: &mut ServingEnd, text: &mut Vec<u8>) -> Result<(), Trouble> {
     let mut out = Vec::new(alloc);
     let came = end.go_on(u64::MAX, &mut out);
-    push_came(text, came.map(|()| "done"), &out, &[])
+    push_done(text, came)?;
+    push_left(text, &out, &[])
 }
 
 /// A file is added: `NAME ORG RFM MRS MRN`.
@@ -122,7 +117,7 @@ fn call_serving(
     match call {
         b"take" => take_to_serve(alloc, end, &mut words, text),
         b"go-on" => serve_on(alloc, end, text),
-        b"receive" => push_word_or(text, end.receive(&bytes(alloc, &mut words)?).map(got_word)),
+        b"receive" => push_got(text, end.receive(&bytes(alloc, &mut words)?)),
         b"serve" => serve(end, text),
         b"post" => push_number_or(text, end.post()),
         b"emit" => push_packet(text, end.emit()),
@@ -148,7 +143,8 @@ fn take_to_read(
     let mut out = Vec::new(alloc);
     let mut reports = Vec::new(alloc);
     let came = end.take(&packet, &mut out, &mut reports);
-    push_came(text, came.map(got_word), &out, &reports)
+    push_got(text, came)?;
+    push_left(text, &out, &reports)
 }
 
 /// An end that asks goes on.
@@ -156,7 +152,8 @@ fn ask_on(alloc: Global, end: &mut AskingEnd, text: &mut Vec<u8>) -> Result<(), 
     let mut out = Vec::new(alloc);
     let mut reports = Vec::new(alloc);
     let came = end.go_on(&mut out, &mut reports);
-    push_came(text, came.map(|()| "done"), &out, &reports)
+    push_done(text, came)?;
+    push_left(text, &out, &reports)
 }
 
 /// What the next message says, or that there is none.
@@ -181,7 +178,7 @@ fn call_asking(
         b"ask" => push_number_or(text, end.ask(&request(alloc, words)?)),
         b"take" => take_to_read(alloc, end, &mut words, text),
         b"go-on" => ask_on(alloc, end, text),
-        b"receive" => push_word_or(text, end.receive(&bytes(alloc, &mut words)?).map(got_word)),
+        b"receive" => push_got(text, end.receive(&bytes(alloc, &mut words)?)),
         b"read" => read(end, text),
         b"post" => push_number_or(text, end.post()),
         b"emit" => push_packet(text, end.emit()),

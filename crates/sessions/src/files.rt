@@ -1,5 +1,8 @@
 //! The suite `files`: a record file, and streams over it.
 
+ghost use Rattle.std.specs.Prelude.{IsTrue};
+ghost use Rattle.rec_file.specs.Shapes.{is_shape};
+
 use crate::playing::Suite;
 use crate::printing::{push_bytes, push_number_or};
 use crate::trouble::Trouble;
@@ -42,7 +45,9 @@ impl Filing {
 }
 
 /// A new file: `any`, or the one of its organization.
-fn new_file(alloc: Global, kind: &[u8], shape: Shape) -> Kept {
+fn new_file(alloc: Global, kind: &[u8], shape: Shape) -> Kept
+    requires { IsTrue (is_shape shape) }
+{
     if is(kind, "any") {
         Kept::Any(AnyFile::new(alloc, shape))
     } else if shape.is_sequential() {
@@ -124,7 +129,7 @@ fn is_move(call: &[u8]) -> bool {
 
 /// The stream reads from a number on, where it isn't 0.
 fn seek(stream: &mut Stream, number: u32) {
-    if number > 0 {
+    if (1..=MAX_NUMBER).contains(&number) {
         stream.seek(number);
     }
 }

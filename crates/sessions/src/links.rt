@@ -1,10 +1,10 @@
 //! The suite `links`: one end of an NSP link.
 
 use crate::playing::Suite;
-use crate::printing::{push_bytes, push_done, push_packet, push_word_or};
+use crate::printing::{push_bytes, push_done, push_got, push_packet};
 use crate::trouble::Trouble;
 use crate::words::{all_bytes, bytes, link_setup, number, size, word};
-use dap_text::{Words, got_word, is, push_number, push_str};
+use dap_text::{Words, is, push_number, push_str};
 use nsp_link::{Got, LinkEnd, LinkFault};
 use std::alloc::Global;
 
@@ -70,7 +70,7 @@ fn come_all(end: &mut LinkEnd, first: u16, last: u16, text: &mut Vec<u8>) -> Res
             return Ok(push_number(text, "another at ", number)?);
         }
     }
-    push_word_or(text, got.map(got_word))
+    push_got(text, got)
 }
 
 /// Calls that write.
@@ -106,7 +106,7 @@ fn take(
     text: &mut Vec<u8>,
 ) -> Result<(), Trouble> {
     match call {
-        b"receive" => push_word_or(text, end.receive(&bytes(alloc, &mut words)?).map(got_word)),
+        b"receive" => push_got(text, end.receive(&bytes(alloc, &mut words)?)),
         b"come" => {
             let first = number(&mut words, 4095)? as u16;
             come_all(end, first, number(&mut words, 4095)? as u16, text)

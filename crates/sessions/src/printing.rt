@@ -2,8 +2,9 @@
 
 use crate::trouble::Trouble;
 use dap_accessed::FileTable;
-use dap_text::{push_decimal, push_files, push_image, push_number, push_str};
+use dap_text::{got_word, push_decimal, push_files, push_image, push_number, push_str};
 use itoa::Integer;
+use nsp_link::Got;
 use std::fmt::Display;
 use std::io::Write;
 
@@ -43,13 +44,13 @@ pub fn push_done<E: Display + Drop>(
     }
 }
 
-/// A word, or a refusal.
-pub fn push_word_or<E: Display + Drop>(
+/// What became of a packet, or a refusal.
+pub fn push_got<E: Display + Drop>(
     text: &mut Vec<u8>,
-    came: Result<&'static str, E>,
+    came: Result<Got, E>,
 ) -> Result<(), Trouble> {
     match came {
-        Ok(word) => Ok(push_str(text, word)?),
+        Ok(got) => Ok(push_str(text, got_word(got))?),
         Err(fault) => push_fault(text, &fault),
     }
 }

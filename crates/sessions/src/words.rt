@@ -1,7 +1,8 @@
 //! The words of a call.
 
-ghost use Rattle.std.specs.Prelude.{◌≤◌, IfOk};
+ghost use Rattle.std.specs.Prelude.{◌≤◌, IfOk, IfSome, IsTrue};
 ghost use Rattle.dap_msg.specs.BothEnds.{least_buffer};
+ghost use Rattle.rec_file.specs.Shapes.{is_shape};
 
 use crate::trouble::Trouble;
 use dap_accessing::Request;
@@ -17,8 +18,13 @@ pub fn word<'a>(words: &mut Words<'a>) -> Result<&'a [u8], Trouble> {
 }
 
 /// A decimal number, at most so much.
-pub fn number(words: &mut Words<'_>, most: u32) -> Result<u32, Trouble> {
-    read_number(word(words)?, most).ok_or(Trouble::BadLine)
+pub fn number(words: &mut Words<'_>, most: u32) -> Result<u32, Trouble>
+    ensures { IfOk result (λ number. number ≤ most) }
+{
+    match read_number(word(words)?, most) {
+        Some(number) => Ok(number),
+        None => Err(Trouble::BadLine),
+    }
 }
 
 /// A number of one byte.
@@ -112,7 +118,9 @@ pub fn place(words: &mut Words<'_>) -> Result<usize, Trouble> {
 }
 
 /// The shape that attributes name, `ORG RFM MRS MRN`, if they name one.
-pub fn shape(words: &mut Words<'_>) -> Result<Option<Shape>, Trouble> {
+pub fn shape(words: &mut Words<'_>) -> Result<Option<Shape>, Trouble>
+    ensures { IfOk result (λ shape. IfSome shape (λ shape. IsTrue (is_shape shape))) }
+{
     let org = octet(words)?;
     let rfm = octet(words)?;
     let mrs = short(words)?;

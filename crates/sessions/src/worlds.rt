@@ -3,7 +3,7 @@
 use crate::playing::Suite;
 use crate::printing::{push_bytes, push_done, push_fault, push_number_or, push_packet, push_table};
 use crate::trouble::Trouble;
-use crate::words::{request, short, size, word};
+use crate::words::{number, request, short, size, word};
 use dap_text::{Words, got_word, is, push_number, push_report, push_str};
 use dap_world::{End, Event, RecordFile, Request, Step, World, WorldFault, WorldSetup};
 use std::alloc::Global;
@@ -188,7 +188,7 @@ fn push_sizes(world: &World, text: &mut Vec<u8>) -> Result<(), Trouble> {
 
 /// The record of the first file under a number.
 fn push_record(world: &World, words: &mut Words<'_>, text: &mut Vec<u8>) -> Result<(), Trouble> {
-    let number = size(words)? as u32;
+    let number = number(words, u32::MAX)?;
     if world.files().count() == 0 {
         return push_bytes(text, None);
     }
@@ -241,6 +241,21 @@ fn act(
     }
 }
 
+/// Requests are asked over a clean network, of a fresh world.
+fn direct(world: &mut World, list: &[Request], text: &mut Vec<u8>) -> Result<(), Trouble> {
+    if !world.is_fresh() {
+        return Err(Trouble::BadLine);
+    }
+    match world.direct(list) {
+        Ok(()) => Ok(push_str(text, "done")?),
+        Err((at, fault)) => {
+            push_number(text, "at ", at)?;
+            push_str(text, " ")?;
+            push_fault(text, &fault)
+        }
+    }
+}
+
 impl Worlds {
     /// Without a world.
     pub fn new(alloc: Global) -> Worlds {
@@ -275,21 +290,11 @@ impl Worlds {
         }
     }
 
-    /// The requests that wait are asked over a clean network, by a fresh world.
+    /// The requests that wait are asked over a clean network.
     fn direct(&mut self, text: &mut Vec<u8>) -> Result<(), Trouble> {
-        let Some(world) = &mut self.world else {
-            return Err(Trouble::BadLine);
-        };
-        if !world.is_fresh() {
-            return Err(Trouble::BadLine);
-        }
-        match world.direct(&self.list) {
-            Ok(()) => Ok(push_str(text, "done")?),
-            Err((at, fault)) => {
-                push_number(text, "at ", at)?;
-                push_str(text, " ")?;
-                push_fault(text, &fault)
-            }
+        match &mut self.world {
+            Some(world) => direct(world, &self.list, text),
+            None => Err(Trouble::BadLine),
         }
     }
 }
