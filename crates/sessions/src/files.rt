@@ -65,7 +65,8 @@ fn rights(mut words: Words<'_>) -> Rights {
         upd: false,
         del: false,
     };
-    while let Some(word) = words.next() {
+    for _ in 0..4 {
+        let word = words.next().unwrap_or(b"");
         rights.get |= is(word, "get");
         rights.put |= is(word, "put");
         rights.upd |= is(word, "upd");

@@ -12,6 +12,9 @@ use nsp_link::LinkSetup;
 use rec_file::Shape;
 use std::alloc::Global;
 
+/// More words than a line has.
+const MOST_WORDS: u32 = 65_536;
+
 /// The next word.
 pub fn word<'a>(words: &mut Words<'a>) -> Result<&'a [u8], Trouble> {
     words.next().ok_or(Trouble::BadLine)
@@ -65,8 +68,11 @@ pub fn request(alloc: Global, line: Words<'_>) -> Result<Request, Trouble> {
 /// All bytes that words spell.
 pub fn all_bytes(alloc: Global, mut words: Words<'_>) -> Result<Vec<Vec<u8>>, Trouble> {
     let mut all = Vec::new(alloc);
-    while let Some(word) = words.next() {
-        all.push(bytes_of(alloc, word)?)?;
+    for _ in 0..MOST_WORDS {
+        match words.next() {
+            Some(word) => all.push(bytes_of(alloc, word)?)?,
+            None => break,
+        }
     }
     Ok(all)
 }
