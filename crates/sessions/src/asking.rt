@@ -108,12 +108,12 @@ fn act(
     text: &mut Vec<u8>,
 ) -> Result<(), Trouble> {
     match call {
-        b"ask" => push_asked(text, end.ask(&request(alloc, words)?)),
-        b"steps" => push_asked(text, ask_in_steps(end, &request(alloc, words)?)),
-        b"lengths" => push_lengths(text, end.ask(&request(alloc, words)?)),
-        b"open" => push_asked(text, end.ask(&opening(alloc, &mut words)?)),
-        b"create" => push_asked(text, end.ask(&making(alloc, &mut words)?)),
-        b"hear" => hear(alloc, end, &mut words, text),
+        _ if is(call, "ask") => push_asked(text, end.ask(&request(alloc, words)?)),
+        _ if is(call, "steps") => push_asked(text, ask_in_steps(end, &request(alloc, words)?)),
+        _ if is(call, "lengths") => push_lengths(text, end.ask(&request(alloc, words)?)),
+        _ if is(call, "open") => push_asked(text, end.ask(&opening(alloc, &mut words)?)),
+        _ if is(call, "create") => push_asked(text, end.ask(&making(alloc, &mut words)?)),
+        _ if is(call, "hear") => hear(alloc, end, &mut words, text),
         _ => Err(Trouble::BadLine),
     }
 }

@@ -82,14 +82,14 @@ fn write(
     text: &mut Vec<u8>,
 ) -> Result<(), Trouble> {
     match call {
-        b"send" => push_done(text, end.send(&bytes(alloc, &mut words)?)),
-        b"send-all" => push_done(text, end.send_all(&all_bytes(alloc, words)?)),
-        b"check" => push_done(text, end.check_messages(&all_bytes(alloc, words)?)),
-        b"may-send" => Ok(push_str(text, if end.may_send() { "yes" } else { "no" })?),
-        b"next" => push_packet(text, end.next_packet()),
-        b"resend" => push_packet(text, end.resend(size(&mut words)?).map(Some)),
-        b"ack" => push_packet(text, end.ack_packet().map(Some)),
-        b"fill" => {
+        _ if is(call, "send") => push_done(text, end.send(&bytes(alloc, &mut words)?)),
+        _ if is(call, "send-all") => push_done(text, end.send_all(&all_bytes(alloc, words)?)),
+        _ if is(call, "check") => push_done(text, end.check_messages(&all_bytes(alloc, words)?)),
+        _ if is(call, "may-send") => Ok(push_str(text, if end.may_send() { "yes" } else { "no" })?),
+        _ if is(call, "next") => push_packet(text, end.next_packet()),
+        _ if is(call, "resend") => push_packet(text, end.resend(size(&mut words)?).map(Some)),
+        _ if is(call, "ack") => push_packet(text, end.ack_packet().map(Some)),
+        _ if is(call, "fill") => {
             let sent = size(&mut words)?;
             push_done(text, fill(end, sent, size(&mut words)?))
         }
@@ -106,17 +106,17 @@ fn take(
     text: &mut Vec<u8>,
 ) -> Result<(), Trouble> {
     match call {
-        b"receive" => push_got(text, end.receive(&bytes(alloc, &mut words)?)),
-        b"come" => {
+        _ if is(call, "receive") => push_got(text, end.receive(&bytes(alloc, &mut words)?)),
+        _ if is(call, "come") => {
             let first = number(&mut words, 4095)? as u16;
             come_all(end, first, number(&mut words, 4095)? as u16, text)
         }
-        b"peek" => push_bytes(text, end.peek_message()),
-        b"take" => match end.take_message() {
+        _ if is(call, "peek") => push_bytes(text, end.peek_message()),
+        _ if is(call, "take") => match end.take_message() {
             Some(message) => push_bytes(text, Some(&message)),
             None => push_bytes(text, None),
         },
-        b"sizes" => push_sizes(end, text),
+        _ if is(call, "sizes") => push_sizes(end, text),
         _ => write(alloc, end, call, words, text),
     }
 }

@@ -46,6 +46,22 @@ fn find(
     }
 }
 
+/// A call of an end.
+fn act(
+    alloc: Global,
+    end: &mut Accessed,
+    call: &[u8],
+    words: &mut Words<'_>,
+    text: &mut Vec<u8>,
+) -> Result<(), Trouble> {
+    match call {
+        _ if is(call, "serve") => serve(alloc, end, words, text),
+        _ if is(call, "files") => push_table(text, end.files()),
+        _ if is(call, "find") => find(alloc, end, words, text),
+        _ => Err(Trouble::BadLine),
+    }
+}
+
 impl Serving {
     /// Without an end.
     pub fn new(alloc: Global) -> Serving {
@@ -70,11 +86,9 @@ impl Suite for Serving {
         if is(call, "new") {
             return self.make(&mut words, text);
         }
-        match (&mut self.end, call) {
-            (Some(end), b"serve") => serve(self.alloc, end, &mut words, text),
-            (Some(end), b"files") => push_table(text, end.files()),
-            (Some(end), b"find") => find(self.alloc, end, &mut words, text),
-            _ => Err(Trouble::BadLine),
+        match &mut self.end {
+            Some(end) => act(self.alloc, end, call, &mut words, text),
+            None => Err(Trouble::BadLine),
         }
     }
 }

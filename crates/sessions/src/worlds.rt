@@ -28,20 +28,20 @@ fn end(words: &mut Words<'_>) -> Result<End, Trouble> {
 /// The event that a line says, as in a schedule.
 fn event(alloc: Global, call: &[u8], mut words: Words<'_>) -> Result<Event, Trouble> {
     Ok(match call {
-        b"ask" => Event::Ask(request(alloc, words)?),
-        b"post" => Event::Post(end(&mut words)?),
-        b"emit" => Event::Emit(end(&mut words)?),
-        b"resend" => {
+        _ if is(call, "ask") => Event::Ask(request(alloc, words)?),
+        _ if is(call, "post") => Event::Post(end(&mut words)?),
+        _ if is(call, "emit") => Event::Emit(end(&mut words)?),
+        _ if is(call, "resend") => {
             let end = end(&mut words)?;
             Event::Resend(end, size(&mut words)?)
         }
-        b"ack" => Event::Ack(end(&mut words)?),
-        b"deliver" => {
+        _ if is(call, "ack") => Event::Ack(end(&mut words)?),
+        _ if is(call, "deliver") => {
             let end = end(&mut words)?;
             Event::Deliver(end, size(&mut words)?)
         }
-        b"serve" => Event::Serve,
-        b"read" => Event::Read,
+        _ if is(call, "serve") => Event::Serve,
+        _ if is(call, "read") => Event::Read,
         _ => return Err(Trouble::BadLine),
     })
 }
@@ -195,26 +195,38 @@ fn push_record(world: &World, words: &mut Words<'_>, text: &mut Vec<u8>) -> Resu
     push_bytes(text, world.files().file(0).lookup(number))
 }
 
-/// A call that tells how a world stands.
+/// A call that tells how a world stands, or an event.
 fn look(
-    world: &World,
+    alloc: Global,
+    world: &mut World,
     call: &[u8],
     mut words: Words<'_>,
     text: &mut Vec<u8>,
 ) -> Result<(), Trouble> {
     match call {
-        b"report" => push_told(world, size(&mut words)?.saturating_sub(1), text),
-        b"newest" => push_newest_report(world, text),
-        b"files" => push_table(text, world.files()),
-        b"record" => push_record(world, &mut words, text),
-        b"sizes" => push_sizes(world, text),
-        b"fresh" => Ok(push_str(text, if world.is_fresh() { "yes" } else { "no" })?),
-        b"acknowledgement" => push_packet(
-            text,
-            world.link(end(&mut words)?).ack_packet().map(Some),
-        ),
-        _ => Err(Trouble::BadLine),
+        _ if is(call, "report") => push_told(world, size(&mut words)?.saturating_sub(1), text),
+        _ if is(call, "newest") => push_newest_report(world, text),
+        _ if is(call, "files") => push_table(text, world.files()),
+        _ if is(call, "record") => push_record(world, &mut words, text),
+        _ if is(call, "sizes") => push_sizes(world, text),
+        _ if is(call, "fresh") => push_fresh(world, text),
+        _ if is(call, "acknowledgement") => push_acknowledgement(world, &mut words, text),
+        _ => happen(world, &event(alloc, call, words)?, text),
     }
+}
+
+/// Whether nothing happened.
+fn push_fresh(world: &World, text: &mut Vec<u8>) -> Result<(), Trouble> {
+    Ok(push_str(text, if world.is_fresh() { "yes" } else { "no" })?)
+}
+
+/// The acknowledgement that an end's link would write.
+fn push_acknowledgement(
+    world: &World,
+    words: &mut Words<'_>,
+    text: &mut Vec<u8>,
+) -> Result<(), Trouble> {
+    push_packet(text, world.link(end(words)?).ack_packet().map(Some))
 }
 
 /// A call of a world: many events at once, or one, or how it stands.
@@ -226,19 +238,23 @@ fn act(
     text: &mut Vec<u8>,
 ) -> Result<(), Trouble> {
     match call {
-        b"turn" => push_turn(world, request(alloc, words)?, text),
-        b"settle" => push_number_or(text, world.settle(end(&mut words)?)),
-        b"finish" => push_number_or(text, world.finish()),
-        b"emits" => push_done(text, emit(world, size(&mut words)?)),
-        b"bring" => {
-            let segments = size(&mut words)?;
-            push_done(text, bring(world, segments, size(&mut words)?))
-        }
-        b"report" | b"newest" | b"files" | b"record" | b"sizes" | b"fresh" | b"acknowledgement" => {
-            look(world, call, words, text)
-        }
-        _ => happen(world, &event(alloc, call, words)?, text),
+        _ if is(call, "turn") => push_turn(world, request(alloc, words)?, text),
+        _ if is(call, "settle") => push_number_or(text, world.settle(end(&mut words)?)),
+        _ if is(call, "finish") => push_number_or(text, world.finish()),
+        _ if is(call, "emits") => push_done(text, emit(world, size(&mut words)?)),
+        _ if is(call, "bring") => push_brought(world, &mut words, text),
+        _ => look(alloc, world, call, words, text),
     }
+}
+
+/// `N M`: segments come.
+fn push_brought(
+    world: &mut World,
+    words: &mut Words<'_>,
+    text: &mut Vec<u8>,
+) -> Result<(), Trouble> {
+    let segments = size(words)?;
+    push_done(text, bring(world, segments, size(words)?))
 }
 
 /// Requests are asked over a clean network, of a fresh world.
