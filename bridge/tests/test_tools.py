@@ -20,7 +20,6 @@ ODD = {
     "examples/lossy_tests.py": ["--no-such", "--seeds x"],
     "examples/live_tests.py": ["--no-such", "--inputs x"],
     "examples/longest.py": ["--no-such", "--dapnsp /nowhere"],
-    "examples/as_tests.py": ["--no-such"],
     "examples/pcap_tests.py": ["--no-such"],
     "examples/shown_tests.py": ["--no-such"],
     "hostile/check": ["--no-such", "--only nothing", "--programs /nowhere"],

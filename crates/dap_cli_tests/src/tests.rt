@@ -1,6 +1,5 @@
 //! Exit statuses and texts, and devices that fail.
 
-use crate::examples::EXAMPLES;
 use dap_cli::{run_program, run_words};
 use std::alloc::Global;
 use std::io;
@@ -72,15 +71,6 @@ fn lists_what_is_captured(rt: HostRuntime) -> Result<(), Fail> {
     for (command, input, text) in LISTED {
         let left = run(rt.alloc(), &[*command], input)?;
         assert!(&rt; leaves(&left, 0, text, b""));
-    }
-    Ok(())
-}
-
-#[test]
-fn gives_each_example(rt: HostRuntime) -> Result<(), Fail> {
-    for (command, input, status, text) in EXAMPLES {
-        let left = run(rt.alloc(), &[*command], input)?;
-        assert!(&rt; leaves(&left, *status, text, b""));
     }
     Ok(())
 }
