@@ -9,7 +9,7 @@ use arrayvec::ArrayVec;
 use std::io;
 use std::io::Read;
 
-/// A reader that keeps the first four bytes which come through it, however few come at a time (own).
+/// A reader that keeps the first four bytes which come through it, however few come at a time.
 #[derive(Drop)]
 pub struct Fronted<R> {
     reader: R,

@@ -10,7 +10,7 @@ use std::io::{Error, ErrorKind, Write};
 /// SIGPIPE, signal 13, ended.
 pub const CLOSED_PIPE: u8 = 128 + 13;
 
-/// Standard output, which notes where its reader went away (own).
+/// Standard output, which notes where its reader went away.
 #[derive(Drop)]
 pub struct Output<'a, W> {
     writer: W,
@@ -52,7 +52,7 @@ impl<W: Write> Write for Output<'_, W> {
     }
 }
 
-/// Standard error, which is silent once the reader of standard output went away (own).
+/// Standard error, which is silent once the reader of standard output went away.
 #[derive(Drop)]
 pub struct ErrorOutput<'a, E> {
     writer: E,

@@ -7,7 +7,7 @@ use crate::files::file_kind;
 use dap_listing::{CaptureFault, Outcome, finish};
 use std::io::Write;
 
-/// A command that reads lines (own).
+/// A command that reads lines.
 #[derive(Clone, Copy, PartialEq, Eq)]
 pub struct Reading {
     /// The name of the program.

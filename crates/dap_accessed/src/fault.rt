@@ -8,7 +8,7 @@ use rec_file::Refusal;
 use std::alloc::{AllocError, AllocFailed};
 use thiserror::Error;
 
-/// Memory was refused (own). Nothing has changed, and the same call may be made again.
+/// Memory was refused. Nothing has changed, and the same call may be made again.
 #[derive(Clone, Copy, Debug, PartialEq, Eq, Error)]
 #[error("memory ran out")]
 pub struct NoMemory;
@@ -32,7 +32,7 @@ impl From<MsgFault> for NoMemory {
     }
 }
 
-/// Why a file or a record isn't added, in the order in which it is looked at (own). Nothing has changed.
+/// Why a file or a record isn't added, in the order in which it is looked at. Nothing has changed.
 #[derive(Clone, Copy, Debug, PartialEq, Eq, Error)]
 pub enum AddFault {
     /// The peer's Config was served.

@@ -1,6 +1,6 @@
 //! What a call gives.
 
-/// What serving one message gives (own).
+/// What serving one message gives.
 #[derive(Drop, PartialEq)]
 pub struct Served {
     /// The answers, each an NSP message.

@@ -30,7 +30,7 @@ use std::alloc::Global;
 use std::marker::Model;
 
 /// The end that asks. It keeps no list of what was asked or answered: it stands as after any requests
-/// and answers that leave what it keeps. Own.
+/// and answers that leave what it keeps.
 #[derive(Drop)]
 pub struct Accessing {
     alloc: Global,

@@ -306,7 +306,7 @@ impl<'a> Outgoing<'a> {
     }
 }
 
-/// The messages of a request that [`crate::Accessing::prepare`] looked at, with what was counted of them. Own.
+/// The messages of a request that [`crate::Accessing::prepare`] looked at, with what was counted of them.
 #[derive(Drop)]
 pub struct Prepared<'a> {
     pub(crate) outgoing: Outgoing<'a>,

@@ -22,7 +22,7 @@ impl ToBytes for Vec<u8> {
     }
 }
 
-/// Bytes of a name or a record, which contracts see as a list of numbers. Own.
+/// Bytes of a name or a record, which contracts see as a list of numbers.
 #[derive(Drop, Debug)]
 pub struct Octets<H: ToBytes = Vec<u8>>(pub H);
 
@@ -70,7 +70,7 @@ impl ToRecords for Vec<Octets> {
     }
 }
 
-/// Records in order, which contracts see as a list of lists. Own.
+/// Records in order, which contracts see as a list of lists.
 #[derive(Drop, Debug)]
 pub struct OctetsList<L: ToRecords = Vec<Octets>>(pub L);
 
@@ -97,7 +97,7 @@ impl PartialEq for OctetsList {
     }
 }
 
-/// Records in order, each behind its number. Own.
+/// Records in order, each behind its number.
 #[derive(Drop)]
 pub struct Numbered(pub Vec<(u64, Octets)>);
 

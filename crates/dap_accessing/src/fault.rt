@@ -4,7 +4,6 @@ use crate::report::Report;
 use thiserror::Error;
 
 /// Why a request isn't asked, in the order in which it is looked at. Each leaves the end unchanged.
-/// Own.
 #[derive(Clone, Copy, Drop, Debug, PartialEq, Eq, Error)]
 #[error("{}", self.text())]
 pub enum AskFault {
@@ -33,7 +32,7 @@ impl AskFault {
     }
 }
 
-/// Why an answer isn't read. Own.
+/// Why an answer isn't read.
 #[derive(Clone, Copy, Drop, Debug, PartialEq, Eq, Error)]
 #[error("{}", self.text())]
 pub enum ReadFault {
@@ -56,7 +55,7 @@ impl ReadFault {
     }
 }
 
-/// An answer that was read. Own.
+/// An answer that was read.
 #[derive(Drop, PartialEq)]
 pub struct ReadStep {
     /// What it completes, if it is the last answer to its request.

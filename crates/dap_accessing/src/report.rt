@@ -2,7 +2,7 @@
 
 use crate::bytes::{Numbered, Octets};
 
-/// How a batch of records ended. Own.
+/// How a batch of records ended.
 #[derive(Clone, Copy, Drop, PartialEq, Eq)]
 pub enum Ending {
     /// At the end of the file.
@@ -13,7 +13,7 @@ pub enum Ending {
     Refused(u16, u8),
 }
 
-/// What was answered to a request. Own.
+/// What was answered to a request.
 #[derive(Drop, PartialEq)]
 pub enum Report {
     /// To Hello: the peer's buffer size in bytes, 0 for no limit.

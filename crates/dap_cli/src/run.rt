@@ -101,7 +101,7 @@ fn run_named<R: Read, W: Write, E: Write>(
     }
 }
 
-/// Runs the command that the words name, the program's name first, and answers the exit status. Own.
+/// Runs the command that the words name, the program's name first, and answers the exit status.
 ///
 /// 0: all was done, or help was asked for and written. 1: a bad line, an input or a line over its
 /// limit, or a schedule that met an event without a step. 2: the words name no command; the writer
@@ -139,7 +139,7 @@ pub fn run_words<R: Read, W: Write, E: Write>(
 }
 
 /// The same as `run_words`, and what helps with a bad line, or with a file of captured frames in the place of lines, is told
-/// in a line more. Own.
+/// in a line more.
 pub fn run_program<R: Read, W: Write, E: Write>(
     alloc: Global,
     words: &[String],

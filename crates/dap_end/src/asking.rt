@@ -37,7 +37,7 @@ use nsp_link::{Got, LinkEnd, LinkFault, LinkSetup};
 use std::alloc::Global;
 use std::marker::Model;
 
-/// What reading the next answer comes to (own).
+/// What reading the next answer comes to.
 #[derive(Drop, PartialEq)]
 pub enum Heard {
     /// Nothing came that wasn't read.

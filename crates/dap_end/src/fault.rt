@@ -4,7 +4,7 @@ use dap_accessing::ReadFault;
 use nsp_link::{Got, LinkFault};
 use thiserror::Error;
 
-/// Why an end didn't do all that there was to do (own). What was done before that stays done, and the same call
+/// Why an end didn't do all that there was to do. What was done before that stays done, and the same call
 /// goes on.
 #[derive(Clone, Copy, Drop, Debug, PartialEq, Eq, Error)]
 pub enum EndFault {
@@ -16,7 +16,7 @@ pub enum EndFault {
     Read(ReadFault),
 }
 
-/// What became of a packet that wasn't answered in full (own).
+/// What became of a packet that wasn't answered in full.
 #[derive(Clone, Copy, Drop, Debug, PartialEq, Eq, Error)]
 pub enum TakeFault {
     /// The link refused it, and nothing of it was taken.

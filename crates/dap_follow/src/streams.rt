@@ -11,7 +11,7 @@ use indexmap::IndexSet;
 use nsp_seg::Seq12;
 use std::alloc::{AllocError, Global};
 
-/// The segments that go one way between two ends (own).
+/// The segments that go one way between two ends.
 #[derive(Clone, Copy, PartialEq, Eq, Hash)]
 pub(crate) struct Stream {
     pub(crate) way: Direction,

@@ -16,7 +16,7 @@ use std::alloc::AllocError;
 pub const PACKET_LIMIT: usize = 4096;
 
 /// A captured packet among lines: the way that it went and the hex digits of its bytes; and the number of the line behind
-/// it, and what stands there (own).
+/// it, and what stands there.
 #[derive(Clone, Copy, PartialEq)]
 pub struct Found<'a> {
     pub way: Direction,

@@ -6,7 +6,7 @@ use std::alloc::AllocError;
 use std::io::Write;
 use thiserror::Error;
 
-/// A run that came to its end (own).
+/// A run that came to its end.
 #[derive(Clone, Copy, PartialEq, Eq)]
 pub enum Outcome {
     /// All was done.
@@ -15,7 +15,7 @@ pub enum Outcome {
     Stopped,
 }
 
-/// Why a run wrote nothing, or not all (own).
+/// Why a run wrote nothing, or not all.
 #[derive(Clone, Copy, Debug, PartialEq, Eq, Error)]
 pub enum CaptureFault {
     /// The line of this number, from 1, has no meaning.

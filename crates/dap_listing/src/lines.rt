@@ -8,7 +8,7 @@ ghost use Rattle.dap_listing.specs.Inner.Cutting.{HasNoEnd, IsCut, IsEnd};
 
 use dap_text::find_byte;
 
-/// The way that captured bytes went (own).
+/// The way that captured bytes went.
 #[derive(Clone, Copy, PartialEq, Eq, Hash)]
 pub enum Direction {
     /// `>`

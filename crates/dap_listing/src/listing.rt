@@ -23,7 +23,7 @@ use dap_text::{find_byte, is_hex_text, push_number, push_str};
 use std::alloc::{AllocError, Global};
 use std::io::Read;
 
-/// What the lines of an input hold, as the contracts of [`crate::show`] and [`crate::messages`] say it (own).
+/// What the lines of an input hold, as the contracts of [`crate::show`] and [`crate::messages`] say it.
 #[derive(Clone, Copy, PartialEq, Eq)]
 pub enum Listed {
     /// NSP packets.
@@ -149,7 +149,7 @@ struct Progress {
     number: usize,
     /// The number of the next line.
     at: usize,
-    /// Memory was wanting for the text, so lines are only checked.
+    /// Memory ran out for the text, so lines are only checked.
     wants: bool,
 }
 

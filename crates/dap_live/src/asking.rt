@@ -29,7 +29,7 @@ use linewise::{Answer, Answers, Became};
 use nsp_link::{Got, LinkFault, LinkSetup};
 use std::alloc::{AllocError, Global};
 
-/// The end that asks, as an answerer of lines (own).
+/// The end that asks, as an answerer of lines.
 #[derive(Drop)]
 pub struct Asking {
     alloc: Global,

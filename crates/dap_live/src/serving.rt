@@ -30,7 +30,7 @@ use nsp_link::{Got, LinkFault, LinkSetup};
 use rec_file::Shape;
 use std::alloc::{AllocError, Global};
 
-/// The end that serves, as an answerer of lines (own).
+/// The end that serves, as an answerer of lines.
 #[derive(Drop)]
 pub struct Serving {
     alloc: Global,

@@ -2,7 +2,7 @@
 
 use std::marker::Model;
 
-/// Bytes that lie in memory, which contracts see as a list of numbers (own).
+/// Bytes that lie in memory, which contracts see as a list of numbers.
 #[derive(Drop)]
 pub struct Bytes<'a>(pub &'a [u8]);
 

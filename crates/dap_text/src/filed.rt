@@ -7,7 +7,7 @@ use crate::words::{Text, Words, is};
 use dap_msg::codes::{ORG_RELATIVE, ORG_SEQUENTIAL, RFM_FIXED, RFM_VARIABLE};
 
 /// What the line of a file says: its name, which is still digits, and ORG, RFM, MRS in bytes and MRN (DAP 5.6.0,
-/// Attributes message). Own.
+/// Attributes message).
 #[derive(Drop)]
 pub struct FileLine<'a> {
     pub name: Text<'a>,
@@ -17,7 +17,7 @@ pub struct FileLine<'a> {
     pub mrn: u32,
 }
 
-/// What the line of a record says: its number, and its bytes, which are still digits. Own.
+/// What the line of a record says: its number, and its bytes, which are still digits.
 #[derive(Drop)]
 pub struct RecordLine<'a> {
     pub number: u32,

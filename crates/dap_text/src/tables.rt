@@ -83,7 +83,7 @@ fn push_record(text: &mut Vec<u8>, number: u32, body: &[u8]) -> Result<(), Alloc
     push_str(text, "\n")
 }
 
-/// A place in the listing of the files (own).
+/// A place in the listing of the files.
 #[derive(Clone, Copy, PartialEq, Eq)]
 pub enum FilesPlace {
     /// Before the line of the file at this place of the table.

@@ -12,7 +12,7 @@ use dap_accessing::{Octets, ToBytes, ToRecords};
 use std::alloc::{AllocError, Global};
 use std::marker::Model;
 
-/// The words of a line that are left, which contracts see as a list. Between two of them stands one space. Own.
+/// The words of a line that are left, which contracts see as a list. Between two of them stands one space.
 #[derive(Drop)]
 pub struct Words<'a> {
     rest: Option<&'a [u8]>,
@@ -126,7 +126,7 @@ pub fn read_number(word: &[u8], most: u32) -> Option<u32>
     Some(number as u32)
 }
 
-/// Bytes of a name or a record, by their hex digits, or `-` where there are none, which contracts see as bytes. Own.
+/// Bytes of a name or a record, by their hex digits, or `-` where there are none, which contracts see as bytes.
 #[derive(Drop)]
 pub struct Text<'a> {
     word: &'a [u8],
@@ -187,7 +187,7 @@ impl<'a> ToBytes for Text<'a> {
     }
 }
 
-/// Records, each by the hex digits of a word or `-`, which contracts see as lists of bytes. Own.
+/// Records, each by the hex digits of a word or `-`, which contracts see as lists of bytes.
 #[derive(Drop)]
 pub struct Texts<'a> {
     words: Words<'a>,

@@ -53,7 +53,7 @@ fn no_end(fault: LinkFault) -> WorldFault
 }
 
 impl World {
-    /// A world in which nothing happened (own). `BadSetup` where a number of the setup isn't in its range;
+    /// A world in which nothing happened. `BadSetup` where a number of the setup isn't in its range;
     /// else `NoMemory` alone.
     pub fn new(alloc: Global, setup: WorldSetup) -> Result<World, WorldFault>
         ensures ok { IfOk result (λ w. IsWorldSetup setup × (w ≡ fresh setup)) }
@@ -87,7 +87,7 @@ impl World {
         })
     }
 
-    /// Nothing was asked, and no packet was written (own). It takes no memory.
+    /// Nothing was asked, and no packet was written. It takes no memory.
     pub fn is_fresh(&self) -> bool
         ensures yes { result ≡ true → IsFresh self.now }
         ensures no { result ≡ false → IsFresh self.now → ⊥ }

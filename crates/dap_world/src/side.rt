@@ -16,7 +16,7 @@ ghost use Rattle.dap_events.specs.declared.event.Step.TheVariants as step;
 use dap_events::{Step, WorldFault};
 use nsp_link::{GREATEST_AGE, LinkEnd, LinkFault};
 
-/// A packet that an end wrote (own).
+/// A packet that an end wrote.
 #[derive(Drop, PartialEq)]
 pub struct Wired {
     /// Its bytes.

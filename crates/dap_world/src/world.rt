@@ -9,7 +9,7 @@ use nsp_link::LinkEnd;
 use std::alloc::Global;
 use std::marker::Model;
 
-/// Both ends and the network (own).
+/// Both ends and the network.
 #[derive(Drop)]
 pub struct World {
     pub(crate) alloc: Global,

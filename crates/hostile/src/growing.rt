@@ -53,7 +53,7 @@ impl<T: Drop> From<AllocFailed<T>> for Trouble {
     }
 }
 
-/// Want of memory is told as such, and any other fault as wrong.
+/// Out of memory is reported as such, and any other fault as wrong.
 fn wants(is_memory: bool) -> Trouble {
     if is_memory {
         Trouble::Wants

@@ -8,7 +8,7 @@ use std::io::Write;
 /// The most bytes that readers answer.
 const MOST: usize = 65_536;
 
-/// A text that grows, and whether a part of it is missing since memory was wanting.
+/// A text that grows, and whether a part of it is missing since memory ran out.
 #[derive(Drop)]
 pub struct Text {
     bytes: Vec<u8>,

@@ -16,7 +16,7 @@ use std::alloc::{AllocError, Global};
 use std::io::{BufRead, Write};
 use thiserror::Error;
 
-/// What became of a line (own).
+/// What became of a line.
 #[derive(Clone, Copy, PartialEq, Eq)]
 pub enum Became {
     /// It was answered.
@@ -27,7 +27,7 @@ pub enum Became {
     NoMemory,
 }
 
-/// An answer, or how one begins that is said piece by piece (own).
+/// An answer, or how one begins that is said piece by piece.
 #[derive(Clone, Copy, PartialEq, Eq)]
 pub enum Answer<P> {
     /// The text is the whole of it, and this became of the line.
@@ -74,7 +74,7 @@ pub trait Answers {
         ensures { result ≡ waiting self.now };
 }
 
-/// Why a conversation ended before its input did (own).
+/// Why a conversation ended before its input did.
 #[derive(Clone, Copy, Debug, PartialEq, Eq, Error)]
 #[error("{}", self.text())]
 pub enum TalkFault {

@@ -275,14 +275,14 @@ fn command_line<'a>(alloc: Global) -> Result<Command<'a>, Error>
     Ok(command)
 }
 
-/// Which end (own).
+/// Which end.
 #[derive(Clone, Copy, PartialEq, Eq)]
 pub enum Role {
     Serve,
     Ask,
 }
 
-/// What the words say (own).
+/// What the words say.
 #[derive(Clone, Copy, PartialEq, Eq)]
 pub struct Options {
     pub role: Role,
@@ -296,7 +296,7 @@ pub struct Options {
     pub waiting: u32,
 }
 
-/// What the program does (own).
+/// What the program does.
 #[derive(Clone, Copy, PartialEq, Eq)]
 pub enum Task {
     /// Answers lines as an end.

@@ -12,7 +12,7 @@ use std::alloc::Global;
 use std::collections::VecDeque;
 use std::marker::Model;
 
-/// The addresses and limits of an end (own).
+/// The addresses and limits of an end.
 #[derive(Clone, Copy, PartialEq, Eq)]
 pub struct LinkSetup {
     /// The own address, to which packets have to be sent.
@@ -27,7 +27,7 @@ pub struct LinkSetup {
     pub max_message: usize,
 }
 
-/// What became of a packet that wasn't refused (own).
+/// What became of a packet that wasn't refused.
 #[derive(Clone, Copy, Debug, PartialEq, Eq)]
 pub enum Got {
     /// Its segment was the next one: it was taken, with all held ones that follow it without a hole.

@@ -32,7 +32,7 @@ pub struct AckField {
     pub number: Seq12,
 }
 
-/// The payload of a segment, which contracts see as a list of numbers (own).
+/// The payload of a segment, which contracts see as a list of numbers.
 #[derive(Drop)]
 pub struct Payload<'a>(pub &'a [u8]);
 
@@ -90,7 +90,7 @@ pub enum Packet<'a> {
     DataAck(AckFields),
 }
 
-/// Why bytes are no packet; an offset counts bytes from their start (own).
+/// Why bytes are no packet; an offset counts bytes from their start.
 #[derive(Clone, Copy, Debug, PartialEq, Eq, Error)]
 pub enum SegFault {
     /// The field that begins at this offset is missing, or not whole.

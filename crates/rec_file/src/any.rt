@@ -10,7 +10,7 @@ use crate::sequential::SeqFile;
 use crate::shapes::{Org, Shape};
 use std::alloc::{AllocError, Global};
 
-/// A file of either organization (own, in the manner of RMS).
+/// A file of either organization (in the manner of RMS).
 #[derive(Drop)]
 pub enum AnyFile {
     /// A sequential file.

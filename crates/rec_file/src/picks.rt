@@ -1,6 +1,6 @@
 //! What a stream's user may do, and which record a get is for.
 
-/// What the user of a stream may do (own, in the manner of RMS). An operation without its right is
+/// What the user of a stream may do (in the manner of RMS). An operation without its right is
 /// refused as not permitted.
 #[derive(Clone, Copy, PartialEq, Eq)]
 pub struct Rights {
@@ -10,7 +10,7 @@ pub struct Rights {
     pub del: bool,
 }
 
-/// Which record a get is for (own, in the manner of RMS).
+/// Which record a get is for (in the manner of RMS).
 #[derive(Clone, Copy, PartialEq, Eq)]
 pub enum Pick {
     /// The lowest occupied number from the stream's next on.

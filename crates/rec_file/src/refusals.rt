@@ -5,7 +5,7 @@ ghost use Rattle.rec_file.specs.Keys.{number_of_key};
 use dap_fields::number_of;
 use thiserror::Error;
 
-/// Why an operation on a stream is refused (own, in the manner of RMS).
+/// Why an operation on a stream is refused (in the manner of RMS).
 #[derive(Clone, Copy, Debug, PartialEq, Eq, Error)]
 #[error("{}", self.text())]
 pub enum Refusal {

@@ -8,7 +8,7 @@ use crate::shapes::Shape;
 use std::alloc::{AllocError, Global};
 use std::marker::Model;
 
-/// A sequential file (own, in the manner of RMS): a list of records, of which the first has number
+/// A sequential file (in the manner of RMS): a list of records, of which the first has number
 /// 1, and so on.
 #[derive(Drop)]
 pub struct SeqFile {

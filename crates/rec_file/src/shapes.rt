@@ -2,7 +2,7 @@
 ghost use Rattle.std.specs.Prelude.{◌≡◌, IfSome, IsTrue};
 ghost use Rattle.rec_file.specs.Shapes.{checked_shape, is_shape, limit_of, allows_length, is_seq};
 
-/// How the numbers of a file's records are given out (own, in the manner of RMS).
+/// How the numbers of a file's records are given out (in the manner of RMS).
 #[derive(Clone, Copy, Debug, PartialEq, Eq)]
 pub enum Org {
     /// Records are in the order in which they came, numbered 1, 2, 3, .. without a gap.
@@ -11,7 +11,7 @@ pub enum Org {
     Rel,
 }
 
-/// Which lengths a file's records may have (own, in the manner of RMS).
+/// Which lengths a file's records may have (in the manner of RMS).
 #[derive(Clone, Copy, Debug, PartialEq, Eq)]
 pub enum Format {
     /// All records have one length.

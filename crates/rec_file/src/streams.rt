@@ -13,12 +13,12 @@ use crate::refusals::Refusal;
 use crate::shapes::MAX_NUMBER;
 use std::marker::Model;
 
-/// A user's place in a file, and what the user may do (own, in the manner of RMS): the number from
+/// A user's place in a file, and what the user may do (in the manner of RMS): the number from
 /// which the next get searches, from 1 to one above [`MAX_NUMBER`], and perhaps a current record.
 ///
 /// An operation answers the number of its record, or the first of its refusals whose condition
 /// holds. Each operation leaves no current record, refused or not, save a get that finds one, and
-/// save want of memory, which comes last and changes nothing.
+/// save out of memory, which comes last and changes nothing.
 #[derive(Clone, Copy)]
 pub struct Stream {
     rights: Rights,

@@ -9,7 +9,7 @@ abbrev pub TellsFirstOrWants : {X : Type 0} → Result X CaptureFault → List C
 TellsFirstOrWants result faults =
     MatchResult result (λ _. faults ≡ []) (λ fault. (fault ≡ NoMemory) ⊎ IsFirst faults fault)
 
--- the first of the faults, where there is one; only else want of memory
+-- the first of the faults, where there is one; only else out of memory
 abbrev pub TellsFirstThenWants : {X : Type 0} → Result X CaptureFault → List CaptureFault → Type 0
 TellsFirstThenWants result faults =
     MatchResult result (λ _. faults ≡ []) (λ fault. ((fault ≡ NoMemory) × (faults ≡ [])) ⊎ IsFirst faults fault)

@@ -1,4 +1,4 @@
--- Whether memory was wanting, by what a call came to.
+-- Whether memory ran out, by the result of a call.
 use Rattle.std.specs.Prelude.{Bool, false, Result, Ok, Err}
 use Rattle.nsp_link.specs.declared.link.Got.{Got}
 use Rattle.dap_end.specs.declared.fault.EndFault.{EndFault}

@@ -39,10 +39,10 @@ pub record ReadsAll (input : List ℕ) (r : Reading) : Type 0 where
   pub clean : faults_from packet_limit 1 input ≡ []
   pub reads : Reads packets r
 
--- memory was wanting, or it is the first fault
+-- memory ran out, or it is the first fault
 abbrev pub WantsOrFirst : List ℕ → CaptureFault → Type 0
 WantsOrFirst input fault = (fault ≡ NoMemory) ⊎ IsFirst (faults_from packet_limit 1 input) fault
 
--- it is the first fault, or memory was wanting where there is none
+-- it is the first fault, or memory ran out where there is none
 abbrev pub FirstThenWants : List ℕ → CaptureFault → Type 0
 FirstThenWants input fault = ((fault ≡ NoMemory) × (faults_from packet_limit 1 input ≡ [])) ⊎ IsFirst (faults_from packet_limit 1 input) fault

@@ -26,7 +26,7 @@ StandsAt listed count None unread bytes progress = ⊤
 abbrev pub IsListing : Listed → List ℕ → List ℕ → Type 0
 IsListing listed input text = CaptureLines listed 1 (captures (limit_of listed) input) text
 
--- The input was read to its end. No line is at fault, and the text is the listing, unless memory was wanting for it.
+-- The input was read to its end. No line is at fault, and the text is the listing, unless memory ran out for it.
 abbrev pub IsWhole : Listed → List ℕ → Progress → Type 0
 IsWhole listed input progress =
     IsTextOf (faults_from (limit_of listed) 1 input) (λ text. progress.wants ≡ false → IsListing listed input text) input progress.text.items
