@@ -1,4 +1,4 @@
-//! The words of the program `dapnsp`: which command they name, its exit status, and what is told.
+//! The command line of the program `dapnsp`: it runs the command, and returns the exit status.
 #![tactic(auto)]
 
 mod run;

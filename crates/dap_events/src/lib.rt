@@ -1,5 +1,4 @@
-//! What happens between two ends of a DAP file access and their network, as values: the events, what comes of each, and
-//! the sizes of both ends.
+//! The events of a client, a server and the network between them, what comes of each, and the sizes of both ends.
 #![tactic(auto)]
 
 mod event;

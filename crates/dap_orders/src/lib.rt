@@ -1,4 +1,4 @@
-//! The lines of a schedule: which of them say something, the setup or event that each says, and what is wrong with them.
+//! The lines of a schedule: the setup or event of each, and the first at fault.
 #![tactic(auto)]
 
 mod checking;

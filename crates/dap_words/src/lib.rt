@@ -1,4 +1,4 @@
-//! The words of the program `dapnsp`: which command they name, and what help says.
+//! The arguments of the program `dapnsp`: which command they name, and what help says.
 #![tactic(auto)]
 
 mod choice;

@@ -1,5 +1,4 @@
-//! Plays sessions that stand in text files, one a suite: each line is a call and what it comes to. It prints how many cases
-//! each file has, and each line that comes to something else. The status is 1 then, 2 where a file can't be read, and
+//! Plays sessions from text files, whose lines are calls and their results. It prints how many cases each file has, and each line that comes to something else. The status is 1 then, 2 where a file can't be read, and
 //! 3 where memory ran out.
 #![tactic(auto)]
 
