@@ -1,5 +1,5 @@
-//! Plays sessions from text files, whose lines are calls and their results. It prints how many cases each file has, and each line that comes to something else. The status is 1 then, 2 where a file can't be read, and
-//! 3 where memory ran out.
+//! Plays sessions from text files, whose lines are calls and their results. It prints how many cases each file has, and
+//! each line with another result. The status is 1 then, 2 where a file can't be read, and 3 where memory ran out.
 #![tactic(auto)]
 
 mod asking;
