@@ -96,6 +96,43 @@ fn pages_of_four_records(rt: HostRuntime) {
     four_records(&rt, &mut RelFile::new(rt.alloc(), RELATIVE));
 }
 
+/// Two bytes at most, under three numbers.
+const SHORT: Shape = Shape {
+    org: Org::Rel,
+    format: Format::Variable,
+    mrs: 2,
+    mrn: 3,
+};
+
+/// Numbers and records that are put into such a file, one after the other, and the answers.
+const SHORT_PUTS: &[(Option<u32>, &[u8], Result<u32, Refusal>)] = &[
+    (Some(3), b"ab", Ok(3)),
+    (Some(3), b"ab", Err(Refusal::RecordExists)),
+    (Some(0), b"ab", Err(Refusal::NumberOutOfRange)),
+    (Some(4), b"ab", Err(Refusal::NumberOutOfRange)),
+    (Some(2), b"abc", Err(Refusal::BadLength)),
+    (None, b"a", Ok(1)),
+    (None, b"", Ok(2)),
+    (None, b"a", Err(Refusal::RecordExists)),
+];
+
+/// A file of any kind refuses what its shape doesn't allow.
+fn keeps_to_its_shape<F: RecordFile>(rt: &impl Abort, file: &mut F) {
+    let mut stream = Stream::new(ALL);
+    for (number, body, answer) in SHORT_PUTS {
+        assert!(rt;
+            stream.put(file, *number, body) == *answer,
+            "{number:?} {body:?}"
+        );
+    }
+}
+
+#[test]
+fn a_list_keeps_to_its_shape_as_pages_do(rt: HostRuntime) {
+    keeps_to_its_shape(&rt, &mut RelFile::new(rt.alloc(), SHORT));
+    keeps_to_its_shape(&rt, &mut ListFile::new(rt.alloc(), SHORT));
+}
+
 /// A session's numbers have 32 bits, and MRN has 64.
 #[test]
 fn the_greatest_mrn(rt: HostRuntime) {
