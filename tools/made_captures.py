@@ -10,9 +10,9 @@ from decnet.lossy import Both, Line
 NODES = {">": (read_node("1.1"), read_node("1.2")), "<": (read_node("1.2"), read_node("1.1"))}
 LINK_ETHERNET = 1
 NUMBER, EXTENSIBLE, IMAGE, REST = "number", "extensible", "image", "rest"
-ATTRIBUTES = [(EXTENSIBLE, 2), (NUMBER, 1), (NUMBER, 1), (EXTENSIBLE, 3), (NUMBER, 2), (NUMBER, 2), (IMAGE, 5), (NUMBER, 1),
-              (NUMBER, 1), (IMAGE, 5), (IMAGE, 40), (NUMBER, 2), (EXTENSIBLE, 6), (NUMBER, 1), (EXTENSIBLE, 6), (EXTENSIBLE, 6),
-              (NUMBER, 2), (IMAGE, 5), (IMAGE, 5), (NUMBER, 2), (IMAGE, 5)]
+ATTRIBUTES = [(EXTENSIBLE, 2), (NUMBER, 1), (NUMBER, 1), (EXTENSIBLE, 3), (NUMBER, 2), (NUMBER, 2), (IMAGE, 5),
+              (NUMBER, 1), (NUMBER, 1), (IMAGE, 5), (IMAGE, 40), (NUMBER, 2), (EXTENSIBLE, 6), (NUMBER, 1),
+              (EXTENSIBLE, 6), (EXTENSIBLE, 6), (NUMBER, 2), (IMAGE, 5), (IMAGE, 5), (NUMBER, 2), (IMAGE, 5)]
 CONTROLS = [(NUMBER, 1), (IMAGE, 255), (NUMBER, 1), (EXTENSIBLE, 6), (IMAGE, 5), (EXTENSIBLE, 4)]
 FIELDS = {1: [(NUMBER, 2)] + [(NUMBER, 1)] * 7 + [(EXTENSIBLE, 12)],
           3: [(NUMBER, 1), (EXTENSIBLE, 5), (IMAGE, 255), (EXTENSIBLE, 3), (EXTENSIBLE, 3), (EXTENSIBLE, 4), (IMAGE, 40)],
@@ -70,8 +70,8 @@ def message(draw):
     flags = (2 | (4 if len(body) > 255 or draw.random() < 0.1 else 0)) if draw.random() < 0.9 else 0
     flags |= draw.random() < 0.15
     head = bytes([kind]) + (bytes([flags]) if draw.random() < 0.95 else bytes([flags | 128, 0]))
-    head += b"\0" * (flags & 1) + (bytes([len(body) & 255]) if flags & 2 else b"") + (bytes([len(body) >> 8]) if flags & 4 else b"")
-    return head + body
+    length = len(body).to_bytes(2, "little")
+    return head + b"\0" * (flags & 1) + (length[:1] if flags & 2 else b"") + (length[1:] if flags & 4 else b"") + body
 
 
 def altered(draw, payload):

@@ -113,6 +113,6 @@ def read_lines(name, file, packets):
             comment = FRAME.fullmatch(line)
             frame = int(comment[1]) if comment else frame
         elif line.strip(b"\r\n"):
-            raise Fault(f"{name}: line {number} is no packet (> or <, a space, and bytes in hex), and the file is neither pcap "
-                        "nor pcapng")
+            raise Fault(f"{name}: line {number} is no packet (> or <, a space, and bytes in hex), and the file is neither "
+                        "pcap nor pcapng")
     return []
