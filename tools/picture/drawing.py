@@ -9,7 +9,7 @@ from picture.messages import counted, shortened
 WIDTH, LEFT, RIGHT = 1120, 190, 890  # of a row, and where its lanes are
 INDENT = 14  # from a lane to a text
 LINE, SMALL_LINE = 17, 15  # heights of lines
-ACK_HEIGHT, PLAIN_HEIGHT = 12, 22
+ACK_HEIGHT, PLAIN_HEIGHT = 15, 22
 MIN_DATA = 4  # so many Data of an NSP message are one line
 DETAIL = 72  # characters of what is said of a message
 PAUSE = 1  # seconds without a packet that are told
@@ -131,7 +131,7 @@ class Picture:
         return f"<details {head}><summary>{content}</summary>{inside}</details>\n"
 
     def ack_row(self, packet):
-        content = self.arrow(packet.direction, 6, "thin") + self.side(10, acks_text(packet.acks)) + self.gutter(packet, 10)
+        content = self.arrow(packet.direction, 9, "thin") + self.side(12, acks_text(packet.acks)) + self.gutter(packet, 12)
         return self.framed(packet, "ack", svg(ACK_HEIGHT, content))
 
     def plain_row(self, packet, row, arrow, label):
@@ -174,11 +174,11 @@ class Picture:
     def message_row(self, packet):
         """A packet with which messages are whole."""
         lines, folded = self.lines_of(packet)
-        height = 8 + LINE * len(lines) + 6
+        height = 8 + LINE * len(lines) + 7
         content = "".join(self.label(packet.direction, 1 + LINE * at, line, "say", title)
                           for at, (line, title) in enumerate(lines, 1))
         is_fault = any(one.is_refusal or one.word == "bad" for one in packet.messages)
-        content += self.arrow(packet.direction, height - 6, "fault" if is_fault else "solid")
+        content += self.arrow(packet.direction, height - 7, "fault" if is_fault else "solid")
         content += self.gutter(packet, height - 2) + self.segment_side(packet, height - 2)
         kind = "whole opens" if any(one.word == "access" for one in packet.messages) else "whole"
         if not folded:
