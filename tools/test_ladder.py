@@ -96,8 +96,6 @@ class Page(html.parser.HTMLParser):
         elif "row" in kinds:
             self.row = {"kinds": kinds, "id": int((attributes.get("id") or "p0")[1:]), "titles": [], "arrows": [], "text": ""}
             self.sections[-1]["gaps" if "gap" in kinds else "rows"].append(self.row)
-        elif "folded" in kinds:
-            self.row = None
         elif tag == "line" and self.row:
             self.row["arrows"].append((float(attributes["x1"]) < float(attributes["x2"]), kinds[1]))
         elif tag == "tr" and "file" in kinds:
@@ -113,6 +111,8 @@ class Page(html.parser.HTMLParser):
         self.inside[tag] -= 1
         if tag == "td":
             self.cell = None
+        elif tag in ("div", "details"):  # no row is in another
+            self.row = None
 
     def handle_data(self, data):
         if self.inside["title"] > 0 and self.row and self.sections:
@@ -180,8 +180,8 @@ def wrong_rows(page, listing):
         yield "the number of packets"
 
 
-def wrong_page(page, listing):
-    """What is wrong with a page, all of it."""
+def wrong_page(page, listing, is_exchange=True):
+    """What is wrong with a page, all of it; its tables where it is of one exchange."""
     yield from wrong_rows(page, listing)
     for section in page.sections:
         ids = [row["id"] for row in section["rows"]]
@@ -192,7 +192,7 @@ def wrong_page(page, listing):
         yield "gaps"
     if sum("lost" in row["kinds"] for row in page.rows) != listing.parts:
         yield "segments of messages that are never whole"
-    if len(page.sections) == 1:
+    if len(page.sections) == 1 and is_exchange:
         yield from wrong_tables(page.sections[0], listing)
 
 
@@ -251,7 +251,7 @@ class PageTest(Case):
                     "altered": list(made_captures.altered_segments(SEED, 300)), "one": [PACKET]}
         for name, lines in captures.items():
             with self.subTest(name):
-                self.assertEqual(list(wrong_page(self.page_of(lines), Listing(lines)))[:3], [])
+                self.assertEqual(list(wrong_page(self.page_of(lines), Listing(lines), name != "altered"))[:3], [])
 
     def test_pcap_files_have_frames_times_and_nodes(self):
         path = self.folder / "lossy.pcap"

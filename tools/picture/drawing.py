@@ -153,12 +153,18 @@ class Picture:
         if packet.retransmits:
             label = f"retransmits {packet.retransmits.number} (segment {packet.sequence})"
             return self.plain_row(packet, "repeat", "again", label)
-        label = f"{packet.mark} segment" + (" of a message that is never whole" if packet.is_unfinished else "")
-        return self.plain_row(packet, "lost" if packet.is_unfinished else "part", "thin", label + ", early" * packet.is_early)
+        row = "lost" if packet.is_unfinished else "part"
+        return self.plain_row(packet, row, "thin", self.own_label(packet) + ", early" * packet.is_early)
+
+    @staticmethod
+    def own_label(packet):
+        return f"{packet.mark} segment" + (" of a message that is never whole" if packet.is_unfinished else "")
 
     def lines_of(self, packet):
         """The lines of a packet's messages, each with its message or None; and the messages that one line stands for."""
         lines, folded = [], []
+        if packet.is_unfinished:  # it fills a gap before the messages
+            lines.append((f'<tspan class="small lost">{self.own_label(packet)}</tspan>', None))
         for whole in packet.completed:
             if whole.segments > 1 or whole.first != packet.sequence:
                 said = f"NSP message of {counted(whole.segments, 'segment')}, {whole.first} to {whole.last}"
@@ -180,7 +186,7 @@ class Picture:
         is_fault = any(one.is_refusal or one.word == "bad" for one in packet.messages)
         content += self.arrow(packet.direction, height - 7, "fault" if is_fault else "solid")
         content += self.gutter(packet, height - 2) + self.segment_side(packet, height - 2)
-        kind = "whole opens" if any(one.word == "access" for one in packet.messages) else "whole"
+        kind = "whole" + " opens" * any(one.word == "access" for one in packet.messages) + " lost" * packet.is_unfinished
         if not folded:
             return self.framed(packet, kind, svg(height, content))
         inner = "".join(
