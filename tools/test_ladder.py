@@ -356,6 +356,7 @@ class WrongBodiesTest(Case):
     def test_each_is_caught(self):
         captures = [self.lossy, self.lossless, self.two_links, list(made_captures.streams(SEED, 600))]
         listed = [Listing(lines) for lines in captures]
+        self.assertFalse(any(self.differs(TOOLS / "ladder", *both) for both in zip(captures, listed)), "without an edit")
         for name, *edit in TRIED:
             with self.subTest(name), wrong_ladder(*edit) as ladder:
                 self.assertTrue(any(self.differs(ladder, *both) for both in zip(captures, listed)), "not caught")

@@ -50,7 +50,7 @@ WRONG_BODIES = [
      "if stream.segments[at] then stream.segments[at].payload = segment.payload return stream.segments[at], nil end"),
     ("not cut after a last mark", "if behind and not BEGINS[behind.mark] and not ENDS[segment.mark] then",
      "if behind and not BEGINS[behind.mark] then"),
-    ("a third acknowledgement field", "local FIELDS_BEFORE_PAYLOAD = 3", "local FIELDS_BEFORE_PAYLOAD = 4"),
+    ("one acknowledgement field at most", "local FIELDS_BEFORE_PAYLOAD = 3", "local FIELDS_BEFORE_PAYLOAD = 2"),
     ("held by its own segments alone", "latest = math.max(latest, stream.segments[sequence].frame)",
      "latest = stream.segments[sequence].frame"),
     ("an Ethernet's filling is payload", "local range = tvb(at, stop - at)", "local range = tvb(at)"),
@@ -305,6 +305,7 @@ class WrongBodiesTest(Case):
                     list(made_captures.streams(SEED, AT_ONCE))]
         paths = [self.pcap(lines, f"{at}.pcap") for at, lines in enumerate(captures)]
         listed = [follow(lines) for lines in captures]
+        self.assertFalse(any(self.differs(path, LUA, lines) for path, lines in zip(paths, listed)), "without an edit")
         source = LUA.read_text(encoding="utf-8")
         wrong = self.folder / "wrong.lua"
         for name, old, new in TRIED:
