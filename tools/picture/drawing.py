@@ -8,7 +8,7 @@ from picture.messages import counted, shortened
 
 WIDTH, LEFT, RIGHT = 1120, 190, 890  # of a row, and where its lanes are
 INDENT = 14  # from a lane to a text
-LINE, SMALL_LINE = 17, 15  # heights of lines
+LINE, SMALL_LINE, QUIET_LINE = 17, 15, 21  # heights of lines
 ACK_HEIGHT, PLAIN_HEIGHT = 15, 22
 MIN_DATA = 4  # so many Data of an NSP message are one line
 DETAIL = 72  # characters of what is said of a message
@@ -266,11 +266,11 @@ class Picture:
         content, y = "", 5
         for direction in sorted({packet.direction for packet in packets}, key=lambda one: one != self.client):
             for count, arrow, label in quiet_groups([packet for packet in packets if packet.direction == direction]):
-                content += self.arrow(direction, y + 9, arrow) + (self.arrow(direction, y + 12, arrow) if count > 1 else "")
+                content += self.arrow(direction, y + 10, arrow) + (self.arrow(direction, y + 13, arrow) if count > 1 else "")
                 content += self.label(direction, y + 6, label, "small")
-                y += LINE
-        content += self.gutter(packets[0], y - 2) + chevron(y - 9)
-        content += self.side(y - 2, f"packets {packets[0].number} to {packets[-1].number}")
+                y += QUIET_LINE
+        content += self.gutter(packets[0], y - 6) + chevron(y - 13)
+        content += self.side(y - 6, f"packets {packets[0].number} to {packets[-1].number}")
         rows = "".join(self.row(packet, packet is not packets[0]) for packet in packets)
         only = " acks" if all(packet.kind == "ack" for packet in packets) else ""
         return (f'{self.gap_rows(packets[0])}<details class="folded quiet{only}"><summary>{svg(y + 3, content)}</summary>'

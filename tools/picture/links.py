@@ -1,7 +1,6 @@
 """Packets divided into links."""
 from decnet.nsp import CONNECTS, Kind
 
-WITHOUT_SENDER = CONNECTS  # their receiver has no address yet
 ADDRESSES = 5  # bytes of MSGFLG and both link addresses
 
 
@@ -32,7 +31,7 @@ def addresses_of(packet):
         receiver = sender = 0
     elif data[0] == Kind.CONNECT_ACK:
         sender = 0
-    elif data[0] in CONNECTS:
+    elif data[0] in CONNECTS:  # the receiver has none yet
         receiver = 0
     return (sender, receiver) if packet.direction == ">" else (receiver, sender)
 
@@ -58,7 +57,7 @@ class Divider:
         return link
 
     def half_open(self, addresses):
-        """The latest link of which one address is known, and is one of these; or any with it, where these are one."""
+        """The latest link with one of these addresses, where it has no other yet, or these are one; else None."""
         for end, address in enumerate(addresses):
             link = self.latest.get((end, address)) if address else None
             if link and (link.addresses[1 - end] == 0 or addresses[1 - end] == 0):

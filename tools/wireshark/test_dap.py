@@ -202,6 +202,12 @@ class ListingTest(Case):
             with self.subTest(name):
                 self.compare_file(EXAMPLES / name)
 
+    def test_the_page_shows_what_tshark_prints(self):
+        page = (ROOT / "docs" / "CAPTURES.md").read_text(encoding="utf-8")
+        (command, printed), = re.findall(r"^```sh\n(.*\n)```\n\n```\n((?:.*\n)+?)```", page, re.M)
+        done = subprocess.run(["bash", "-c", command], cwd=ROOT, capture_output=True, text=True, check=True)
+        self.assertEqual(done.stdout, printed)
+
     def test_altered_segments(self):
         lines = list(made_captures.altered_segments(SEED + 8, 10_000 if ALL else 2_000))
         self.compare(self.pcap(lines), follow(lines))
