@@ -23,6 +23,8 @@ ODD = {
     "examples/pcap_tests.py": ["--no-such"],
     "examples/shown_tests.py": ["--no-such"],
     "hostile/check": ["--no-such", "--only nothing", "--programs /nowhere"],
+    "tools/check": ["--no-such", "--seed x"],
+    "tools/ladder": ["--no-such", "nowhere", "/", "README.md", "--range x", "--link 0", "--daplive /nowhere examples/wire.pcap"],
     "bench/capture.py": ["", "x", "10 x", "x typical", "10 typical x"],
     "bench/schedules.py": ["", "x 1", "window x"],
     "bench/ratios": ["x"],
@@ -55,7 +57,7 @@ class WordsTest(ToolCase):
                     self.assertTrue(done.stderr, "nothing is said")
 
     def test_words_of_any_bytes(self):
-        for program in ("bridge/bridge.py", "examples/pcap_to_capture.py", "wrong_bodies", "bench/ratios"):
+        for program in ("bridge/bridge.py", "examples/pcap_to_capture.py", "wrong_bodies", "bench/ratios", "tools/ladder"):
             command = [*PYTHON, str(ROOT / program), b"\xff\xfe"]
             done = subprocess.run(command, capture_output=True, check=False, timeout=60)
             self.assertIn(done.returncode, (1, 2, 3))
