@@ -131,7 +131,7 @@ def record(draw):
 
 
 def transfer(seed, program, records=12, segment_size=100, loss=15, repeat=10):
-    """The packets that a client sees of a transfer over a lossy line, with refusals."""
+    """The packets that a client sends (`>`) and receives (`<`) in a transfer over a lossy line, with refusals."""
     draw = random.Random(seed)
     bodies = [record(draw).encode().hex() for _ in range(records)]
     requests = ["hello", "create 46494c45 0 2 0 0 15", "connect", "store " + " ".join(bodies), "connect", "fetch", "rewind",
@@ -144,7 +144,8 @@ def transfer(seed, program, records=12, segment_size=100, loss=15, repeat=10):
         for request in requests:
             both.ask(request)
         both.settle()
-        return [line for line in both.ends["asking"].transcript if line[:2] in ("> ", "< ")]
+        turned = {"<": ">", ">": "<"}  # what the client writes behind `<` it sends
+        return [turned[line[0]] + line[1:] for line in both.ends["asking"].transcript if line[:2] in ("> ", "< ")]
     finally:
         both.close()
 
