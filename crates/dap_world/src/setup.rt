@@ -87,7 +87,7 @@ impl World {
         })
     }
 
-    /// Nothing was asked, and no packet was written. It takes no memory.
+    /// Nothing was asked, and no packet was written.
     pub fn is_fresh(&self) -> bool
         ensures yes { result ≡ true → IsFresh self.now }
         ensures no { result ≡ false → IsFresh self.now → ⊥ }
