@@ -4,7 +4,7 @@
 usage: lossy.py [--seed N] [--loss PERCENT] [--repeat PERCENT] [--reach N] [--asking WORDS] [--serving WORDS]
                 [--transcript FILE] [--daplive PROGRAM] < REQUESTS
 
-Reads requests, one a line, as they stand behind `ask`; empty lines and those that begin with `#` say nothing. It starts
+Reads requests, one a line, as they follow `ask`; empty lines and those that begin with `#` say nothing. It starts
 `daplive ask WORDS` and `daplive serve WORDS`, asks each request when the report of the one before has come, and carries
 the packets: each is lost, or repeated, with that chance, and any of the oldest --reach ones on their way arrives next.
 Where none is on its way, an end whose packets wait says `resend`. It prints the report of each request, or why it isn't

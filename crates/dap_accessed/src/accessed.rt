@@ -35,7 +35,7 @@ use std::alloc::Global;
 use std::marker::Model;
 
 /// The end that is accessed: it holds the files, and serves one message after another (DAP 5.6.0,
-/// message sequences). It keeps no list of what it served: it stands as after any messages that
+/// message sequences). It keeps no list of what it served: it is as after any messages that
 /// leave what it keeps.
 #[derive(Drop)]
 pub struct Accessed {

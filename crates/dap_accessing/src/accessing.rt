@@ -29,7 +29,7 @@ use dap_msg::{GREATEST_MESSAGE, Item, MessageValue, item_at, limit_of};
 use std::alloc::Global;
 use std::marker::Model;
 
-/// The end that asks. It keeps no list of what was asked or answered: it stands as after any requests
+/// The client. It keeps no list of what was asked or answered: it is as after any requests
 /// and answers that leave what it keeps.
 #[derive(Drop)]
 pub struct Accessing {

@@ -230,7 +230,7 @@ fn append(
     append_counted(alloc, list, message, len, usize::from(limit))
 }
 
-/// What was counted of the messages of a request: the bytes of the first, and of the last behind the records, 0 where
+/// What was counted of the messages of a request: the bytes of the first, and of the last after the records, 0 where
 /// there is none.
 #[derive(Clone, Copy)]
 pub(crate) struct Counts {

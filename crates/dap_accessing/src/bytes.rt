@@ -97,7 +97,7 @@ impl PartialEq for OctetsList {
     }
 }
 
-/// Records in order, each behind its number.
+/// Records in order, each with its number.
 #[derive(Drop)]
 pub struct Numbered(pub Vec<(u64, Octets)>);
 

@@ -15,7 +15,7 @@ use dap_words::{Choice, read_words};
 use std::alloc::Global;
 use std::io::{Read, Write};
 
-/// What tells of the lines of a command.
+/// What errors in the lines of a command name.
 fn reading(choice: Choice) -> Reading {
     let (command, lines) = match choice {
         Choice::Show => ("show", "a capture"),

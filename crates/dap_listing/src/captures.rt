@@ -15,8 +15,8 @@ use std::alloc::AllocError;
 /// The most bytes of a packet in a capture.
 pub const PACKET_LIMIT: usize = 4096;
 
-/// A captured packet among lines: the way that it went and the hex digits of its bytes; and the number of the line behind
-/// it, and what stands there.
+/// A captured packet among lines: the way that it went and the hex digits of its bytes; and the number of the line after
+/// it, and what is there.
 #[derive(Clone, Copy, PartialEq)]
 pub struct Found<'a> {
     pub way: Direction,

@@ -45,7 +45,7 @@ pub fn limit_of(bufsiz: u16) -> u16
     }
 }
 
-/// The number that an image of at most 8 bytes stands for, the least byte first; 0 where it is empty (DAP 5.6.0,
+/// The number that an image of at most 8 bytes encodes, the least byte first; 0 where it is empty (DAP 5.6.0,
 /// message format notation, an image field).
 pub fn number_of(image: &[u8]) -> u64
     requires { length image.now ≤ 8 }

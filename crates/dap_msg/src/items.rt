@@ -9,7 +9,7 @@ use crate::decoding::decode_value;
 use crate::fault::MsgFault;
 use crate::message::Message;
 
-/// What stands at a place of an NSP message.
+/// What is at an offset of an NSP message.
 #[derive(Drop, PartialEq)]
 pub enum Item<'a> {
     /// A message.

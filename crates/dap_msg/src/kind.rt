@@ -112,7 +112,7 @@ impl<'a> Kind<'a, u16> for Word {
     }
 }
 
-/// An image of at most so many bytes.
+/// An image of at most this number of bytes.
 #[derive(Clone, Copy)]
 pub(crate) struct Image(pub usize);
 
@@ -147,7 +147,7 @@ impl<'a> Kind<'a, Bytes<'a>> for Image {
     }
 }
 
-/// An extensible field of at most so many bytes.
+/// An extensible field of at most this number of bytes.
 #[derive(Clone, Copy)]
 pub(crate) struct Extensible(pub usize);
 

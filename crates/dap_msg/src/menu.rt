@@ -3,7 +3,7 @@
 use crate::field;
 use crate::kind::{Byte, Extensible, Image, Word};
 
-/// A menu, and how many fields it tells, one by each of its bits.
+/// A menu, and how many fields it has, one for each of its bits.
 #[derive(Clone, Copy)]
 pub(crate) struct Menu(pub Extensible, pub u32);
 

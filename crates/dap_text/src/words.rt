@@ -12,7 +12,7 @@ use dap_accessing::{Octets, ToBytes, ToRecords};
 use std::alloc::{AllocError, Global};
 use std::marker::Model;
 
-/// The words of a line that are left, which contracts see as a list. Between two of them stands one space.
+/// The words of a line that are left, which contracts see as a list. Between two of them is one space.
 #[derive(Drop)]
 pub struct Words<'a> {
     rest: Option<&'a [u8]>,
@@ -143,7 +143,7 @@ impl<'a> Model for Text<'a> {
     ghost invariant = { λ t. IsSome (text_of t.word.now) };
 }
 
-/// The bytes that a word stands for.
+/// The bytes that a word encodes.
 pub(crate) fn read_text(word: &[u8]) -> Option<Text<'_>>
     ensures { result ≡ text_of word.now }
 {

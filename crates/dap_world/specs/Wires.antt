@@ -1,4 +1,4 @@
--- What stands on a wire.
+-- What is on a wire.
 use Rattle.std.specs.Prelude.{ℕ, List}
 use Rattle.dap_msg.specs.Blocked.{all_joined}
 use Rattle.nsp_link.specs.Cutting.{cut}

@@ -272,7 +272,7 @@ impl Places {
     }
 }
 
-/// Pages and their places, in order: those of a group, and those of the groups behind it.
+/// Pages and their places, in order: those of a group, and those of the groups after it.
 #[derive(Drop)]
 pub(crate) struct PlacesFrom<'a> {
     rest: &'a [(u32, usize)],

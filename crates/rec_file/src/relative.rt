@@ -21,7 +21,7 @@ use std::alloc::{AllocError, Global};
 use std::marker::Model;
 
 /// A relative file (in the manner of RMS): each number from 1 to the limit has a record or
-/// none. Number n stands in cell `(n - 1) % 64` of page `(n - 1) / 64`; a page is kept while it has
+/// none. Number n is in cell `(n - 1) % 64` of page `(n - 1) / 64`; a page is kept while it has
 /// a record, and the places of the pages are kept in the order of their numbers.
 #[derive(Drop)]
 pub struct RelFile {

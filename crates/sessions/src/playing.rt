@@ -44,7 +44,7 @@ pub struct Tally {
     around: Option<usize>,
 }
 
-/// The first word of a line, and what stands behind it.
+/// The first word of a line, and what follows it.
 fn split(line: &str) -> (&str, &str) {
     match line.split_once(' ') {
         Some(both) => both,
@@ -143,7 +143,7 @@ impl Script {
     }
 }
 
-/// Appends what stands behind an opening brace, `PIECE*N}` and more, in full.
+/// Appends what follows an opening brace, `PIECE*N}` and more, in full.
 fn push_repeated(spelled: &mut String, part: &str) -> Result<(), Trouble> {
     let (inside, behind) = part.split_once('}').ok_or(Trouble::BadLine)?;
     let (piece, times) = inside.split_once('*').ok_or(Trouble::BadLine)?;
