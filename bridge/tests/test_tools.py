@@ -25,6 +25,8 @@ ODD = {
     "hostile/check": ["--no-such", "--only nothing", "--programs /nowhere"],
     "tools/check": ["--no-such", "--seed x"],
     "tools/ladder": ["--no-such", "nowhere", "/", "README.md", "--range x", "--link 0", "--daplive /nowhere examples/wire.pcap"],
+    "tools/check": ["--no-such", "--seed x"],
+    "tools/ladder": ["--no-such", "nowhere", "/", "README.md", "--range x", "--link 0", "--daplive /nowhere examples/wire.pcap"],
     "bench/capture.py": ["", "x", "10 x", "x typical", "10 typical x"],
     "bench/schedules.py": ["", "x 1", "window x"],
     "bench/ratios": ["x"],

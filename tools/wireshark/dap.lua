@@ -2,7 +2,7 @@
 --
 --   tshark -X lua_script:dap.lua -r wire.pcap
 --
--- or copy it to the personal Lua plugins folder (Wireshark: Help, About, Folders; tshark: -G folders). tools/README.md
+-- or copy it to the personal Lua plugins folder (Wireshark: Help, About, Folders; tshark: -G folders). docs/CAPTURES.md
 -- says what it shows. The protocol is dec_dap, for the names dap.* belong to another one.
 --
 -- It takes dec_dna's entry in the dissector tables, and calls it first. A postdissector can't reassemble: dec_dna has no

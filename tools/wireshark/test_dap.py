@@ -203,7 +203,7 @@ class ListingTest(Case):
                 self.compare_file(EXAMPLES / name)
 
     def test_the_page_shows_what_tshark_prints(self):
-        page = (ROOT / "tools" / "README.md").read_text(encoding="utf-8")
+        page = (ROOT / "docs" / "CAPTURES.md").read_text(encoding="utf-8")
         (command, printed), = re.findall(r"^```sh\n(.*\n)```\n\n```\n((?:.*\n)+?)```", page, re.M)
         done = subprocess.run(["bash", "-c", command], cwd=ROOT, capture_output=True, text=True, check=True)
         self.assertEqual(done.stdout, printed)
