@@ -3,28 +3,35 @@
 
 usage: bridge.py serve --interface IF|--udp LPORT:HOST:RPORT --node 1.2 [--files FILE] [--save FILE] ..
        bridge.py ask --interface IF|--udp LPORT:HOST:RPORT --node 1.1 --to 1.2 [--user NAME ..] .. <REQUESTS
+       bridge.py password NAME <PASSWORD
 
 `serve` takes links to object 17 (FAL), one after another, and holds the files over all of them. `ask` opens one link to
 that object, reads requests, one a line as they stand behind `ask` of docs/LIVE.md, asks each when the report of the one
 before has come, prints the reports, and closes the link at the end of the input. docs/BRIDGE.md has all of it.
 """
 import contextlib
+import getpass
 import os
 import re
 import signal
 import sys
 
-from decnet import frames, log, nsp, program, routing, udp, wire
+from decnet import answers, frames, log, nsp, program, routing, udp, wire
 from decnet import words as command
 from decnet.address import node_text
 from decnet.asker import Asker, InputFault, Requests
 from decnet.end import Answer, End, EndFault
-from decnet.kept import KeptFault, KeptFile, Keeper
+from decnet.journal import Journal
+from decnet.kept import KeptFile, Keeper
 from decnet.link import MAX_PACKET, Settings
+from decnet.locked import KeptFault
 from decnet.log import LogFault
 from decnet.pcap import Pcap, PcapFault
-from decnet.role import FAILED, FAULT, Signals, Stopped, finish, run, wait_for
-from decnet.server import Server, load
+from decnet.role import FAILED, FAULT, GOOD, Signals, Stopped, finish, run, wait_for
+from decnet.server import Entry, Server, load, replay
+from decnet.space import Space
+from decnet.stored import Store, StoredEnd, program_of
+from decnet.users import Guard, Users, folded, is_name, make_hash
 
 OF_LINES = re.compile(r"(daplive: line|bad line) \d+")  # the live end counts lines that the user never saw
 
@@ -52,7 +59,8 @@ def start_end(words, signals):
     """The live end, which answers."""
     named = ["window", "buffer", *(["waiting"] if words.role == "serve" else [])]
     options = [word for name in named if getattr(words, name) for word in (f"--{name}", str(getattr(words, name)))]
-    end = End(words.daplive, [words.role, *options], told=tell_of_end)
+    kind = End if words.store is None else StoredEnd
+    end = kind(words.daplive, [words.role, *options], told=tell_of_end)
     try:
         answers = []
         end.tell("new", Answer(answers.append))
@@ -77,24 +85,83 @@ def keep_file(words):
     return kept
 
 
+def open_store(words, opened, end, space, signals):
+    """The store, from which the live end stands again as it stood; and the link that was open then, or None."""
+    journal = opened(Journal(words.store, f"{program_of(end)} {' '.join(end.words)}", words.sync))
+    is_new, is_good = journal.is_empty, not journal.is_empty and journal.parsed.lines[0] == journal.head()
+    if is_new:
+        log.say(f"{words.store}: a new store")
+        if words.files is not None:
+            load(end, words.files, space, signals)
+    elif words.files is not None:
+        raise KeptFault(f"{words.store}: it has files, and --files would add to them")
+    has_packets, left = bool(journal.parsed.told), replay(end, journal, space, signals)
+    journal.go_on()
+    store = opened(Store(end, journal, words.growth))
+    if left is None and (has_packets or not is_good):
+        renew_now(store, end, signals)
+    return store, left
+
+
+def renew_now(store, end, signals):
+    """Writes a store anew before any link is taken; a fault where that can't be."""
+    faults = []
+    store.renew(faults.append)
+    wait_for(lambda: faults, end, signals, files=store.files)
+    if faults[0]:
+        raise faults[0]
+
+
+def open_entry(words, opened):
+    """Who may enter."""
+    guard = opened(Guard(Users(words.users))) if words.users is not None else None
+    return Entry(frozenset(words.allow) if words.allow else None, guard)
+
+
 # ---- the program
+
+
+def print_user(words):
+    """The line of --users for a user, whose password is typed, or comes on standard input."""
+    name = os.fsencode(words.user)
+    if not is_name(name):
+        raise KeptFault(f"{answers.shown(words.user)} is no user's name: at most {nsp.IMAGE_LIMIT} bytes, and no spaces")
+    password = read_typed() if sys.stdin.isatty() else sys.stdin.buffer.readline(command.PASSWORD_LIMIT).rstrip(b"\r\n")
+    if not 0 < len(password) <= nsp.IMAGE_LIMIT:
+        raise KeptFault(f"a password has 1 to {nsp.IMAGE_LIMIT} bytes")
+    print(os.fsdecode(folded(name)), make_hash(password))
+    return GOOD
+
+
+def read_typed():
+    """A password that is typed twice, unseen."""
+    first, second = (os.fsencode(getpass.getpass(text)) for text in ("Password: ", "Again: "))
+    if first != second:
+        raise KeptFault("the passwords differ")
+    return first
 
 
 def serve(words, opened):
     """Serves; what is `opened` is closed by the caller, the last one first."""
     signals = opened(Signals(opened(log.start("bridge", words.log, with_times=True))))
     settings = Settings(words.segment, words.resend, words.tries, words.idle, words.unused)
+    entry = open_entry(words, opened)
     node = open_node(words, opened)
     kept = opened(keep_file(words)) if words.save is not None else None
     end = opened(start_end(words, signals))
-    if words.files is not None:
-        load(end, words.files, signals)
+    space = Space(end, words.space)
+    store, left = open_store(words, opened, end, space, signals) if words.store is not None else (None, None)
+    if words.files is not None and not store:
+        load(end, words.files, space, signals)
     is_other = words.files is not None and kept is not None and not os.path.samefile(words.files, words.save)
     keeper = opened(Keeper(kept, end, is_changed=is_other)) if kept else None
-    role = Server(node, end, settings, keeper, words.links)
+    role = Server(node, end, settings, keeper, words.links, store, space, entry)
     node.start()
     where = words.interface or node.wire.name
+    log.say(str(entry))
     log.say(f"node {node_text(words.node)} on {where}: takes links to object {nsp.FAL}")
+    if left:
+        role.resume(left)
     return carry(role, signals)
 
 
@@ -131,6 +198,8 @@ def start(words, closed):
         def opened(part):
             return parts.enter_context(contextlib.closing(part))
         try:
+            if words.role == "password":
+                return print_user(words)
             return serve(words, opened) if words.role == "serve" else ask(words, opened, closed)
         except KeptFault as fault:
             log.say(str(fault))

@@ -6,12 +6,13 @@ import sys
 from decnet import nsp, program, udp
 from decnet.address import node_text, read_node
 from decnet.end import DAPLIVE
+from decnet.journal import SYNCS
 
 PASSWORD_LIMIT = 65536
 NETWORKS = ("interface", "udp", "frames")
 # what holds where an option isn't given; one that isn't here is None then
 DEFAULTS = {"segment": 512, "resend": 1, "tries": 30, "idle": 30, "harm": 0, "seed": 1, "unused": 900, "patience": 120,
-            "user": b"", "account": b"", "go_on": False}
+            "user": b"", "account": b"", "go_on": False, "sync": SYNCS[0], "growth": 1 << 30, "space": 1 << 28}
 
 
 class Mistake(Exception):
@@ -104,14 +105,37 @@ def add_link(parser):
     parser.add_argument("--log", metavar="FILE", help="write messages to a file, which SIGHUP opens again")
 
 
-def add_serving(parser):
+def add_keeping(parser):
     parser.add_argument("--files", metavar="FILE", help="files at the start, as `files` of a live end prints them")
-    parser.add_argument("--save", metavar="FILE", help="where the files are kept, as soon as a file is closed")
-    parser.add_argument("--links", type=number(1, 1_000_000_000), metavar="N", help="stop after this many links")
+    keeping = parser.add_mutually_exclusive_group()
+    keeping.add_argument("--save", metavar="FILE", help="where the files are kept, as soon as a file is closed")
+    keeping.add_argument("--store", metavar="FILE",
+                         help="where each change is kept before it is answered, and the open link with it")
+    parser.add_argument("--sync", choices=SYNCS, help="with --store: when the disk has to have it (default answers)")
+    parser.add_argument("--growth", type=number(1 << 20, 1 << 40), metavar="BYTES",
+                        help="with --store: close a link that lets it grow by more (default 1073741824)")
+
+
+def add_entry(parser):
+    parser.add_argument("--users", metavar="FILE", help="who may enter, with which password; else anybody may")
+    parser.add_argument("--allow", metavar="AREA.NODE", type=node_word, nargs="+", action="extend",
+                        help="only these nodes may enter")
+
+
+def add_limits(parser):
     parser.add_argument("--unused", type=number(1, 86400, float), metavar="SECONDS",
                         help="close a link after this many seconds without a request (default 900)")
     parser.add_argument("--waiting", type=number(64, 1 << 30), metavar="BYTES",
-                        help="of the live end: serve no more while this many bytes of answers wait")
+                        help="of the live end: serve no more while this many bytes of answers wait (default 1048576)")
+    parser.add_argument("--space", type=number(1 << 10, 1 << 40), metavar="BYTES",
+                        help="close a link that stores more than this, as FILE has it (default 268435456)")
+
+
+def add_serving(parser):
+    add_keeping(parser)
+    add_entry(parser)
+    add_limits(parser)
+    parser.add_argument("--links", type=number(1, 1_000_000_000), metavar="N", help="stop after this many links")
 
 
 def add_other(parser):
@@ -127,6 +151,10 @@ def add_other(parser):
     password.add_argument("--password-env", metavar="NAME", help="the environment variable that has the password")
 
 
+def add_password(parser):
+    parser.add_argument("user", metavar="NAME", help="whose password is on standard input")
+
+
 def add_asking(parser):
     add_other(parser)
     parser.add_argument("--to", type=node_word, metavar="AREA.NODE", help="the node that has the files")
@@ -136,6 +164,7 @@ def add_asking(parser):
 ROLES = {
     "serve": ("take links to object 17 (FAL)", (add_network, add_link, add_serving)),
     "ask": ("open a link to object 17 of a node", (add_network, add_link, add_asking)),
+    "password": ("print the line of --users for a user and the password on standard input", (add_password,)),
 }
 
 
@@ -174,10 +203,15 @@ def read(words=None):
 
 def check(parser, words):
     """Looks whether all is there that the role needs, and reads the password from where the words say."""
+    if words.role == "password":
+        return
     if all(getattr(words, name) is None for name in NETWORKS):
         parser.error("one of --interface and --udp is needed")
     if words.node is None:
         parser.error("--node is needed")
+    for name in ("sync", "growth"):
+        if name in words.given and words.store is None:
+            parser.error(f"--{name} is needed by --store alone")
     words.given.setdefault("daplive", os.environ.get("DAPLIVE") or DAPLIVE)
     if words.role == "ask":
         if words.to is None:
