@@ -3,11 +3,14 @@
 
 usage: bridge.py serve --interface IF|--udp LPORT:HOST:RPORT --node 1.2 [--files FILE] [--save FILE] ..
        bridge.py ask --interface IF|--udp LPORT:HOST:RPORT --node 1.1 --to 1.2 [--user NAME ..] .. <REQUESTS
+       bridge.py copy FROM TO, bridge.py type NODE::NAME, bridge.py get NODE::NAME --number N,
+       bridge.py put NODE::NAME TEXT [--number N]
        bridge.py password NAME <PASSWORD
 
 `serve` takes links to object 17 (FAL), one after another, and holds the files over all of them. `ask` opens one link to
 that object, reads requests, one a line as they stand behind `ask` of docs/LIVE.md, asks each when the report of the one
-before has come, prints the reports, and closes the link at the end of the input. docs/BRIDGE.md has all of it.
+before has come, prints the reports, and closes the link at the end of the input. `copy`, `type`, `get` and `put` do that
+for a file that is named, and text. docs/BRIDGE.md has all of it.
 """
 import contextlib
 import getpass
@@ -16,21 +19,25 @@ import re
 import signal
 import sys
 
-from decnet import answers, frames, log, nsp, program, routing, udp, wire
+from decnet import answers, frames, log, nsp, program, routing, scripts, udp, wire
 from decnet import words as command
 from decnet.address import node_text
 from decnet.asker import Asker, InputFault, Requests
 from decnet.end import Answer, End, EndFault
+from decnet.hostfile import STANDARD, HostFile, read_host
 from decnet.journal import Journal
 from decnet.kept import KeptFile, Keeper
 from decnet.link import MAX_PACKET, Settings
 from decnet.locked import KeptFault
 from decnet.log import LogFault
 from decnet.pcap import Pcap, PcapFault
+from decnet.progress import Progress
 from decnet.role import FAILED, FAULT, GOOD, Signals, Stopped, finish, run, wait_for
 from decnet.server import Entry, Server, load, replay
 from decnet.space import Space
 from decnet.stored import Store, StoredEnd, program_of
+from decnet.talker import Talker
+from decnet.texts import Text, TextFault, numbered_of, pieces_of, records_of
 from decnet.users import Guard, Users, folded, is_name, make_hash
 
 OF_LINES = re.compile(r"(daplive: line|bad line) \d+")  # the live end counts lines that the user never saw
@@ -175,8 +182,50 @@ def ask(words, opened, closed):
     node, end = open_node(words, opened), opened(start_end(words, signals))
     role = Asker(node, end, settings, Requests(sys.stdin.fileno()), words.patience, words.go_on)
     node.start()
-    role.open(words.to, nsp.session(words.user, words.password, words.account))
+    role.open(words.to, nsp.session(*words.images))
     return carry(role, signals)
+
+
+def talk(words, opened):
+    """Does what people ask for with a file of another node."""
+    signals = opened(Signals(opened(log.start("bridge", words.log))))
+    out, total, script = make_script(words, opened)
+    settings = Settings(words.segment, words.resend, words.tries, words.idle)
+    node, end = open_node(words, opened), opened(start_end(words, signals))
+    progress = opened(Progress(total))
+    role = Talker(node, end, settings, script, words.patience, words.remote.text, progress)
+    node.start()
+    role.open(words.to, nsp.session(*words.images))
+    status = carry(role, signals)
+    if out and status == GOOD:
+        out.finish()
+    return status
+
+
+def make_script(words, opened):
+    """The file of this host that is written, or None; how many bytes are sent, where that is known; and the script."""
+    name = words.remote.name
+    if words.role == "put":
+        return None, None, scripts.put(name, words.record, words.number)
+    if words.role == "copy" and words.is_stored:
+        data = read_host(words.host)
+        return None, len(data), store_script(words, name, data)
+    out = opened(HostFile(words.host or STANDARD, words.replace))
+    is_lines = words.role != "copy" or words.lines
+    text = Text(out.write, Text.NUMBERED if words.relative else Text.LINES if is_lines and words.role == "get" else None,
+                is_lines)
+    return out, None, scripts.get(name, words.number, text) if words.role == "get" else scripts.fetch(name, text)
+
+
+def store_script(words, name, data):
+    """What stores the bytes of a file of this host."""
+    try:
+        if words.relative:
+            return scripts.store_numbered(name, numbered_of(data), words.append)
+        records = pieces_of(data, words.fixed) if words.fixed else records_of(data)
+    except TextFault as fault:
+        raise TextFault(f"{words.host}: {fault}") from fault
+    return scripts.store(name, records, words.append, words.fixed)
 
 
 def carry(role, signals):
@@ -200,7 +249,12 @@ def start(words, closed):
         try:
             if words.role == "password":
                 return print_user(words)
+            if words.role in command.PEOPLE:
+                return talk(words, opened)
             return serve(words, opened) if words.role == "serve" else ask(words, opened, closed)
+        except TextFault as fault:
+            log.say(str(fault))
+            return program.WORDS
         except KeptFault as fault:
             log.say(str(fault))
             return FAULT if fault.of_machine else FAILED

@@ -170,6 +170,7 @@ class Link:
         nothing is stored."""
         self.node, self.end, self.settings, self.told, self.clock = node, end, settings, told, clock
         self.keeper, self.space = keeper, space
+        self.carried = lambda count: None  # told of the bytes of each new segment, either way
         self.explain = lambda packet: ""  # what to say of a packet that brought an answer without a place
         self.peer, self.local, self.remote = peer, local, 0
         self.state, self.was_open = State.CLOSED, False
@@ -417,7 +418,9 @@ class Link:
 
     def note_progress(self, number):
         """The other end has the segments up to a number: what waits more has all its tries again."""
-        if 0 < (number - self.acknowledged) % nsp.NUMBERS < nsp.AHEAD:
+        count = (number - self.acknowledged) % nsp.NUMBERS
+        if 0 < count < nsp.AHEAD:
+            self.carried(count * self.segment)
             self.acknowledged, self.moved_at = number, self.clock()
             self.flow.forget(number)
             self.resend.stop()
@@ -447,6 +450,7 @@ class Link:
                 self.send_or_hold(self.read_packet(rest))
             elif word == "accepted":
                 self.used_at = self.moved_at = self.clock()
+                self.carried(len(packet.body) if packet else 0)
             elif word == "report" or text == NO_MEMORY:
                 self.told(text)
             elif word == "refused" and rest.split(" ")[0].rstrip(":") in LINK_FAILED:

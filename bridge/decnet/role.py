@@ -187,8 +187,11 @@ class Role:
         """Looks at what became of the link."""
         if self.link and self.link.state is State.CLOSED and self.is_over(self.link):
             link, self.link = self.link, None
-            log.say(f"link {link.local:04x}: {link.why}")
+            self.tell_closed(link)
             self.closed(link)
+
+    def tell_closed(self, link):
+        log.say(f"link {link.local:04x}: {link.why}")
 
 
 def turn(readers, writers, seconds):

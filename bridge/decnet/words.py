@@ -1,18 +1,26 @@
 """The words of the bridge's command line: its roles, their options, and what each may be."""
 import argparse
 import os
+import pathlib
 import sys
 
-from decnet import nsp, program, udp
-from decnet.address import node_text, read_node
+from decnet import nsp, options, program, udp
+from decnet.address import node_text
 from decnet.end import DAPLIVE
 from decnet.journal import SYNCS
+from decnet.nodes import find, read_names
+from decnet.remote import is_remote, read_remote
+from decnet.texts import MAX_NUMBER, RECORD_LIMIT
 
 PASSWORD_LIMIT = 65536
-NETWORKS = ("interface", "udp", "frames")
+PEOPLE = ("copy", "type", "get", "put")  # the roles that name a file
 # what holds where an option isn't given; one that isn't here is None then
 DEFAULTS = {"segment": 512, "resend": 1, "tries": 30, "idle": 30, "harm": 0, "seed": 1, "unused": 900, "patience": 120,
-            "user": b"", "account": b"", "go_on": False, "sync": SYNCS[0], "growth": 1 << 30, "space": 1 << 28}
+            "user": b"", "account": b"", "go_on": False, "sync": SYNCS[0], "growth": 1 << 30, "space": 1 << 28,
+            "append": False, "relative": False, "lines": False, "replace": False, "fixed": 0}
+PEOPLES = {"buffer": 65535}  # the same for the roles of PEOPLE
+# options of which one alone holds: one of the command line takes the place of another in the file of options
+GROUPS = (("interface", "udp", "frames"), ("save", "store", "folder"), ("password", "password_file", "password_env"))
 
 
 class Mistake(Exception):
@@ -49,13 +57,6 @@ def number(least, most, kind=int):
     return read
 
 
-def node_word(text):
-    try:
-        return read_node(text)
-    except ValueError as fault:
-        raise argparse.ArgumentTypeError(str(fault)) from fault
-
-
 def udp_word(text):
     try:
         return udp.read_ports(text)
@@ -81,9 +82,11 @@ def add_network(parser):
                          help="Ethernet frames over UDP, as emulators and bridges send them, in place of an interface")
     network.add_argument("--frames", type=number(3, 65535), metavar="FD",
                          help="for tests: a socket that carries frames, in place of an interface")
-    parser.add_argument("--node", type=node_word, metavar="AREA.NODE", help="this node's address")
-    parser.add_argument("--router", type=node_word, metavar="AREA.NODE",
-                        help="the router to nodes that nothing came from yet")
+    parser.add_argument("--node", metavar="NODE", help="this node, by its address AREA.NUMBER or its name")
+    parser.add_argument("--router", metavar="NODE", help="the router to nodes that nothing came from yet")
+    parser.add_argument("--nodes", metavar="FILE", help="names of nodes, in lines `1.10 VAX` (default ~/.config/daplive/nodes)")
+    parser.add_argument("--options", metavar="FILE",
+                        help="options, a line each; those of the command line come first (default ~/.config/daplive/options)")
     parser.add_argument("--pcap", metavar="FILE", help="write all frames, both ways, behind those of this pcap file")
     parser.add_argument("--harm", type=number(0, 90, float), metavar="PERCENT",
                         help="for tests: lose, repeat and swap this share of the frames that are sent")
@@ -118,8 +121,7 @@ def add_keeping(parser):
 
 def add_entry(parser):
     parser.add_argument("--users", metavar="FILE", help="who may enter, with which password; else anybody may")
-    parser.add_argument("--allow", metavar="AREA.NODE", type=node_word, nargs="+", action="extend",
-                        help="only these nodes may enter")
+    parser.add_argument("--allow", metavar="NODE", nargs="+", action="extend", help="only these nodes may enter")
 
 
 def add_limits(parser):
@@ -129,12 +131,6 @@ def add_limits(parser):
                         help="of the live end: serve no more while this many bytes of answers wait (default 1048576)")
     parser.add_argument("--space", type=number(1 << 10, 1 << 40), metavar="BYTES",
                         help="close a link that stores more than this, as FILE has it (default 268435456)")
-
-
-def add_serving(parser):
-    add_keeping(parser)
-    add_entry(parser)
-    add_limits(parser)
     parser.add_argument("--links", type=number(1, 1_000_000_000), metavar="N", help="stop after this many links")
 
 
@@ -151,20 +147,57 @@ def add_other(parser):
     password.add_argument("--password-env", metavar="NAME", help="the environment variable that has the password")
 
 
+def add_asking(parser):
+    parser.add_argument("--to", metavar="NODE", help="the node that has the files")
+    parser.add_argument("--go-on", action="store_true", help="go on after a request that was refused")
+
+
+def add_copying(parser):
+    parser.add_argument("--append", action="store_true", help="put the records behind those of the other node's file")
+    parser.add_argument("--relative", action="store_true", help="a relative file: lines are N<TAB>TEXT")
+    parser.add_argument("--fixed", type=number(1, RECORD_LIMIT), metavar="BYTES",
+                        help="store records of so many bytes, and no lines")
+    parser.add_argument("--lines", action="store_true", help="write a line for each record, also of one length")
+    parser.add_argument("--replace", action="store_true", help="write a file of this host anew")
+
+
+# ---- what isn't an option
+
+
+def add_copied(parser):
+    parser.add_argument("source", metavar="FROM", help="NODE::NAME, or a file of this host, or - for standard input")
+    parser.add_argument("target", metavar="TO", help="NODE::NAME, or a file of this host, or - for standard output")
+
+
+def add_source(parser):
+    parser.add_argument("source", metavar="NODE::NAME")
+
+
+def add_gotten(parser):
+    add_source(parser)
+    parser.add_argument("--number", required=True, type=number(1, MAX_NUMBER), metavar="N", help="the record's number")
+
+
+def add_put(parser):
+    parser.add_argument("target", metavar="NODE::NAME")
+    parser.add_argument("record", metavar="TEXT", type=os.fsencode)
+    parser.add_argument("--number", type=number(1, MAX_NUMBER), metavar="N",
+                        help="the record's number (default behind all others)")
+
+
 def add_password(parser):
     parser.add_argument("user", metavar="NAME", help="whose password is on standard input")
 
 
-def add_asking(parser):
-    add_other(parser)
-    parser.add_argument("--to", type=node_word, metavar="AREA.NODE", help="the node that has the files")
-    parser.add_argument("--go-on", action="store_true", help="go on after a request that was refused")
-
-
+# of each role what it does, its options, and its other words
 ROLES = {
-    "serve": ("take links to object 17 (FAL)", (add_network, add_link, add_serving)),
-    "ask": ("open a link to object 17 of a node", (add_network, add_link, add_asking)),
-    "password": ("print the line of --users for a user and the password on standard input", (add_password,)),
+    "serve": ("take links to object 17 (FAL)", (add_network, add_link, add_keeping, add_entry, add_limits), ()),
+    "ask": ("ask a node for what standard input says", (add_network, add_link, add_other, add_asking), ()),
+    "copy": ("copy a file from a node, or to one", (add_network, add_link, add_other, add_copying), (add_copied,)),
+    "type": ("write a node's file as text", (add_network, add_link, add_other), (add_source,)),
+    "get": ("write a record of a node's file", (add_network, add_link, add_other), (add_gotten,)),
+    "put": ("put a record into a node's file", (add_network, add_link, add_other), (add_put,)),
+    "password": ("print the line of --users for a user and the password on standard input", (), (add_password,)),
 }
 
 
@@ -173,11 +206,19 @@ def build():
     parser = Parser(prog="bridge.py", description="One DECnet Phase IV end node before one live end of a DAP file access.")
     roles = parser.add_subparsers(dest="role", required=True, metavar="|".join(ROLES))
     found = {}
-    for name, (text, adding) in ROLES.items():
+    for name, (text, adding, others) in ROLES.items():
         found[name] = roles.add_parser(name, help=text, description=text[0].upper() + text[1:] + ".")
-        for add in adding:
+        for add in (*others, *adding):
             add(found[name])
     return parser, found
+
+
+def options_of(role):
+    """A parser of a role's options alone."""
+    parser = Parser(prog="bridge.py", add_help=False, usage=argparse.SUPPRESS)
+    for add in ROLES[role][1]:
+        add(parser)
+    return parser
 
 
 # ---- what was given
@@ -190,22 +231,88 @@ class Words:
         self.given = given
 
     def __getattr__(self, name):
-        return self.given.get(name, DEFAULTS.get(name))
+        found = PEOPLES.get(name) if self.given["role"] in PEOPLE else None
+        return self.given.get(name, DEFAULTS.get(name) if found is None else found)
 
 
 def read(words=None):
     """The words, those of the command line by default. Mistake where they are wrong."""
     parser, roles = build()
-    given = Words(vars(parser.parse_args(words)))
-    check(roles[given.role], given)
-    return given
+    given = vars(parser.parse_args(words))
+    role = roles[given["role"]]
+    if given["role"] == "password":
+        return Words(given)
+    found = Words({**from_file(role, given), **given})
+    find_nodes(role, found)
+    check(role, found)
+    return found
+
+
+def config_file(name):
+    """A file that is read where it is there."""
+    folder = os.environ.get("XDG_CONFIG_HOME") or pathlib.Path.home() / ".config"
+    path = pathlib.Path(folder) / "daplive" / name
+    return path if path.exists() else None
+
+
+def from_file(role, given):
+    """What the file of options gives to a role, besides what was given."""
+    path = given.get("options") or config_file("options")
+    if path is None:
+        return {}
+    parsers = {name: options_of(name) for name in ROLES}
+    own, words = parsers[given["role"]], []
+    try:
+        for line, some in options.read_lines(path):
+            words += options.known(some, own, list(parsers.values()), line)
+        found = vars(own.parse_args(words))
+    except (OSError, ValueError, Mistake) as fault:
+        role.error(f"{path}: {getattr(fault, 'strerror', None) or fault}")
+    for group in GROUPS:
+        if any(name in given for name in group):
+            found = {name: value for name, value in found.items() if name not in group}
+    return found
+
+
+def find_nodes(parser, words):
+    """Puts nodes in the places of their names and addresses."""
+    path = words.nodes or config_file("nodes")
+    try:
+        names = read_names(path) if path else {}
+    except (OSError, ValueError) as fault:
+        parser.error(f"--nodes {path}: {getattr(fault, 'strerror', None) or fault}")
+    name = None
+    try:
+        for name in ("node", "router", "to"):
+            if getattr(words, name) is not None:
+                words.given[name] = find(getattr(words, name), names)
+        name = "allow"
+        if words.allow:
+            words.given["allow"] = [find(text, names) for text in words.allow]
+    except ValueError as fault:
+        parser.error(f"--{name}: {fault}")
+    if words.role in PEOPLE:
+        find_file(parser, words, names)
+
+
+def find_file(parser, words, names):
+    """Which file of which node the words name, as `remote`; the other one, if any, is `host`."""
+    named = [text for text in (words.source, words.target) if text is not None]
+    remote = [text for text in named if is_remote(text)] or named
+    if len(remote) != 1:
+        parser.error("one of FROM and TO has to be NODE::NAME")
+    try:
+        words.given["remote"] = read_remote(remote[0], names)
+    except ValueError as fault:
+        parser.error(str(fault))
+    words.given["to"] = words.remote.node
+    words.given["host"] = next((text for text in named if text != remote[0]), None)
+    words.given["is_stored"] = words.target == remote[0]
 
 
 def check(parser, words):
     """Looks whether all is there that the role needs, and reads the password from where the words say."""
-    if words.role == "password":
-        return
-    if all(getattr(words, name) is None for name in NETWORKS):
+    if all(getattr(words, name) is None for name in GROUPS[0]):
         parser.error("one of --interface and --udp is needed")
     if words.node is None:
         parser.error("--node is needed")
@@ -213,12 +320,22 @@ def check(parser, words):
         if name in words.given and words.store is None:
             parser.error(f"--{name} is needed by --store alone")
     words.given.setdefault("daplive", os.environ.get("DAPLIVE") or DAPLIVE)
-    if words.role == "ask":
-        if words.to is None:
-            parser.error("--to is needed")
-        if words.to == words.node:
-            parser.error(f"--to {node_text(words.to)} is this node itself")
-        words.given["password"] = read_password(parser, words)
+    if words.role != "serve":
+        check_other(parser, words)
+
+
+def check_other(parser, words):
+    """The same for a role that opens a link."""
+    if words.to is None:
+        parser.error("--to is needed")
+    if words.to == words.node:
+        parser.error(f"node {node_text(words.to)} is this node itself")
+    password = read_password(parser, words)
+    images = words.remote.images if words.remote else ()
+    if images and (words.user or words.account or (password and len(images) > 1)):
+        parser.error("a user, a password or an account is given twice")
+    images = [*images, b"", b""] if images else [words.user, b"", words.account]
+    words.given["images"] = (images[0], images[1] or password, images[2])
 
 
 def read_password(parser, words):

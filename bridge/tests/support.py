@@ -26,6 +26,7 @@ BUILT = BRIDGE.parent.parent / "crates/daplive/out/daplive"  # as ./daplive buil
 PROGRAM = os.environ.get("DAPLIVE") or str(BUILT)
 SEED = int(os.environ.get("BRIDGE_SEED") or 1)
 KEEP = os.environ.get("BRIDGE_KEEP")
+os.environ["XDG_CONFIG_HOME"] = "/nowhere"  # no file of options of who runs the tests holds
 ALL = bool(os.environ.get("BRIDGE_ALL"))  # whether sweeps are run in their whole form
 
 
