@@ -24,9 +24,10 @@ from decnet import words as command
 from decnet.address import node_text
 from decnet.asker import Asker, InputFault, Requests
 from decnet.end import Answer, End, EndFault
+from decnet.folder import Folder
 from decnet.hostfile import STANDARD, HostFile, read_host
 from decnet.journal import Journal
-from decnet.kept import KeptFile, Keeper
+from decnet.kept import KeptFile, Keeper, read_lines
 from decnet.link import MAX_PACKET, Settings
 from decnet.locked import KeptFault
 from decnet.log import LogFault
@@ -85,11 +86,28 @@ def tell_of_end(text):
 
 
 def keep_file(words):
-    """The file that is kept."""
+    """Where the files are kept that are saved when one is closed; None where they aren't."""
+    if words.folder is not None:
+        return Folder(words.folder)
+    if words.save is None:
+        return None
     kept = KeptFile(words.save, words.files)
     if kept.is_new:
         log.say(f"{words.save}: a new file")
     return kept
+
+
+def load_files(words, kept, end, space, signals):
+    """Gives a live end its files; whether some aren't yet where they are kept."""
+    if words.folder is not None:
+        load(end, words.folder, kept.read_lines(), space, signals)
+        for text in kept.listing(None).told():
+            log.say(text)
+        return False
+    if words.files is None:
+        return False
+    load(end, words.files, read_lines(words.files), space, signals)
+    return kept is not None and not os.path.samefile(words.files, words.save)
 
 
 def open_store(words, opened, end, space, signals):
@@ -99,7 +117,7 @@ def open_store(words, opened, end, space, signals):
     if is_new:
         log.say(f"{words.store}: a new store")
         if words.files is not None:
-            load(end, words.files, space, signals)
+            load(end, words.files, read_lines(words.files), space, signals)
     elif words.files is not None:
         raise KeptFault(f"{words.store}: it has files, and --files would add to them")
     has_packets, left = bool(journal.parsed.told), replay(end, journal, space, signals)
@@ -154,14 +172,16 @@ def serve(words, opened):
     settings = Settings(words.segment, words.resend, words.tries, words.idle, words.unused)
     entry = open_entry(words, opened)
     node = open_node(words, opened)
-    kept = opened(keep_file(words)) if words.save is not None else None
+    kept = keep_file(words)
+    if kept:
+        opened(kept)
     end = opened(start_end(words, signals))
-    space = Space(end, words.space)
-    store, left = open_store(words, opened, end, space, signals) if words.store is not None else (None, None)
-    if words.files is not None and not store:
-        load(end, words.files, space, signals)
-    is_other = words.files is not None and kept is not None and not os.path.samefile(words.files, words.save)
-    keeper = opened(Keeper(kept, end, is_changed=is_other)) if kept else None
+    space, store, left, is_changed = Space(end, words.space), None, None, False
+    if words.store is not None:
+        store, left = open_store(words, opened, end, space, signals)
+    else:
+        is_changed = load_files(words, kept, end, space, signals)
+    keeper = opened(Keeper(kept, end, is_changed)) if kept else None
     role = Server(node, end, settings, keeper, words.links, store, space, entry)
     node.start()
     where = words.interface or node.wire.name

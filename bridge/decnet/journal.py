@@ -217,6 +217,9 @@ class Renewal:
         except KeptFault as fault:
             self.fault = fault
 
+    def told(self):
+        return []
+
     def put(self, text):
         self.file.buffer.write(text)
         self.size, self.crc = self.size + len(text), zlib.crc32(text, self.crc)

@@ -11,6 +11,7 @@ import os
 import socket
 import threading
 
+from decnet import log
 from decnet.locked import ENCODING, KeptFault, LockedFile, fault_of
 
 HEAD = "# kept by bridge.py"
@@ -137,6 +138,9 @@ class Listing:
         except KeptFault as fault:
             self.fault = fault
 
+    def told(self):
+        return []
+
     def take(self, line):
         if self.fault:
             return
@@ -176,7 +180,8 @@ class Keeper:
     """Saves the files of a live end, one save after another, while other things go on: a thread waits for the disk.
 
     Where they are kept gives a `listing`, which takes the lines of the answer to `files` and its end, and then calls what
-    it was given; `finish`, in the thread, lets the disk have them, and `fault` says whether it has.
+    it was given; `finish`, in the thread, lets the disk have them, `fault` says whether it has, and `told` what is to be
+    said then.
     """
 
     def __init__(self, kept, end, is_changed=False):
@@ -224,6 +229,8 @@ class Keeper:
         self.reading.recv(1)
         self.thread.join()
         fault, served = self.listing.fault, self.served
+        for text in self.listing.told():
+            log.say(text)
         self.listing = self.served = None
         if fault:
             self.is_changed = True

@@ -6,7 +6,7 @@ from decnet import log, nsp
 from decnet.address import node_text
 from decnet.end import Answer
 from decnet.journal import NOTE
-from decnet.kept import FILE, RECORD, read_lines
+from decnet.kept import FILE, RECORD
 from decnet.link import NO_MEMORY
 from decnet.locked import KeptFault
 from decnet.nsp import Reason
@@ -209,14 +209,14 @@ def tell_all(end, lines, check, signals):
     wait_for(lambda: not unanswered, end, signals, tell_more)
 
 
-def load(end, path, space, signals):
-    """Gives a live end the files of a file of such lines as `files` prints."""
+def load(end, path, lines, space, signals):
+    """Gives a live end files by such lines as `files` prints, each with its number; they come from `path`."""
     def check(number, line, answer):
         space.note(line)
         if answer:
             raise KeptFault(f"{path}: line {number}: {answer[0]}", of_machine=answer[0] == NO_MEMORY)
 
-    tell_all(end, read_lines(path), check, signals)
+    tell_all(end, lines, check, signals)
 
 
 def replay(end, journal, space, signals):

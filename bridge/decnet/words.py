@@ -114,6 +114,8 @@ def add_keeping(parser):
     keeping.add_argument("--save", metavar="FILE", help="where the files are kept, as soon as a file is closed")
     keeping.add_argument("--store", metavar="FILE",
                          help="where each change is kept before it is answered, and the open link with it")
+    keeping.add_argument("--folder", metavar="DIR",
+                         help="a folder whose text files are served, and written back when they are closed")
     parser.add_argument("--sync", choices=SYNCS, help="with --store: when the disk has to have it (default answers)")
     parser.add_argument("--growth", type=number(1 << 20, 1 << 40), metavar="BYTES",
                         help="with --store: close a link that lets it grow by more (default 1073741824)")
@@ -319,6 +321,8 @@ def check(parser, words):
     for name in ("sync", "growth"):
         if name in words.given and words.store is None:
             parser.error(f"--{name} is needed by --store alone")
+    if words.folder is not None and words.files is not None:
+        parser.error("--files: not with --folder, which has the files")
     words.given.setdefault("daplive", os.environ.get("DAPLIVE") or DAPLIVE)
     if words.role != "serve":
         check_other(parser, words)
