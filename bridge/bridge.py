@@ -5,12 +5,13 @@ usage: bridge.py serve --interface IF|--udp LPORT:HOST:RPORT --node 1.2 [--files
        bridge.py ask --interface IF|--udp LPORT:HOST:RPORT --node 1.1 --to 1.2 [--user NAME ..] .. <REQUESTS
        bridge.py copy FROM TO, bridge.py type NODE::NAME, bridge.py get NODE::NAME --number N,
        bridge.py put NODE::NAME TEXT [--number N]
+       bridge.py probe --to NODE
        bridge.py password NAME <PASSWORD
 
 `serve` takes links to object 17 (FAL), one after another, and holds the files over all of them. `ask` opens one link to
 that object, reads requests, one a line as they stand behind `ask` of docs/LIVE.md, asks each when the report of the one
 before has come, prints the reports, and closes the link at the end of the input. `copy`, `type`, `get` and `put` do that
-for a file that is named, and text. docs/BRIDGE.md has all of it.
+for a file that is named, and text. `probe` tests the file access listener of a node. docs/BRIDGE.md has all of it.
 """
 import contextlib
 import getpass
@@ -19,7 +20,7 @@ import re
 import signal
 import sys
 
-from decnet import answers, frames, log, nsp, program, routing, scripts, udp, wire
+from decnet import answers, frames, log, nsp, probe, program, routing, scripts, talks, udp, verdicts, wire
 from decnet import words as command
 from decnet.address import node_text
 from decnet.asker import Asker, InputFault, Requests
@@ -222,6 +223,52 @@ def talk(words, opened):
     return status
 
 
+def test_end(words, opened):
+    """Has the conversations of a probe, and prints what comes of them."""
+    signals = opened(Signals(opened(log.start("bridge", words.log))))
+    before = probe.kept(words.against, talks.talks(talks.Names(""))) if words.against is not None else None
+    settings = Settings(words.segment, words.resend, words.tries, words.idle)
+    node = open_node(words, opened)
+    beside = None if before is not None else probe.Beside(opened(end_beside(words)))
+    across = probe.Across(node, settings, words.to, nsp.session(*words.images), words.quiet, signals)
+    node.start()
+    found = probe.Probe(across, beside, words.only)
+    found.run(tell_progress)
+    if words.keep is not None:
+        probe.keep(words.keep, found.talks, found.other)
+    return print_verdicts(found, before, found.erase(), words)
+
+
+def end_beside(words):
+    """The proved end, which tests no network."""
+    end = End(words.daplive, ["serve"], told=tell_of_end)
+    end.say("new")
+    return end
+
+
+def tell_progress(name):
+    if sys.stderr.isatty():
+        print(name.ljust(60), end="\r", file=sys.stderr, flush=True)
+
+
+def print_verdicts(found, before, erased, words):
+    """Prints what both ends say; the exit status."""
+    own, beside = (found.own, "proved") if before is None else (before, "before")
+    answers_of = [inbox for side in (own, found.other) for steps in side.values() for inbox in steps]
+    listing = verdicts.Listing(words.daplive, [body for inbox in [*answers_of, *erased.values()] for body in inbox])
+    table = list(verdicts.rows(found.talks, own, found.other, listing))
+    for row in table[:1]:
+        for line in row.other[:1] if row.other and row.other[0].startswith("config ") else ():
+            print(verdicts.described(line))
+    for line in (*verdicts.report(table, found.lost, beside), *verdicts.abilities(table, f"the {beside} end")):
+        print(line)
+    left = [name for name, inbox in erased.items() if not verdicts.is_gone(listing.of(inbox))]
+    if left:
+        print(f"left on node {node_text(words.to)}, where they are: {', '.join(left)}")
+    print(verdicts.counted(table))
+    return GOOD if all(row.verdict in verdicts.GOOD for row in table) else FAILED
+
+
 def make_script(words, opened):
     """The file of this host that is written, or None; how many bytes are sent, where that is known; and the script."""
     name = words.remote.name
@@ -271,6 +318,8 @@ def start(words, closed):
                 return print_user(words)
             if words.role in command.PEOPLE:
                 return talk(words, opened)
+            if words.role == "probe":
+                return test_end(words, opened)
             return serve(words, opened) if words.role == "serve" else ask(words, opened, closed)
         except TextFault as fault:
             log.say(str(fault))

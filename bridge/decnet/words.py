@@ -10,14 +10,16 @@ from decnet.end import DAPLIVE
 from decnet.journal import SYNCS
 from decnet.nodes import find, read_names
 from decnet.remote import is_remote, read_remote
+from decnet.talks import Names, talks
 from decnet.texts import MAX_NUMBER, RECORD_LIMIT
 
 PASSWORD_LIMIT = 65536
+TALKS = [talk.name for talk in talks(Names(""))]
 PEOPLE = ("copy", "type", "get", "put")  # the roles that name a file
 # what holds where an option isn't given; one that isn't here is None then
 DEFAULTS = {"segment": 512, "resend": 1, "tries": 30, "idle": 30, "harm": 0, "seed": 1, "unused": 900, "patience": 120,
             "user": b"", "account": b"", "go_on": False, "sync": SYNCS[0], "growth": 1 << 30, "space": 1 << 28,
-            "append": False, "relative": False, "lines": False, "replace": False, "fixed": 0}
+            "append": False, "relative": False, "lines": False, "replace": False, "fixed": 0, "quiet": 2}
 PEOPLES = {"buffer": 65535}  # the same for the roles of PEOPLE
 # options of which one alone holds: one of the command line takes the place of another in the file of options
 GROUPS = (("interface", "udp", "frames"), ("save", "store", "folder"), ("password", "password_file", "password_env"))
@@ -163,6 +165,16 @@ def add_copying(parser):
     parser.add_argument("--replace", action="store_true", help="write a file of this host anew")
 
 
+def add_probing(parser):
+    parser.add_argument("--to", metavar="NODE", help="the node whose file access listener is tested")
+    parser.add_argument("--quiet", type=number(0.01, 60, float), metavar="SECONDS",
+                        help="an answer is over when nothing came for this time (default 2)")
+    parser.add_argument("--only", metavar="NAME", nargs="+", action="extend", help="only these conversations")
+    parser.add_argument("--keep", metavar="FILE", help="write the answers to a new file")
+    parser.add_argument("--against", metavar="FILE",
+                        help="compare with answers that --keep wrote, in place of those of the proved end")
+
+
 # ---- what isn't an option
 
 
@@ -199,6 +211,7 @@ ROLES = {
     "type": ("write a node's file as text", (add_network, add_link, add_other), (add_source,)),
     "get": ("write a record of a node's file", (add_network, add_link, add_other), (add_gotten,)),
     "put": ("put a record into a node's file", (add_network, add_link, add_other), (add_put,)),
+    "probe": ("test a node's file access listener beside the proved one", (add_network, add_link, add_other, add_probing), ()),
     "password": ("print the line of --users for a user and the password on standard input", (), (add_password,)),
 }
 
@@ -332,6 +345,9 @@ def check_other(parser, words):
     """The same for a role that opens a link."""
     if words.to is None:
         parser.error("--to is needed")
+    for name in words.only or ():
+        if name not in TALKS:
+            parser.error(f"--only: no conversation '{name[:40]}'; there are: {', '.join(TALKS)}")
     if words.to == words.node:
         parser.error(f"node {node_text(words.to)} is this node itself")
     password = read_password(parser, words)
