@@ -66,10 +66,11 @@ def open_wire(words):
 
 def start_end(words, signals):
     """The live end, which answers."""
-    named = ["window", "buffer", *(["waiting"] if words.role == "serve" else [])]
+    role = "serve" if words.role == "serve" else "ask"
+    named = ["window", "buffer", *(["waiting"] if role == "serve" else [])]
     options = [word for name in named if getattr(words, name) for word in (f"--{name}", str(getattr(words, name)))]
     kind = End if words.store is None else StoredEnd
-    end = kind(words.daplive, [words.role, *options], told=tell_of_end)
+    end = kind(words.daplive, [role, *options], told=tell_of_end)
     try:
         answers = []
         end.tell("new", Answer(answers.append))
@@ -226,13 +227,16 @@ def talk(words, opened):
 def test_end(words, opened):
     """Has the conversations of a probe, and prints what comes of them."""
     signals = opened(Signals(opened(log.start("bridge", words.log))))
-    before = probe.kept(words.against, talks.talks(talks.Names(""))) if words.against is not None else None
+    before = None
     settings = Settings(words.segment, words.resend, words.tries, words.idle)
     node = open_node(words, opened)
-    beside = None if before is not None else probe.Beside(opened(end_beside(words)))
     across = probe.Across(node, settings, words.to, nsp.session(*words.images), words.quiet, signals)
+    found = probe.Probe(across, words.only)
+    if words.against is not None:
+        before = probe.kept(words.against, found.talks)
+    else:
+        found.beside = probe.Beside(opened(end_beside(words)))
     node.start()
-    found = probe.Probe(across, beside, words.only)
     found.run(tell_progress)
     if words.keep is not None:
         probe.keep(words.keep, found.talks, found.other)

@@ -88,10 +88,10 @@ class Asker(Role):
             raise self.end.strange("waits")
         if answer[0].startswith("refused "):
             self.is_due = False
-            self.refused(answer[0])
+            self.take_refusal(answer[0])
         self.link.do(answer)
 
-    def refused(self, answer):
+    def take_refusal(self, answer):
         """The request isn't asked."""
         self.say(answer)
         self.note_refusal(answers.not_asked(self.request, answer))

@@ -133,10 +133,10 @@ class Across:
 
 
 class Probe:
-    """All conversations, or those that are named, with both ends."""
+    """All conversations, or those that are named, with another end, and with the one `beside` where there is one."""
 
-    def __init__(self, across, beside, only=None):
-        self.across, self.beside, self.names = across, beside, Names(stamp())
+    def __init__(self, across, only=None):
+        self.across, self.beside, self.names = across, None, Names(stamp())
         self.talks = [talk for talk in talks(self.names) if not only or talk.name in only]
         self.own, self.other, self.lost = {}, {}, {}  # by a conversation's name
 
@@ -176,13 +176,15 @@ def keep(path, talks_, answers):
 
 
 def kept(path, talks_):
-    """What answered at an earlier time, by the conversations that are had now."""
+    """What answered these conversations at an earlier time."""
     try:
         with open(path, encoding="ascii") as file:
             text = json.load(file)
         return {talk.name: [[bytes.fromhex(body) for body in text[talk.name][step.label]] for step in talk.steps
-                            if step.label in text[talk.name]] for talk in talks_ if talk.name in text}
+                            if step.label in text[talk.name]] for talk in talks_}
     except OSError as fault:
         raise KeptFault(f"{path}: {fault.strerror}", of_machine=True) from fault
-    except (ValueError, TypeError, KeyError, AttributeError) as fault:
+    except KeyError as fault:
+        raise KeptFault(f"{path}: it has no answers to the conversation {fault}") from fault
+    except (ValueError, TypeError, AttributeError) as fault:
         raise KeptFault(f"{path}: it has no answers that --keep wrote") from fault

@@ -56,7 +56,7 @@ class Talker(Asker):
         else:
             super().told(text)
 
-    def refused(self, answer):
+    def take_refusal(self, answer):
         self.take(answer)
 
     def take(self, report):

@@ -1,14 +1,20 @@
 """Bridges over UDP on the loopback: a bridge as a program, and a station or another bridge at the far port."""
+import contextlib
+import itertools
+import os
 import signal
 import socket
 
 from decnet import log, udp
 from tests.station import ASKING, SERVING, Station
-from tests.support import BRIDGE, PROGRAM, PYTHON, SEED, Case, expect, expect_equal, need_live_end
+from tests.support import BRIDGE, PROGRAM, PYTHON, Case, expect, expect_equal, need_live_end
 
 HASTE = ["--resend", "0.2", "--tries", "10"]
 LOOPBACK = "127.0.0.1"
-PORTS = iter(range(20_000 + 97 * SEED % 5_000, 32_000))  # the system itself gives none of these
+FIRST_PORT, LAST_PORT = 15_000, 32_000  # the system itself gives none of these
+PORTS = itertools.cycle(range(FIRST_PORT, LAST_PORT))
+for _ in range(97 * os.getpid() % (LAST_PORT - FIRST_PORT)):  # other tests at the same time begin elsewhere
+    next(PORTS)
 
 
 def bound(port=0):
@@ -25,13 +31,11 @@ def bound(port=0):
 
 def free_port():
     """A port that nobody has."""
-    for port in PORTS:
-        try:
+    while True:
+        port = next(PORTS)
+        with contextlib.suppress(OSError):
             bound(port).close()
             return port
-        except OSError:
-            continue
-    raise AssertionError("no port is free")
 
 
 class UdpCase(Case):

@@ -145,4 +145,7 @@ class BridgeTest(UdpCase):
             child = self.probe("--against", path, "--only", "fetch it", "--tries", "2")
             self.assertEqual(child.finish(), 1, text)
             self.assertIn("it has no answers that --keep wrote", child.told())
+        child = self.probe("--against", self.file("others", ["{\"find\": {}}"]), "--only", "fetch it", "--tries", "2")
+        self.assertEqual(child.finish(), 1)
+        self.assertIn("it has no answers to the conversation 'fetch it'", child.told())
         self.assertEqual(self.probe("--against", "/nowhere").finish(), 3)
