@@ -75,7 +75,7 @@ class End:
     def __init__(self, program, words, keep=False, told=None, clock=time.monotonic):
         """With `keep` all lines, in and out, are kept as `transcript`. `told` is called with each line that it writes
         on standard error, which otherwise goes where the program's own does."""
-        self.program, self.keep, self.told, self.clock = str(program), keep, told, clock
+        self.program, self.words, self.keep, self.told, self.clock = str(program), words, keep, told, clock
         try:
             with unheard():
                 self.process = subprocess.Popen(
@@ -94,12 +94,19 @@ class End:
 
     def tell(self, line, answer):
         """Tells it a line; `answer` takes what it answers. Nothing is waited for."""
+        self.queue(line, answer)
+        self.write()
+
+    def queue(self, line, answer):
+        """The same, when `write` is called next: many lines go at once then."""
         if not self.asked:
             self.moved_at = self.clock()
         self.asked.append(answer)
         self.unwritten.append(line.encode("utf-8", "surrogateescape") + b"\n")
         self.note(line)
-        self.write()
+
+    def remark(self, text):
+        """A note that is kept with the lines, where they are kept."""
 
     def say(self, line):
         """Tells it a line and waits for the answer: its lines, without the last."""

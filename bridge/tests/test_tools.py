@@ -15,6 +15,7 @@ ODD = {
     "wrong_bodies": ["--no-such", "nowhere"],
     "wrong_bodies_tests.py": ["--no-such"],
     "docs/check": ["--no-such", "--help"],
+    "examples/hub.py": ["", "x", "1 a:1", "70000 a:1 b:2", "1 :1 b:2", "1 a:1 nowhere"],
     "examples/pcap_to_capture.py": ["--no-such a b c", "nowhere", "x 1.\u00b2 1.2", "x 1.1", "/"],
     "examples/lossy.py": ["--no-such", "--loss 1000", "--loss x", "--reach 0", "--seed x", "--daplive /nowhere"],
     "examples/lossy_tests.py": ["--no-such", "--seeds x"],
