@@ -1,0 +1,4 @@
+mod ListingLemmas
+mod BytesLemmas
+mod TimeLemmas
+mod ReadBack
