@@ -98,12 +98,17 @@ class End:
         self.write()
 
     def queue(self, line, answer):
-        """The same, when `write` is called next: many lines go at once then."""
+        """The same, when `write` is called next."""
+        self.queue_all([line], answer)
+
+    def queue_all(self, lines, answer):
+        """The same of many lines, which go at once; `answer` takes what each of them answers."""
         if not self.asked:
             self.moved_at = self.clock()
-        self.asked.append(answer)
-        self.unwritten.append(line.encode("utf-8", "surrogateescape") + b"\n")
-        self.note(line)
+        self.asked.extend([answer] * len(lines))
+        self.unwritten.append("".join([f"{line}\n" for line in lines]).encode("utf-8", "surrogateescape"))
+        if self.keep:
+            self.transcript += lines
 
     def remark(self, text):
         """A note that is kept with the lines, where they are kept."""
@@ -127,10 +132,6 @@ class End:
     @property
     def is_busy(self):
         return bool(self.asked)
-
-    def note(self, line):
-        if self.keep:
-            self.transcript.append(line)
 
     # ---- the event loop
 
@@ -170,7 +171,8 @@ class End:
     def take(self, line):
         if not self.asked:
             raise EndFault(f"{self.program} speaks unasked")
-        self.note(line)
+        if self.keep:
+            self.transcript.append(line)
         if not line.startswith(WAITS):
             self.asked[0].take(line)
             return

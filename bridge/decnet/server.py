@@ -1,10 +1,11 @@
 """The serving bridge: links to object 17, one after another, before a live end that holds the files."""
+import collections
+import itertools
 import time
 from dataclasses import dataclass
 
 from decnet import log, nsp
 from decnet.address import node_text
-from decnet.end import Answer
 from decnet.journal import NOTE
 from decnet.kept import FILE, RECORD
 from decnet.link import NO_MEMORY
@@ -14,7 +15,8 @@ from decnet.role import FAULT, Role, Stopped, wait_for
 from decnet.stored import left_link
 
 OLD_SECONDS = 10  # how long connect initiates of the link before may still come
-MAX_UNANSWERED = 2000  # lines of files that the live end is told before it answers the first
+MAX_UNANSWERED = 4000  # lines that the live end is told at the start before it answers the first
+AT_ONCE = 1000  # lines that are written to it at once then
 
 
 @dataclass(frozen=True)
@@ -186,47 +188,52 @@ class Server(Role):
 # ---- the start
 
 
-def tell_all(end, lines, check, signals):
-    """Tells a live end many lines, each with a number, before it has answered the first; `check` gets the number, the line
-    and the answer of each."""
-    unanswered = []
+class Answers:
+    """The answers to many lines, each of which has a number; `check` gets the number, the line and the answer, where
+    there is one."""
 
-    def answered(number, line):
-        def take(answer):
-            unanswered.pop()
-            check(number, line, answer)
-        return take
+    def __init__(self, check):
+        self.check, self.lines, self.answer = check, collections.deque(), []
+
+    def take(self, text):
+        self.answer.append(text)
+
+    def end(self):
+        number, line = self.lines.popleft()
+        if self.answer:
+            answer, self.answer = self.answer, []
+            self.check(number, line, answer)
+
+
+def tell_all(end, lines, check, signals):
+    """Tells a live end many lines, each with a number, before it has answered the first."""
+    answers = Answers(check)
 
     def tell_more():
-        while len(unanswered) < MAX_UNANSWERED:
-            number, line = next(lines, (None, None))
-            if line is None:
-                break
-            unanswered.append(number)
-            end.queue(line, Answer(answered(number, line)))
-        end.write()
+        if len(answers.lines) <= MAX_UNANSWERED - AT_ONCE:
+            some = list(itertools.islice(lines, AT_ONCE))
+            answers.lines.extend(some)
+            end.queue_all([line for _, line in some], answers)
+            end.write()
 
-    wait_for(lambda: not unanswered, end, signals, tell_more)
+    wait_for(lambda: not answers.lines, end, signals, tell_more)
 
 
 def load(end, path, lines, space, signals):
     """Gives a live end files by such lines as `files` prints, each with its number; they come from `path`."""
-    def check(number, line, answer):
-        space.note(line)
-        if answer:
-            raise KeptFault(f"{path}: line {number}: {answer[0]}", of_machine=answer[0] == NO_MEMORY)
+    def check(number, _line, answer):
+        raise KeptFault(f"{path}: line {number}: {answer[0]}", of_machine=answer[0] == NO_MEMORY)
 
-    tell_all(end, lines, check, signals)
+    tell_all(end, space.noted(lines), check, signals)
 
 
 def replay(end, journal, space, signals):
     """Tells a live end the lines of a journal; the link that was open then, or None."""
     def check(number, line, answer):
-        space.note(line)
-        is_refused = answer and line.startswith((FILE, RECORD))
-        if is_refused or NO_MEMORY in answer:
+        if line.startswith((FILE, RECORD)) or NO_MEMORY in answer:
             raise KeptFault(f"{journal.path}: line {number} behind its marks: {answer[-1]}", of_machine=NO_MEMORY in answer)
 
     lines = journal.parsed.lines
-    tell_all(end, ((number, line) for number, line in enumerate(lines, 1) if line and not line.startswith(NOTE)), check, signals)
+    told = ((number, line) for number, line in enumerate(lines, 1) if line and not line.startswith(NOTE))
+    tell_all(end, space.noted(told), check, signals)
     return left_link(lines)

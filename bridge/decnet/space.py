@@ -31,9 +31,11 @@ class Space:
         self.later = 0  # of it what came since a count was begun
         self.is_counting = self.is_full = False
 
-    def note(self, line):
-        """A line that the live end is told at the start: one of files, or a packet of a store."""
-        self.used += len(line) + 1 if line.startswith((FILE, RECORD)) else LISTED * (len(line) // 2)
+    def noted(self, lines):
+        """Lines with their numbers that the live end is told at the start, of files and packets, are counted."""
+        for number, line in lines:
+            self.used += len(line) + 1 if line.startswith((FILE, RECORD)) else LISTED * (len(line) // 2)
+            yield number, line
 
     def take(self, size):
         """Bytes that may be stored came."""

@@ -85,7 +85,7 @@ class StoredEnd(End):
 
     def queue(self, line, answer):
         is_kept = self.journal is not None and line not in QUERIES
-        super().queue(line, Kept(self, line, answer) if is_kept else answer)
+        self.queue_all([line], Kept(self, line, answer) if is_kept else answer)
 
     def failed(self, fault):
         """Told when a line can't be kept."""

@@ -25,9 +25,8 @@ class CountTest(Case):
 
     def test_it_counts_where_it_may_be_full(self):
         space, end = self.space([500, 900, 950])
-        space.note("file 46 seq variable 0 0")
-        space.note("  1 41")
-        space.note("> " + "00" * 20)
+        lines = list(enumerate(["file 46 seq variable 0 0", "  1 41", "> " + "00" * 20]))
+        self.assertEqual(list(space.noted(iter(lines))), lines)
         self.assertEqual(space.used, 25 + 7 + LISTED * 21)
         space.take(100)
         self.assertFalse(space.is_counting)
