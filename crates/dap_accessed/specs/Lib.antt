@@ -8,6 +8,7 @@ pub mod Effects
 pub mod Groups
 pub mod Present
 pub mod Served
+pub mod Sessions
 pub mod Sound
 pub mod Adding
 pub mod Stored

@@ -50,12 +50,6 @@ FitsIn limit a = IsWritable a × (most_bytes a ≤ limit)
 abbrev pub IsAtMost : ℕ → Message → Type 0
 IsAtMost most m = length (canon m) ≤ most
 
--- NSP messages with these messages, each of which has a spelling, joined as far as the limit goes, and none longer than it
-pub record Answered (limit : ℕ) (messages : List Message) (answers : Vec (Vec ℕ)) : Type 0 where
-  pub bytes : bodies answers.items ≡ all_joined (Blocked limit messages)
-  pub within : AllAtMost limit (bodies answers.items)
-  pub fits : AllFit messages
-
 -- where the call answers, the message stands behind those before
 abbrev pub AddsAnswer : ℕ → Message → Vec (Vec ℕ) → Vec (Vec ℕ) → Result (Unit {0}) NoMemory → Type 0
 AddsAnswer limit m old new result =
