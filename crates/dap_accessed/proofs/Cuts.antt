@@ -31,7 +31,8 @@ next_answers-more : (s : Standing) (item : Item) (t : Turn) → answers_in (next
 next_answers-more s item (Does effect) = refl
 next_answers-more s item (Begins begun) = sym (append-nil (answers_in s.past))
 
-answers_after-more : (own : ℕ) (s : Standing) (b : Option Begun) (item : Item) → answers_in (more_after own s b item).standing.past ≡ answers_in s.past ++ answers_after own s b item
+-- the answers after an item are those before and its own
+pub answers_after-more : (own : ℕ) (s : Standing) (b : Option Begun) (item : Item) → answers_in (more_after own s b item).standing.past ≡ answers_in s.past ++ answers_after own s b item
 answers_after-more own s None item = next_answers-more s item (turn_of own s item)
 answers_after-more own s (Some begun) item = refl
 

@@ -4,6 +4,7 @@ use Rattle.std.specs.Prelude.{min, nat_lt, not, ◌==◌, filter, filter_map, sl
 use Rattle.std.specs.List.{list_any}
 use Rattle.std.proofs.lemmas.List.Sums.{take_while-cons}
 use Rattle.dap_msg.specs.declared.message.Message.{Message}
+use Rattle.dap_msg.specs.declared.message.AccessFields.{AccessFields}
 use Rattle.dap_msg.specs.declared.message.Message.TheVariants.{Config, Attrib, Access, Control, Contran, Ack, Accomp, Filedata, Status, Other}
 use Rattle.dap_msg.specs.declared.items.Item.{Item}
 use Rattle.dap_msg.specs.declared.items.Item.TheVariants.{Whole, Malformed}
@@ -254,3 +255,7 @@ in-more old new item c e h =
 
 pub answers-in : (old : Present) (item : Item) (c : Grouped) → IsIn c old → (move old item).answers ≡ answers_of old.own c item
 answers-in old item c h = ap (λ (p : Present). (move p item).answers) h ∙ sym (step-is old.own c.standing c.begun item).same_answers
+
+-- an Access uses up the attributes
+pub access-keeps : (past : List Group) (a : AccessFields) (answers : List Message) → asked_shape (kept_attributes (record { place = Ready; first = Whole (Access a); answers = answers } ∷ past)) ≡ asked_shape no_attributes
+access-keeps past a answers = shape-kept past Ready (Whole (Access a)) answers

@@ -3,4 +3,3 @@ pub mod Sessions
 pub mod Written
 pub mod Moves
 pub mod Steps
-pub mod Storing

@@ -11,6 +11,7 @@ pub mod Served
 pub mod Sessions
 pub mod Sound
 pub mod Adding
+pub mod Storing
 pub mod Stored
 pub mod Tables
 pub mod Inner

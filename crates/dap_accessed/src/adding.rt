@@ -6,7 +6,7 @@ ghost use Rattle.rec_file.specs.AnyFiles.{any_value};
 ghost use Rattle.dap_accessed.specs.Standing.{Files};
 ghost use Rattle.dap_accessed.specs.Present.{StandsAfter};
 ghost use Rattle.dap_accessed.specs.Adding.{IsFresh, IsLate, MayAdd, AddRefused, with_new_file, MayAddRecord, RecordRefused, with_record, leaves_gap};
-ghost use Rattle.dap_accessed.specs.Inner.Storing.{Stores};
+ghost use Rattle.dap_accessed.specs.Storing.{Stores};
 ghost use Rattle.dap_msg.specs.declared.items.Item.{Item as TheItem};
 
 use crate::accessed::Accessed;

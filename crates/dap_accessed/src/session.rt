@@ -48,7 +48,8 @@ pub struct Session {
 }
 
 impl Model for Session {
-    ghost use Rattle.dap_accessed.specs.Inner.Sessions.{session_code, IsGood};
+    ghost use Rattle.dap_accessed.specs.Inner.Sessions.{IsGood};
+    ghost use Rattle.dap_accessed.specs.Stored.{session_code};
     ghost use Rattle.dap_accessed.specs.Sessions.{SessionValue};
 
     ghost Value = { SessionValue };
