@@ -29,7 +29,7 @@ use dap_msg::codes::{
     ACCESS_REFUSED, ACCFUNC_CREATE, ACCFUNC_OPEN, FILE_NOT_FOUND, REASON_BAD_ATTRIBUTES,
     REASON_FILE_EXISTS, TYPE_ACCESS, unsupported,
 };
-use dap_msg::{AccessFields, FileAccess, Item, LEAST_BUFFER, Message};
+use dap_msg::{AccessFields, FileAccess, Item, LEAST_BUFFER, MessageValue};
 use rec_file::{Format, Org, RecordFile, Rights, Shape};
 use std::alloc::Global;
 use std::marker::Model;
@@ -164,7 +164,7 @@ impl Session {
         ensures { result ≡ asked_in files.now self.now.phase item.now }
     {
         match (self.phase, item) {
-            (Phase::Ready, Item::Whole(Message::Access(access))) => would_open(files, access),
+            (Phase::Ready, Item::Whole(MessageValue::Access(access))) => would_open(files, access),
             _ => None,
         }
     }
@@ -350,7 +350,7 @@ impl Session {
     }
 
     /// Answers an Access that may not open its file, by a Status with this code and nothing else.
-    pub fn refuse(&mut self, files: &FileTable, code: u16) -> Result<Vec<Vec<u8>>, NoMemory>
+    pub fn refuse_open(&mut self, files: &FileTable, code: u16) -> Result<Vec<Vec<u8>>, NoMemory>
         ensures session { OnOk result (self.new ≡ refused_session self.old) }
         ensures answer { IfOk result (Answered self.old.limit (bare_status code ∷ [])) }
         ensures no_memory { OnErr result (self.new ≡ self.old) }

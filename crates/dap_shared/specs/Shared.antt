@@ -1,12 +1,16 @@
 -- What is kept of a node's links and files. It is as after any history that leaves this.
-use Rattle.std.specs.Prelude.{ℕ, ◌≡◌, List, [], ◌∷◌, ◌++◌, length, map}
+use Rattle.std.specs.Prelude.{ℕ, ◌≡◌, ◌<◌, List, [], ◌∷◌, ◌++◌, length, map, None}
 use Rattle.std.specs.Global.{Vec}
 use Rattle.dap_msg.specs.BothEnds.{greatest_message}
 use Rattle.dap_msg.specs.Blocked.{bodies}
 use Rattle.dap_msg.specs.Items.{ItemAt}
 use Rattle.dap_msg.specs.declared.items.Item.{Item}
 use Rattle.dap_accessed.specs.declared.served.Served.{Served}
-use Rattle.dap_accessed.specs.Standing.{Files}
+use Rattle.dap_accessed.specs.declared.fault.AddFault.{AddFault}
+use Rattle.dap_accessed.specs.declared.fault.AddFault.TheVariants as fault
+use Rattle.dap_accessed.specs.Standing.{Files, file_at, place_of}
+use Rattle.dap_accessed.specs.Adding.{newest}
+use Rattle.dap_accessed.specs.Storing.{StoreRefused}
 use Rattle.dap_accessed.specs.Present.{present_of}
 use Rattle.dap_accessed.specs.Served.{AllAtMost, Answered}
 use Rattle.dap_accessed.specs.Sessions.{SessionValue, session_of}
@@ -60,3 +64,26 @@ pub record SharedBegins (link : ℕ) (old new : SharedValue) : Type 0 where
   pub same_files : new.files ≡ old.files
   pub same_own : new.own ≡ old.own
   pub same_links : length new.sessions ≡ length old.sessions
+
+-- ---- Files that a node is given.
+
+-- a file or a record was given, and nothing else moved
+pub record SharedGiven (event : Event) (old new : SharedValue) : Type 0 where
+  pub stands : (first : Files) (events : List Event) → SharedAfter first events old →
+      SharedAfter first (events ++ event ∷ []) new
+  pub same_sessions : new.sessions ≡ old.sessions
+  pub same_own : new.own ≡ old.own
+
+-- why a file isn't added, the first reason in this order
+abbrev pub NotAdded : Files → (name : List ℕ) → AddFault → Type 0
+NotAdded files name fault.FileExists = place_of name files ≡ None → ⊥
+NotAdded files name fault.NoMemory = place_of name files ≡ None
+NotAdded files name _ = ⊥
+
+-- why a record isn't added, the first reason in this order
+abbrev pub RecordNotAdded : Files → (number : ℕ) → (body : List ℕ) → AddFault → Type 0
+RecordNotAdded files number body fault.NoFile = files ≡ []
+RecordNotAdded files number body fault.Busy = ⊥
+RecordNotAdded files number body fault.FileExists = ⊥
+RecordNotAdded files number body f =
+    (0 < length files) × StoreRefused (file_at (newest files) files) number body f

@@ -6,16 +6,18 @@ ghost use Rattle.dap_msg.specs.Decoding.{IsSpelled};
 ghost use Rattle.dap_msg.specs.declared.items.Item.TheVariants.{Whole};
 ghost use Rattle.dap_msg.specs.declared.message.Message.{Message as TheMessage};
 ghost use Rattle.rec_file.specs.Shapes.{is_shape};
-ghost use Rattle.dap_accessed.specs.Standing.{Files, place_of};
+ghost use Rattle.dap_accessed.specs.Standing.{Files};
+ghost use Rattle.dap_accessed.specs.Adding.{with_new_file, with_record};
 ghost use Rattle.dap_accessed.specs.Sessions.{IsOpenIn, new_session};
-ghost use Rattle.dap_shared.specs.Nodes.{Event, FilesAfter};
-ghost use Rattle.dap_shared.specs.Shared.{SharedAfter, SharedBegins, SharedServes};
+ghost use Rattle.dap_shared.specs.Nodes.{Event, FilesAfter, Gives, GivesRecord};
+ghost use Rattle.dap_shared.specs.Shared.{NotAdded, RecordNotAdded, SharedAfter, SharedBegins, SharedGiven, SharedServes};
 ghost use Rattle.dap_shared.specs.Inner.Beside.{MovesBeside, session_moved_up};
 ghost use Rattle.dap_shared.specs.Inner.Held.{MovesOn, session_at};
 
 use crate::locks::{FILE_LOCKED, is_barred};
-use dap_accessed::{FileTable, NoMemory, OpenFile, Served, Session};
+use dap_accessed::{AddFault, FileTable, NoMemory, OpenFile, Served, Session};
 use dap_msg::Item;
+use rec_file::Shape;
 use std::alloc::Global;
 use std::marker::Model;
 use std::mem;
@@ -100,7 +102,7 @@ fn serve_beside(
 {
     let asked = session.asked(files, &item);
     if is_barred(others, asked) {
-        let answers = session.refuse(files, FILE_LOCKED)?;
+        let answers = session.refuse_open(files, FILE_LOCKED)?;
         return Ok(Served { answers, next });
     }
     let count = files.count();
@@ -199,5 +201,41 @@ impl SharedFiles {
         ensures { SharedBegins link self.old self.new }
     {
         self.sessions[link].renew();
+    }
+
+    /// A file without records after the others. Its shape is one that [`rec_file::Shape::check`] gives.
+    ///
+    /// Refusals in order: FileExists, NoMemory; each leaves all unchanged.
+    pub fn add(&mut self, name: &[u8], shape: Shape) -> Result<(), AddFault>
+        requires { IsTrue (is_shape shape) }
+        ensures given { OnOk result (SharedGiven (Gives name.now shape) self.old self.new) }
+        ensures files { OnOk result
+            (self.new.files ≡ with_new_file name.now shape self.old.files) }
+        ensures refused { IfErr result (NotAdded self.old.files name.now) }
+        ensures unchanged { OnErr result (self.new ≡ self.old) }
+    {
+        if self.files.find(name).is_some() {
+            return Err(AddFault::FileExists);
+        }
+        self.files.make(self.alloc, name, shape)?;
+        Ok(())
+    }
+
+    /// A record more in the newest file, under its number. In a sequential file the number is the next one.
+    ///
+    /// Refusals in order: NoFile; as of a PUT with this number BadLength, NumberOutOfRange, RecordExists; NoMemory.
+    /// Each leaves all unchanged.
+    pub fn add_record(&mut self, number: u32, body: &[u8]) -> Result<(), AddFault>
+        ensures given { OnOk result
+            (SharedGiven (GivesRecord number body.now) self.old self.new) }
+        ensures files { OnOk result (self.new.files ≡ with_record number body.now self.old.files) }
+        ensures refused { IfErr result (RecordNotAdded self.old.files number body.now) }
+        ensures unchanged { OnErr result (self.new ≡ self.old) }
+    {
+        let count = self.files.count();
+        if count == 0 {
+            return Err(AddFault::NoFile);
+        }
+        self.files.add_record(count - 1, number, body)
     }
 }
