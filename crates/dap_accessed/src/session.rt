@@ -11,7 +11,7 @@ ghost use Rattle.dap_accessed.specs.Accesses.{fac_or, rights_of};
 ghost use Rattle.dap_accessed.specs.Groups.{Grouped};
 ghost use Rattle.dap_accessed.specs.Replies.{bare_status, refused_access};
 ghost use Rattle.dap_accessed.specs.Served.{Answered};
-ghost use Rattle.dap_accessed.specs.Sessions.{IsIn, IsOpenIn, IsSilentIn, ServesItem, asked_in, joined, new_session, open_at, phase_moved_up, refused_session, there_at};
+ghost use Rattle.dap_accessed.specs.Sessions.{IsIn, IsOpenIn, IsSilentIn, ServesItem, asked_in, joined, new_session, open_at, phase_moved_up, refused_session, there_at, would_open};
 ghost use Rattle.dap_accessed.specs.Inner.Sessions.{Enters};
 ghost use Rattle.dap_accessed.specs.Inner.Moves.{Makes, Moves, creates, is_silent, move, opens, opens_nothing};
 ghost use Rattle.dap_accessed.specs.Inner.Steps.{CanDo, done, is_quiet};
@@ -356,6 +356,7 @@ impl Session {
         ensures no_memory { OnErr result (self.new ≡ self.old) }
         ensures most { self.old.limit ≤ greatest_message }
     {
+        let _ = &self.limit;
         self.refuse_access(files, Answer::Status(code))
     }
 

@@ -33,6 +33,7 @@ pub trait Serving {
         ensures short { (bytes : List ℕ) (at : ℕ) → ItemAt bytes at item.entry next
             → IfOk result (λ s. AllAtMost greatest_message (bodies s.answers.items)) }
         ensures next { IfOk result (λ served. served.next ≡ next) }
+        ensures link { has_link self.new link }
         ensures no_memory { OnErr result (self.new ≡ self.old) };
 }
 

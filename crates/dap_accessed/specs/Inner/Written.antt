@@ -14,7 +14,7 @@ use Rattle.dap_accessed.specs.declared.answers.Answer.{Answer}
 use Rattle.dap_accessed.specs.declared.answers.Answer.TheVariants as answer
 use Rattle.dap_accessed.specs.declared.fault.NoMemory.{NoMemory}
 use Rattle.dap_accessed.specs.Replies.{attributes_for, completed, status, bare_status}
-use Rattle.dap_accessed.specs.Served.{AllAtMost}
+use Rattle.dap_accessed.specs.Served.{AllAtMost, Answered}
 
 abbrev pub message_of : Answer → Message
 message_of (answer.Config bufsiz) = config_of bufsiz

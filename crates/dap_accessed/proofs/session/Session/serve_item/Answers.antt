@@ -1,4 +1,5 @@
 use Rattle.std.proofs.Common.{List, ap, subst, ◌∙◌}
+use Rattle.std.specs.Prelude.{Result, Ok, Err, OnErr}
 use Rattle.dap_msg.specs.declared.message.Message.{Message}
 use Rattle.dap_msg.proofs.ForCallers.{item_fits}
 use Rattle.dap_accessed.specs.Present.{Present}
@@ -7,6 +8,10 @@ use Rattle.dap_accessed.specs.Sessions.{joined, session_of}
 use Rattle.dap_accessed.proofs.StepIs.{answers-in, in-more, same-own}
 use Rattle.dap_accessed.proofs.Silent.{silent-in}
 use Rattle.dap_accessed.proofs.session.Session.serve_item.Goals as goal
+
+anyway : {X E A : Type 0} (r : Result X E) → A → OnErr r A
+anyway (Ok x) a = tt
+anyway (Err e) a = a
 
 pub answer_item-requires-clause-fits : goal.answer_item-requires-clause-fits
 answer_item-requires-clause-fits c = item_fits c.args.item c.requires.spelled
@@ -26,7 +31,7 @@ returns-clause-serves c =
 
 pub returns-in_err-answers-clause-no_memory : goal.returns-in_err-answers-clause-no_memory
 returns-in_err-answers-clause-no_memory c =
-    (ap (λ (p : Present). p.files) c.in_err-answers.ensures.err, ap session_of c.in_err-answers.ensures.err)
+    anyway c.from_residual.result (ap (λ (p : Present). p.files) c.in_err-answers.ensures.err, ap session_of c.in_err-answers.ensures.err)
 
 pub returns-in_err-answers-clause-unrefused : goal.returns-in_err-answers-clause-unrefused
 returns-in_err-answers-clause-unrefused c = λ s h none.
