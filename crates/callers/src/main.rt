@@ -10,6 +10,7 @@ mod links;
 mod messages;
 mod packets;
 mod serving;
+mod sharing;
 mod trouble;
 mod worlds;
 
@@ -26,6 +27,7 @@ fn call_all(alloc: Global, out: &mut Lines) -> Result<(), Trouble> {
     files::call(alloc, out)?;
     asking::call(alloc, out)?;
     serving::call(alloc, out)?;
+    sharing::call(alloc, out)?;
     ends::call(alloc, out)?;
     worlds::call(alloc, out)?;
     faults::call(out);

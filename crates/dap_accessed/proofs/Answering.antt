@@ -1,7 +1,7 @@
 -- Every answer has a spelling, and none is longer than the peer takes.
 use Rattle.std.proofs.Common.{subst, ◌≡◌, ℕ, ◌+◌, ◌^◌, ◌<◌, ◌≤◌, Bool, true, false, List, [], ◌∷◌, ◌++◌, length, map, Option, Some, None, Result, Ok, Err, refl, sym, arith, lit≤, lit<}
 use Rattle.std.proofs.lemmas.List.{append-nil}
-use Rattle.dap_accessed.proofs.OneMore.{next_answers, answers_after}
+use Rattle.dap_accessed.specs.Groups.{next_answers, answers_after}
 use Rattle.dap_accessed.proofs.Cuts.{Answers-more, added-is}
 use Rattle.std.proofs.Common.{append_assoc}
 use Rattle.std.specs.Prelude.{IfSome, IsTrue, nat_le, unwrap_or, if◌then◌else◌}

@@ -7,9 +7,8 @@ use Rattle.dap_msg.specs.declared.message.Message.{Message}
 use Rattle.dap_msg.specs.declared.items.Item.{Item}
 use Rattle.dap_accessed.specs.Standing.{Files, Standing, start}
 use Rattle.dap_accessed.specs.Effects.{Begun, Turn, Does, Begins, turn_of}
-use Rattle.dap_accessed.specs.Groups.{Grouped, over, after_two, grouped, stands_after, added, answers_in, Answers}
+use Rattle.dap_accessed.specs.Groups.{Grouped, over, after_two, grouped, stands_after, added, answers_in, Answers, one_more, next_group, more_after, next_answers, answers_after, answers_of}
 use Rattle.dap_accessed.specs.Present.{present_of}
-use Rattle.dap_accessed.proofs.OneMore.{one_more, next_group, more_after, next_answers, answers_after, answers_of}
 
 pub cut-more : (own : ℕ) (s : Standing) (items : List Item) (item : Item) → grouped own s (items ++ item ∷ []) ≡ one_more own (grouped own s items) item
 cut-more own s [] item = refl
@@ -32,7 +31,8 @@ next_answers-more : (s : Standing) (item : Item) (t : Turn) → answers_in (next
 next_answers-more s item (Does effect) = refl
 next_answers-more s item (Begins begun) = sym (append-nil (answers_in s.past))
 
-answers_after-more : (own : ℕ) (s : Standing) (b : Option Begun) (item : Item) → answers_in (more_after own s b item).standing.past ≡ answers_in s.past ++ answers_after own s b item
+-- the answers after an item are those before and its own
+pub answers_after-more : (own : ℕ) (s : Standing) (b : Option Begun) (item : Item) → answers_in (more_after own s b item).standing.past ≡ answers_in s.past ++ answers_after own s b item
 answers_after-more own s None item = next_answers-more s item (turn_of own s item)
 answers_after-more own s (Some begun) item = refl
 

@@ -25,7 +25,7 @@ use Rattle.dap_accessed.specs.Standing.{Scene, Effect, enters, Connected, Stoppe
 use Rattle.dap_accessed.specs.Replies.{bare_status, too_large}
 use Rattle.dap_accessed.specs.Records.{filedata_of, fits_limit, at_number}
 use Rattle.dap_accessed.specs.Transfers.{fetch, fetch_ends}
-use Rattle.dap_accessed.specs.Inner.Written.{Answered}
+use Rattle.dap_accessed.specs.Served.{Answered}
 
 -- the records before the first that is too large, and that one and all behind it
 abbrev leading : ℕ → List (ℕ × List ℕ) → List (ℕ × List ℕ)

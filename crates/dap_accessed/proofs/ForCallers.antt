@@ -1,10 +1,10 @@
 -- What the crates above may cite of this one's proofs. No other file here is for them.
 
 -- where an end stands after one item more
-pub use Rattle.dap_accessed.proofs.OneMore.{one_more, more_after, next_group}
+pub use Rattle.dap_accessed.specs.Groups.{one_more, more_after, next_group}
 pub use Rattle.dap_accessed.proofs.Cuts.{cut-more}
 -- the answers to a list and one item more are those to the list, and those that the item adds
-pub use Rattle.dap_accessed.proofs.Cuts.{Answers-more}
+pub use Rattle.dap_accessed.proofs.Cuts.{Answers-more, answers_after-more}
 -- after any items the files are files, and the open one is there
 pub use Rattle.dap_accessed.proofs.SoundLists.{all-sound}
 -- a file of a table of files is a file; no files are files
@@ -17,3 +17,7 @@ pub use Rattle.dap_accessed.proofs.SoundGroups.{place-within}
 pub use Rattle.dap_accessed.proofs.Answering.{HasShortType, added-sends}
 -- before a Config the answers don't depend on the files, and the end stood so after each front of the items too
 pub use Rattle.dap_accessed.proofs.Lateness.{of_any, front_fresh, with_files}
+-- a table with another file at an index
+pub use Rattle.dap_accessed.proofs.Tables.{with-same, length-with}
+-- an Access uses up the attributes
+pub use Rattle.dap_accessed.proofs.StepIs.{access-keeps}

@@ -8,13 +8,11 @@ use Rattle.rec_file.specs.Acts.{StreamVal}
 use Rattle.dap_accessed.specs.declared.phase.OpenFile.{OpenFile}
 use Rattle.dap_accessed.specs.declared.phase.Phase.TheVariants as phases
 use Rattle.dap_accessed.specs.Standing.{Files, Place, Standing, Fresh, Ready, Opened, Connected, Store, Stopped, start}
-use Rattle.dap_accessed.specs.Present.{Memory, looked_back}
+use Rattle.dap_accessed.specs.Present.{Memory, looked_back, Present, phase_at, phase_within, phase_of}
 use Rattle.dap_accessed.specs.Records.{Change, Putting, Updating}
 use Rattle.dap_accessed.specs.Effects.{Begun, Turn, Does, Begins, turn_of}
-use Rattle.dap_accessed.specs.Groups.{Grouped, stands_after}
-use Rattle.dap_accessed.specs.Present.{Present, phase_at, phase_within, phase_of}
+use Rattle.dap_accessed.specs.Groups.{Grouped, stands_after, next_group, more_after}
 use Rattle.dap_accessed.specs.Adding.{IsFresh, IsLate}
-use Rattle.dap_accessed.proofs.OneMore.{next_group, more_after}
 use Rattle.dap_accessed.proofs.Cuts.{cut-more}
 
 -- ---- The phase tells the place.

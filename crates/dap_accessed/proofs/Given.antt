@@ -11,7 +11,7 @@ use Rattle.dap_accessed.specs.declared.fault.AddFault.{AddFault}
 use Rattle.dap_accessed.specs.Standing.{Files, file_at, with_file}
 use Rattle.dap_accessed.specs.Sound.{AreFiles}
 use Rattle.dap_accessed.specs.Adding.{leaves_gap, MayStore, newest, with_record}
-use Rattle.dap_accessed.specs.Inner.Storing.{Stores}
+use Rattle.dap_accessed.specs.Storing.{Stores}
 use Rattle.dap_accessed.proofs.Tables.{with-same}
 use Rattle.dap_accessed.proofs.Kept.{passed, neither, un_not, in_range}
 use Rattle.dap_accessed.proofs.SoundTables.{file-there, files-with}

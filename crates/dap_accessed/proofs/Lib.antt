@@ -3,7 +3,6 @@ pub mod Entries
 pub mod Opens
 pub mod Writing
 pub mod Fetching
-pub mod OneMore
 pub mod Cuts
 pub mod StepIs
 pub mod Silent

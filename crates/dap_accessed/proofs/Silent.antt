@@ -28,11 +28,12 @@ use Rattle.dap_accessed.specs.Accesses.{open_file, create_file, access_file, end
 use Rattle.dap_accessed.specs.Records.{Change, Putting, Updating, got, record_got, at_number, verb_of, fits_limit, filedata_of}
 use Rattle.dap_accessed.specs.Transfers.{fetch, fetch_ends, continue_fetch, continue_refused}
 use Rattle.dap_accessed.specs.Effects.{Begun, effect_with, control_opened, control_connected}
-use Rattle.dap_accessed.specs.Groups.{stands_after}
+use Rattle.dap_accessed.specs.Groups.{Grouped, stands_after}
 use Rattle.dap_accessed.specs.Present.{Present, Memory, looked_back, StandsAfter, phase_at, phase_within, phase_of}
 use Rattle.dap_accessed.specs.Inner.Moves.{move_in, scene_in, begins_only, is_silent, plain_memory, turns}
 use Rattle.dap_accessed.specs.Served.{IsSilent}
-use Rattle.dap_accessed.proofs.StepIs.{answers-are}
+use Rattle.dap_accessed.specs.Sessions.{IsIn, IsSilentIn}
+use Rattle.dap_accessed.proofs.StepIs.{answers-are, answers-in}
 
 -- ---- What has an answer.
 
@@ -186,6 +187,11 @@ drops-within Updating o s = refl
 drops : (standing : Standing) (begun : Option Begun) → is_dropping standing.past ≡ true → is_storing (phase_of standing begun) ≡ false
 drops standing None e = drops-at standing.place standing.past e
 drops standing (Some b) e = drops-within b.change b.opened b.stream
+
+pub silent-in : (old : Present) (c : Grouped) (item : Item) → IsIn c old → IsSilentIn old.own c item → is_silent old.phase item ≡ true
+silent-in old c item h none =
+    silent old.phase old item (answers-in old item c h ∙ none.0)
+    (λ f. ap (λ (p : Present). is_storing p.phase) h ∙ drops c.standing c.begun (none.1 f))
 
 pub silent-is : (old : Present) (first : Files) (items : List Item) (item : Item) → StandsAfter first items old → IsSilent old.own first items item → is_silent old.phase item ≡ true
 silent-is old first items item h none =

@@ -43,7 +43,7 @@ use Rattle.dap_msg.specs.BothEnds.{is_too_small}
 use Rattle.dap_accessed.specs.Effects.{Begun, Turn, Does, Begins, control_opened, control_connected, turn_in, turn_of, effect_with}
 use Rattle.dap_accessed.specs.Groups.{after_two}
 use Rattle.dap_accessed.specs.Sound.{AreFiles, IsOpenAt, IsSoundAt, IsSound}
-use Rattle.dap_accessed.proofs.OneMore.{next_group, more_after}
+use Rattle.dap_accessed.specs.Groups.{next_group, more_after}
 use Rattle.dap_accessed.proofs.Tables.{length-with}
 use Rattle.dap_accessed.proofs.Kept.{act-keeps, both}
 use Rattle.dap_accessed.proofs.SoundTables.{file-there, files-with, files-more, all-without, distinct-without}

@@ -4,6 +4,7 @@ use Rattle.std.specs.Prelude.{min, nat_lt, not, ◌==◌, filter, filter_map, sl
 use Rattle.std.specs.List.{list_any}
 use Rattle.std.proofs.lemmas.List.Sums.{take_while-cons}
 use Rattle.dap_msg.specs.declared.message.Message.{Message}
+use Rattle.dap_msg.specs.declared.message.AccessFields.{AccessFields}
 use Rattle.dap_msg.specs.declared.message.Message.TheVariants.{Config, Attrib, Access, Control, Contran, Ack, Accomp, Filedata, Status, Other}
 use Rattle.dap_msg.specs.declared.items.Item.{Item}
 use Rattle.dap_msg.specs.declared.items.Item.TheVariants.{Whole, Malformed}
@@ -17,10 +18,10 @@ use Rattle.dap_accessed.specs.Standing.{Files, Scene, Place, Group, Standing, Ef
 use Rattle.dap_accessed.specs.Past.{asked_shape, kept_attributes, is_dropping, ordinal_so_far, this_store, is_skip, is_ready, is_store, is_access, is_filedata, attributes_in, since_access, was_refused, greatest_ordinal, next_ordinal}
 use Rattle.dap_accessed.specs.Records.{Change, Putting, Updating}
 use Rattle.dap_accessed.specs.Effects.{Begun, Turn, Does, Begins, turn_of, effect_with}
-use Rattle.dap_accessed.specs.Groups.{Grouped, over, added, stands_after}
+use Rattle.dap_accessed.specs.Groups.{Grouped, over, added, stands_after, next_group, next_answers, one_more, answers_of}
 use Rattle.dap_accessed.specs.Present.{Present, Memory, looked_back, present_of, phase_at, StandsAfter}
+use Rattle.dap_accessed.specs.Sessions.{IsIn}
 use Rattle.dap_accessed.specs.Inner.Moves.{Move, move, move_in, turn_by, between, turns, settles, remembers, plain_memory, store_memory, scene_in, drops_next, ordinal_next}
-use Rattle.dap_accessed.proofs.OneMore.{next_group, next_answers, one_more, answers_of}
 use Rattle.dap_accessed.proofs.Cuts.{present-more, added-is}
 use Rattle.dap_accessed.proofs.Opens.{store_phase, store-moves}
 
@@ -243,3 +244,18 @@ stands-more old new item e first items h =
 
 pub answers-are : (old : Present) (item : Item) (first : Files) (items : List Item) → StandsAfter first items old → (move old item).answers ≡ added old.own first items item
 answers-are old item first items h = ap (λ (p : Present). (move p item).answers) h ∙ sym (answers-move old.own first items item)
+
+-- ---- From any state.
+
+-- an end that was in a state is in that after the item
+pub in-more : (old new : Present) (item : Item) (c : Grouped) → new ≡ (move old item).present → IsIn c old → IsIn (one_more old.own c item) new
+in-more old new item c e h =
+    let own : new.own ≡ old.own = ap (λ (p : Present). p.own) e ∙ same-own old item in
+    e ∙ ap (λ (p : Present). (move p item).present) h ∙ sym (step-is old.own c.standing c.begun item).same_present ∙ ap (λ (n : ℕ). present_of n (one_more old.own c item)) (sym own)
+
+pub answers-in : (old : Present) (item : Item) (c : Grouped) → IsIn c old → (move old item).answers ≡ answers_of old.own c item
+answers-in old item c h = ap (λ (p : Present). (move p item).answers) h ∙ sym (step-is old.own c.standing c.begun item).same_answers
+
+-- an Access uses up the attributes
+pub access-keeps : (past : List Group) (a : AccessFields) (answers : List Message) → asked_shape (kept_attributes (record { place = Ready; first = Whole (Access a); answers = answers } ∷ past)) ≡ asked_shape no_attributes
+access-keeps past a answers = shape-kept past Ready (Whole (Access a)) answers

@@ -20,7 +20,8 @@ use Rattle.dap_accessed.specs.Replies.{org_number, format_number}
 use Rattle.dap_accessed.specs.declared.answers.Answer.{Answer}
 use Rattle.dap_accessed.specs.declared.answers.Answer.TheVariants as answer
 use Rattle.dap_accessed.specs.Served.{AllAtMost}
-use Rattle.dap_accessed.specs.Inner.Written.{IsShort, Answered, most_bytes}
+use Rattle.dap_accessed.specs.Inner.Written.{IsShort, most_bytes}
+use Rattle.dap_accessed.specs.Served.{Answered}
 
 pub org_small : (org : Org) → org_number org < 2 ^ 8
 org_small Seq = lit< tt

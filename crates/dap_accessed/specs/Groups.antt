@@ -5,7 +5,7 @@ use Rattle.std.specs.Prelude.{ℕ, List, [], ◌∷◌, ◌++◌, length, drop, 
 use Rattle.dap_msg.specs.declared.message.Message.{Message}
 use Rattle.dap_msg.specs.declared.items.Item.{Item}
 use Rattle.dap_accessed.specs.Standing.{Files, Place, Connected, Group, Standing, Effect, start}
-use Rattle.dap_accessed.specs.Effects.{Begun, Does, Begins, turn_of, effect_with}
+use Rattle.dap_accessed.specs.Effects.{Begun, Turn, Does, Begins, turn_of, effect_with}
 
 -- the state after a group
 abbrev pub over : Standing → Place → Item → Effect → Standing
@@ -65,3 +65,34 @@ Answers own first items = answers_in (stands_after own first items).standing.pas
 -- the answers that one item more adds
 abbrev pub added : ℕ → Files → List Item → Item → List Message
 added own first items item = drop (length (Answers own first items)) (Answers own first (items ++ item ∷ []))
+
+-- ---- One item more finishes the group that was begun, or is a group, or begins one.
+
+-- the state after a group, or with one begun
+abbrev pub next_group : Standing → Item → Turn → Grouped
+next_group s item (Does effect) = record { standing = over s s.place item effect; begun = None }
+next_group s item (Begins begun) = record { standing = s; begun = Some begun }
+
+-- the state after an item, where this group was begun
+abbrev pub more_after : ℕ → Standing → Option Begun → Item → Grouped
+more_after own s None item = next_group s item (turn_of own s item)
+more_after own s (Some begun) item = record { standing = after_two s begun item; begun = None }
+
+-- the state after one item more
+abbrev pub one_more : ℕ → Grouped → Item → Grouped
+one_more own c item = more_after own c.standing c.begun item
+
+-- the answers of a group; one that is begun has none yet
+abbrev pub next_answers : Turn → List Message
+next_answers (Does effect) = effect.answers
+next_answers (Begins begun) = []
+
+-- the answers to an item, where this group was begun
+abbrev pub answers_after : ℕ → Standing → Option Begun → Item → List Message
+answers_after own s None item = next_answers (turn_of own s item)
+answers_after own s (Some begun) item =
+    (effect_with begun.change s.scene begun.opened begun.stream item).answers
+
+-- the answers to an item in this state
+abbrev pub answers_of : ℕ → Grouped → Item → List Message
+answers_of own c item = answers_after own c.standing c.begun item

@@ -8,8 +8,10 @@ pub mod Effects
 pub mod Groups
 pub mod Present
 pub mod Served
+pub mod Sessions
 pub mod Sound
 pub mod Adding
+pub mod Storing
 pub mod Stored
 pub mod Tables
 pub mod Inner

@@ -1,6 +1,8 @@
 -- What `serve` does.
 use Rattle.std.specs.Prelude.{ℕ, ◌≡◌, ◌≤◌, true, List, [], ◌∷◌, ◌++◌, length}
 use Rattle.std.specs.List.{AllByRecursion}
+use Rattle.std.specs.Global.{Vec}
+use Rattle.dap_msg.specs.declared.message.Message.{Message}
 use Rattle.dap_msg.specs.declared.items.Item.{Item}
 use Rattle.dap_msg.specs.Items.{ItemAt}
 use Rattle.dap_msg.specs.Blocked.{Blocked, all_joined, bodies, AllFit}
@@ -14,6 +16,12 @@ use Rattle.dap_accessed.specs.Present.{Present, StandsAfter}
 -- each is within the limit
 abbrev pub AllAtMost : ℕ → List (List ℕ) → Type 0
 AllAtMost limit list = AllByRecursion (λ bytes. length bytes ≤ limit) list
+
+-- NSP messages with these messages, each of which has a spelling, joined as far as the limit goes, and none longer than it
+pub record Answered (limit : ℕ) (messages : List Message) (answers : Vec (Vec ℕ)) : Type 0 where
+  pub bytes : bodies answers.items ≡ all_joined (Blocked limit messages)
+  pub within : AllAtMost limit (bodies answers.items)
+  pub fits : AllFit messages
 
 -- The item at this offset was served. Whatever items left the server before, it is as after those and this one, and
 -- its answers are those that the item adds, joined within the peer's limit. Each has a spelling, and no NSP message

@@ -1,4 +1,4 @@
--- What an end keeps is stored as its parts.
+-- What a server keeps is stored as its parts.
 use Rattle.std.specs.Prelude.{ℕ, Option, refl}
 use Rattle.std.specs.Coded.{Coded, code_by, coded×, coded_ℕ, coded_option}
 use Rattle.rec_file.specs.declared.shapes.Shape.{Shape}
@@ -7,6 +7,7 @@ use Rattle.dap_accessed.specs.declared.phase.Phase.{Phase}
 use Rattle.dap_accessed.specs.contracts.phase.Phase as phase_type
 use Rattle.dap_accessed.specs.Standing.{Files}
 use Rattle.dap_accessed.specs.Present.{Present}
+use Rattle.dap_accessed.specs.Sessions.{SessionValue}
 use Rattle.dap_accessed.specs.Tables.{files_code}
 
 -- the parts as one value
@@ -16,4 +17,13 @@ present_code =
     (coded× coded_ℕ (coded× coded_ℕ (coded× files_code (coded× (coded_option shape_type.the_row.coded) phase_type.the_row.coded))))
     (λ p. (p.own, (p.limit, (p.files, (p.kept, p.phase)))))
     (λ p. record { own = p.0; limit = p.1.0; files = p.1.1.0; kept = p.1.1.1.0; phase = p.1.1.1.1 })
+    (λ _. refl)
+
+-- the parts of a session as one value
+abbrev pub session_code : Coded SessionValue
+session_code =
+    code_by (ℕ × (ℕ × (Option Shape × Phase)))
+    (coded× coded_ℕ (coded× coded_ℕ (coded× (coded_option shape_type.the_row.coded) phase_type.the_row.coded)))
+    (λ s. (s.own, (s.limit, (s.kept, s.phase))))
+    (λ p. record { own = p.0; limit = p.1.0; kept = p.1.1.0; phase = p.1.1.1 })
     (λ _. refl)

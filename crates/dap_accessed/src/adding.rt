@@ -6,10 +6,10 @@ ghost use Rattle.rec_file.specs.AnyFiles.{any_value};
 ghost use Rattle.dap_accessed.specs.Standing.{Files};
 ghost use Rattle.dap_accessed.specs.Present.{StandsAfter};
 ghost use Rattle.dap_accessed.specs.Adding.{IsFresh, IsLate, MayAdd, AddRefused, with_new_file, MayAddRecord, RecordRefused, with_record, leaves_gap};
-ghost use Rattle.dap_accessed.specs.Inner.Storing.{Stores};
+ghost use Rattle.dap_accessed.specs.Storing.{Stores};
 ghost use Rattle.dap_msg.specs.declared.items.Item.{Item as TheItem};
 
-use crate::accessed::{Accessed, PLAIN};
+use crate::accessed::Accessed;
 use crate::fault::AddFault;
 use crate::phase::Phase;
 use dap_msg::LEAST_BUFFER;
@@ -22,9 +22,7 @@ impl Accessed {
         ensures own { self.new.own ≡ self.old.own }
         ensures stands { StandsAfter self.old.files [] self.new }
     {
-        self.limit = LEAST_BUFFER;
-        self.kept = Some(PLAIN);
-        self.phase = Phase::Fresh;
+        self.session.renew();
     }
 
     /// A file without records after the others, before the peer's Config was served. Its shape is one that
@@ -48,7 +46,7 @@ impl Accessed {
         if self.files.find(name).is_some() {
             return Err(AddFault::FileExists);
         }
-        self.files.make(self.alloc, name, shape)?;
+        self.files.make(self.session.alloc, name, shape)?;
         Ok(())
     }
 
@@ -81,7 +79,7 @@ impl Accessed {
         ensures yes { result ≡ true → IsFresh self.now }
         ensures no { result ≡ false → IsLate self.now }
     {
-        match self.phase {
+        match self.session.phase {
             Phase::Fresh => true,
             _ => false,
         }

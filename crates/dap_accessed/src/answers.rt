@@ -7,7 +7,8 @@ ghost use Rattle.dap_msg.specs.Sizes.{file_data_size};
 ghost use Rattle.dap_msg.specs.BothEnds.{config_of, four_bytes, least_buffer};
 ghost use Rattle.rec_file.specs.Limits.{longest_record};
 ghost use Rattle.dap_accessed.specs.Replies.{attributes_for, completed, format_number, opened_with, org_number, status, too_large};
-ghost use Rattle.dap_accessed.specs.Inner.Written.{AddsAnswer, Answered, FitsIn, IsAtMost, IsShort, IsWritable, message_of, most_bytes};
+ghost use Rattle.dap_accessed.specs.Inner.Written.{AddsAnswer, FitsIn, IsAtMost, IsShort, IsWritable, message_of, most_bytes};
+ghost use Rattle.dap_accessed.specs.Served.{Answered};
 
 use crate::fault::NoMemory;
 use dap_msg::codes::{

@@ -12,6 +12,7 @@ mod opened;
 mod phase;
 mod refusing;
 mod served;
+mod session;
 mod step;
 mod table;
 mod transfer;
@@ -22,6 +23,8 @@ pub use fault::{AddFault, NoMemory};
 pub use laws::{
     answers_are_sendable, answers_fit, answers_grow, given_files_are_sound, stays_sound,
 };
+pub use phase::OpenFile;
 pub use refusing::reason_number;
 pub use served::Served;
+pub use session::Session;
 pub use table::FileTable;

@@ -2,6 +2,7 @@
 
 ghost use Rattle.std.specs.Prelude.{◌≡◌};
 ghost use Rattle.dap_accessed.specs.Inner.Steps.{phase_behind};
+ghost use Rattle.dap_accessed.specs.Sessions.{moved_up, phase_moved_up};
 
 use rec_file::{Refusal, Rights, Stream};
 
@@ -14,6 +15,22 @@ pub struct OpenFile {
     pub is_new: bool,
     /// What the Access may do.
     pub rights: Rights,
+}
+
+impl OpenFile {
+    /// The same after a file was removed from the table.
+    pub(crate) fn moved_up(self, removed: usize) -> OpenFile
+        ensures { result ≡ moved_up removed self }
+    {
+        if removed < self.at {
+            OpenFile {
+                at: self.at - 1,
+                ..self
+            }
+        } else {
+            self
+        }
+    }
 }
 
 /// What the end waits for (DAP 5.6.0, message sequences; the phases are own).
@@ -49,6 +66,29 @@ impl Phase {
                 Phase::Connected(opened, stream)
             }
             _ => self,
+        }
+    }
+
+    /// The same after a file that stood before the open one was removed from the table.
+    pub(crate) fn moved_up(self, removed: usize) -> Phase
+        ensures { result ≡ phase_moved_up removed self }
+    {
+        match self {
+            Phase::Fresh => Phase::Fresh,
+            Phase::Ready => Phase::Ready,
+            Phase::Opened(opened) => Phase::Opened(opened.moved_up(removed)),
+            Phase::Connected(opened, stream) => Phase::Connected(opened.moved_up(removed), stream),
+            Phase::PutDue(opened, stream, key) => {
+                Phase::PutDue(opened.moved_up(removed), stream, key)
+            }
+            Phase::UpdateDue(opened, stream) => Phase::UpdateDue(opened.moved_up(removed), stream),
+            Phase::Storing(opened, stream, n) => {
+                Phase::Storing(opened.moved_up(removed), stream, n)
+            }
+            Phase::Dropping(opened, stream, n) => {
+                Phase::Dropping(opened.moved_up(removed), stream, n)
+            }
+            Phase::Stopped(opened, stream) => Phase::Stopped(opened.moved_up(removed), stream),
         }
     }
 }

@@ -12,7 +12,7 @@ ghost use Rattle.dap_accessed.specs.Past.{asked_shape};
 ghost use Rattle.dap_accessed.specs.Effects.{control_status};
 ghost use Rattle.dap_accessed.specs.Replies.{bare_status};
 ghost use Rattle.dap_accessed.specs.Transfers.{continue_refused};
-ghost use Rattle.dap_accessed.specs.Inner.Moves.{IsOpenIn};
+ghost use Rattle.dap_accessed.specs.Sessions.{IsOpenIn};
 ghost use Rattle.dap_accessed.specs.Inner.Steps.{Asks, HasOpen, IsCommon};
 ghost use Rattle.rec_file.specs.Limits.{greatest_number};
 ghost use Rattle.dap_accessed.specs.declared.phase.Phase.TheVariants as phases;

@@ -1,17 +1,19 @@
 //! File transfers: all records to the peer, or records from it until the stream ends.
 
-ghost use Rattle.std.specs.Prelude.{◌≡◌, ◌≤◌, ◌<◌, ◌+◌, length, IfOk, OnErr};
-ghost use Rattle.dap_accessed.specs.Inner.Moves.{HasFetched, IsOpenIn, Makes, fetched_phase};
+ghost use Rattle.std.specs.Prelude.{OnOk, ◌≡◌, ◌≤◌, ◌<◌, ◌+◌, length, IfOk, OnErr};
+ghost use Rattle.dap_accessed.specs.Inner.Moves.{HasFetched, Makes, fetched_phase};
+ghost use Rattle.dap_accessed.specs.Sessions.{IsOpenIn, joined};
 ghost use Rattle.dap_accessed.specs.Inner.Steps.{done};
 ghost use Rattle.dap_accessed.specs.declared.step.Step.TheVariants as steps;
 ghost use Rattle.rec_file.specs.Limits.{greatest_number};
 ghost use Rattle.dap_accessed.specs.Records.{at_number};
 
-use crate::accessed::Accessed;
 use crate::answers::{Answer, Room, append, filedata_len, too_large};
 use crate::fault::NoMemory;
 use crate::phase::{OpenFile, Phase};
 use crate::refusing::store_refused;
+use crate::session::Session;
+use crate::table::FileTable;
 use dap_msg::codes::END_OF_FILE;
 use rec_file::{Stream, first_record};
 
@@ -25,23 +27,26 @@ pub(crate) fn at_number(mut stream: Stream, number: u32) -> Stream
     stream
 }
 
-impl Accessed {
+impl Session {
     /// A Filedata of a Store.
     pub(crate) fn store(
         &mut self,
+        files: &mut FileTable,
         opened: OpenFile,
         stream: Stream,
         ordinal: u32,
         body: &[u8],
     ) -> Result<Vec<Vec<u8>>, NoMemory>
-        requires { opened.at < length self.old.files }
-        ensures ok { Makes (done (steps.Store opened stream ordinal body.entry) self.old)
-            self.old self.new result }
-        ensures err { OnErr result (self.new ≡ self.old) }
+        requires { opened.at < length files.old }
+        ensures ok { Makes
+            (done (steps.Store opened stream ordinal body.entry) (joined files.old self.old))
+            (joined files.old self.old) (joined files.new self.new) result }
+        ensures there { OnOk result (IsOpenIn files.new self.new.phase) }
+        ensures err { OnErr result (joined files.new self.new ≡ joined files.old self.old) }
     {
         let room = Room::new(self.alloc)?;
         let mut after = stream;
-        let reply = self.files.put(opened.at, &mut after, None, body)?;
+        let reply = files.put(opened.at, &mut after, None, body)?;
         let ordinal = ordinal.saturating_add(1);
         match reply {
             Ok(_) => {
@@ -58,26 +63,36 @@ impl Accessed {
     /// Gives the records from the stream's next on.
     pub(crate) fn fetch(
         &mut self,
+        files: &mut FileTable,
         opened: OpenFile,
         stream: Stream,
     ) -> Result<Vec<Vec<u8>>, NoMemory>
-        requires { opened.at < length self.old.files }
-        ensures ok { Makes (done (steps.Fetch opened stream) self.old) self.old self.new result }
-        ensures err { OnErr result (self.new ≡ self.old) }
+        requires { opened.at < length files.old }
+        ensures ok { Makes (done (steps.Fetch opened stream) (joined files.old self.old))
+            (joined files.old self.old) (joined files.new self.new) result }
+        ensures there { OnOk result (IsOpenIn files.new self.new.phase) }
+        ensures err { OnErr result (joined files.new self.new ≡ joined files.old self.old) }
     {
-        let (answers, phase) = self.batch(opened, stream)?;
+        let (answers, phase) = self.batch(files, opened, stream)?;
         self.phase = phase;
         Ok(answers)
     }
 
     /// The records from the stream's next on, and the phase after them.
-    fn batch(&self, opened: OpenFile, stream: Stream) -> Result<(Vec<Vec<u8>>, Phase), NoMemory>
-        requires { opened.at < length self.now.files }
-        ensures place { IfOk result (λ r. r.1 ≡ fetched_phase self.now opened stream) }
-        ensures answers { IfOk result (λ r. HasFetched self.now opened stream r.0) }
-        ensures there { IfOk result (λ r. IsOpenIn self.now.files r.1) }
+    fn batch(
+        &self,
+        files: &FileTable,
+        opened: OpenFile,
+        stream: Stream,
+    ) -> Result<(Vec<Vec<u8>>, Phase), NoMemory>
+        requires { opened.at < length files.now }
+        ensures place { IfOk result (λ r. r.1 ≡ fetched_phase
+            (joined files.now self.now) opened stream) }
+        ensures answers { IfOk result (λ r. HasFetched
+            (joined files.now self.now) opened stream r.0) }
+        ensures there { IfOk result (λ r. IsOpenIn files.now r.1) }
     {
-        let file = self.files.file(opened.at);
+        let file = files.file(opened.at);
         let mut answers = self.none();
         let mut next = stream.next();
         while let Some((number, body)) = first_record(file, next) {

@@ -27,7 +27,7 @@ use Rattle.dap_accessed.specs.Records.{verb_of, Putting, Updating, refused}
 use Rattle.dap_accessed.specs.Transfers.{fetch}
 use Rattle.dap_accessed.specs.Effects.{Turn, Does, Begins, effect_fresh, effect_ready, effect_opened, turn_connected, effect_store, effect_stopped, effect_with}
 use Rattle.dap_accessed.specs.Present.{Present, Memory, phase_at, phase_within}
-use Rattle.dap_accessed.specs.Inner.Written.{Answered}
+use Rattle.dap_accessed.specs.Served.{Answered}
 
 -- what an item leaves, and its answers
 pub record Move : Type 0 where
@@ -180,23 +180,3 @@ fetched_phase p opened stream = phase_at (fetch (scene_in p) opened stream).plac
 
 abbrev pub HasFetched : Present → OpenFile → StreamVal → Vec (Vec ℕ) → Type 0
 HasFetched p opened stream answers = Answered p.limit (fetch (scene_in p) opened stream).answers answers
-
--- ---- What is true of all that an end keeps.
-
--- the open file of a phase is in the table, and a fetch stops at a record's number
-abbrev pub IsOpenIn : Files → Phase → Type 0
-IsOpenIn files phases.Fresh = Unit {0}
-IsOpenIn files phases.Ready = Unit {0}
-IsOpenIn files (phases.Opened opened) = opened.at < length files
-IsOpenIn files (phases.Connected opened stream) = opened.at < length files
-IsOpenIn files (phases.PutDue opened stream key) = opened.at < length files
-IsOpenIn files (phases.UpdateDue opened stream) = opened.at < length files
-IsOpenIn files (phases.Storing opened stream ordinal) = opened.at < length files
-IsOpenIn files (phases.Dropping opened stream ordinal) = opened.at < length files
-IsOpenIn files (phases.Stopped opened stream) = (opened.at < length files) × (stream.next ≤ greatest_number)
-
-pub record IsKept (limit : ℕ) (files : Files) (kept : Option Shape) (phase : Phase) : Type 0 where
-  pub opened : IsOpenIn files phase
-  pub good : IfSome kept (λ shape. IsTrue (is_shape shape))
-  -- every answer but a record goes to the peer
-  pub room : least_buffer ≤ limit

@@ -20,7 +20,8 @@ use Rattle.dap_accessed.specs.Records.{Putting, Updating, changed, get_pick, put
 use Rattle.dap_accessed.specs.Transfers.{fetch, store_one}
 use Rattle.dap_accessed.specs.Present.{Present}
 use Rattle.dap_accessed.specs.Inner.Written.{IsShort, message_of}
-use Rattle.dap_accessed.specs.Inner.Moves.{IsOpenIn, Move, begins, creates, does, is_silent, move_in, opens, opens_nothing, scene_in, settles, store_memory}
+use Rattle.dap_accessed.specs.Inner.Moves.{Move, begins, creates, does, is_silent, move_in, opens, opens_nothing, scene_in, settles, store_memory}
+use Rattle.dap_accessed.specs.Sessions.{IsOpenIn}
 
 -- one answer, and nothing moves but the phase
 abbrev pub replies : Present → Message → Phase → Move

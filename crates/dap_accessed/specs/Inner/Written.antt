@@ -14,7 +14,7 @@ use Rattle.dap_accessed.specs.declared.answers.Answer.{Answer}
 use Rattle.dap_accessed.specs.declared.answers.Answer.TheVariants as answer
 use Rattle.dap_accessed.specs.declared.fault.NoMemory.{NoMemory}
 use Rattle.dap_accessed.specs.Replies.{attributes_for, completed, status, bare_status}
-use Rattle.dap_accessed.specs.Served.{AllAtMost}
+use Rattle.dap_accessed.specs.Served.{AllAtMost, Answered}
 
 abbrev pub message_of : Answer → Message
 message_of (answer.Config bufsiz) = config_of bufsiz
@@ -49,12 +49,6 @@ FitsIn limit a = IsWritable a × (most_bytes a ≤ limit)
 
 abbrev pub IsAtMost : ℕ → Message → Type 0
 IsAtMost most m = length (canon m) ≤ most
-
--- NSP messages with these messages, each of which has a spelling, joined as far as the limit goes, and none longer than it
-pub record Answered (limit : ℕ) (messages : List Message) (answers : Vec (Vec ℕ)) : Type 0 where
-  pub bytes : bodies answers.items ≡ all_joined (Blocked limit messages)
-  pub within : AllAtMost limit (bodies answers.items)
-  pub fits : AllFit messages
 
 -- where the call answers, the message stands behind those before
 abbrev pub AddsAnswer : ℕ → Message → Vec (Vec ℕ) → Vec (Vec ℕ) → Result (Unit {0}) NoMemory → Type 0

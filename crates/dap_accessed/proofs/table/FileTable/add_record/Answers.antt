@@ -1,4 +1,4 @@
-use Rattle.dap_accessed.specs.Inner.Storing.{Stores}
+use Rattle.dap_accessed.specs.Storing.{Stores}
 use Rattle.dap_accessed.proofs.Entries.{others_stay, done}
 use Rattle.dap_accessed.proofs.Given.{table-same}
 use Rattle.dap_accessed.proofs.table.FileTable.add_record.Goals as goal

@@ -6,6 +6,7 @@ use Rattle.dap_accessed.specs.declared.fault.AddFault.{AddFault}
 use Rattle.dap_accessed.specs.declared.fault.AddFault.TheVariants as fault
 use Rattle.dap_accessed.specs.Adding.{record_refusals, MayStore}
 
+-- why a record isn't stored, the first reason in this order
 abbrev pub StoreRefused : FileVal → ℕ → List ℕ → AddFault → Type 0
 StoreRefused file n body (fault.Record why) = first_refusal (record_refusals file n body) ≡ Some why
 StoreRefused file n body fault.NoMemory = MayStore file n body

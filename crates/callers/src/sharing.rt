@@ -1,0 +1,51 @@
+//! `dap_shared`: several links before one table of files.
+
+use crate::trouble::{Lines, Trouble};
+use dap_msg::item_at;
+use dap_shared::SharedFiles;
+use std::alloc::Global;
+
+/// A Configuration.
+const HELLO: &[u8] = &[1, 2, 10, 0, 4, 7, 3, 5, 6, 0, 0, 0, 0];
+/// An Access that makes the file `F`, for put.
+const CREATES: &[u8] = &[3, 2, 8, 2, 0, 1, 0x46, 1, 0, 0, 0];
+/// One that opens it, for get.
+const OPENS: &[u8] = &[3, 2, 8, 1, 0, 1, 0x46, 2, 0, 0, 0];
+/// The end of the access.
+const CLOSES: &[u8] = &[7, 2, 2, 1, 0];
+
+/// Which link is served, and the message.
+const MESSAGES: &[(usize, &[u8])] = &[
+    (0, HELLO),
+    (1, HELLO),
+    (0, CREATES),
+    (1, OPENS),
+    (0, CLOSES),
+    (1, OPENS),
+];
+
+/// Serves a message of a link.
+fn serve(
+    shared: &mut SharedFiles,
+    link: usize,
+    message: &[u8],
+    out: &mut Lines,
+) -> Result<(), Trouble> {
+    let (item, next) = item_at(message, 0);
+    for answer in shared.serve_item(link, item, next)?.answers {
+        out.line(format_args!("sharing: link {link}: an answer of {} bytes", answer.len()));
+    }
+    Ok(())
+}
+
+/// Two links are served, one message after another.
+pub fn call(alloc: Global, out: &mut Lines) -> Result<(), Trouble> {
+    let mut shared = SharedFiles::new(alloc, 1024, 2)?;
+    for (link, message) in MESSAGES {
+        if *link < shared.links() {
+            serve(&mut shared, *link, message, out)?;
+        }
+    }
+    out.line(format_args!("sharing: {} files", shared.files().count()));
+    Ok(())
+}

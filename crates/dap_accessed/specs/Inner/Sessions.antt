@@ -1,0 +1,20 @@
+-- What is true of a session, and what its calls do.
+use Rattle.std.specs.Prelude.{ℕ, ◌≡◌, ◌≤◌, List, Option, IfSome, IsTrue}
+use Rattle.std.specs.Global.{Vec}
+use Rattle.dap_msg.specs.BothEnds.{least_buffer}
+use Rattle.dap_msg.specs.declared.message.Message.{Message}
+use Rattle.rec_file.specs.declared.shapes.Shape.{Shape}
+use Rattle.rec_file.specs.Shapes.{is_shape}
+use Rattle.dap_accessed.specs.declared.phase.Phase.{Phase}
+use Rattle.dap_accessed.specs.Served.{Answered}
+use Rattle.dap_accessed.specs.Sessions.{SessionValue}
+
+pub record IsGood (limit : ℕ) (kept : Option Shape) : Type 0 where
+  pub good : IfSome kept (λ shape. IsTrue (is_shape shape))
+  -- every answer but a record goes to the peer
+  pub room : least_buffer ≤ limit
+
+-- the phase moved, and these are the answers
+pub record Enters (old : SessionValue) (phase : Phase) (messages : List Message) (new : SessionValue) (answers : Vec (Vec ℕ)) : Type 0 where
+  pub session : new ≡ record old { phase = phase }
+  pub answered : Answered old.limit messages answers

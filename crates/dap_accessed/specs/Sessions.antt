@@ -1,0 +1,122 @@
+-- What a server keeps of one link, but for the files: several links may have one table of files.
+use Rattle.std.specs.Prelude.{ℕ, ◌≡◌, ◌<◌, ◌≤◌, ◌==◌, ◌-◌, nat_lt, if◌then◌else◌, true, false, List, [], length, Option, Some, None, option_map}
+use Rattle.std.specs.Global.{Vec}
+use Rattle.dap_msg.specs.BothEnds.{greatest_message, least_buffer}
+use Rattle.dap_msg.specs.Blocked.{bodies}
+use Rattle.dap_msg.specs.Codes as codes
+use Rattle.dap_msg.specs.declared.message.Message.TheVariants.{Access}
+use Rattle.dap_msg.specs.declared.message.AccessFields.{AccessFields}
+use Rattle.dap_msg.specs.declared.items.Item.{Item}
+use Rattle.dap_msg.specs.declared.items.Item.TheVariants.{Whole}
+use Rattle.rec_file.specs.Limits.{greatest_number}
+use Rattle.rec_file.specs.declared.shapes.Shape.{Shape}
+use Rattle.dap_accessed.specs.declared.phase.OpenFile.{OpenFile}
+use Rattle.dap_accessed.specs.declared.phase.Phase.{Phase}
+use Rattle.dap_accessed.specs.declared.phase.Phase.TheVariants as phases
+use Rattle.dap_accessed.specs.Standing.{Files, place_of, plain_shape}
+use Rattle.dap_accessed.specs.Past.{is_filedata, is_dropping}
+use Rattle.dap_accessed.specs.Accesses.{rights_of, fac_or}
+use Rattle.dap_accessed.specs.Groups.{Grouped, one_more, answers_of}
+use Rattle.dap_accessed.specs.Present.{Present, present_of}
+use Rattle.dap_accessed.specs.Served.{AllAtMost, Answered}
+
+-- what a server keeps of a link, but for the files
+pub record SessionValue : Type 0 where
+  pub own : ℕ
+  pub limit : ℕ
+  pub kept : Option Shape
+  pub phase : Phase
+
+-- with these files
+abbrev pub joined : Files → SessionValue → Present
+joined files s = record { own = s.own; limit = s.limit; files = files; kept = s.kept; phase = s.phase }
+
+-- without the files
+abbrev pub session_of : Present → SessionValue
+session_of p = record { own = p.own; limit = p.limit; kept = p.kept; phase = p.phase }
+
+-- no Configuration was served
+abbrev pub new_session : (own : ℕ) → SessionValue
+new_session own = record { own = own; limit = least_buffer; kept = Some plain_shape; phase = phases.Fresh }
+
+-- after an Access that was refused
+abbrev pub refused_session : SessionValue → SessionValue
+refused_session s = record s { kept = Some plain_shape; phase = phases.Ready }
+
+-- ---- The open file.
+
+-- the open file of a phase is in the table, and a fetch stops at a record's number
+abbrev pub IsOpenIn : Files → Phase → Type 0
+IsOpenIn files phases.Fresh = Unit {0}
+IsOpenIn files phases.Ready = Unit {0}
+IsOpenIn files (phases.Opened opened) = opened.at < length files
+IsOpenIn files (phases.Connected opened stream) = opened.at < length files
+IsOpenIn files (phases.PutDue opened stream key) = opened.at < length files
+IsOpenIn files (phases.UpdateDue opened stream) = opened.at < length files
+IsOpenIn files (phases.Storing opened stream ordinal) = opened.at < length files
+IsOpenIn files (phases.Dropping opened stream ordinal) = opened.at < length files
+IsOpenIn files (phases.Stopped opened stream) = (opened.at < length files) × (stream.next ≤ greatest_number)
+
+-- the file that is open in a phase
+abbrev pub open_at : Phase → Option OpenFile
+open_at phases.Fresh = None
+open_at phases.Ready = None
+open_at (phases.Opened o) = Some o
+open_at (phases.Connected o s) = Some o
+open_at (phases.PutDue o s key) = Some o
+open_at (phases.UpdateDue o s) = Some o
+open_at (phases.Storing o s n) = Some o
+open_at (phases.Dropping o s n) = Some o
+open_at (phases.Stopped o s) = Some o
+
+-- a file is gone from the table: those behind it move up
+abbrev pub moved_up : (removed : ℕ) → OpenFile → OpenFile
+moved_up removed opened = record opened { at = if nat_lt removed opened.at then opened.at - 1 else opened.at }
+
+-- the same of a phase's file
+abbrev pub phase_moved_up : (removed : ℕ) → Phase → Phase
+phase_moved_up r phases.Fresh = phases.Fresh
+phase_moved_up r phases.Ready = phases.Ready
+phase_moved_up r (phases.Opened o) = phases.Opened (moved_up r o)
+phase_moved_up r (phases.Connected o s) = phases.Connected (moved_up r o) s
+phase_moved_up r (phases.PutDue o s key) = phases.PutDue (moved_up r o) s key
+phase_moved_up r (phases.UpdateDue o s) = phases.UpdateDue (moved_up r o) s
+phase_moved_up r (phases.Storing o s n) = phases.Storing (moved_up r o) s n
+phase_moved_up r (phases.Dropping o s n) = phases.Dropping (moved_up r o) s n
+phase_moved_up r (phases.Stopped o s) = phases.Stopped (moved_up r o) s
+
+-- a file that is there, as an Access with this FAC opens it
+abbrev pub there_at : (fac at : ℕ) → OpenFile
+there_at fac at = record { at = at; is_new = false; rights = rights_of (fac_or fac codes.fac_bits.get) }
+
+-- what an Access would open, where it names a file that is there
+abbrev pub would_open : Files → AccessFields → Option OpenFile
+would_open files access =
+    if access.func == codes.accfunc.opening
+    then option_map (there_at access.fac) (place_of access.name files)
+    else None
+
+-- what an item asks to open: only an Access in Ready does
+abbrev pub asked_in : Files → Phase → Item → Option OpenFile
+asked_in files phases.Ready (Whole (Access access)) = would_open files access
+asked_in files phase item = None
+
+-- ---- One item.
+
+-- it is what a server keeps in this state
+abbrev pub IsIn : Grouped → Present → Type 0
+IsIn c present = present ≡ present_of present.own c
+
+-- an item without an answer in this state, that is no Data message which is stored: it is never out of memory
+abbrev pub IsSilentIn : (own : ℕ) → Grouped → Item → Type 0
+IsSilentIn own c item =
+    (answers_of own c item ≡ []) × (is_filedata item ≡ true → is_dropping c.standing.past ≡ true)
+
+-- An item was served. In whatever state the server was, it is in the state after that and this item, and gives the
+-- answers that the item has there, joined within the peer's limit.
+pub record ServesItem (item : Item) (old new : Present) (answers : Vec (Vec ℕ)) : Type 0 where
+  pub stands : (c : Grouped) → IsIn c old → IsIn (one_more old.own c item) new
+  pub answered : (c : Grouped) → IsIn c old → Answered old.limit (answers_of old.own c item) answers
+  pub within : AllAtMost old.limit (bodies answers.items)
+  pub most : old.limit ≤ greatest_message
+  pub same_own : new.own ≡ old.own

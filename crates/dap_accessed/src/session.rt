@@ -1,0 +1,408 @@
+//! What the accessed end keeps of one link.
+
+ghost use Rattle.std.specs.Prelude.{◌≡◌, ◌≤◌, [], ◌∷◌, Some, IfOk, IsOk, OnOk, OnErr, true};
+ghost use Rattle.dap_msg.specs.BothEnds.{greatest_message, least_buffer};
+ghost use Rattle.dap_msg.specs.declared.items.Item.TheVariants.{Whole};
+ghost use Rattle.dap_msg.specs.declared.message.Message.{Message as TheMessage};
+ghost use Rattle.dap_msg.specs.Codes as codes;
+ghost use Rattle.dap_msg.specs.Decoding.{IsSpelled};
+ghost use Rattle.dap_msg.specs.Items.{ItemFits};
+ghost use Rattle.dap_accessed.specs.Accesses.{fac_or, rights_of};
+ghost use Rattle.dap_accessed.specs.Groups.{Grouped};
+ghost use Rattle.dap_accessed.specs.Replies.{bare_status, refused_access};
+ghost use Rattle.dap_accessed.specs.Served.{Answered};
+ghost use Rattle.dap_accessed.specs.Sessions.{IsIn, IsOpenIn, IsSilentIn, ServesItem, asked_in, joined, new_session, open_at, phase_moved_up, refused_session, there_at, would_open};
+ghost use Rattle.dap_accessed.specs.Inner.Sessions.{Enters};
+ghost use Rattle.dap_accessed.specs.Inner.Moves.{Makes, Moves, creates, is_silent, move, opens, opens_nothing};
+ghost use Rattle.dap_accessed.specs.Inner.Steps.{CanDo, done, is_quiet};
+ghost use Rattle.dap_accessed.specs.Inner.Written.{IsShort, message_of};
+ghost use Rattle.dap_accessed.specs.declared.phase.Phase.TheVariants as phases;
+ghost use Rattle.dap_accessed.specs.declared.step.Step.TheVariants as steps;
+
+use crate::answers::{Answer, one, opening};
+use crate::fault::NoMemory;
+use crate::phase::{OpenFile, Phase};
+use crate::served::Served;
+use crate::step::Step;
+use crate::table::FileTable;
+use dap_msg::codes::{
+    ACCESS_REFUSED, ACCFUNC_CREATE, ACCFUNC_OPEN, FILE_NOT_FOUND, REASON_BAD_ATTRIBUTES,
+    REASON_FILE_EXISTS, TYPE_ACCESS, unsupported,
+};
+use dap_msg::{AccessFields, FileAccess, Item, LEAST_BUFFER, MessageValue};
+use rec_file::{Format, Org, RecordFile, Rights, Shape};
+use std::alloc::Global;
+use std::marker::Model;
+
+/// What a server keeps of one link, but for the files: several links may have one table.
+#[derive(Drop)]
+pub struct Session {
+    pub(crate) alloc: Global,
+    /// The BUFSIZ of its own Config.
+    bufsiz: u16,
+    /// How long a message the peer takes.
+    pub(crate) limit: u16,
+    /// The shape that an Access would give a new file.
+    pub(crate) kept: Option<Shape>,
+    pub(crate) phase: Phase,
+}
+
+impl Model for Session {
+    ghost use Rattle.dap_accessed.specs.Inner.Sessions.{IsGood};
+    ghost use Rattle.dap_accessed.specs.Stored.{session_code};
+    ghost use Rattle.dap_accessed.specs.Sessions.{SessionValue};
+
+    ghost Value = { SessionValue };
+
+    ghost coded = { session_code };
+
+    ghost view = { λ a. record { own = a.bufsiz; limit = a.limit; kept = a.kept; phase = a.phase } };
+
+    ghost invariant = { λ a. IsGood a.limit a.kept };
+}
+
+/// The shape of a file of which no Attributes message says anything.
+pub(crate) const PLAIN: Shape = Shape {
+    org: Org::Seq,
+    format: Format::Variable,
+    mrs: 0,
+    mrn: 0,
+};
+
+/// The rights that FAC gives, or those of the usual operation where it is 0.
+fn rights_for(fac: u32, usual: FileAccess) -> Rights
+    ensures { result ≡ rights_of (fac_or fac usual.0) }
+{
+    let access = if fac == 0 {
+        usual
+    } else {
+        FileAccess::of_fac(fac)
+    };
+    Rights {
+        get: access.allows_get(),
+        put: access.allows_put(),
+        upd: access.allows_update(),
+        del: access.allows_delete(),
+    }
+}
+
+/// The answer to an Access that opens nothing.
+fn refused_access<'a>(reason: u8) -> Answer<'a>
+    ensures message { message_of result ≡ refused_access reason }
+    ensures short { IsShort result }
+{
+    Answer::Reason {
+        code: ACCESS_REFUSED,
+        reason: [reason],
+    }
+}
+
+/// A file that is there, as an Access with this FAC opens it.
+fn there_at(at: usize, fac: u32) -> OpenFile
+    ensures { result ≡ there_at fac at }
+{
+    OpenFile {
+        at,
+        is_new: false,
+        rights: rights_for(fac, FileAccess::GET),
+    }
+}
+
+/// The file that an Access would open, where it names one that is there.
+fn would_open(files: &FileTable, access: &AccessFields<'_>) -> Option<OpenFile>
+    ensures { result ≡ would_open files.now access.now }
+{
+    if access.func != ACCFUNC_OPEN {
+        return None;
+    }
+    let at = files.find(access.name.0)?;
+    Some(there_at(at, access.fac))
+}
+
+impl Session {
+    /// A link on which no Config was served, with a buffer of this many bytes, at least 64. It takes no memory.
+    pub fn new(alloc: Global, bufsiz: u16) -> Session
+        requires low { least_buffer ≤ bufsiz }
+        ensures { result ≡ new_session bufsiz }
+    {
+        Session {
+            alloc,
+            bufsiz,
+            limit: LEAST_BUFFER,
+            kept: Some(PLAIN),
+            phase: Phase::Fresh,
+        }
+    }
+
+    /// The same for another link: the open file is closed, and a PUT or an UPDATE that waits for its record is dropped.
+    pub fn renew(&mut self)
+        ensures { self.new ≡ new_session self.old.own }
+    {
+        self.limit = LEAST_BUFFER;
+        self.kept = Some(PLAIN);
+        self.phase = Phase::Fresh;
+    }
+
+    /// The file that is open, where one is.
+    pub fn open_file(&self) -> Option<OpenFile>
+        ensures { result ≡ open_at self.now.phase }
+    {
+        match self.phase {
+            Phase::Fresh | Phase::Ready => None,
+            Phase::Opened(opened)
+            | Phase::Connected(opened, _)
+            | Phase::PutDue(opened, _, _)
+            | Phase::UpdateDue(opened, _)
+            | Phase::Storing(opened, _, _)
+            | Phase::Dropping(opened, _, _)
+            | Phase::Stopped(opened, _) => Some(opened),
+        }
+    }
+
+    /// The file that an item would open: an Access, while none is open, that names a file which is there.
+    pub fn asked(&self, files: &FileTable, item: &Item<'_>) -> Option<OpenFile>
+        ensures { result ≡ asked_in files.now self.now.phase item.now }
+    {
+        match (self.phase, item) {
+            (Phase::Ready, Item::Whole(MessageValue::Access(access))) => would_open(files, access),
+            _ => None,
+        }
+    }
+
+    /// The file at this place of the table was removed: those after it have moved up.
+    pub fn move_up(&mut self, removed: usize)
+        ensures { self.new ≡ record self.old { phase = phase_moved_up removed self.old.phase } }
+    {
+        self.phase = self.phase.moved_up(removed);
+    }
+
+    /// No answer.
+    pub(crate) fn none(&self) -> Vec<Vec<u8>>
+        ensures { Answered self.now.limit [] result }
+    {
+        Vec::new(self.alloc)
+    }
+
+    /// Does what an item asks for.
+    fn act(&mut self, files: &mut FileTable, step: &Step<'_>) -> Result<Vec<Vec<u8>>, NoMemory>
+        requires { CanDo files.old step.now }
+        ensures ok { Makes (done step.now (joined files.old self.old))
+            (joined files.old self.old) (joined files.new self.new) result }
+        ensures there { OnOk result (IsOpenIn files.new self.new.phase) }
+        ensures err { OnErr result (joined files.new self.new ≡ joined files.old self.old) }
+        ensures quiet { is_quiet step.now ≡ true → IsOk result }
+    {
+        match step {
+            Step::Enter(phase) => Ok(self.enter(*phase)),
+            Step::Reply(answer, phase) => self.reply(*answer, *phase),
+            Step::Configure(limit) => self.configure(files, *limit),
+            Step::Keep(shape) => Ok(self.keep(files, *shape)),
+            Step::Access { func, name, fac } => self.access(files, *func, name, *fac),
+            Step::Purge(opened) => self.purge(files, *opened),
+            Step::Get(opened, stream, control) => self.get(files, *opened, *stream, control),
+            Step::Fetch(opened, stream) => self.fetch(files, *opened, *stream),
+            Step::Expect(opened, stream, control) => Ok(self.expect(
+                files, *opened, *stream, control,
+            )),
+            Step::Put(opened, stream, key, body) => self.put(files, *opened, *stream, *key, body),
+            Step::Update(opened, stream, body) => self.update(files, *opened, *stream, body),
+            Step::Delete(opened, stream) => self.delete(files, *opened, *stream),
+            Step::Store(opened, stream, ordinal, body) => self.store(
+                files, *opened, *stream, *ordinal, body,
+            ),
+        }
+    }
+
+    /// Another phase, without an answer.
+    pub(crate) fn enter(&mut self, phase: Phase) -> Vec<Vec<u8>>
+        ensures { Enters self.old phase [] self.new result }
+    {
+        self.phase = phase;
+        self.none()
+    }
+
+    /// One short answer, and the phase after it.
+    pub(crate) fn reply(
+        &mut self,
+        answer: Answer<'_>,
+        phase: Phase,
+    ) -> Result<Vec<Vec<u8>>, NoMemory>
+        requires short { IsShort answer }
+        ensures ok { IfOk result (λ answers. Enters self.old phase (message_of answer.entry ∷ [])
+            self.new answers) }
+        ensures err { OnErr result (self.new ≡ self.old) }
+    {
+        let answers = one(self.alloc, self.limit, answer)?;
+        self.phase = phase;
+        Ok(answers)
+    }
+
+    /// Answers the Config of a peer that takes messages of so many bytes.
+    fn configure(&mut self, files: &FileTable, limit: u16) -> Result<Vec<Vec<u8>>, NoMemory>
+        requires { least_buffer ≤ limit }
+        ensures ok { Makes (done (steps.Configure limit) (joined files.now self.old))
+            (joined files.now self.old) (joined files.now self.new) result }
+        ensures there { OnOk result (IsOpenIn files.now self.new.phase) }
+        ensures err { OnErr result (joined files.now self.new ≡ joined files.now self.old) }
+    {
+        let answers = self.reply(Answer::Config(self.bufsiz), Phase::Ready)?;
+        self.limit = limit;
+        Ok(answers)
+    }
+
+    /// Keeps the shape that an Access would give a new file.
+    fn keep(&mut self, files: &FileTable, shape: Option<Shape>) -> Vec<Vec<u8>>
+        requires { CanDo files.now (steps.Keep shape) }
+        ensures moves { Moves (joined files.now self.old)
+            (done (steps.Keep shape) (joined files.now self.old)) (joined files.now self.new) result }
+        ensures there { IsOpenIn files.now self.new.phase }
+    {
+        self.kept = shape;
+        self.enter(Phase::Ready)
+    }
+
+    /// Answers an Access, which opens a file, creates one or is refused.
+    fn access(
+        &mut self,
+        files: &mut FileTable,
+        func: u8,
+        name: &[u8],
+        fac: u32,
+    ) -> Result<Vec<Vec<u8>>, NoMemory>
+        ensures ok { Makes (done (steps.Access func name.entry fac) (joined files.old self.old))
+            (joined files.old self.old) (joined files.new self.new) result }
+        ensures there { OnOk result (IsOpenIn files.new self.new.phase) }
+        ensures err { OnErr result (joined files.new self.new ≡ joined files.old self.old) }
+    {
+        match func {
+            ACCFUNC_OPEN => self.open(files, name, fac),
+            ACCFUNC_CREATE => self.create(files, name, fac),
+            _ => self.refuse_access(files, Answer::Status(unsupported(TYPE_ACCESS))),
+        }
+    }
+
+    /// Answers an Access that opens no file. Every Access uses up the attributes that were kept.
+    fn refuse_access(
+        &mut self,
+        files: &FileTable,
+        answer: Answer<'_>,
+    ) -> Result<Vec<Vec<u8>>, NoMemory>
+        requires { IsShort answer }
+        ensures ok { Makes (opens_nothing (joined files.now self.old) (message_of answer.entry))
+            (joined files.now self.old) (joined files.now self.new) result }
+        ensures there { OnOk result (IsOpenIn files.now self.new.phase) }
+        ensures err { OnErr result (joined files.now self.new ≡ joined files.now self.old) }
+    {
+        let answers = self.reply(answer, Phase::Ready)?;
+        self.kept = Some(PLAIN);
+        Ok(answers)
+    }
+
+    /// Answers an Access that opens a file.
+    fn open(
+        &mut self,
+        files: &mut FileTable,
+        name: &[u8],
+        fac: u32,
+    ) -> Result<Vec<Vec<u8>>, NoMemory>
+        ensures ok { Makes (opens (joined files.old self.old) name.now fac)
+            (joined files.old self.old) (joined files.new self.new) result }
+        ensures there { OnOk result (IsOpenIn files.new self.new.phase) }
+        ensures err { OnErr result (joined files.new self.new ≡ joined files.old self.old) }
+    {
+        let Some(at) = files.find(name) else {
+            return self.refuse_access(files, Answer::Status(FILE_NOT_FOUND));
+        };
+        let answers = opening(self.alloc, self.limit, files.file(at).shape())?;
+        self.kept = Some(PLAIN);
+        self.phase = Phase::Opened(there_at(at, fac));
+        Ok(answers)
+    }
+
+    /// Answers an Access that creates a file.
+    fn create(
+        &mut self,
+        files: &mut FileTable,
+        name: &[u8],
+        fac: u32,
+    ) -> Result<Vec<Vec<u8>>, NoMemory>
+        ensures ok { Makes (creates (joined files.old self.old) name.now fac)
+            (joined files.old self.old) (joined files.new self.new) result }
+        ensures there { OnOk result (IsOpenIn files.new self.new.phase) }
+        ensures err { OnErr result (joined files.new self.new ≡ joined files.old self.old) }
+    {
+        if files.find(name).is_some() {
+            return self.refuse_access(files, refused_access(REASON_FILE_EXISTS));
+        }
+        let Some(shape) = self.kept else {
+            return self.refuse_access(files, refused_access(REASON_BAD_ATTRIBUTES));
+        };
+        let answers = opening(self.alloc, self.limit, shape)?;
+        let at = files.count();
+        files.make(self.alloc, name, shape)?;
+        self.kept = Some(PLAIN);
+        self.phase = Phase::Opened(OpenFile {
+            at,
+            is_new: true,
+            rights: rights_for(fac, FileAccess::PUT),
+        });
+        Ok(answers)
+    }
+
+    /// Answers an Access that may not open its file, by a Status with this code and nothing else.
+    pub fn refuse_open(&mut self, files: &FileTable, code: u16) -> Result<Vec<Vec<u8>>, NoMemory>
+        ensures session { OnOk result (self.new ≡ refused_session self.old) }
+        ensures answer { IfOk result (Answered self.old.limit (bare_status code ∷ [])) }
+        ensures no_memory { OnErr result (self.new ≡ self.old) }
+        ensures most { self.old.limit ≤ greatest_message }
+    {
+        let _ = &self.limit;
+        self.refuse_access(files, Answer::Status(code))
+    }
+
+    /// Serves what was read already, over these files: the message or fault that `item_at` answered, and the place
+    /// after it (DAP 5.6.0, message sequences). A file that is open is in the table.
+    ///
+    /// The only refusal is [`NoMemory`]. Nothing has changed then, and the same call may be made again. A message
+    /// that has no answer and stores no record takes no memory.
+    pub fn serve_item(
+        &mut self,
+        files: &mut FileTable,
+        item: Item<'_>,
+        next: usize,
+    ) -> Result<Served, NoMemory>
+        requires spelled { (m : TheMessage) → item ≡ Whole m → IsSpelled m }
+        requires there { IsOpenIn files.old self.old.phase }
+        ensures serves { IfOk result (λ served. ServesItem item.entry
+            (joined files.old self.old) (joined files.new self.new) served.answers) }
+        ensures next { IfOk result (λ served. served.next ≡ next) }
+        ensures there { IsOpenIn files.new self.new.phase }
+        ensures no_memory { OnErr result ((files.new ≡ files.old) × (self.new ≡ self.old)) }
+        ensures unrefused { (c : Grouped) → IsIn c (joined files.old self.old)
+            → IsSilentIn self.old.own c item.entry → IsOk result }
+    {
+        let answers = self.answer_item(files, item)?;
+        Ok(Served { answers, next })
+    }
+
+    /// Answers a message, or bytes of which no message can be read.
+    pub(crate) fn answer_item(
+        &mut self,
+        files: &mut FileTable,
+        item: Item<'_>,
+    ) -> Result<Vec<Vec<u8>>, NoMemory>
+        requires fits { ItemFits item }
+        requires there { IsOpenIn files.old self.old.phase }
+        ensures ok { Makes (move (joined files.old self.old) item.entry)
+            (joined files.old self.old) (joined files.new self.new) result }
+        ensures there { IsOpenIn files.new self.new.phase }
+        ensures err { OnErr result (joined files.new self.new ≡ joined files.old self.old) }
+        ensures silent { is_silent self.old.phase item.entry ≡ true → IsOk result }
+        ensures most { self.old.limit ≤ greatest_message }
+    {
+        match self.phase.step(item) {
+            Ok(step) => self.act(files, &step),
+            Err(code) => self.reply(Answer::Status(code), self.phase.behind()),
+        }
+    }
+}

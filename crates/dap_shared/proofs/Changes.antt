@@ -1,0 +1,291 @@
+-- What one item does to the table and to what its link has held.
+use Rattle.std.proofs.Common.{◌≡◌, ℕ, ◌<◌, Bool, true, false, List, [], ◌∷◌, ◌++◌, length, Option, Some, None, Result, Ok, Err, refl, ap, sym, subst, ◌∙◌}
+use Rattle.std.specs.Prelude.{◌+◌, IfSome, if◌then◌else◌, ◌==◌, ◌||◌, not, take_while, drop, option_map}
+use Rattle.std.specs.List.{prefix_len, remove}
+use Rattle.dap_msg.specs.Codes as codes
+use Rattle.dap_msg.specs.BothEnds.{config_of, limit_of, is_too_small}
+use Rattle.dap_msg.specs.declared.message.Message.{Message}
+use Rattle.dap_msg.specs.declared.message.AccessFields.{AccessFields}
+use Rattle.dap_msg.specs.declared.message.ControlFields.{ControlFields}
+use Rattle.dap_msg.specs.declared.message.Message.TheVariants.{Config, Access, Control, Contran, Accomp, Filedata}
+use Rattle.dap_msg.specs.declared.items.Item.{Item}
+use Rattle.dap_msg.specs.declared.items.Item.TheVariants.{Whole, Malformed}
+use Rattle.rec_file.specs.declared.shapes.Shape.{Shape}
+use Rattle.rec_file.specs.declared.picks.Rights.{Rights}
+use Rattle.rec_file.specs.declared.picks.Pick.{Pick}
+use Rattle.rec_file.specs.declared.refusals.Refusal.{Refusal}
+use Rattle.rec_file.specs.declared.refusals.Refusal.TheVariants.{NotPermitted}
+use Rattle.rec_file.specs.Files.{FileVal, records_from}
+use Rattle.rec_file.specs.Acts.{Operation, StreamVal, outcome_of, act, get_record, put_record, update_record, delete_record}
+use Rattle.dap_accessed.specs.declared.phase.OpenFile.{OpenFile}
+use Rattle.dap_accessed.specs.declared.verbs.Verb.{Verb}
+use Rattle.dap_accessed.specs.declared.verbs.Verb.TheVariants as verbs
+use Rattle.dap_accessed.specs.Replies.{bare_status}
+use Rattle.dap_accessed.specs.Standing.{Files, place_of, with_file, the_file, new_file, Place, Fresh, Ready, Opened, Connected, Store, Stopped, Group, Standing, Scene, Effect, enters}
+use Rattle.dap_accessed.specs.Past.{asked_shape, kept_attributes, is_dropping, ordinal_so_far}
+use Rattle.dap_accessed.specs.Accesses.{open_file, create_file, access_file, end_stream, complete, rights_of, fac_or}
+use Rattle.dap_accessed.specs.Records.{at_number, verb_of, get_pick, got, record_got, settled, Change, Putting, Updating, changed, fits_limit, uncurrent}
+use Rattle.dap_accessed.specs.Transfers.{fetch, fetch_ends, continue_fetch, store_one}
+use Rattle.dap_accessed.specs.Effects.{Begun, Turn, Does, Begins, control_opened, control_connected, turn_in, turn_of, effect_with}
+use Rattle.dap_accessed.specs.Groups.{Grouped, after_two}
+use Rattle.dap_accessed.specs.Groups.{next_group, more_after, one_more}
+use Rattle.dap_accessed.proofs.ForCallers.{with-same}
+use Rattle.dap_accessed.proofs.ForCallers.{place-within}
+use Rattle.dap_accessed.specs.Sessions.{would_open}
+use Rattle.dap_shared.specs.Sharing.{open_in, asks_to_open}
+
+abbrev pub may_write : Rights → Bool
+may_write rights = rights.put || (rights.upd || rights.del)
+
+-- the files, and what the link has held, after one item: where it asked to held this
+pub data Moved (files : Files) (asks : Option OpenFile) : Option OpenFile → Files → Option OpenFile → Type 0 where
+  keeps : (held : Option OpenFile) → Moved files asks held files held
+  closes : (held : Option OpenFile) → Moved files asks held files None
+  writes : (o : OpenFile) (file : FileVal) → may_write o.rights ≡ true → Moved files asks (Some o) (with_file o.at file files) (Some o)
+  opens : (o : OpenFile) → o.at < length files → asks ≡ Some o → Moved files asks None files (Some o)
+  makes : (entry : List ℕ × FileVal) (o : OpenFile) → o.at ≡ length files → Moved files asks None (files ++ entry ∷ []) (Some o)
+  removes : (o : OpenFile) → o.is_new ≡ true → Moved files asks (Some o) (remove files o.at) None
+
+-- a stream has the rights of its Access
+abbrev pub HasRights : Place → Type 0
+HasRights (Connected o s) = s.rights ≡ o.rights
+HasRights (Store o s) = s.rights ≡ o.rights
+HasRights (Stopped o s) = s.rights ≡ o.rights
+HasRights place = Unit {0}
+
+-- ---- Operations.
+
+outcome-rights : (r : Option Refusal) (op : Operation) (file : FileVal) (s : StreamVal) → (outcome_of r op file s).stream.rights ≡ s.rights
+outcome-rights (Some x) op file s = refl
+outcome-rights None (get_record pick) file s = refl
+outcome-rights None (put_record key body) file s = refl
+outcome-rights None (update_record body) file s = refl
+outcome-rights None delete_record file s = refl
+
+act-rights : (op : Operation) (file : FileVal) (s : StreamVal) → (act op file s).stream.rights ≡ s.rights
+act-rights op file s = outcome-rights _ op file s
+
+-- the right that an operation needs to change its file
+abbrev right_for : Operation → Rights → Bool
+right_for (get_record pick) rights = false
+right_for (put_record key body) rights = rights.put
+right_for (update_record body) rights = rights.upd
+right_for delete_record rights = rights.del
+
+refused-first : (b : Bool) (rest : Option Refusal) (op : Operation) (file : FileVal) (s : StreamVal) → b ≡ false → (outcome_of (if not b then Some NotPermitted else rest) op file s).file ≡ file
+refused-first false rest op file s e = refl
+refused-first true rest op file s e = cc
+
+got-same : (r : Option Refusal) (pick : Pick) (file : FileVal) (s : StreamVal) → (outcome_of r (get_record pick) file s).file ≡ file
+got-same None pick file s = refl
+got-same (Some x) pick file s = refl
+
+unallowed : (op : Operation) (file : FileVal) (s : StreamVal) → right_for op s.rights ≡ false → (act op file s).file ≡ file
+unallowed (get_record pick) file s e = got-same _ pick file s
+unallowed (put_record None body) file s e = refused-first s.rights.put _ (put_record None body) file s e
+unallowed (put_record (Some n) body) file s e = refused-first s.rights.put _ (put_record (Some n) body) file s e
+unallowed (update_record body) file s e = refused-first s.rights.upd _ (update_record body) file s e
+unallowed delete_record file s e = refused-first s.rights.del _ delete_record file s e
+
+or-true : (b : Bool) → (b || true) ≡ true
+or-true true = refl
+or-true false = refl
+
+allowed : (op : Operation) (rights : Rights) → right_for op rights ≡ true → may_write rights ≡ true
+allowed (get_record pick) rights e = cc
+allowed (put_record key body) rights e = ap (λ b. b || (rights.upd || rights.del)) e
+allowed (update_record body) rights e = ap (λ b. rights.put || (b || rights.del)) e ∙ or-true rights.put
+allowed delete_record rights e = ap (λ b. rights.put || (rights.upd || b)) e ∙ ap (λ b. rights.put || b) (or-true rights.upd) ∙ or-true rights.put
+
+-- ---- Groups.
+
+module _ (scene : Scene) (asks : Option OpenFile) where
+  pub record Left (held : Option OpenFile) (e : Effect) : Type 0 where
+    pub moved : Moved scene.files asks held e.scene.files (open_in e.place)
+    pub rights : HasRights e.place
+
+  abbrev pub LeftIn : Option OpenFile → Turn → Type 0
+  LeftIn held (Does e) = Left held e
+  LeftIn held (Begins b) = (held ≡ Some b.opened) × (b.stream.rights ≡ b.opened.rights)
+
+  entering : (place : Place) (answers : List Message) → HasRights place → Left (open_in place) (enters scene place answers)
+  entering place answers h = record { moved = keeps (open_in place); rights = h }
+
+  leaving : (held : Option OpenFile) (answers : List Message) → Left held (enters scene Ready answers)
+  leaving held answers = record { moved = closes held; rights = tt }
+
+  either : (held : Option OpenFile) (b : Bool) (one two : Effect) → Left held one → Left held two → Left held (if b then one else two)
+  either held true one two h k = h
+  either held false one two h k = k
+
+  either-is : (held : Option OpenFile) (b : Bool) (one two : Effect) → (b ≡ true → Left held one) → Left held two → Left held (if b then one else two)
+  either-is held true one two h k = h refl
+  either-is held false one two h k = k
+
+  -- ---- Accesses.
+
+  opening : (a : AccessFields) (at : Option ℕ) → asks ≡ would_open scene.files a → place_of a.name scene.files ≡ at → (a.func == codes.accfunc.opening) ≡ true → Left None (open_file scene a.fac at)
+  opening a None w p e = entering Ready _ tt
+  opening a (Some at) w p e =
+      let o : ℕ → OpenFile = λ n. record { at = n; is_new = false; rights = rights_of (fac_or a.fac codes.fac_bits.get) } in
+      record {
+        moved = opens (o at) (subst (λ (x : Option ℕ). IfSome x (λ n. n < length scene.files)) p (place-within a.name scene.files))
+            (w ∙ ap (λ (b : Bool). if b then option_map o (place_of a.name scene.files) else None) e ∙ ap (option_map o) p);
+        rights = tt;
+      }
+
+  creating : (name : List ℕ) (fac : ℕ) (at : Option ℕ) (shape : Option Shape) → Left None (create_file scene name fac at shape)
+  creating name fac (Some at) shape = entering Ready _ tt
+  creating name fac None None = entering Ready _ tt
+  creating name fac None (Some shape) = record { moved = makes (name, new_file shape) _ refl; rights = tt }
+
+  accessing : (a : AccessFields) (shape : Option Shape) → asks ≡ would_open scene.files a → Left None (access_file scene a shape)
+  accessing a shape w =
+      either-is None (a.func == codes.accfunc.opening) _ _ (opening a (place_of a.name scene.files) w refl)
+      (either None (a.func == codes.accfunc.creating) _ _ (creating a.name a.fac (place_of a.name scene.files) shape) (entering Ready _ tt))
+
+  purging : (o : OpenFile) (new : Bool) (answers : List Message) → o.is_new ≡ new → Left (Some o) (enters (record scene { files = if new then remove scene.files o.at else scene.files }) Ready answers)
+  purging o true answers e = record { moved = removes o e; rights = tt }
+  purging o false answers e = leaving (Some o) answers
+
+  ended : (o : OpenFile) (place : Place) → Left (Some o) (end_stream scene o place)
+  ended o (Opened p) = entering (Opened o) _ tt
+  ended o Fresh = entering (Opened o) _ tt
+  ended o Ready = entering (Opened o) _ tt
+  ended o (Connected p s) = entering (Opened o) _ tt
+  ended o (Store p s) = entering (Opened o) _ tt
+  ended o (Stopped p s) = entering (Opened o) _ tt
+
+  completed : (func : ℕ) (o : OpenFile) (place : Place) → open_in place ≡ Some o → HasRights place → Left (Some o) (complete func scene o place)
+  completed func o place is h =
+      let stays : (answers : List Message) → Left (Some o) (enters scene place answers) = λ answers. subst (λ (held : Option OpenFile). Left held (enters scene place answers)) is (entering place answers h) in
+      either (Some o) (func == codes.cmpfunc.close) _ _ (leaving (Some o) _)
+      (either (Some o) (func == codes.cmpfunc.purge) _ _ (purging o o.is_new _ refl)
+      (either (Some o) (func == codes.cmpfunc.end_of_stream) _ _ (ended o place) (either (Some o) (func == codes.cmpfunc.skip) _ _ (stays _) (stays _))))
+
+  -- ---- Records.
+
+  module _ (o : OpenFile) where
+    abbrev Stays : Effect → Type 0
+    Stays e = Left (Some o) e
+
+    -- an operation that may change the file, and the place after it
+    acted : (op : Operation) (s : StreamVal) (b : Bool) → s.rights ≡ o.rights → right_for op s.rights ≡ b
+        → Moved scene.files asks (Some o) (with_file o.at (act op (the_file scene.files o) s).file scene.files) (Some o)
+    acted op s true r e = writes o _ (ap may_write (sym r) ∙ allowed op s.rights e)
+    acted op s false r e =
+        subst (λ (files : Files). Moved scene.files asks (Some o) files (Some o))
+        (sym (ap (λ (f : FileVal). with_file o.at f scene.files) (unallowed op (the_file scene.files o) s e) ∙ with-same scene.files o.at))
+        (keeps (Some o))
+
+    settling : (op : Operation) (s : StreamVal) → s.rights ≡ o.rights → Stays (settled scene o (act op (the_file scene.files o) s))
+    settling op s r = record { moved = acted op s _ r refl; rights = act-rights op (the_file scene.files o) s ∙ r }
+
+    getting : (reply : Result ℕ Refusal) (before after : StreamVal) → before.rights ≡ o.rights → after.rights ≡ o.rights → Stays (got reply scene o before after)
+    getting (Err refusal) before after r t = entering (Connected o (uncurrent before)) _ r
+    getting (Ok n) before after r t = either (Some o) _ _ _ (entering (Connected o after) _ t) (entering (Connected o (uncurrent before)) _ r)
+
+    picked : (pick : Result Pick Refusal) (s : StreamVal) → s.rights ≡ o.rights → Stays (record_got pick scene o s)
+    picked (Err refusal) s r = entering (Connected o (uncurrent s)) _ r
+    picked (Ok pick) s r =
+        getting (act (get_record pick) (the_file scene.files o) s).reply s (act (get_record pick) (the_file scene.files o) s).stream r (act-rights (get_record pick) (the_file scene.files o) s ∙ r)
+
+    second : (change : Change) (s : StreamVal) (body : List ℕ) → s.rights ≡ o.rights → Stays (changed change scene o s body)
+    second (Putting (Err refusal)) s body r = entering (Connected o (uncurrent s)) _ r
+    second (Putting (Ok key)) s body r = settling (put_record key body) s r
+    second Updating s body r = settling (update_record body) s r
+
+    -- ---- Transfers.
+
+    fetch-ends : (s : StreamVal) (given rest : List (ℕ × List ℕ)) → s.rights ≡ o.rights → Stays (fetch_ends scene o s given rest)
+    fetch-ends s given [] r = entering (Connected o (at_number _ s)) _ r
+    fetch-ends s given (large ∷ more) r = entering (Stopped o (at_number _ s)) _ r
+
+    fetching : (s : StreamVal) → s.rights ≡ o.rights → Stays (fetch scene o s)
+    fetching s r =
+        let due = records_from (the_file scene.files o).records s.next in
+        fetch-ends s (take_while (fits_limit scene.limit) due) (drop (prefix_len (fits_limit scene.limit) due) due) r
+
+    continuing : (func : ℕ) (s : StreamVal) → s.rights ≡ o.rights → Stays (continue_fetch func scene o s)
+    continuing func s r =
+        either (Some o) (func == codes.confunc.again) _ _ (fetching s r)
+        (either (Some o) (func == codes.confunc.skip) _ _ (fetching (at_number (s.next + 1) s) r)
+        (either (Some o) (func == codes.confunc.abort) _ _ (entering (Connected o s) _ r) (entering (Stopped o s) _ r)))
+
+    storing : (ordinal : ℕ) (s : StreamVal) (body : List ℕ) → s.rights ≡ o.rights → Stays (store_one ordinal scene o s body)
+    storing ordinal s body r =
+        record { moved = acted (put_record None body) s _ r refl; rights = act-rights (put_record None body) (the_file scene.files o) s ∙ r }
+
+    -- ---- The places.
+
+    opened-control : (verb : Verb) → Stays (control_opened verb scene o)
+    opened-control verbs.Connect = entering (Connected o _) _ refl
+    opened-control verb = entering (Opened o) _ tt
+
+    connected-control : (verb : Verb) (s : StreamVal) (c : ControlFields) → s.rights ≡ o.rights → LeftIn (Some o) (control_connected verb scene o s c)
+    connected-control verbs.Get s c r = picked (get_pick (the_file scene.files o) s c) s r
+    connected-control verbs.Fetch s c r = either (Some o) s.rights.get _ _ (fetching s r) (entering (Connected o (uncurrent s)) _ r)
+    connected-control verbs.Put s c r = (refl, r)
+    connected-control verbs.Update s c r = (refl, r)
+    connected-control verbs.Store s c r = entering (Store o s) _ r
+    connected-control verbs.Delete s c r = settling delete_record s r
+    connected-control verbs.Rewind s c r = entering (Connected o (at_number 1 s)) _ r
+    connected-control verb s c r = entering (Connected o s) _ r
+
+    with-second : (change : Change) (s : StreamVal) (item : Item) → s.rights ≡ o.rights → Stays (effect_with change scene o s item)
+    with-second change s (Malformed fault) r = entering (Connected o s) _ r
+    with-second change s (Whole (Filedata k body)) r = second change s body r
+    with-second change s (Whole message) r = entering (Connected o s) _ r
+
+  of-message : (own : ℕ) (past : List Group) (place : Place) → HasRights place → (m : Message) → asks ≡ asks_to_open scene.files place (Whole m) → LeftIn (open_in place) (turn_in own scene past place m)
+  of-message own past Fresh h (Config c) w = either None (is_too_small c.bufsiz) _ _ (entering Fresh _ tt) (record { moved = keeps None; rights = tt })
+  of-message own past Fresh h m w = entering Fresh _ tt
+  of-message own past Ready h (Access a) w = accessing a (asked_shape (kept_attributes past)) w
+  of-message own past Ready h m w = entering Ready _ tt
+  of-message own past (Opened o) h (Control c) w = opened-control o (verb_of c)
+  of-message own past (Opened o) h (Accomp c) w = completed c.func o (Opened o) refl h
+  of-message own past (Opened o) h m w = entering (Opened o) _ tt
+  of-message own past (Connected o s) h (Control c) w = connected-control o (verb_of c) s c h
+  of-message own past (Connected o s) h (Accomp c) w = completed c.func o (Connected o s) refl h
+  of-message own past (Connected o s) h m w = entering (Connected o s) _ h
+  of-message own past (Store o s) h (Filedata k body) w = either (Some o) (is_dropping past) _ _ (entering (Store o s) _ h) (storing o (ordinal_so_far past) s body h)
+  of-message own past (Store o s) h (Contran func) w = either (Some o) (is_dropping past) _ _ (entering (Store o s) _ h) (entering (Store o s) _ h)
+  of-message own past (Store o s) h (Accomp c) w = completed c.func o (Store o s) refl h
+  of-message own past (Store o s) h m w = entering (Store o s) _ h
+  of-message own past (Stopped o s) h (Contran func) w = continuing o func s h
+  of-message own past (Stopped o s) h (Accomp c) w = completed c.func o (Stopped o s) refl h
+  of-message own past (Stopped o s) h m w = entering (Stopped o s) _ h
+
+  pub of-item : (own : ℕ) (past : List Group) (place : Place) → HasRights place → (item : Item) → asks ≡ asks_to_open scene.files place item
+      → LeftIn (open_in place) (turn_of own (record { scene = scene; place = place; past = past }) item)
+  of-item own past place h (Malformed fault) w = entering place _ h
+  of-item own past place h (Whole m) w = of-message own past place h m w
+
+-- ---- One item more.
+
+-- a link's stream has the rights of its Access, also inside a group of two
+pub record IsSteady (c : Grouped) : Type 0 where
+  pub rights : HasRights c.standing.place
+  pub begun : IfSome c.begun (λ b. (open_in c.standing.place ≡ Some b.opened) × (b.stream.rights ≡ b.opened.rights))
+
+pub record Goes (c d : Grouped) (asks : Option OpenFile) : Type 0 where
+  pub moved : Moved c.standing.scene.files asks (open_in c.standing.place) d.standing.scene.files (open_in d.standing.place)
+  pub steady : IsSteady d
+
+pub next-goes : (asks : Option OpenFile) (s : Standing) (item : Item) (t : Turn) → HasRights s.place → LeftIn s.scene asks (open_in s.place) t → Goes (record { standing = s; begun = None }) (next_group s item t) asks
+next-goes asks s item (Does e) h l = record { moved = l.moved; steady = record { rights = l.rights; begun = tt } }
+next-goes asks s item (Begins b) h l = record { moved = keeps (open_in s.place); steady = record { rights = h; begun = l } }
+
+by-begun : (own : ℕ) (s : Standing) (begun : Option Begun) (item : Item) → HasRights s.place → IfSome begun (λ b. (open_in s.place ≡ Some b.opened) × (b.stream.rights ≡ b.opened.rights))
+    → Goes (record { standing = s; begun = begun }) (more_after own s begun item) (asks_to_open s.scene.files s.place item)
+by-begun own s None item h n = next-goes _ s item (turn_of own s item) h (of-item s.scene _ own s.past s.place h item refl)
+by-begun own s (Some b) item h n =
+    let asks = asks_to_open s.scene.files s.place item in
+    let l = with-second s.scene asks b.opened b.change b.stream item n.1 in
+    record {
+      moved = subst (λ (held : Option OpenFile). Moved s.scene.files asks held (after_two s b item).scene.files (open_in (after_two s b item).place)) (sym n.0) l.moved;
+      steady = record { rights = l.rights; begun = tt };
+    }
+
+pub one-goes : (own : ℕ) (c : Grouped) (item : Item) → IsSteady c → Goes c (one_more own c item) (asks_to_open c.standing.scene.files c.standing.place item)
+one-goes own c item h = by-begun own c.standing c.begun item h.rights h.begun

@@ -1,0 +1,9 @@
+pub mod Changes
+pub mod Shares
+pub mod Events
+pub mod OneLink
+pub mod PutBack
+pub mod Stepping
+pub mod Growing
+pub mod Held
+pub mod Examples

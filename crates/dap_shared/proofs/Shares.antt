@@ -1,0 +1,176 @@
+-- No two links share a file that one of them may change, and what a link has open stays as it is while others are served.
+use Rattle.std.proofs.Common.{◌≡◌, ◌≢◌, ℕ, zero, suc, ◌+◌, ◌-◌, ◌<◌, ◌≤◌, Bool, true, false, List, [], ◌∷◌, ◌++◌, length, map, Option, Some, None, refl, ap, sym, subst, ◌∙◌, inl, inr, arith, eq-eqb}
+use Rattle.std.specs.Prelude.{IfSome, if◌then◌else◌, ◌==◌, ◌||◌, ◌&&◌, nat_lt, get_or, set, option_map}
+use Rattle.std.specs.List.{remove, list_any}
+use Rattle.std.proofs.lemmas.Bool.{cases_lt, cases_eq, lt-ltb, le-ltb, ne_eqb}
+use Rattle.std.proofs.lemmas.List.{get_or-set_same, get_or-set_other, get_or_append_left, length-append, length-map}
+use Rattle.std.proofs.lemmas.List.Edits.{length-remove, get_or-remove_below, get_or-remove_above}
+use Rattle.std.proofs.Math.ListN.{get_or-map}
+use Rattle.dap_msg.specs.declared.items.Item.{Item}
+use Rattle.rec_file.specs.declared.picks.Rights.{Rights}
+use Rattle.rec_file.specs.Files.{FileVal}
+use Rattle.dap_accessed.specs.declared.phase.OpenFile.{OpenFile}
+use Rattle.dap_accessed.specs.Replies.{bare_status}
+use Rattle.dap_accessed.specs.Standing.{Files, plain_shape, new_file, with_file, name_at, Place, Fresh, Ready, Opened, Connected, Store, Stopped}
+use Rattle.dap_accessed.specs.Accesses.{refuse_access}
+use Rattle.dap_accessed.specs.Effects.{Begun, Does}
+use Rattle.dap_accessed.specs.Groups.{Grouped}
+use Rattle.dap_accessed.specs.Groups.{one_more, next_group}
+use Rattle.dap_accessed.proofs.ForCallers.{length-with}
+use Rattle.dap_accessed.specs.Sessions.{moved_up}
+use Rattle.dap_shared.specs.Sharing.{open_in, has_alone, are_apart, bars, is_locked, asks_to_open, file_locked, place_moved_up}
+use Rattle.dap_shared.specs.Nodes.{Exchange, Node, new_exchange, exchange_at, exchange_of, end_at, before_files, open_on, open_beside, more_beside, begun_moved_up, exchange_moved_up, removed_by, after_more, after_event, Event, Serves, Begins}
+use Rattle.dap_shared.specs.Keeping.{AreApart, entry_at}
+use Rattle.dap_shared.proofs.Changes.{may_write, Moved, keeps, closes, writes, opens, makes, removes, HasRights, IsSteady, Goes, one-goes}
+
+-- ---- Two that are open.
+
+pub differ : (one two : OpenFile) → has_alone one ≡ true → are_apart one two ≡ false → one.at ≢ two.at
+differ one two alone e same =
+    let both : are_apart one two ≡ true = ap (λ b. b && (has_alone one || has_alone two)) (eq-eqb one.at two.at same) ∙ ap (λ b. b || has_alone two) alone in
+    let none : true ≡ false = sym both ∙ e in cc
+
+apart-by : (one two : OpenFile) → one.at ≢ two.at → are_apart one two ≡ false
+apart-by one two d = ap (λ b. b && (has_alone one || has_alone two)) (ne_eqb one.at two.at d)
+
+or-true : (b : Bool) → (b || true) ≡ true
+or-true true = refl
+or-true false = refl
+
+alone-writes : (o : OpenFile) → may_write o.rights ≡ true → has_alone o ≡ true
+alone-writes o e = ap (λ b. o.is_new || b) e ∙ or-true o.is_new
+
+and-false : (b : Bool) → (b && false) ≡ false
+and-false true = refl
+and-false false = refl
+
+-- ---- A file was removed.
+
+abbrev pub shifted : Option OpenFile → OpenFile → OpenFile
+shifted None o = o
+shifted (Some removed) o = moved_up removed.at o
+
+above-at : (r : ℕ) (o : OpenFile) → r < o.at → (moved_up r o).at ≡ o.at - 1
+above-at r o lt = ap (λ b. if b then o.at - 1 else o.at) (lt-ltb r o.at lt)
+
+below-at : (r : ℕ) (o : OpenFile) → o.at ≤ r → (moved_up r o).at ≡ o.at
+below-at r o le = ap (λ b. if b then o.at - 1 else o.at) (le-ltb r o.at le)
+
+-- two places that aren't that of the removed file stay two
+pub still-differ : (r : ℕ) (one two : OpenFile) → one.at ≢ r → two.at ≢ r → one.at ≢ two.at → (moved_up r one).at ≢ (moved_up r two).at
+still-differ r one two a b d same =
+    elim (cases_lt r one.at) [
+      | inl up ↦ elim (cases_lt r two.at) [
+        | inl high ↦ d (let p = above-at r one up in let q = above-at r two high in omega (arith, same, p, q, up, high))
+        | inr low ↦ b (let p = above-at r one up in let q = below-at r two low in omega (arith, same, p, q, up, low))
+      ]
+      | inr down ↦ elim (cases_lt r two.at) [
+        | inl high ↦ a (let p = below-at r one down in let q = above-at r two high in omega (arith, same, p, q, down, high))
+        | inr low ↦ d (let p = below-at r one down in let q = below-at r two low in omega (arith, same, p, q))
+      ]
+    ]
+
+pub still-apart : (r : ℕ) (one two : OpenFile) → one.at ≢ r → two.at ≢ r → are_apart one two ≡ false → are_apart (moved_up r one) (moved_up r two) ≡ false
+still-apart r one two a b e =
+    elim (cases_eq one.at two.at) [
+      | inl same ↦
+          let neither-alone : (has_alone one || has_alone two) ≡ false = sym (ap (λ t. t && (has_alone one || has_alone two)) (eq-eqb one.at two.at same)) ∙ e in
+          ap (λ t. ((moved_up r one).at == (moved_up r two).at) && t) neither-alone ∙ and-false ((moved_up r one).at == (moved_up r two).at)
+      | inr d ↦ apart-by (moved_up r one) (moved_up r two) (still-differ r one two a b d)
+    ]
+
+-- ---- What one link does, and what another has open.
+
+-- what was removed, by the lengths of the tables
+abbrev pub gone : (before after : Files) → Option OpenFile → Option OpenFile
+gone before after held = if nat_lt (length after) (length before) then held else None
+
+none-gone : (before after : Files) (held : Option OpenFile) → length before ≤ length after → gone before after held ≡ None
+none-gone before after held le = ap (λ b. if b then held else None) (le-ltb (length after) (length before) le)
+
+place-of : (o r : OpenFile) → Some o ≡ Some r → o.at ≡ r.at
+place-of o r e = let same : o ≡ r = cc in ap (λ (x : OpenFile). x.at) same
+
+pub record Aside (before after : Files) (held removed : Option OpenFile) (p : OpenFile) : Type 0 where
+  pub within : (shifted removed p).at < length after
+  pub same : entry_at (shifted removed p).at after ≡ entry_at p.at before
+  pub apart : AreApart held (Some (shifted removed p))
+  pub elsewhere : (r : OpenFile) → removed ≡ Some r → p.at ≢ r.at
+
+module _ (before : Files) (asks : Option OpenFile) (p : OpenFile) (there : p.at < length before) (free : (o : OpenFile) → asks ≡ Some o → are_apart o p ≡ false) where
+  pub aside : (held : Option OpenFile) (after : Files) (new : Option OpenFile) → Moved before asks held after new → IfSome held (λ o. o.at < length before) → AreApart held (Some p)
+      → Aside before after new (gone before after held) p
+  aside held _ _ (keeps _) w a =
+      subst (λ (r : Option OpenFile). Aside before before held r p) (sym (none-gone before before held (omega arith))) (record { within = there; same = refl; apart = a; elsewhere = λ r e. cc })
+  aside held _ _ (closes _) w a =
+      subst (λ (r : Option OpenFile). Aside before before None r p) (sym (none-gone before before held (omega arith))) (record { within = there; same = refl; apart = tt; elsewhere = λ r e. cc })
+  aside (Some o) _ _ (writes _ file may) w a =
+      let d = differ o p (alone-writes o may) a in
+      let n = length-with before o.at file in
+      subst (λ (r : Option OpenFile). Aside before (with_file o.at file before) (Some o) r p) (sym (none-gone before (with_file o.at file before) (Some o) (omega (arith, n))))
+      (record {
+        within = omega (arith, n, there);
+        same = get_or-set_other before o.at p.at (name_at o.at before, file) ([], new_file plain_shape) (λ e. d (sym e));
+        apart = a;
+        elsewhere = λ r e. cc;
+      })
+  aside None _ _ (opens o lt asked) w a =
+      subst (λ (r : Option OpenFile). Aside before before (Some o) r p) (sym (none-gone before before None (omega arith))) (record { within = there; same = refl; apart = free o asked; elsewhere = λ r e. cc })
+  aside None _ _ (makes entry o at) w a =
+      let n = length-append before (entry ∷ []) in
+      subst (λ (r : Option OpenFile). Aside before (before ++ entry ∷ []) (Some o) r p) (sym (none-gone before (before ++ entry ∷ []) None (omega (arith, n))))
+      (record {
+        within = omega (arith, n, there);
+        same = get_or_append_left before (entry ∷ []) ([], new_file plain_shape) p.at there;
+        apart = apart-by o p (λ e. absurd (omega (arith, e, at, there)));
+        elsewhere = λ r e. cc;
+      })
+  aside (Some o) _ _ (removes _ new) w a =
+      let d = differ o p (ap (λ b. b || may_write o.rights) new) a in
+      let n = length-remove before o.at w in
+      subst (λ (r : Option OpenFile). Aside before (remove before o.at) None r p)
+      (sym (ap (λ b. if b then Some o else None) (lt-ltb (length (remove before o.at)) (length before) (omega (arith, n)))))
+      (elim (cases_lt o.at p.at) [
+        | inl up ↦
+            let at = above-at o.at p up in
+            record {
+              within = omega (arith, n, at, up, there);
+              same =
+                  ap (λ k. entry_at k (remove before o.at)) at ∙ get_or-remove_above before o.at ([], new_file plain_shape) (p.at - 1) (omega (arith, up)) w
+                  ∙ ap (λ k. entry_at k before) (let back : p.at - 1 + 1 ≡ p.at = omega (arith, up) in back);
+              apart = tt;
+              elsewhere = λ r e same. d (place-of o r e ∙ sym same);
+            }
+        | inr down ↦
+            let at = below-at o.at p down in
+            let lt : p.at < o.at = elim (cases_eq p.at o.at) [ inl same ↦ absurd (d (sym same)) | inr other ↦ omega (arith, down, other) ] in
+            record {
+              within = omega (arith, n, at, lt, w);
+              same = ap (λ k. entry_at k (remove before o.at)) at ∙ get_or-remove_below before o.at ([], new_file plain_shape) p.at lt w;
+              apart = tt;
+              elsewhere = λ r e same. d (place-of o r e ∙ sym same);
+            }
+      ])
+
+-- ---- Two other links.
+
+two-shifted : (r : Option OpenFile) (p q : OpenFile) → ((o : OpenFile) → r ≡ Some o → p.at ≢ o.at) → ((o : OpenFile) → r ≡ Some o → q.at ≢ o.at) → are_apart p q ≡ false → are_apart (shifted r p) (shifted r q) ≡ false
+two-shifted None p q f g e = e
+two-shifted (Some o) p q f g e = still-apart o.at p q (f o refl) (g o refl) e
+
+pub two-options : (r x y : Option OpenFile) → AreApart x y → ((p : OpenFile) → x ≡ Some p → (o : OpenFile) → r ≡ Some o → p.at ≢ o.at) → ((q : OpenFile) → y ≡ Some q → (o : OpenFile) → r ≡ Some o → q.at ≢ o.at)
+    → AreApart (option_map (shifted r) x) (option_map (shifted r) y)
+two-options r None None h f g = tt
+two-options r None (Some q) h f g = tt
+two-options r (Some p) None h f g = tt
+two-options r (Some p) (Some q) h f g = two-shifted r p q (f p refl) (g q refl) h
+
+-- ---- The link itself.
+
+pub own-within : (before : Files) (asks held : Option OpenFile) (after : Files) (new : Option OpenFile) → Moved before asks held after new → IfSome held (λ o. o.at < length before) → IfSome new (λ o. o.at < length after)
+own-within before asks held _ _ (keeps _) w = w
+own-within before asks held _ _ (closes _) w = tt
+own-within before asks (Some o) _ _ (writes _ file may) w = omega (arith, w, length-with before o.at file)
+own-within before asks None _ _ (opens o lt asked) w = lt
+own-within before asks None _ _ (makes entry o at) w = omega (arith, at, length-append before (entry ∷ []))
+own-within before asks (Some o) _ _ (removes _ new) w = tt

@@ -1,0 +1,329 @@
+-- What the code does to what it keeps is what the definitions say of one item more.
+use Rattle.std.proofs.Common.{◌≡◌, ℕ, zero, suc, ◌<◌, ◌≤◌, Bool, true, false, List, [], ◌∷◌, ◌++◌, length, map, Option, Some, None, refl, ap, sym, subst, ◌∙◌, arith}
+use Rattle.std.specs.Prelude.{IfSome, nat_lt, if◌then◌else◌, ◌||◌, get_or, set, option_map}
+use Rattle.std.specs.List.{list_any}
+use Rattle.std.specs.Global.{Vec}
+use Rattle.std.proofs.lemmas.List.{map-set, length-map, length-set}
+use Rattle.std.proofs.Math.ListN.{get_or-map}
+use Rattle.dap_msg.specs.BothEnds.{greatest_message}
+use Rattle.dap_msg.specs.Blocked.{bodies}
+use Rattle.dap_msg.specs.declared.message.Message.{Message}
+use Rattle.dap_msg.specs.declared.message.Message.TheVariants.{Access}
+use Rattle.dap_msg.specs.declared.items.Item.{Item}
+use Rattle.dap_msg.specs.declared.items.Item.TheVariants.{Whole, Malformed}
+use Rattle.rec_file.specs.declared.shapes.Shape.{Shape}
+use Rattle.rec_file.specs.Acts.{StreamVal}
+use Rattle.dap_accessed.specs.declared.phase.OpenFile.{OpenFile}
+use Rattle.dap_accessed.specs.declared.phase.Phase.{Phase}
+use Rattle.dap_accessed.specs.declared.phase.Phase.TheVariants as phases
+use Rattle.dap_accessed.specs.Standing.{Files, Scene, Place, Group, Standing, plain_shape, Fresh, Ready, Opened, Connected, Store, Stopped}
+use Rattle.dap_accessed.specs.Past.{is_dropping, ordinal_so_far}
+use Rattle.dap_accessed.specs.Records.{Change, Putting, Updating}
+use Rattle.dap_accessed.specs.Replies.{bare_status}
+use Rattle.dap_accessed.specs.Accesses.{refuse_access}
+use Rattle.dap_accessed.specs.Effects.{Begun, Does}
+use Rattle.dap_accessed.specs.Groups.{Grouped, answers_of, next_group, one_more}
+use Rattle.dap_accessed.specs.Present.{Present, present_of, phase_of, phase_at, phase_within, looked_back}
+use Rattle.dap_accessed.specs.Served.{AllAtMost, Answered}
+use Rattle.dap_accessed.specs.Sessions.{SessionValue, ServesItem, IsOpenIn, asked_in, joined, moved_up, new_session, open_at, phase_moved_up, refused_session, session_of}
+use Rattle.dap_accessed.proofs.ForCallers.{access-keeps}
+use Rattle.dap_shared.specs.Sharing.{bars, file_locked, open_in, place_moved_up, is_locked, asks_to_open}
+use Rattle.dap_shared.specs.Nodes.{Exchange, Node, Event, Serves, Begins, Gives, GivesRecord, new_exchange, new_node, exchange_at, exchange_of, end_at, before_files, open_on, open_beside, more_beside, answers_beside, begun_moved_up, exchange_moved_up, removed_by, after_event, after_more, after_all, node_after}
+use Rattle.dap_shared.specs.Shared.{SharedValue, SharedAfter, SharedServes, kept_of, shared_of}
+use Rattle.dap_shared.specs.Keeping.{AreOf}
+use Rattle.dap_shared.specs.Inner.Beside.{is_barred, session_moved_up, gone_by, MovesBeside}
+use Rattle.dap_shared.specs.Inner.Beside as beside
+use Rattle.dap_shared.specs.Inner.Held.{session_at}
+use Rattle.dap_shared.proofs.Changes.{IsSteady}
+use Rattle.dap_shared.proofs.Events.{IsShared, IsSteadyExchange, history-shares, one-new}
+use Rattle.dap_shared.proofs.PutBack.{map-over}
+
+-- ---- A file was removed: the others move up.
+
+store-moved : (r : ℕ) (d : Bool) (o : OpenFile) (s : StreamVal) (n : ℕ) →
+    (if d then phases.Dropping (moved_up r o) s n else phases.Storing (moved_up r o) s n) ≡ phase_moved_up r (if d then phases.Dropping o s n else phases.Storing o s n)
+store-moved r true o s n = refl
+store-moved r false o s n = refl
+
+within-moved : (r : ℕ) (change : Change) (o : OpenFile) (s : StreamVal) → phase_within change (moved_up r o) s ≡ phase_moved_up r (phase_within change o s)
+within-moved r (Putting key) o s = refl
+within-moved r Updating o s = refl
+
+at-moved : (r : ℕ) (past : List Group) (place : Place) → phase_at (place_moved_up r place) (looked_back (place_moved_up r place) past) ≡ phase_moved_up r (phase_at place (looked_back place past))
+at-moved r past Fresh = refl
+at-moved r past Ready = refl
+at-moved r past (Opened o) = refl
+at-moved r past (Connected o s) = refl
+at-moved r past (Store o s) = store-moved r (is_dropping past) o s (ordinal_so_far past)
+at-moved r past (Stopped o s) = refl
+
+phase-moved : (r : ℕ) (files : Files) (exchange : Exchange) (begun : Option Begun) →
+    phase_of (before_files files (record exchange { place = place_moved_up r exchange.place })).standing (option_map (begun_moved_up r) begun) ≡ phase_moved_up r (phase_of (before_files files exchange).standing begun)
+phase-moved r files exchange None = at-moved r exchange.past exchange.place
+phase-moved r files exchange (Some b) = within-moved r b.change b.opened b.stream
+
+exchange-moved : (own : ℕ) (files after : Files) (r : Option OpenFile) (exchange : Exchange) → kept_of own after (exchange_moved_up r exchange) ≡ session_moved_up r (kept_of own files exchange)
+exchange-moved own files after None exchange = refl
+exchange-moved own files after (Some removed) exchange =
+    ap (λ (p : Phase). let s = kept_of own files exchange in let t : SessionValue = record { own = s.own; limit = s.limit; kept = s.kept; phase = p } in t) (phase-moved removed.at files exchange exchange.begun)
+
+exchanges-moved : (own : ℕ) (files after : Files) (r : Option OpenFile) (exchanges : List Exchange) → map (kept_of own after) (map (exchange_moved_up r) exchanges) ≡ map (session_moved_up r) (map (kept_of own files) exchanges)
+exchanges-moved own files after r [] = refl
+exchanges-moved own files after r (exchange ∷ exchanges) =
+    ap (λ (s : SessionValue). s ∷ map (kept_of own after) (map (exchange_moved_up r) exchanges)) (exchange-moved own files after r exchange)
+    ∙ ap (λ (l : List SessionValue). session_moved_up r (kept_of own files exchange) ∷ l) (exchanges-moved own files after r exchanges)
+
+-- ---- What is open, and what is asked for, by the phase.
+
+store-open : (d : Bool) (o : OpenFile) (s : StreamVal) (n : ℕ) → open_at (if d then phases.Dropping o s n else phases.Storing o s n) ≡ Some o
+store-open true o s n = refl
+store-open false o s n = refl
+
+place-open : (past : List Group) (place : Place) → open_at (phase_at place (looked_back place past)) ≡ open_in place
+place-open past Fresh = refl
+place-open past Ready = refl
+place-open past (Opened o) = refl
+place-open past (Connected o s) = refl
+place-open past (Store o s) = store-open (is_dropping past) o s (ordinal_so_far past)
+place-open past (Stopped o s) = refl
+
+within-open : (change : Change) (o : OpenFile) (s : StreamVal) → open_at (phase_within change o s) ≡ Some o
+within-open (Putting key) o s = refl
+within-open Updating o s = refl
+
+-- a group of two that is begun has the open file
+abbrev IsBegun : Place → Option Begun → Type 0
+IsBegun place begun = IfSome begun (λ b. (open_in place ≡ Some b.opened) × (b.stream.rights ≡ b.opened.rights))
+
+phase-open : (s : Standing) (begun : Option Begun) → IsBegun s.place begun → open_at (phase_of s begun) ≡ open_in s.place
+phase-open s None h = place-open s.past s.place
+phase-open s (Some b) h = within-open b.change b.opened b.stream ∙ sym h.0
+
+store-asks : (files : Files) (item : Item) (d : Bool) (o : OpenFile) (s : StreamVal) (n : ℕ) → asked_in files (if d then phases.Dropping o s n else phases.Storing o s n) item ≡ None
+store-asks files item true o s n = refl
+store-asks files item false o s n = refl
+
+ready-asks : (files : Files) (item : Item) → asked_in files phases.Ready item ≡ asks_to_open files Ready item
+ready-asks files (Malformed fault) = refl
+ready-asks files (Whole (Access a)) = refl
+ready-asks files (Whole message) = refl
+
+place-asks : (files : Files) (past : List Group) (place : Place) (item : Item) → asked_in files (phase_at place (looked_back place past)) item ≡ asks_to_open files place item
+place-asks files past Fresh item = refl
+place-asks files past Ready item = ready-asks files item
+place-asks files past (Opened o) item = refl
+place-asks files past (Connected o s) item = refl
+place-asks files past (Store o s) item = store-asks files item (is_dropping past) o s (ordinal_so_far past)
+place-asks files past (Stopped o s) item = refl
+
+within-asks : (files : Files) (change : Change) (o : OpenFile) (s : StreamVal) (item : Item) → asked_in files (phase_within change o s) item ≡ None
+within-asks files (Putting key) o s item = refl
+within-asks files Updating o s item = refl
+
+none-asked : (files : Files) (place : Place) (o : OpenFile) (item : Item) → open_in place ≡ Some o → asks_to_open files place item ≡ None
+none-asked files Fresh o item e = cc
+none-asked files Ready o item e = cc
+none-asked files (Opened p) o item e = refl
+none-asked files (Connected p s) o item e = refl
+none-asked files (Store p s) o item e = refl
+none-asked files (Stopped p s) o item e = refl
+
+phase-asks : (files : Files) (s : Standing) (begun : Option Begun) (item : Item) → IsBegun s.place begun → asked_in files (phase_of s begun) item ≡ asks_to_open files s.place item
+phase-asks files s None item h = place-asks files s.past s.place item
+phase-asks files s (Some b) item h = within-asks files b.change b.opened b.stream item ∙ sym (none-asked files s.place b.opened item h.0)
+
+-- ---- What bars it.
+
+pub open-kept : (own : ℕ) (files : Files) (exchange : Exchange) → IsSteadyExchange exchange → open_at (kept_of own files exchange).phase ≡ open_on exchange
+open-kept own files exchange h = phase-open (before_files files exchange).standing exchange.begun h.begun
+
+any-kept : (own : ℕ) (files : Files) (o : OpenFile) (exchanges : List Exchange) → ((i : ℕ) → IsSteadyExchange (get_or exchanges i new_exchange)) →
+    list_any (λ (s : SessionValue). bars o (open_at s.phase)) (map (kept_of own files) exchanges) ≡ list_any (bars o) (map open_on exchanges)
+any-kept own files o [] h = refl
+any-kept own files o (exchange ∷ exchanges) h =
+    ap (λ (x : Option OpenFile). bars o x || list_any (λ (s : SessionValue). bars o (open_at s.phase)) (map (kept_of own files) exchanges)) (open-kept own files exchange (h 0))
+    ∙ ap (λ b. bars o (open_on exchange) || b) (any-kept own files o exchanges (λ i. h (suc i)))
+
+barred-is : (own : ℕ) (files : Files) (asked : Option OpenFile) (exchanges : List Exchange) → ((i : ℕ) → IsSteadyExchange (get_or exchanges i new_exchange)) →
+    is_barred (map (kept_of own files) exchanges) asked ≡ is_locked (map open_on exchanges) asked
+barred-is own files None exchanges h = refl
+barred-is own files (Some o) exchanges h = any-kept own files o exchanges h
+
+-- ---- What is refused.
+
+abbrev pub locked_group : Standing → Item → Grouped
+locked_group s item = next_group s item (Does (refuse_access s.scene (bare_status file_locked)))
+
+refused-by : (own : ℕ) (others : List (Option OpenFile)) (scene : Scene) (past : List Group) (place : Place) (item : Item) → is_locked others (asks_to_open scene.files place item) ≡ true →
+    let s : Standing = record { scene = scene; place = place; past = past } in
+    session_of (present_of own (locked_group s item)) ≡ record { own = own; limit = scene.limit; kept = Some plain_shape; phase = phases.Ready }
+refused-by own others scene past Ready (Whole (Access a)) e =
+    ap (λ (k : Option Shape). let t : SessionValue = record { own = own; limit = scene.limit; kept = k; phase = phases.Ready } in t) (access-keeps past a (bare_status file_locked ∷ []))
+refused-by own others scene past Ready (Whole message) e = cc
+refused-by own others scene past Ready (Malformed fault) e = cc
+refused-by own others scene past Fresh item e = cc
+refused-by own others scene past (Opened o) item e = cc
+refused-by own others scene past (Connected o s) item e = cc
+refused-by own others scene past (Store o s) item e = cc
+refused-by own others scene past (Stopped o s) item e = cc
+
+at-most : (limit most : ℕ) → limit ≤ most → (list : List (List ℕ)) → AllAtMost limit list → AllAtMost most list
+at-most limit most le [] h = tt
+at-most limit most le (x ∷ list) h = (omega (arith, le, h.0), at-most limit most le list h.1)
+
+-- ---- One item.
+
+module _ (own : ℕ) (node : Node) (link : ℕ) (item : Item) (h : IsShared node) where
+  abbrev before : Grouped
+  before = end_at link node
+
+  abbrev kept : Exchange → SessionValue
+  kept = kept_of own node.files
+
+  abbrev session : SessionValue
+  session = kept (exchange_at link node)
+
+  -- the sessions with that of the link taken out
+  abbrev kept_beside : List SessionValue
+  kept_beside = set (map kept node.exchanges) link (new_session own)
+
+  abbrev asked : Option OpenFile
+  asked = asks_to_open node.files before.standing.place item
+
+  abbrev others : List (Option OpenFile)
+  others = open_beside link node.exchanges
+
+  steady-beside : (i : ℕ) → IsSteadyExchange (get_or (set node.exchanges link new_exchange) i new_exchange)
+  steady-beside i = one-new node.exchanges link i IsSteadyExchange (record { rights = tt; begun = tt }) (h.steady i)
+
+  lock-is : is_barred kept_beside (asked_in node.files session.phase item) ≡ is_locked others asked
+  lock-is =
+      ap (is_barred kept_beside) (phase-asks node.files before.standing before.begun item (h.steady link).begun)
+      ∙ ap (λ (l : List SessionValue). is_barred l asked) (sym (map-set kept node.exchanges link new_exchange))
+      ∙ barred-is own node.files asked (set node.exchanges link new_exchange) steady-beside
+
+  -- where the code leaves these files, and this of the link
+  pub record Leaves (d : Grouped) (messages : List Message) (files : Files) (s : SessionValue) (answers : Vec (Vec ℕ)) : Type 0 where
+    pub files : files ≡ d.standing.scene.files
+    pub session : s ≡ session_of (present_of own d)
+    pub answered : Answered before.standing.scene.limit messages answers
+    pub within : AllAtMost greatest_message (bodies answers.items)
+
+  by-lock : (locked : Bool) (files : Files) (s : SessionValue) (answers : Vec (Vec ℕ)) → locked ≡ is_locked others asked → beside.Does locked item node.files session files s answers →
+      Leaves (if locked then locked_group before.standing item else one_more own before item) (if locked then bare_status file_locked ∷ [] else answers_of own before item) files s answers
+  by-lock true files s answers e does =
+      record {
+        files = does.0;
+        session = does.1.0 ∙ sym (refused-by own others before.standing.scene before.standing.past before.standing.place item (sym e));
+        answered = does.1.1.0;
+        within = at-most session.limit greatest_message does.1.1.1 (bodies answers.items) does.1.1.0.within;
+      }
+  by-lock false files s answers e does =
+      let stands : joined files s ≡ present_of own (one_more own before item) = does.stands before refl ∙ ap (λ (n : ℕ). present_of n (one_more own before item)) does.same_own in
+      record {
+        files = ap (λ (p : Present). p.files) stands;
+        session = ap session_of stands;
+        answered = does.answered before refl;
+        within = at-most session.limit greatest_message does.most (bodies answers.items) does.within;
+      }
+
+  leaves : (files : Files) (s : SessionValue) (answers : Vec (Vec ℕ)) → beside.Does (is_barred kept_beside (asked_in node.files session.phase item)) item node.files session files s answers →
+      Leaves (more_beside own others before item) (answers_beside own others before item) files s answers
+  leaves files s answers does =
+      subst (λ (b : Bool). Leaves (if b then locked_group before.standing item else one_more own before item) (if b then bare_status file_locked ∷ [] else answers_of own before item) files s answers) lock-is
+      (by-lock (is_barred kept_beside (asked_in node.files session.phase item)) files s answers lock-is does)
+
+  abbrev after : Grouped
+  after = more_beside own others before item
+
+  abbrev value : Files → List SessionValue → SharedValue
+  value files sessions = record { own = own; files = files; sessions = sessions }
+
+  pub item-moves : (files : Files) (rest : List SessionValue) (s : SessionValue) (answers : Vec (Vec ℕ)) → MovesBeside item node.files kept_beside session files rest s answers →
+      shared_of own (after_event own node (Serves link item)) ≡ value files (set rest link s)
+  item-moves files rest s answers moves =
+      let left = leaves files s answers moves.does in
+      let d = after in
+      let r = removed_by before d in
+      let g = gone_by node.files files session.phase in
+      let same : r ≡ g =
+          ap (λ (x : Option OpenFile). if nat_lt (length d.standing.scene.files) (length node.files) then x else None) (sym (phase-open before.standing before.begun (h.steady link).begun))
+          ∙ ap (λ (l : Files). gone_by node.files l session.phase) (sym left.files) in
+      ap (value d.standing.scene.files)
+      (map-set (kept_of own d.standing.scene.files) (map (exchange_moved_up r) node.exchanges) link (exchange_of d)
+      ∙ ap (λ (l : List SessionValue). set l link (session_of (present_of own d))) (exchanges-moved own node.files d.standing.scene.files r node.exchanges)
+      ∙ ap (λ (x : Option OpenFile). set (map (session_moved_up x) (map kept node.exchanges)) link (session_of (present_of own d))) same
+      ∙ ap (set (map (session_moved_up g) (map kept node.exchanges)) link) (sym left.session)
+      ∙ sym (map-over (session_moved_up g) (map kept node.exchanges) link (new_session own) s)
+      ∙ ap (λ (l : List SessionValue). set l link s) (sym moves.moved))
+      ∙ ap (λ (l : Files). value l (set rest link s)) (sym left.files)
+
+-- ---- After any history.
+
+pub all-more : (own : ℕ) (node : Node) (events : List Event) (event : Event) → after_all own node (events ++ event ∷ []) ≡ after_event own (after_all own node events) event
+all-more own node [] event = refl
+all-more own node (e ∷ events) event = all-more own (after_event own node e) events event
+
+pub are-more : (links : ℕ) (events : List Event) (event : Event) → AreOf links events → AreOf links (event ∷ []) → AreOf links (events ++ event ∷ [])
+are-more links [] event h k = k
+are-more links (Serves link item ∷ events) event h k = (h.0, are-more links events event h.1 k)
+are-more links (Begins link ∷ events) event h k = (h.0, are-more links events event h.1 k)
+are-more links (Gives name shape ∷ events) event h k = are-more links events event h k
+are-more links (GivesRecord number body ∷ events) event h k = are-more links events event h k
+
+-- what is kept then is what one event more leaves
+pub after-more : (first : Files) (events : List Event) (event : Event) (old new : SharedValue) → SharedAfter first events old → AreOf (length old.sessions) (event ∷ []) → new.own ≡ old.own → length new.sessions ≡ length old.sessions
+    → new ≡ shared_of old.own (after_event old.own (node_after old.own first (length old.sessions) events) event) → SharedAfter first (events ++ event ∷ []) new
+after-more first events event old new h of own links is =
+    record {
+      links = subst (λ (n : ℕ). AreOf n (events ++ event ∷ [])) (sym links) (are-more (length old.sessions) events event h.links of);
+      stands =
+          is ∙ ap (shared_of old.own) (sym (all-more old.own (new_node first (length old.sessions)) events event))
+          ∙ ap (λ (n : ℕ). shared_of n (node_after n first (length old.sessions) (events ++ event ∷ []))) (sym own)
+          ∙ ap (λ (n : ℕ). shared_of new.own (node_after new.own first n (events ++ event ∷ []))) (sym links);
+    }
+
+module _ (old : SharedValue) (link : ℕ) (item : Item) (files : Files) (rest : List SessionValue) (s : SessionValue) (answers : Vec (Vec ℕ)) (there : link < length old.sessions)
+    (moves : MovesBeside item old.files (set old.sessions link (new_session old.own)) (session_at old.own link old.sessions) files rest s answers) where
+  abbrev new : SharedValue
+  new = record { own = old.own; files = files; sessions = set rest link s }
+
+  same-links : length (set rest link s) ≡ length old.sessions
+  same-links =
+      length-set rest link s ∙ ap (λ (l : List SessionValue). length l) moves.moved
+      ∙ length-map (set old.sessions link (new_session old.own)) (session_moved_up (gone_by old.files files (session_at old.own link old.sessions).phase))
+      ∙ length-set old.sessions link (new_session old.own)
+
+  module _ (first : Files) (events : List Event) (h : SharedAfter first events old) where
+    abbrev node : Node
+    node = node_after old.own first (length old.sessions) events
+
+    abbrev shares : IsShared node
+    shares = (history-shares old.own first (length old.sessions) events h.links).0
+
+    kept-link : session_at old.own link (shared_of old.own node).sessions ≡ kept_of old.own node.files (exchange_at link node)
+    kept-link = get_or-map (kept_of old.own node.files) node.exchanges link new_exchange
+
+    then-moves : MovesBeside item node.files (set (map (kept_of old.own node.files) node.exchanges) link (new_session old.own)) (kept_of old.own node.files (exchange_at link node)) files rest s answers
+    then-moves =
+        subst (λ (t : SessionValue). MovesBeside item node.files (set (map (kept_of old.own node.files) node.exchanges) link (new_session old.own)) t files rest s answers) kept-link
+        (subst (λ (v : SharedValue). MovesBeside item v.files (set v.sessions link (new_session old.own)) (session_at old.own link v.sessions) files rest s answers) h.stands moves)
+
+    then-stands : SharedAfter first (events ++ Serves link item ∷ []) new
+    then-stands = after-more first events (Serves link item) old new h (there, tt) refl same-links (sym (item-moves old.own node link item shares files rest s answers then-moves))
+
+    then-left : Leaves old.own node link item shares (after old.own node link item shares) (answers_beside old.own (open_beside link node.exchanges) (end_at link node) item) files s answers
+    then-left = leaves old.own node link item shares files s answers then-moves.does
+
+  pub serves-shared : (first : Files) (events : List Event) → SharedAfter first events old → AllAtMost greatest_message (bodies answers.items) → SharedServes link item old new answers
+  serves-shared first events h within =
+      record {
+        stands = then-stands;
+        answered = λ f e k. (then-left f e k).answered;
+        within = within;
+        same_own = refl;
+        same_links = same-links;
+      }
+
+  pub short-answers : (first : Files) (events : List Event) → SharedAfter first events old → AllAtMost greatest_message (bodies answers.items)
+  short-answers first events h = (then-left first events h).within

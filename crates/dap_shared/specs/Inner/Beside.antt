@@ -1,0 +1,38 @@
+-- What one link's session does beside those of the others.
+use Rattle.std.specs.Prelude.{ℕ, ◌≡◌, ◌≤◌, Bool, true, false, nat_lt, if◌then◌else◌, List, [], ◌∷◌, length, map, Option, Some, None}
+use Rattle.std.specs.List.{list_any}
+use Rattle.std.specs.Global.{Vec}
+use Rattle.dap_msg.specs.BothEnds.{greatest_message}
+use Rattle.dap_msg.specs.declared.items.Item.{Item}
+use Rattle.dap_accessed.specs.declared.phase.OpenFile.{OpenFile}
+use Rattle.dap_accessed.specs.declared.phase.Phase.{Phase}
+use Rattle.dap_accessed.specs.Standing.{Files}
+use Rattle.dap_accessed.specs.Replies.{bare_status}
+use Rattle.dap_accessed.specs.Served.{Answered}
+use Rattle.dap_accessed.specs.Sessions.{SessionValue, IsOpenIn, ServesItem, asked_in, joined, open_at, phase_moved_up, refused_session}
+use Rattle.dap_shared.specs.Sharing.{bars, file_locked}
+
+-- one of the others has something open that bars what is asked for
+abbrev pub is_barred : (others : List SessionValue) → Option OpenFile → Bool
+is_barred others None = false
+is_barred others (Some asked) = list_any (λ s. bars asked (open_at s.phase)) others
+
+abbrev pub session_moved_up : (removed : Option OpenFile) → SessionValue → SessionValue
+session_moved_up None s = s
+session_moved_up (Some removed) s = record s { phase = phase_moved_up removed.at s.phase }
+
+-- what was open is gone from the table, if there are fewer files
+abbrev pub gone_by : (before after : Files) → Phase → Option OpenFile
+gone_by before after phase = if nat_lt (length after) (length before) then open_at phase else None
+
+-- refused as the file is locked, or served
+abbrev pub Does : (locked : Bool) → Item → Files → SessionValue → Files → SessionValue → Vec (Vec ℕ) → Type 0
+Does true item files s files' s' answers =
+    (files' ≡ files) × (s' ≡ refused_session s) × Answered s.limit (bare_status file_locked ∷ []) answers
+    × (s.limit ≤ greatest_message)
+Does false item files s files' s' answers = ServesItem item (joined files s) (joined files' s') answers
+
+pub record MovesBeside (item : Item) (files : Files) (others : List SessionValue) (s : SessionValue) (files' : Files) (others' : List SessionValue) (s' : SessionValue) (answers : Vec (Vec ℕ)) : Type 0 where
+  pub does : Does (is_barred others (asked_in files s.phase item)) item files s files' s' answers
+  pub moved : others' ≡ map (session_moved_up (gone_by files files' s.phase)) others
+  pub there : IsOpenIn files' s'.phase

@@ -1,0 +1,5 @@
+pub mod Sharing
+pub mod Nodes
+pub mod Keeping
+pub mod Shared
+pub mod Inner

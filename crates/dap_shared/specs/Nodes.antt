@@ -1,0 +1,161 @@
+-- A node: one table of files, and links of which each has its own exchange. One item of one link is served after
+-- another. Each does what it would do at a server of one link that stands where its link stands, before the files as
+-- they then are; but an Access to a file that is locked is refused.
+use Rattle.std.specs.Prelude.{ℕ, ◌==◌, nat_lt, if◌then◌else◌, List, [], ◌∷◌, ◌++◌, length, map, replicate, get_or, set, Option, Some, None, option_map}
+use Rattle.dap_msg.specs.BothEnds.{least_buffer}
+use Rattle.dap_msg.specs.declared.message.Message.{Message}
+use Rattle.dap_msg.specs.declared.items.Item.{Item}
+use Rattle.rec_file.specs.declared.shapes.Shape.{Shape}
+use Rattle.dap_accessed.specs.declared.phase.OpenFile.{OpenFile}
+use Rattle.dap_accessed.specs.Standing.{Files, Place, Group, Fresh}
+use Rattle.dap_accessed.specs.Sessions.{moved_up}
+use Rattle.dap_accessed.specs.Replies.{bare_status}
+use Rattle.dap_accessed.specs.Accesses.{refuse_access}
+use Rattle.dap_accessed.specs.Effects.{Begun, Does}
+use Rattle.dap_accessed.specs.Groups.{Grouped, answers_in, answers_of, next_group, one_more}
+use Rattle.dap_accessed.specs.Adding.{with_new_file, with_record}
+use Rattle.dap_shared.specs.Sharing.{file_locked, open_in, asks_to_open, is_locked, place_moved_up}
+
+-- an exchange: where a server of one link stands, but for the files
+pub record Exchange : Type 0 where
+  pub limit : ℕ
+  pub place : Place
+  pub past : List Group
+  pub begun : Option Begun
+
+-- the files, and the exchange of each link
+pub record Node : Type 0 where
+  pub files : Files
+  pub exchanges : List Exchange
+
+-- no Configuration was served on it
+abbrev pub new_exchange : Exchange
+new_exchange = record { limit = least_buffer; place = Fresh; past = []; begun = None }
+
+-- so many links, and these files
+abbrev pub new_node : Files → (links : ℕ) → Node
+new_node first links = record { files = first; exchanges = replicate links new_exchange }
+
+-- a server of one link that stands so
+abbrev pub before_files : Files → Exchange → Grouped
+before_files files exchange =
+    record { standing = record { scene = record { limit = exchange.limit; files = files }; place = exchange.place; past = exchange.past }; begun = exchange.begun }
+
+-- without the files
+abbrev pub exchange_of : Grouped → Exchange
+exchange_of c = record { limit = c.standing.scene.limit; place = c.standing.place; past = c.standing.past; begun = c.begun }
+
+-- the exchange of a link
+abbrev pub exchange_at : ℕ → Node → Exchange
+exchange_at link node = get_or node.exchanges link new_exchange
+
+-- a link's server of one link
+abbrev pub end_at : ℕ → Node → Grouped
+end_at link node = before_files node.files (exchange_at link node)
+
+-- ---- One item.
+
+-- what a link has open
+abbrev pub open_on : Exchange → Option OpenFile
+open_on exchange = open_in exchange.place
+
+-- what all links but one have open
+abbrev pub open_beside : ℕ → List Exchange → List (Option OpenFile)
+open_beside link exchanges = map open_on (set exchanges link new_exchange)
+
+-- one item more; an Access to a file that is locked is refused, and is a group as any other
+abbrev pub more_beside : (own : ℕ) → (others : List (Option OpenFile)) → Grouped → Item → Grouped
+more_beside own others c item =
+    let s = c.standing in
+    if is_locked others (asks_to_open s.scene.files s.place item)
+    then next_group s item (Does (refuse_access s.scene (bare_status file_locked)))
+    else one_more own c item
+
+-- its answers
+abbrev pub answers_beside : (own : ℕ) → (others : List (Option OpenFile)) → Grouped → Item → List Message
+answers_beside own others c item =
+    if is_locked others (asks_to_open c.standing.scene.files c.standing.place item)
+    then bare_status file_locked ∷ []
+    else answers_of own c item
+
+-- a group of two whose file moved up
+abbrev pub begun_moved_up : (removed : ℕ) → Begun → Begun
+begun_moved_up removed begun = record begun { opened = moved_up removed begun.opened }
+
+-- another link's exchange, where a file was removed: those after it moved up
+abbrev pub exchange_moved_up : Option OpenFile → Exchange → Exchange
+exchange_moved_up None exchange = exchange
+exchange_moved_up (Some removed) exchange =
+    record exchange { place = place_moved_up removed.at exchange.place; begun = option_map (begun_moved_up removed.at) exchange.begun }
+
+-- the file that an item removed: its link had it open
+abbrev pub removed_by : (before after : Grouped) → Option OpenFile
+removed_by before after =
+    if nat_lt (length after.standing.scene.files) (length before.standing.scene.files) then open_in before.standing.place else None
+
+-- ---- A history.
+
+-- An item of a link was served; a link began anew, or ended: what it had open is closed; a file without records was
+-- given, or a record of the newest file.
+pub data Event : Type 0 where
+  Serves : (link : ℕ) → Item → Event
+  Begins : (link : ℕ) → Event
+  Gives : (name : List ℕ) → Shape → Event
+  GivesRecord : (number : ℕ) → (body : List ℕ) → Event
+
+-- after an item of this link: it stands so, the others as they did
+abbrev pub after_more : (link : ℕ) → (before after : Grouped) → List Exchange → Node
+after_more link before after exchanges =
+    record {
+      files = after.standing.scene.files;
+      exchanges = set (map (exchange_moved_up (removed_by before after)) exchanges) link (exchange_of after);
+    }
+
+-- after one event
+abbrev pub after_event : (own : ℕ) → Node → Event → Node
+after_event own node (Serves link item) =
+    let c = end_at link node in
+    after_more link c (more_beside own (open_beside link node.exchanges) c item) node.exchanges
+after_event own node (Begins link) = record node { exchanges = set node.exchanges link new_exchange }
+after_event own node (Gives name shape) = record node { files = with_new_file name shape node.files }
+after_event own node (GivesRecord number body) = record node { files = with_record number body node.files }
+
+-- after these events, in order
+abbrev pub after_all : (own : ℕ) → Node → List Event → Node
+after_all own node [] = node
+after_all own node (event ∷ events) = after_all own (after_event own node event) events
+
+-- where a node of so many links, with this BUFSIZ, which had these files at first, stands after these events
+abbrev pub node_after : (own : ℕ) → Files → (links : ℕ) → List Event → Node
+node_after own first links events = after_all own (new_node first links) events
+
+-- ---- What it comes to.
+
+-- the files after all that was served, in the order in which it was
+abbrev pub FilesAfter : ℕ → Files → ℕ → List Event → Files
+FilesAfter own first links events = (node_after own first links events).files
+
+-- the answers on a link since it began, in order
+abbrev pub AnswersOn : (link : ℕ) → ℕ → Files → ℕ → List Event → List Message
+AnswersOn link own first links events = answers_in (exchange_at link (node_after own first links events)).past
+
+-- the answers that an item on a link adds
+abbrev pub added_on : (link : ℕ) → ℕ → Files → ℕ → List Event → Item → List Message
+added_on link own first links events item =
+    let node = node_after own first links events in
+    answers_beside own (open_beside link node.exchanges) (end_at link node) item
+
+-- how long a message its peer takes then
+abbrev pub limit_on : (link : ℕ) → ℕ → Files → ℕ → List Event → ℕ
+limit_on link own first links events = (exchange_at link (node_after own first links events)).limit
+
+-- what was served on a link since it began, after this
+abbrev pub served_on : (link : ℕ) → (before : List Item) → List Event → List Item
+served_on link before [] = before
+served_on link before (Serves other item ∷ events) = served_on link (if other == link then before ++ item ∷ [] else before) events
+served_on link before (Begins other ∷ events) = served_on link (if other == link then [] else before) events
+served_on link before (event ∷ events) = served_on link before events
+
+-- what was served on a link since it began
+abbrev pub items_on : ℕ → List Event → List Item
+items_on link events = served_on link [] events

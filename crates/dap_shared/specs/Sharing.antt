@@ -1,0 +1,57 @@
+-- Who may open a file while other links have it open. The rule is a choice of this implementation, in the manner of RMS
+-- where SHR is left out: links that only read share a file, and one that may change it, or made it, has it alone.
+use Rattle.std.specs.Prelude.{ℕ, Bool, false, ◌||◌, ◌&&◌, ◌==◌, List, Option, Some, None}
+use Rattle.std.specs.List.{list_any}
+use Rattle.dap_msg.specs.declared.message.Message.TheVariants.{Access}
+use Rattle.dap_msg.specs.declared.items.Item.{Item}
+use Rattle.dap_msg.specs.declared.items.Item.TheVariants.{Whole}
+use Rattle.dap_accessed.specs.declared.phase.OpenFile.{OpenFile}
+use Rattle.dap_accessed.specs.Standing.{Files, Place, Fresh, Ready, Opened, Connected, Store, Stopped}
+use Rattle.dap_accessed.specs.Sessions.{moved_up, would_open}
+
+-- MACCODE 4, MICCODE octal 60: the file is locked by another user. The number is from memory of DAP 5.6.0, Status message.
+abbrev pub file_locked : ℕ
+file_locked = 0x4030
+
+-- the file that is open in a place
+abbrev pub open_in : Place → Option OpenFile
+open_in Fresh = None
+open_in Ready = None
+open_in (Opened opened) = Some opened
+open_in (Connected opened stream) = Some opened
+open_in (Store opened stream) = Some opened
+open_in (Stopped opened stream) = Some opened
+
+-- the link made the file, or may change it
+abbrev pub has_alone : OpenFile → Bool
+has_alone opened = opened.is_new || (opened.rights.put || (opened.rights.upd || opened.rights.del))
+
+-- two links can't have these open at once
+abbrev pub are_apart : OpenFile → OpenFile → Bool
+are_apart one two = (one.at == two.at) && (has_alone one || has_alone two)
+
+-- what an item asks to open: only an Access in Ready does
+abbrev pub asks_to_open : Files → Place → Item → Option OpenFile
+asks_to_open files Ready (Whole (Access access)) = would_open files access
+asks_to_open files place item = None
+
+-- what is asked for can't be opened beside this
+abbrev pub bars : OpenFile → Option OpenFile → Bool
+bars asked None = false
+bars asked (Some other) = are_apart asked other
+
+-- of what the other links have open, something bars what is asked for
+abbrev pub is_locked : (others : List (Option OpenFile)) → Option OpenFile → Bool
+is_locked others None = false
+is_locked others (Some asked) = list_any (bars asked) others
+
+-- ---- A file that is removed: those after it move up.
+
+-- the place of another link then
+abbrev pub place_moved_up : (removed : ℕ) → Place → Place
+place_moved_up removed Fresh = Fresh
+place_moved_up removed Ready = Ready
+place_moved_up removed (Opened opened) = Opened (moved_up removed opened)
+place_moved_up removed (Connected opened stream) = Connected (moved_up removed opened) stream
+place_moved_up removed (Store opened stream) = Store (moved_up removed opened) stream
+place_moved_up removed (Stopped opened stream) = Stopped (moved_up removed opened) stream

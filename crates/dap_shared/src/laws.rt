@@ -1,0 +1,50 @@
+//! Laws over the definitions alone, for the crates above. Each function does nothing: its contract is the law.
+
+ghost use Rattle.std.specs.Prelude.{◌≡◌, ◌≢◌, ◌<◌, ◌++◌, ◌∷◌, [], ℕ, List, map, Some};
+ghost use Rattle.dap_msg.specs.declared.items.Item.{Item as TheItem};
+ghost use Rattle.dap_accessed.specs.declared.phase.OpenFile.{OpenFile};
+ghost use Rattle.dap_accessed.specs.Standing.{Files};
+ghost use Rattle.dap_accessed.specs.Groups.{After, Answers, stands_after};
+ghost use Rattle.dap_shared.specs.Nodes.{added_on, AnswersOn, Event, FilesAfter, Serves, after_event, end_at, exchange_at, node_after, open_on};
+ghost use Rattle.dap_shared.specs.Keeping.{AreApart, AreOf, HoldsStill};
+
+/// A node of one link is a server of one link: it stands where that stands, its files are those after the items, and
+/// its answers those to them.
+pub fn one_link_is_as_before()
+    ensures stands { (own : ℕ) (first : Files) (items : List TheItem)
+        → end_at 0 (node_after own first 1 (map (Serves 0) items)) ≡ stands_after own first items }
+    ensures files { (own : ℕ) (first : Files) (items : List TheItem)
+        → FilesAfter own first 1 (map (Serves 0) items) ≡ After own first items }
+    ensures answers { (own : ℕ) (first : Files) (items : List TheItem)
+        → AnswersOn 0 own first 1 (map (Serves 0) items) ≡ Answers own first items }
+{}
+
+/// After any history no two links have a file open that one of them made or may change.
+pub fn writers_are_alone()
+    ensures { (own : ℕ) (first : Files) (links : ℕ) (events : List Event) (one two : ℕ)
+        → AreOf links events → one ≢ two
+        → AreApart (open_on (exchange_at one (node_after own first links events)))
+        (open_on (exchange_at two (node_after own first links events))) }
+{}
+
+/// After any history what is served on one link leaves each other link's open file open, under its name and with its
+/// records.
+pub fn an_open_file_stays()
+    ensures { (own : ℕ) (first : Files) (links : ℕ) (events : List Event) (link other : ℕ)
+        (item : TheItem) (held : OpenFile) → AreOf links events → link < links → other ≢ link
+        → open_on (exchange_at other (node_after own first links events)) ≡ Some held
+        → HoldsStill other (node_after own first links events)
+        (after_event own (node_after own first links events) (Serves link item)) held }
+{}
+
+/// One item more on a link adds its own answers to those before it on this link, and none to those of the others.
+pub fn answers_grow_on()
+    ensures own { (own : ℕ) (first : Files) (links : ℕ) (events : List Event) (link : ℕ)
+        (item : TheItem) → link < links
+        → AnswersOn link own first links (events ++ Serves link item ∷ [])
+        ≡ AnswersOn link own first links events ++ added_on link own first links events item }
+    ensures others { (own : ℕ) (first : Files) (links : ℕ) (events : List Event) (link other : ℕ)
+        (item : TheItem) → other ≢ link
+        → AnswersOn other own first links (events ++ Serves link item ∷ [])
+        ≡ AnswersOn other own first links events }
+{}

@@ -1,0 +1,13 @@
+//! Several links before one table of files: their messages are served one after another, and a file that a link may
+//! change is locked for the others.
+#![tactic(auto)]
+
+mod laws;
+mod locks;
+mod server;
+mod shared;
+
+pub use laws::{an_open_file_stays, answers_grow_on, one_link_is_as_before, writers_are_alone};
+pub use locks::FILE_LOCKED;
+pub use server::Serving;
+pub use shared::SharedFiles;

@@ -1,0 +1,58 @@
+//! What a port needs of whatever serves the items that it brought: a server of one link, or of several.
+
+ghost use Rattle.std.specs.Prelude.{◌≡◌, ◌<◌, ℕ, List, length, IfOk, OnErr};
+ghost use Rattle.dap_msg.specs.BothEnds.{greatest_message};
+ghost use Rattle.dap_msg.specs.Blocked.{bodies};
+ghost use Rattle.dap_msg.specs.Decoding.{IsSpelled};
+ghost use Rattle.dap_msg.specs.Items.{ItemAt};
+ghost use Rattle.dap_msg.specs.declared.items.Item.TheVariants.{Whole};
+ghost use Rattle.dap_msg.specs.declared.message.Message.{Message as TheMessage};
+ghost use Rattle.dap_accessed.specs.declared.served.Served.{Served as TheServed};
+ghost use Rattle.dap_accessed.specs.Served.{AllAtMost, Serves};
+ghost use Rattle.dap_shared.specs.Shared.{SharedServed};
+
+use crate::shared::SharedFiles;
+use dap_accessed::{Accessed, NoMemory, Served};
+use dap_msg::Item;
+
+/// Serves the items of links, one after another.
+pub trait Serving {
+    /// It has this link.
+    ghost has_link: { Self → ℕ → Type 0 };
+
+    /// The item at an offset of an NSP message was served.
+    ghost serves: { ℕ → List ℕ → ℕ → Self → Self → TheServed → Type 0 };
+
+    /// Serves what was read already: the message or fault that `item_at` answered, and the place after it. Refused
+    /// only where memory is, with nothing changed.
+    fn serve(&mut self, link: usize, item: Item<'_>, next: usize) -> Result<Served, NoMemory>
+        requires link { has_link self.old link }
+        requires spelled { (m : TheMessage) → item ≡ Whole m → IsSpelled m }
+        ensures serves { (bytes : List ℕ) (at : ℕ) → ItemAt bytes at item.entry next
+            → IfOk result (serves link bytes at self.old self.new) }
+        ensures short { (bytes : List ℕ) (at : ℕ) → ItemAt bytes at item.entry next
+            → IfOk result (λ s. AllAtMost greatest_message (bodies s.answers.items)) }
+        ensures next { IfOk result (λ served. served.next ≡ next) }
+        ensures link { has_link self.new link }
+        ensures no_memory { OnErr result (self.new ≡ self.old) };
+}
+
+impl Serving for Accessed {
+    ghost has_link = { λ _ link. link ≡ 0 };
+
+    ghost serves = { λ _ bytes at old new served. Serves bytes at old new served };
+
+    fn serve(&mut self, _link: usize, item: Item<'_>, next: usize) -> Result<Served, NoMemory> {
+        self.serve_item(item, next)
+    }
+}
+
+impl Serving for SharedFiles {
+    ghost has_link = { λ shared link. link < length shared.sessions };
+
+    ghost serves = { λ link bytes at old new served. SharedServed link bytes at old new served };
+
+    fn serve(&mut self, link: usize, item: Item<'_>, next: usize) -> Result<Served, NoMemory> {
+        self.serve_item(link, item, next)
+    }
+}

@@ -1,0 +1,241 @@
+//! One table of files, and what is kept of each link before it.
+
+ghost use Rattle.std.specs.Prelude.{◌≡◌, ◌≤◌, ◌<◌, ◌∷◌, ◌++◌, ℕ, List, [], length, map, nat_lt, if◌then◌else◌, IfOk, IfErr, IsTrue, OnOk, OnErr, Some, None, replicate};
+ghost use Rattle.dap_msg.specs.BothEnds.{least_buffer};
+ghost use Rattle.dap_msg.specs.Decoding.{IsSpelled};
+ghost use Rattle.dap_msg.specs.declared.items.Item.TheVariants.{Whole};
+ghost use Rattle.dap_msg.specs.declared.message.Message.{Message as TheMessage};
+ghost use Rattle.rec_file.specs.Shapes.{is_shape};
+ghost use Rattle.dap_accessed.specs.Standing.{Files};
+ghost use Rattle.dap_accessed.specs.Adding.{with_new_file, with_record};
+ghost use Rattle.dap_accessed.specs.Sessions.{IsOpenIn, new_session};
+ghost use Rattle.dap_shared.specs.Nodes.{Event, FilesAfter, Gives, GivesRecord};
+ghost use Rattle.dap_shared.specs.Shared.{NotAdded, RecordNotAdded, SharedAfter, SharedBegins, SharedGiven, SharedServes};
+ghost use Rattle.dap_shared.specs.Inner.Beside.{MovesBeside, session_moved_up};
+ghost use Rattle.dap_shared.specs.Inner.Held.{MovesOn, session_at};
+
+use crate::locks::{FILE_LOCKED, is_barred};
+use dap_accessed::{AddFault, FileTable, NoMemory, OpenFile, Served, Session};
+use dap_msg::Item;
+use rec_file::Shape;
+use std::alloc::Global;
+use std::marker::Model;
+use std::mem;
+
+/// One table of files, and what is kept of each link. It keeps no list of what it served: it is as after any messages
+/// of the links that leave what it keeps.
+#[derive(Drop)]
+pub struct SharedFiles {
+    alloc: Global,
+    /// The BUFSIZ of the node's own Config.
+    bufsiz: u16,
+    files: FileTable,
+    sessions: Vec<Session>,
+}
+
+impl Model for SharedFiles {
+    ghost use Rattle.dap_shared.specs.Shared.{SharedValue};
+    ghost use Rattle.dap_shared.specs.Inner.Held.{IsHeld, shared_code};
+
+    ghost Value = { SharedValue };
+
+    ghost coded = { shared_code };
+
+    ghost view = { λ a. record { own = a.bufsiz; files = a.files; sessions = a.sessions.items } };
+
+    ghost invariant = { λ a. IsHeld (record { own = a.bufsiz; files = a.files; sessions = a.sessions.items }) };
+}
+
+/// So many links on which no Config was served.
+fn new_sessions(alloc: Global, bufsiz: u16, links: usize) -> Result<Vec<Session>, NoMemory>
+    requires { least_buffer ≤ bufsiz }
+    ensures { IfOk result (λ sessions. sessions.items ≡ replicate links (new_session bufsiz)) }
+{
+    let mut sessions = Vec::with_capacity(alloc, links)?;
+    for _ in 0..links {
+        sessions.push(Session::new(alloc, bufsiz))?;
+    }
+    Ok(sessions)
+}
+
+/// A file was removed: those after it have moved up.
+#[tactic(auto, using(std::proofs::lemmas::List::Edits::map_over_more))]
+fn move_up(sessions: &mut Vec<Session>, removed: OpenFile)
+    ensures { sessions.new.items ≡ map (session_moved_up (Some removed)) sessions.old.items }
+{
+    for session in sessions.iter_mut() {
+        session.move_up(removed.at);
+    }
+}
+
+/// The same where a file was removed.
+fn close_up(sessions: &mut Vec<Session>, gone: Option<OpenFile>)
+    ensures { sessions.new.items ≡ map (session_moved_up gone) sessions.old.items }
+{
+    if let Some(removed) = gone {
+        move_up(sessions, removed);
+    }
+}
+
+/// The file that was open is gone, if there are fewer files.
+fn gone(before: usize, after: usize, held: Option<OpenFile>) -> Option<OpenFile>
+    ensures { result ≡ (if nat_lt after before then held else None) }
+{
+    if after < before { held } else { None }
+}
+
+/// Serves an item of a link beside the sessions of the others.
+fn serve_beside(
+    files: &mut FileTable,
+    others: &mut Vec<Session>,
+    session: &mut Session,
+    item: Item<'_>,
+    next: usize,
+) -> Result<Served, NoMemory>
+    requires spelled { (m : TheMessage) → item ≡ Whole m → IsSpelled m }
+    requires there { IsOpenIn files.old session.old.phase }
+    ensures ok { IfOk result (λ served. MovesBeside item.entry files.old others.old.items session.old
+        files.new others.new.items session.new served.answers) }
+    ensures next { IfOk result (λ served. served.next ≡ next) }
+    ensures err { OnErr result ((files.new ≡ files.old) × (others.new.items ≡ others.old.items)
+        × (session.new ≡ session.old)) }
+{
+    let asked = session.asked(files, &item);
+    if is_barred(others, asked) {
+        let answers = session.refuse_open(files, FILE_LOCKED)?;
+        return Ok(Served { answers, next });
+    }
+    let count = files.count();
+    let held = session.open_file();
+    let served = session.serve_item(files, item, next)?;
+    close_up(others, gone(count, files.count(), held));
+    Ok(served)
+}
+
+/// Takes a link's session out, serves it, and puts it back.
+fn serve_on(
+    files: &mut FileTable,
+    sessions: &mut Vec<Session>,
+    fresh: Session,
+    link: usize,
+    item: Item<'_>,
+    next: usize,
+) -> Result<Served, NoMemory>
+    requires link { link < length sessions.old.items }
+    requires fresh { fresh ≡ new_session fresh.own }
+    requires spelled { (m : TheMessage) → item ≡ Whole m → IsSpelled m }
+    requires there { IsOpenIn files.old (session_at fresh.own link sessions.old.items).phase }
+    ensures ok { IfOk result (λ served. MovesOn fresh.own link item.entry files.old
+        sessions.old.items files.new sessions.new.items served.answers) }
+    ensures next { IfOk result (λ served. served.next ≡ next) }
+    ensures err { OnErr result ((files.new ≡ files.old)
+        × (sessions.new.items ≡ sessions.old.items)) }
+{
+    let mut session = mem::replace(&mut sessions[link], fresh);
+    let served = serve_beside(files, sessions, &mut session, item, next);
+    sessions[link] = session;
+    served
+}
+
+impl SharedFiles {
+    /// No files, and so many links on which no Config was served, with a buffer of this many bytes, at least 64.
+    pub fn new(alloc: Global, bufsiz: u16, links: usize) -> Result<SharedFiles, NoMemory>
+        requires { least_buffer ≤ bufsiz }
+        ensures stands { IfOk result (SharedAfter [] []) }
+        ensures own { IfOk result (λ shared. shared.own ≡ bufsiz) }
+        ensures links { IfOk result (λ shared. length shared.sessions ≡ links) }
+    {
+        let sessions = new_sessions(alloc, bufsiz, links)?;
+        Ok(SharedFiles {
+            alloc,
+            bufsiz,
+            files: FileTable::new(alloc),
+            sessions,
+        })
+    }
+
+    /// How many links it has.
+    pub fn links(&self) -> usize
+        ensures { result ≡ length self.now.sessions }
+    {
+        self.sessions.len()
+    }
+
+    /// The files, in the order in which they were made: what all messages so far, of all links, have made of them.
+    pub fn files(&self) -> &FileTable
+        ensures held { result.now ≡ self.now.files }
+        ensures after { (first : Files) (events : List Event) → SharedAfter first events self.now
+            → result.now ≡ FilesAfter self.now.own first (length self.now.sessions) events }
+    {
+        &self.files
+    }
+
+    /// Serves what was read already of a link: the message or fault that `item_at` answered, and the place after it
+    /// (DAP 5.6.0, message sequences). An Access to a file that another link has open is refused as locked, where
+    /// one of the two would change the file or has made it.
+    ///
+    /// The only refusal is [`NoMemory`]. Nothing has changed then, and the same call may be made again.
+    pub fn serve_item(&mut self, link: usize, item: Item<'_>, next: usize) -> Result<Served, NoMemory>
+        requires link { link < length self.old.sessions }
+        requires spelled { (m : TheMessage) → item ≡ Whole m → IsSpelled m }
+        ensures serves { IfOk result (λ served. SharedServes link item.entry
+            self.old self.new served.answers) }
+        ensures next { IfOk result (λ served. served.next ≡ next) }
+        ensures no_memory { OnErr result (self.new ≡ self.old) }
+    {
+        let fresh = Session::new(self.alloc, self.bufsiz);
+        serve_on(
+            &mut self.files,
+            &mut self.sessions,
+            fresh,
+            link,
+            item,
+            next,
+        )
+    }
+
+    /// Another link in this one's place, or none: its open file is closed, and a PUT or an UPDATE that waits for its
+    /// record is dropped.
+    pub fn begin(&mut self, link: usize)
+        requires { link < length self.old.sessions }
+        ensures { SharedBegins link self.old self.new }
+    {
+        self.sessions[link].renew();
+    }
+
+    /// A file without records after the others. Its shape is one that [`rec_file::Shape::check`] gives.
+    ///
+    /// Refusals in order: FileExists, NoMemory; each leaves all unchanged.
+    pub fn add(&mut self, name: &[u8], shape: Shape) -> Result<(), AddFault>
+        requires { IsTrue (is_shape shape) }
+        ensures given { OnOk result (SharedGiven (Gives name.now shape) self.old self.new) }
+        ensures files { OnOk result
+            (self.new.files ≡ with_new_file name.now shape self.old.files) }
+        ensures refused { IfErr result (NotAdded self.old.files name.now) }
+        ensures unchanged { OnErr result (self.new ≡ self.old) }
+    {
+        if self.files.find(name).is_some() {
+            return Err(AddFault::FileExists);
+        }
+        self.files.make(self.alloc, name, shape)?;
+        Ok(())
+    }
+
+    /// A record more in the newest file, under its number. In a sequential file the number is the next one.
+    ///
+    /// Refusals in order: NoFile; as of a PUT with this number BadLength, NumberOutOfRange, RecordExists; NoMemory.
+    /// Each leaves all unchanged.
+    pub fn add_record(&mut self, number: u32, body: &[u8]) -> Result<(), AddFault>
+        ensures given { OnOk result
+            (SharedGiven (GivesRecord number body.now) self.old self.new) }
+        ensures files { OnOk result (self.new.files ≡ with_record number body.now self.old.files) }
+        ensures refused { IfErr result (RecordNotAdded self.old.files number body.now) }
+        ensures unchanged { OnErr result (self.new ≡ self.old) }
+    {
+        let count = self.files.count();
+        if count == 0 {
+            return Err(AddFault::NoFile);
+        }
+        self.files.add_record(count - 1, number, body)
+    }
+}
