@@ -69,9 +69,9 @@ impl Call {
         self.is_bad = true;
     }
 
-    /// Whether it is none of the suite's.
+    /// Whether it is none of the suite's, or has words that nothing asked for.
     pub fn is_refused(&self) -> bool {
-        self.is_bad
+        self.is_bad || self.has_more()
     }
 
     /// The allocator.
@@ -167,12 +167,14 @@ impl Call {
             Some((_name, words)) => request_of(self.alloc, words),
             None => None,
         };
+        self.next = self.words.len();
         self.or_refuse(asked)
     }
 
     /// The request that all words say.
     pub fn whole_request(&mut self) -> Option<Request> {
         let asked = request_of(self.alloc, self.line.as_str());
+        self.next = self.words.len();
         self.or_refuse(asked)
     }
 
