@@ -1,21 +1,31 @@
 -- What is kept stays kept.
-use Rattle.std.proofs.Common.{◌≡◌, ℕ, ◌<◌, List, map, length, Option, Some, None, refl, ap, sym, subst, ◌∙◌, inl, inr, arith}
-use Rattle.std.specs.Prelude.{IfSome, get_or, set}
+use Rattle.std.proofs.Common.{◌≡◌, ℕ, zero, suc, ◌<◌, ◌≤◌, List, [], ◌∷◌, ◌++◌, map, length, Option, Some, None, refl, ap, sym, subst, ◌∙◌, inl, inr, arith}
+use Rattle.std.specs.Prelude.{IfSome, IfOk, OnOk, OnErr, Result, Ok, Err, get_or, set, replicate}
+use Rattle.std.specs.Global.{Vec}
 use Rattle.std.proofs.lemmas.Bool.{cases_eq}
 use Rattle.std.proofs.lemmas.List.{get_or-set_same, get_or-set_other, length-map, length-set}
 use Rattle.std.proofs.Math.ListN.{get_or-map}
+use Rattle.dap_msg.specs.BothEnds.{least_buffer}
+use Rattle.dap_msg.specs.declared.items.Item.{Item}
+use Rattle.rec_file.specs.declared.shapes.Shape.{Shape}
+use Rattle.rec_file.specs.Files.{FileVal, stored}
 use Rattle.rec_file.specs.Acts.{StreamVal}
+use Rattle.dap_accessed.specs.declared.fault.AddFault.{AddFault}
+use Rattle.dap_accessed.specs.declared.fault.NoMemory.{NoMemory}
+use Rattle.dap_accessed.specs.declared.served.Served.{Served}
 use Rattle.dap_accessed.specs.declared.phase.OpenFile.{OpenFile}
 use Rattle.dap_accessed.specs.declared.phase.Phase.{Phase}
 use Rattle.dap_accessed.specs.declared.phase.Phase.TheVariants as phases
-use Rattle.dap_accessed.specs.Standing.{Files}
+use Rattle.dap_accessed.specs.Standing.{Files, file_at, with_file}
+use Rattle.dap_accessed.specs.Adding.{newest, with_new_file, with_record}
+use Rattle.dap_accessed.specs.Storing.{Stores}
 use Rattle.dap_accessed.specs.Sessions.{SessionValue, IsOpenIn, new_session, open_at, phase_moved_up}
-use Rattle.dap_shared.specs.Nodes.{new_exchange, exchange_at, open_on, node_after}
-use Rattle.dap_shared.specs.Shared.{SharedValue, kept_of, shared_of}
-use Rattle.dap_shared.specs.Inner.Beside.{session_moved_up}
-use Rattle.dap_shared.specs.Inner.Held.{HasNumber, IsHeld, session_at}
+use Rattle.dap_shared.specs.Nodes.{Event, Serves, Begins, Gives, GivesRecord, new_exchange, exchange_at, open_on, node_after}
+use Rattle.dap_shared.specs.Shared.{SharedValue, SharedGiven, SharedServes, kept_of, shared_of}
+use Rattle.dap_shared.specs.Inner.Beside.{gone_by, session_moved_up}
+use Rattle.dap_shared.specs.Inner.Held.{HasNumber, IsHeld, MovesOn, session_at}
 use Rattle.dap_shared.proofs.Events.{history-shares}
-use Rattle.dap_shared.proofs.Stepping.{open-kept}
+use Rattle.dap_shared.proofs.Stepping.{begins-shared, given-shared, new-shared, one-fresh, open-kept, serves-shared, short-answers}
 
 is-open : (files : Files) (phase : Phase) → IfSome (open_at phase) (λ o. o.at < length files) → HasNumber phase → IsOpenIn files phase
 is-open files phases.Fresh h n = tt
@@ -66,10 +76,10 @@ held-open v link h =
     let kept : session_at v.own link v.sessions ≡ kept_of v.own node.files (exchange_at link node) =
         ap (λ (w : SharedValue). session_at v.own link w.sessions) h.after.stands ∙ get_or-map (kept_of v.own node.files) node.exchanges link new_exchange in
     let files : node.files ≡ v.files = sym (ap (λ (w : SharedValue). w.files) h.after.stands) in
-    let open : open_at (session_at v.own link v.sessions).phase ≡ open_on (exchange_at link node) =
+    let held : open_at (session_at v.own link v.sessions).phase ≡ open_on (exchange_at link node) =
         ap (λ (s : SessionValue). open_at s.phase) kept ∙ open-kept v.own node.files (exchange_at link node) (shares.steady link) in
     is-open v.files (session_at v.own link v.sessions).phase
-    (subst (λ (x : Option OpenFile). IfSome x (λ o. o.at < length v.files)) (sym open) (subst (λ (l : Files). IfSome (open_on (exchange_at link node)) (λ o. o.at < length l)) files (shares.within link)))
+    (subst (λ (x : Option OpenFile). IfSome x (λ o. o.at < length v.files)) (sym held) (subst (λ (l : Files). IfSome (open_on (exchange_at link node)) (λ o. o.at < length l)) files (shares.within link)))
     (h.numbers link)
 
 -- one session was put back, and the others have moved up
@@ -89,3 +99,78 @@ numbers-then own sessions link r rest s lt e n h i =
               ∙ ap (session_moved_up r) (get_or-set_other sessions link i (new_session own) (new_session own) other) in
           subst (λ (t : SessionValue). HasNumber t.phase) (sym is) (moved-number r (session_at own i sessions) (h i))
     ]
+
+all-same : (own links i : ℕ) → session_at own i (replicate links (new_session own)) ≡ new_session own
+all-same own zero i = refl
+all-same own (suc links) zero = refl
+all-same own (suc links) (suc i) = all-same own links i
+
+-- ---- The calls.
+
+pub on-shared : (v : SharedValue) (link : ℕ) (item : Item) (files : Files) (sessions : List SessionValue) (answers : Vec (Vec ℕ)) → IsHeld v → link < length v.sessions → MovesOn v.own link item v.files v.sessions files sessions answers
+    → SharedServes link item v (record { own = v.own; files = files; sessions = sessions }) answers
+on-shared v link item files sessions answers h lt m =
+    subst (λ (l : List SessionValue). SharedServes link item v (record { own = v.own; files = files; sessions = l }) answers) (sym m.back)
+    (serves-shared v link item files m.others m.session answers lt m.moves h.first h.events h.after (short-answers v link item files m.others m.session answers lt m.moves h.first h.events h.after))
+
+pub on-held : (v : SharedValue) (link : ℕ) (item : Item) (files : Files) (sessions : List SessionValue) (answers : Vec (Vec ℕ)) → IsHeld v → link < length v.sessions → MovesOn v.own link item v.files v.sessions files sessions answers
+    → IsHeld (record { own = v.own; files = files; sessions = sessions })
+on-held v link item files sessions answers h lt m =
+    record {
+      low = h.low;
+      first = h.first;
+      events = h.events ++ Serves link item ∷ [];
+      after = (on-shared v link item files sessions answers h lt m).stands h.first h.events h.after;
+      numbers = λ i. subst (λ (l : List SessionValue). HasNumber (session_at v.own i l).phase) (sym m.back)
+          (numbers-then v.own v.sessions link (gone_by v.files files (session_at v.own link v.sessions).phase) m.others m.session lt m.moves.moved (has-number files m.session.phase m.moves.there) h.numbers i);
+    }
+
+pub served-held : (v : SharedValue) (link : ℕ) (item : Item) (files : Files) (sessions : List SessionValue) (r : Result Served NoMemory) → IsHeld v → link < length v.sessions
+    → IfOk r (λ served. MovesOn v.own link item v.files v.sessions files sessions served.answers) → OnErr r ((files ≡ v.files) × (sessions ≡ v.sessions))
+    → IsHeld (record { own = v.own; files = files; sessions = sessions })
+served-held v link item files sessions (Ok served) h lt ok err = on-held v link item files sessions served.answers h lt ok
+served-held v link item files sessions (Err f) h lt ok err =
+    subst (λ (l : List SessionValue). IsHeld (record { own = v.own; files = files; sessions = l })) (sym err.1)
+    (subst (λ (t : Files). IsHeld (record { own = v.own; files = t; sessions = v.sessions })) (sym err.0) h)
+
+pub begins-held : (v : SharedValue) (link : ℕ) → IsHeld v → link < length v.sessions → IsHeld (record { own = v.own; files = v.files; sessions = set v.sessions link (new_session v.own) })
+begins-held v link h lt =
+    record {
+      low = h.low;
+      first = h.first;
+      events = h.events ++ Begins link ∷ [];
+      after = (begins-shared v link lt).stands h.first h.events h.after;
+      numbers = λ i. one-fresh v.own v.sessions link i (λ s. HasNumber s.phase) tt (h.numbers i);
+    }
+
+pub gives-shared : (v : SharedValue) (name : List ℕ) (shape : Shape) (files : Files) → files ≡ with_new_file name shape v.files → SharedGiven (Gives name shape) v (record v { files = files })
+gives-shared v name shape files e =
+    subst (λ (t : Files). SharedGiven (Gives name shape) v (record v { files = t })) (sym e) (given-shared v (Gives name shape) (with_new_file name shape) (λ links. tt) (λ node. refl))
+
+pub gives-record : (v : SharedValue) (number : ℕ) (body : List ℕ) (files : Files) → files ≡ with_record number body v.files → SharedGiven (GivesRecord number body) v (record v { files = files })
+gives-record v number body files e =
+    subst (λ (t : Files). SharedGiven (GivesRecord number body) v (record v { files = t })) (sym e) (given-shared v (GivesRecord number body) (with_record number body) (λ links. tt) (λ node. refl))
+
+pub given-held : (v : SharedValue) (event : Event) (files : Files) → IsHeld v → SharedGiven event v (record v { files = files }) → IsHeld (record v { files = files })
+given-held v event files h g =
+    record { low = h.low; first = h.first; events = h.events ++ event ∷ []; after = g.stands h.first h.events h.after; numbers = h.numbers }
+
+pub recorded : (files after : Files) (at number : ℕ) (body : List ℕ) (r : Result (Unit {0}) AddFault) → at ≡ newest files → after ≡ with_file at (file_at at after) files → Stores number body (file_at at files) (file_at at after) r
+    → OnOk r (after ≡ with_record number body files)
+recorded files after at number body (Ok u) n e s =
+    e ∙ ap (λ (f : FileVal). with_file at f files) s.1 ∙ ap (λ (k : ℕ). with_file k (stored (file_at k files) number body) files) n
+recorded files after at number body (Err f) n e s = tt
+
+pub record-held : (v : SharedValue) (number : ℕ) (body : List ℕ) (files : Files) (r : Result (Unit {0}) AddFault) → IsHeld v → OnOk r (files ≡ with_record number body v.files) → OnErr r (files ≡ v.files) → IsHeld (record v { files = files })
+record-held v number body files (Ok u) h ok err = given-held v (GivesRecord number body) files h (gives-record v number body files ok)
+record-held v number body files (Err f) h ok err = subst (λ (t : Files). IsHeld (record v { files = t })) (sym err) h
+
+pub new-held : (own links : ℕ) (sessions : List SessionValue) → least_buffer ≤ own → sessions ≡ replicate links (new_session own) → IsHeld (record { own = own; files = []; sessions = sessions })
+new-held own links sessions low e =
+    record {
+      low = low;
+      first = [];
+      events = [];
+      after = new-shared own links sessions e;
+      numbers = λ i. subst (λ (l : List SessionValue). HasNumber (session_at own i l).phase) (sym e) (subst (λ (s : SessionValue). HasNumber s.phase) (sym (all-same own links i)) tt);
+    }

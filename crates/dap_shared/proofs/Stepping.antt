@@ -1,9 +1,10 @@
 -- What the code does to what it keeps is what the definitions say of one item more.
 use Rattle.std.proofs.Common.{◌≡◌, ℕ, zero, suc, ◌<◌, ◌≤◌, Bool, true, false, List, [], ◌∷◌, ◌++◌, length, map, Option, Some, None, refl, ap, sym, subst, ◌∙◌, arith}
-use Rattle.std.specs.Prelude.{IfSome, nat_lt, if◌then◌else◌, ◌||◌, get_or, set, option_map}
+use Rattle.std.specs.Prelude.{IfSome, nat_lt, if◌then◌else◌, ◌||◌, get_or, set, option_map, replicate}
 use Rattle.std.specs.List.{list_any}
 use Rattle.std.specs.Global.{Vec}
-use Rattle.std.proofs.lemmas.List.{map-set, length-map, length-set}
+use Rattle.std.proofs.lemmas.Bool.{le-ltb}
+use Rattle.std.proofs.lemmas.List.{map-set, length-map, length-replicate, length-set}
 use Rattle.std.proofs.Math.ListN.{get_or-map}
 use Rattle.dap_msg.specs.BothEnds.{greatest_message}
 use Rattle.dap_msg.specs.Blocked.{bodies}
@@ -29,7 +30,7 @@ use Rattle.dap_accessed.specs.Sessions.{SessionValue, ServesItem, IsOpenIn, aske
 use Rattle.dap_accessed.proofs.ForCallers.{access-keeps}
 use Rattle.dap_shared.specs.Sharing.{bars, file_locked, open_in, place_moved_up, is_locked, asks_to_open}
 use Rattle.dap_shared.specs.Nodes.{Exchange, Node, Event, Serves, Begins, Gives, GivesRecord, new_exchange, new_node, exchange_at, exchange_of, end_at, before_files, open_on, open_beside, more_beside, answers_beside, begun_moved_up, exchange_moved_up, removed_by, after_event, after_more, after_all, node_after}
-use Rattle.dap_shared.specs.Shared.{SharedValue, SharedAfter, SharedServes, kept_of, shared_of}
+use Rattle.dap_shared.specs.Shared.{SharedValue, SharedAfter, SharedBegins, SharedGiven, SharedServes, kept_of, shared_of}
 use Rattle.dap_shared.specs.Keeping.{AreOf}
 use Rattle.dap_shared.specs.Inner.Beside.{is_barred, session_moved_up, gone_by, MovesBeside}
 use Rattle.dap_shared.specs.Inner.Beside as beside
@@ -204,8 +205,8 @@ module _ (own : ℕ) (node : Node) (link : ℕ) (item : Item) (h : IsShared node
 
   -- where the code leaves these files, and this of the link
   pub record Leaves (d : Grouped) (messages : List Message) (files : Files) (s : SessionValue) (answers : Vec (Vec ℕ)) : Type 0 where
-    pub files : files ≡ d.standing.scene.files
-    pub session : s ≡ session_of (present_of own d)
+    pub same_files : files ≡ d.standing.scene.files
+    pub same_session : s ≡ session_of (present_of own d)
     pub answered : Answered before.standing.scene.limit messages answers
     pub within : AllAtMost greatest_message (bodies answers.items)
 
@@ -213,16 +214,16 @@ module _ (own : ℕ) (node : Node) (link : ℕ) (item : Item) (h : IsShared node
       Leaves (if locked then locked_group before.standing item else one_more own before item) (if locked then bare_status file_locked ∷ [] else answers_of own before item) files s answers
   by-lock true files s answers e does =
       record {
-        files = does.0;
-        session = does.1.0 ∙ sym (refused-by own others before.standing.scene before.standing.past before.standing.place item (sym e));
-        answered = does.1.1.0;
-        within = at-most session.limit greatest_message does.1.1.1 (bodies answers.items) does.1.1.0.within;
+        same_files = does.0;
+        same_session = does.1 ∙ sym (refused-by own others before.standing.scene before.standing.past before.standing.place item (sym e));
+        answered = does.2;
+        within = at-most session.limit greatest_message does.3 (bodies answers.items) does.2.within;
       }
   by-lock false files s answers e does =
       let stands : joined files s ≡ present_of own (one_more own before item) = does.stands before refl ∙ ap (λ (n : ℕ). present_of n (one_more own before item)) does.same_own in
       record {
-        files = ap (λ (p : Present). p.files) stands;
-        session = ap session_of stands;
+        same_files = ap (λ (p : Present). p.files) stands;
+        same_session = ap session_of stands;
         answered = does.answered before refl;
         within = at-most session.limit greatest_message does.most (bodies answers.items) does.within;
       }
@@ -248,15 +249,15 @@ module _ (own : ℕ) (node : Node) (link : ℕ) (item : Item) (h : IsShared node
       let g = gone_by node.files files session.phase in
       let same : r ≡ g =
           ap (λ (x : Option OpenFile). if nat_lt (length d.standing.scene.files) (length node.files) then x else None) (sym (phase-open before.standing before.begun (h.steady link).begun))
-          ∙ ap (λ (l : Files). gone_by node.files l session.phase) (sym left.files) in
+          ∙ ap (λ (l : Files). gone_by node.files l session.phase) (sym left.same_files) in
       ap (value d.standing.scene.files)
       (map-set (kept_of own d.standing.scene.files) (map (exchange_moved_up r) node.exchanges) link (exchange_of d)
       ∙ ap (λ (l : List SessionValue). set l link (session_of (present_of own d))) (exchanges-moved own node.files d.standing.scene.files r node.exchanges)
       ∙ ap (λ (x : Option OpenFile). set (map (session_moved_up x) (map kept node.exchanges)) link (session_of (present_of own d))) same
-      ∙ ap (set (map (session_moved_up g) (map kept node.exchanges)) link) (sym left.session)
+      ∙ ap (set (map (session_moved_up g) (map kept node.exchanges)) link) (sym left.same_session)
       ∙ sym (map-over (session_moved_up g) (map kept node.exchanges) link (new_session own) s)
       ∙ ap (λ (l : List SessionValue). set l link s) (sym moves.moved))
-      ∙ ap (λ (l : Files). value l (set rest link s)) (sym left.files)
+      ∙ ap (λ (l : Files). value l (set rest link s)) (sym left.same_files)
 
 -- ---- After any history.
 
@@ -327,3 +328,82 @@ module _ (old : SharedValue) (link : ℕ) (item : Item) (files : Files) (rest : 
 
   pub short-answers : (first : Files) (events : List Event) → SharedAfter first events old → AllAtMost greatest_message (bodies answers.items)
   short-answers first events h = (then-left first events h).within
+
+-- ---- Where no file is gone, nothing moves up.
+
+all-same : (l : List SessionValue) → l ≡ map (session_moved_up None) l
+all-same [] = refl
+all-same (s ∷ l) = ap (λ (k : List SessionValue). s ∷ k) (all-same l)
+
+pub unmoved : (files : Files) (phase : Phase) (others : List SessionValue) → others ≡ map (session_moved_up (gone_by files files phase)) others
+unmoved files phase others =
+    all-same others ∙ ap (λ (b : Bool). map (session_moved_up (if b then open_at phase else None)) others) (sym (le-ltb (length files) (length files) (omega arith)))
+
+-- ---- A link begins, and files are given.
+
+one-same : {A : Type 0} (xs : List A) (link j : ℕ) (d : A) (P : A → Type 0) → P d → P (get_or xs j d) → P (get_or (set xs link d) j d)
+one-same [] link j d P n p = p
+one-same (x ∷ xs) zero zero d P n p = n
+one-same (x ∷ xs) zero (suc j) d P n p = p
+one-same (x ∷ xs) (suc link) zero d P n p = p
+one-same (x ∷ xs) (suc link) (suc j) d P n p = one-same xs link j d P n p
+
+pub one-fresh : (own : ℕ) (sessions : List SessionValue) (link j : ℕ) (P : SessionValue → Type 0) → P (new_session own) → P (session_at own j sessions) → P (session_at own j (set sessions link (new_session own)))
+one-fresh own sessions link j P n p = one-same sessions link j (new_session own) P n p
+
+pub begins-shared : (old : SharedValue) (link : ℕ) → link < length old.sessions → SharedBegins link old (record { own = old.own; files = old.files; sessions = set old.sessions link (new_session old.own) })
+begins-shared old link lt =
+    let new : SharedValue = record { own = old.own; files = old.files; sessions = set old.sessions link (new_session old.own) } in
+    let links : length new.sessions ≡ length old.sessions = length-set old.sessions link (new_session old.own) in
+    record {
+      stands = λ first events h. (let node = node_after old.own first (length old.sessions) events in
+          after-more first events (Begins link) old new h (lt, tt) refl links
+          (ap (λ (v : SharedValue). let w : SharedValue = record { own = old.own; files = v.files; sessions = set v.sessions link (new_session old.own) } in w) h.stands
+          ∙ ap (λ (l : List SessionValue). let w : SharedValue = record { own = old.own; files = node.files; sessions = l } in w) (sym (map-set (kept_of old.own node.files) node.exchanges link new_exchange))));
+      same_files = refl;
+      same_own = refl;
+      same_links = links;
+    }
+
+phase-same : (files after : Files) (exchange : Exchange) (begun : Option Begun) → phase_of (before_files files exchange).standing begun ≡ phase_of (before_files after exchange).standing begun
+phase-same files after exchange None = refl
+phase-same files after exchange (Some b) = refl
+
+kept-same : (own : ℕ) (files after : Files) (exchange : Exchange) → kept_of own files exchange ≡ kept_of own after exchange
+kept-same own files after exchange =
+    ap (λ (p : Phase). let s = kept_of own files exchange in let t : SessionValue = record { own = s.own; limit = s.limit; kept = s.kept; phase = p } in t) (phase-same files after exchange exchange.begun)
+
+all-kept : (own : ℕ) (files after : Files) (exchanges : List Exchange) → map (kept_of own files) exchanges ≡ map (kept_of own after) exchanges
+all-kept own files after [] = refl
+all-kept own files after (exchange ∷ exchanges) =
+    ap (λ (s : SessionValue). s ∷ map (kept_of own files) exchanges) (kept-same own files after exchange)
+    ∙ ap (λ (l : List SessionValue). kept_of own after exchange ∷ l) (all-kept own files after exchanges)
+
+-- an event that gives files, and leaves the links
+pub given-shared : (old : SharedValue) (event : Event) (f : Files → Files) → ((links : ℕ) → AreOf links (event ∷ [])) → ((node : Node) → after_event old.own node event ≡ record node { files = f node.files })
+    → SharedGiven event old (record old { files = f old.files })
+given-shared old event f of does =
+    record {
+      stands = λ first events h. (let node = node_after old.own first (length old.sessions) events in
+          after-more first events event old (record old { files = f old.files }) h (of (length old.sessions)) refl refl
+          (ap (λ (v : SharedValue). let w : SharedValue = record { own = old.own; files = f v.files; sessions = v.sessions } in w) h.stands
+          ∙ ap (λ (l : List SessionValue). let w : SharedValue = record { own = old.own; files = f node.files; sessions = l } in w) (all-kept old.own node.files (f node.files) node.exchanges)
+          ∙ ap (shared_of old.own) (sym (does node))));
+      same_sessions = refl;
+      same_own = refl;
+    }
+
+-- ---- A new node.
+
+all-new : (own : ℕ) (first : Files) (links : ℕ) → replicate links (new_session own) ≡ map (kept_of own first) (replicate links new_exchange)
+all-new own first zero = refl
+all-new own first (suc links) = ap (λ (l : List SessionValue). new_session own ∷ l) (all-new own first links)
+
+pub new-shared : (own links : ℕ) (sessions : List SessionValue) → sessions ≡ replicate links (new_session own) → SharedAfter [] [] (record { own = own; files = []; sessions = sessions })
+new-shared own links sessions e =
+    let n : length sessions ≡ links = ap (λ (l : List SessionValue). length l) e ∙ length-replicate links (new_session own) in
+    record {
+      links = tt;
+      stands = ap (λ (l : List SessionValue). let v : SharedValue = record { own = own; files = []; sessions = l } in v) (e ∙ all-new own [] links)
+          ∙ ap (λ (k : ℕ). shared_of own (node_after own [] k [])) (sym n);
+    }

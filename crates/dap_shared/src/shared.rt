@@ -116,22 +116,23 @@ fn serve_beside(
 fn serve_on(
     files: &mut FileTable,
     sessions: &mut Vec<Session>,
-    fresh: Session,
+    alloc: Global,
+    bufsiz: u16,
     link: usize,
     item: Item<'_>,
     next: usize,
 ) -> Result<Served, NoMemory>
     requires link { link < length sessions.old.items }
-    requires fresh { fresh ≡ new_session fresh.own }
+    requires low { least_buffer ≤ bufsiz }
     requires spelled { (m : TheMessage) → item ≡ Whole m → IsSpelled m }
-    requires there { IsOpenIn files.old (session_at fresh.own link sessions.old.items).phase }
-    ensures ok { IfOk result (λ served. MovesOn fresh.own link item.entry files.old
+    requires there { IsOpenIn files.old (session_at bufsiz link sessions.old.items).phase }
+    ensures ok { IfOk result (λ served. MovesOn bufsiz link item.entry files.old
         sessions.old.items files.new sessions.new.items served.answers) }
     ensures next { IfOk result (λ served. served.next ≡ next) }
     ensures err { OnErr result ((files.new ≡ files.old)
         × (sessions.new.items ≡ sessions.old.items)) }
 {
-    let mut session = mem::replace(&mut sessions[link], fresh);
+    let mut session = mem::replace(&mut sessions[link], Session::new(alloc, bufsiz));
     let served = serve_beside(files, sessions, &mut session, item, next);
     sessions[link] = session;
     served
@@ -183,11 +184,11 @@ impl SharedFiles {
         ensures next { IfOk result (λ served. served.next ≡ next) }
         ensures no_memory { OnErr result (self.new ≡ self.old) }
     {
-        let fresh = Session::new(self.alloc, self.bufsiz);
         serve_on(
             &mut self.files,
             &mut self.sessions,
-            fresh,
+            self.alloc,
+            self.bufsiz,
             link,
             item,
             next,
@@ -200,7 +201,7 @@ impl SharedFiles {
         requires { link < length self.old.sessions }
         ensures { SharedBegins link self.old self.new }
     {
-        self.sessions[link].renew();
+        self.sessions[link] = Session::new(self.alloc, self.bufsiz);
     }
 
     /// A file without records after the others. Its shape is one that [`rec_file::Shape::check`] gives.
