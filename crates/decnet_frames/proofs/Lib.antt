@@ -2,3 +2,4 @@ mod ListingLemmas
 mod BytesLemmas
 mod TimeLemmas
 mod ReadBack
+pub mod ForCallers

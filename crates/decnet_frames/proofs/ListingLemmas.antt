@@ -1,7 +1,7 @@
 -- The lines of one frame more.
 use Rattle.std.proofs.Common.{◌≡◌, ℕ, suc, ◌+◌, ◌-◌, ◌≤◌, List, [], ◌∷◌, ◌++◌, take, length, length-append, arith, Option, Some, None, refl, ap, sym, ◌∙◌, subst, append_assoc, append-nil, inl, inr}
 use Rattle.std.specs.Prelude.{IfSome}
-use Rattle.std.specs.Io.KnownBytes.{Appends, Consumes, IsAtEnd}
+use Rattle.std.specs.Io.KnownBytes.{Appends, Consumes, IsAtEnd, Keeps}
 use Rattle.std.proofs.KnownBytes.{Appends-kept, Appends-nil, Appends-trans, Consumes-nil, Consumes-trans, Consumes-whole}
 use Rattle.capture_file.specs.Files.{IsCut, IsWhole, Stops, clamped}
 use Rattle.capture_file.proofs.ForCallers.{none_more}
@@ -309,3 +309,8 @@ pub nothing_came : (ends : Option Ends) (input written : Option (List ℕ)) → 
 nothing_came ends None written = tt
 nothing_came ends (Some xs) written =
     ([], record { front = []; rest = xs; format = Start; interfaces = []; joined = refl; units = no_more }, Appends-nil written)
+
+-- and nothing was written
+pub nothing_written : (ends : Option Ends) (input : List ℕ) (written holds : Option (List ℕ)) → Keeps written holds → IsListedTo ends input written holds Wants
+nothing_written ends input written holds keeps =
+    ([], record { front = []; rest = input; format = Start; interfaces = []; joined = refl; units = no_more }, Appends-kept written written holds [] (Appends-nil written) keeps)

@@ -12,9 +12,7 @@ use Rattle.live_cli.specs.declared.words.Role.TheVariants.{Serve, Ask}
 use Rattle.live_cli.specs.declared.words.Task.{Task}
 use Rattle.live_cli.specs.declared.words.Task.TheVariants.{End, Follow, Frames}
 use Rattle.dap_listing.specs.declared.fault.CaptureFault.TheVariants.{NoMemory}
-use Rattle.std.proofs.KnownBytes.{Appends-kept, Appends-nil}
-use Rattle.capture_file.specs.Files.Units.{no_more}
-use Rattle.capture_file.specs.declared.units.Format.TheVariants.{Start}
+use Rattle.decnet_frames.proofs.ForCallers.{nothing_written}
 use Rattle.decnet_frames.specs.declared.run.FramesFault.TheVariants.{NoMemory as Wants}
 use Rattle.live_cli.specs.Running.{TaskGives}
 use Rattle.live_cli.specs.Words.{daplive, frames_line, task_of, usual}
@@ -73,8 +71,7 @@ pub refused : (task : Task) (known old new : Option (List ℕ)) (status : ℕ) �
 refused task None old new status memory = tt
 refused (End options) (Some input) old new status memory = inr (memory.1, memory.0)
 refused Follow (Some input) old new status memory = (Err NoMemory, memory.1, memory.0)
-refused (Frames ends) (Some input) old new status memory =
-    inr (Wants, ([], record { front = []; rest = input; format = Start; interfaces = []; joined = refl; units = no_more }, Appends-kept old old new [] (Appends-nil old) memory.1), memory.0)
+refused (Frames ends) (Some input) old new status memory = inr (Wants, nothing_written ends input old new memory.1, memory.0)
 
 -- two things that the words name are one
 pub one_task : (words : List Text) (a b : Task) → Some a ≡ task_of words → task_of words ≡ Some b → a ≡ b

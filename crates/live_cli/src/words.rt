@@ -476,8 +476,7 @@ fn options_in<'a>(role: Role, matches: &ArgMatches<'a>) -> Result<Options, Missp
 fn node_in(text: &str) -> Result<u16, Misspelt<'_>>
     ensures value { result_ok result ≡ node_of text.now }
     ensures misspelt { IfErr result (λ m. (m.digits ≡ Digits.Node)
-        × (m.option.now ≡ codes "nodes") × (m.value.now ≡ text.now)
-        × (node_of m.value.now ≡ None)) }
+        × (m.value.now ≡ text.now) × (node_of m.value.now ≡ None)) }
 {
     match read_node(text.as_bytes()) {
         Some(node) => Ok(node),

@@ -1,6 +1,6 @@
 -- Values of options that aren't spelled as they have to be.
-use Rattle.std.specs.Prelude.{◌≡◌, ℕ, List, Contains, Option, None, IfSome}
-use Rattle.clap.specs.Words.{Row, Text, all_of, first_of}
+use Rattle.std.specs.Prelude.{◌≡◌, ℕ, List, Option, None, IfSome}
+use Rattle.clap.specs.Words.{Row, Text, first_of}
 use Rattle.dap_text.specs.Words.{decimal_of, short}
 use Rattle.dap_live.specs.Orders.{address_of}
 use Rattle.decnet_frames.specs.Nodes.{node_of}
@@ -16,9 +16,9 @@ read_of Node = node_of
 read_of Number = short
 read_of Bytes = decimal_of greatest_waiting
 
--- it is the value of its option, or one of two nodes
+-- it is the value of its option; of nodes, it may be any
 abbrev pub IsValue : Digits → List Row → (option text : Text) → Type 0
-IsValue Node rows option text = IfSome (all_of option rows) (λ values. Contains values text)
+IsValue Node rows option text = Unit {0}
 IsValue _ rows option text = IfSome (first_of option rows) (λ value. value ≡ text)
 
 -- it is the value of its option, if that has one, and says nothing
