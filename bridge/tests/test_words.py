@@ -141,6 +141,38 @@ class PeopleTest(WordsCase):
         self.stop(server)
 
 
+class StandardFilesTest(WordsCase):
+    """Odd standard files have a word and a status, and nothing of them a traceback."""
+
+    def redirected(self, how, role, *words, stdin=b""):
+        command = [*self.words(role, self.far, self.near), "--daplive", PROGRAM, *words]
+        child = self.start(["bash", "-c", f'exec "$@" {how}', "bash", *command], stdin=stdin)
+        status = child.process.wait(60)
+        for word in ("Traceback", "Exception ignored", "Warning"):
+            self.assertNotIn(word, child.told())
+        return status, child.told()
+
+    def test_odd_standard_files(self):
+        server = self.serve()
+        self.type_in("copy", "-", "1.2::A", stdin=b"one\n" * 5000)
+        full, closed = "bridge: standard output: No space left on device\n", "bridge: standard output: closed\n"
+        for how, role, words, wanted in ((">/dev/full", "type", ["1.2::A"], (3, full)), (">&-", "type", ["1.2::A"], (3, closed)),
+                                         (">/dev/full", "get", ["1.2::A", "--number", "1"], (1, None)),
+                                         ("<&-", "copy", ["-", "1.2::B"], (3, "bridge: standard input: closed\n")),
+                                         (">&-", "put", ["1.2::A", "two"], (0, ""))):
+            status, told = self.redirected(how, role, *words)
+            self.assertEqual((status, told if wanted[1] is not None else None), wanted, (how, role, told))
+        status, told = self.redirected("| head -c 1 >/dev/null; exit ${PIPESTATUS[0]}", "type", "1.2::A")
+        self.assertEqual(told, "")
+        self.stop(server)
+
+    def test_a_password_that_cannot_be_printed(self):
+        for how, what in ((">/dev/full", "standard output: No space left on device"), (">&-", "standard output: closed"),
+                          ("<&-", "standard input: closed")):
+            child = self.start(["bash", "-c", f'exec "$@" {how}', "bash", *PYTHON, BRIDGE, "password", "SMITH"], stdin=b"x\n")
+            self.assertEqual((child.process.wait(60), child.told()), (3, f"bridge: {what}\n"))
+
+
 class FolderTest(WordsCase):
     def setUp(self):
         super().setUp()
