@@ -105,9 +105,9 @@ class BridgeTest(UdpCase):
         self.assertEqual((child.finish(), lines[-1]), (0, "139 same"), child.told())
         self.assertIn("records by number        yes                              yes", "\n".join(lines))
         self.assertRegex(lines[-2], r"^left on node 1.2, where they are: P....S.TMP, ")
-        some = ["--only", "store a file", "fetch it", "relative file", "in pieces", "malformed: empty"]
+        some = ["--only", "store a file", "fetch it", "relative file", "malformed: empty"]
         child = self.probe("--against", answers, "--quiet", "0.5", "--harm", "5", "--resend", "0.1", "--tries", "100", *some)
-        self.assertEqual((child.finish(), child.reports()[-1]), (0, "29 same"), child.told())
+        self.assertEqual((child.finish(), child.reports()[-1]), (0, "24 same"), child.told())
         child = self.probe("--keep", answers, "--only", "fetch it")
         self.assertEqual((child.finish(), child.reports()), (1, []))
         self.assertIn(f"{answers}: File exists", child.told())
