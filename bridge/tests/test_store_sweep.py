@@ -189,8 +189,9 @@ class KillTest(UdpCase):
         self.addCleanup(Child.end_all)
 
     def places(self, last):
-        """All places up to the last one, or some."""
-        return range(1, last + 1) if ALL else sorted(random.Random(SEED).sample(range(1, last + 1), 12))
+        """All places up to the last one; or those around the opening of the link, and some others."""
+        opening = range(7, 15)
+        return range(1, last + 1) if ALL else sorted({*opening, *random.Random(SEED).sample(range(1, last + 1), 8)})
 
     def last_place(self, sync):
         """How many places a whole run has."""
