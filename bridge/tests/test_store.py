@@ -129,6 +129,7 @@ class KilledTest(StoreCase):
             child.finish(signal.SIGKILL)
             child = self.store("--idle", "0.3")
             self.assertIn("goes on as it was", child.told())
+        time.sleep(4)  # longer than a probe that is never acknowledged is tried
         self.say(asking, "close", "report closed")
         asking.end_input()
         self.assertEqual(asking.finish(), 0, asking.told())
