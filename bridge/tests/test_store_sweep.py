@@ -70,7 +70,9 @@ class CutTest(UdpCase):
         """A link, over which a file is made."""
         self.asker.say(f"new 01{turn:02x} 02{turn:02x} 100")
         self.tell(f"new 02{turn:02x} 01{turn:02x} 100")
-        record = lambda most: self.chance.randbytes(self.chance.randrange(1, most)).hex()  # noqa: E731
+        def record(most):
+            return self.chance.randbytes(self.chance.randrange(1, most)).hex()
+
         if turn % 2:
             requests = [f"create {turn:02x}46 16 2 0 0 15", "connect",
                         *(f"put key {self.chance.randrange(1, 9)} {record(150)}" for _ in range(6)),
