@@ -102,13 +102,13 @@ class CopyTest(WordsCase):
     def test_progress_on_a_terminal(self):
         server = self.serve()
         terminal, end = pty.openpty()
-        data = b"".join(b"%d %s\n" % (number, b"x" * 900) for number in range(1200))
-        command = [*self.words("copy", self.far, self.near), "--daplive", PROGRAM, "--harm", "15", "--resend", "0.1", "--tries", "100"]
+        data = b"".join(b"%d %s\n" % (number, b"x" * 900) for number in range(4000))
+        command = [*self.words("copy", self.far, self.near), "--daplive", PROGRAM]
         child = self.start([*command, "-", "1.2::P"], stdin=data, stderr=end)
         os.close(end)
         self.addCleanup(os.close, terminal)
         self.assertEqual(child.process.wait(120), 0)
-        self.assertRegex(os.read(terminal, 65536), rb"[0-9,]+ bytes of 1,[0-9]{3},[0-9]{3} \([0-9]+ %\), [0-9,]+ kB/s")
+        self.assertRegex(os.read(terminal, 65536), rb"[0-9,]+ bytes of 3,[0-9]{3},[0-9]{3} \([0-9]+ %\), [0-9,]+ kB/s")
         self.stop(server)
 
     def test_wrong_words_and_faults(self):
