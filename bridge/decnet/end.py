@@ -72,6 +72,8 @@ def unheard():
 class End:
     """A live end. Each line that it is told has one answer, in the order of the lines."""
 
+    is_kept = False  # whether another bridge can go on with its link
+
     def __init__(self, program, words, keep=False, told=None, clock=time.monotonic):
         """With `keep` all lines, in and out, are kept as `transcript`. `told` is called with each line that it writes
         on standard error, which otherwise goes where the program's own does."""

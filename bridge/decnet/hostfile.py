@@ -12,6 +12,10 @@ STANDARD = "-"
 RANDOM_BYTES = 8
 
 
+class HostFault(Exception):
+    """A file of this host can't be written any more."""
+
+
 def read_host(path):
     """The bytes of a file, or of standard input."""
     try:
@@ -53,16 +57,34 @@ class HostFile:
             os.fchmod(made, mode)
         return os.fdopen(made, "wb")
 
+    @contextlib.contextmanager
+    def writing(self):
+        """A HostFault where the system doesn't write; a pipe that nobody reads is another matter."""
+        try:
+            yield
+        except (BrokenPipeError, FileExistsError):
+            raise
+        except OSError as fault:
+            if self.path != STANDARD:
+                raise HostFault(f"{self.path}: {fault.strerror}") from fault
+            os.dup2(os.open(os.devnull, os.O_WRONLY), sys.stdout.fileno())
+            raise HostFault(f"standard output: {fault.strerror}") from fault
+
     def write(self, data):
-        self.file.write(data)
+        with self.writing():
+            self.file.write(data)
 
     def finish(self):
         """Gives the file its name; it is on the disk then."""
-        self.file.flush()
-        if self.beside is None:
-            return
-        os.fsync(self.file.fileno())
-        self.file.close()
+        with self.writing():
+            self.file.flush()
+            if self.beside is not None:
+                os.fsync(self.file.fileno())
+                self.file.close()
+                self.name_it()
+                sync_folder(self.path)
+
+    def name_it(self):
         try:
             if self.is_replaced:
                 os.replace(self.beside, self.path)
@@ -72,13 +94,13 @@ class HostFile:
         except FileExistsError as fault:
             raise TextFault(f"{self.path}: somebody made it meanwhile; --replace writes it anew") from fault
         self.beside = None
-        sync_folder(self.path)
 
     def close(self):
         """Removes what isn't whole."""
-        if self.path != STANDARD:
-            with contextlib.suppress(OSError):
-                self.file.close()
+        if self.path == STANDARD:
+            return
+        with contextlib.suppress(OSError):
+            self.file.close()
         if self.beside is not None:
             with contextlib.suppress(OSError):
                 os.unlink(self.beside)

@@ -200,11 +200,13 @@ class Link:
 
     def accept(self, connect):
         """Takes the link that a connect initiate asks for; false where the end can't have it. The connect confirm goes
-        out when the live end has the link."""
+        out when the live end has the link. Behind an acknowledgement the connect initiate doesn't come again: where the
+        link is kept, that waits too."""
         if not self.read_sizes(connect):
             return False
         self.state = State.ACCEPTING
-        self.send(nsp.connect_ack(self.remote))
+        if not self.end.is_kept:
+            self.send(nsp.connect_ack(self.remote))
         self.begin(self.accepted)
         return True
 
@@ -218,6 +220,8 @@ class Link:
             return
         self.end.remark(self.note())
         if self.state is State.ACCEPTING:
+            if self.end.is_kept:
+                self.send(nsp.connect_ack(self.remote))
             self.half_open_until = self.clock() + self.prompt()
             self.confirm()
 
@@ -241,7 +245,8 @@ class Link:
     def connect_again(self):
         """The connect initiate came another time. Where the link is open the other end may have begun anew: it is
         asked."""
-        if self.state in (State.ACCEPTING, State.CONFIRMING, State.RUNNING):
+        is_known = self.state in (State.CONFIRMING, State.RUNNING)
+        if is_known or (self.state is State.ACCEPTING and not self.end.is_kept):
             self.send(nsp.connect_ack(self.remote))
         self.probe()
 

@@ -94,6 +94,8 @@ class Server(Role):
 
     def resume(self, left):
         """Goes on with the link that another bridge left."""
+        while self.refusing == left.local:
+            self.refusing = self.addresses.next()
         self.link = self.link_at(left.peer, left.local)
         self.link.resume(left)
         log.say(f"link {left.local:04x}: from node {node_text(left.peer.node)}, goes on as it was")

@@ -83,8 +83,12 @@ class StoredEnd(End):
     is_due = False  # whether a line was told that the disk hasn't, besides acknowledgements
     has_wanted_memory = False  # whether a line was answered by want of memory: a replay may do more than was done
 
+    @property
+    def is_kept(self):
+        return self.journal is not None
+
     def queue(self, line, answer):
-        is_kept = self.journal is not None and line not in QUERIES
+        is_kept = self.is_kept and line not in QUERIES
         self.queue_all([line], Kept(self, line, answer) if is_kept else answer)
 
     def failed(self, fault):
@@ -107,7 +111,7 @@ class StoredEnd(End):
         return self.fault is None
 
     def remark(self, text):
-        if self.journal is not None and not self.fault:
+        if self.is_kept and not self.fault:
             try:
                 self.journal.append(NOTE + text)
             except OSError as fault:

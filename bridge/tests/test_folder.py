@@ -121,7 +121,7 @@ class WriteTest(FolderCase):
         folder = self.open()
         self.lines(folder)
         others = [*file_of("r", b"x", attributes="rel variable 0 9"), *file_of("lf", b"a\nb"), *file_of("cr", b"a\r"),
-                  *file_of("../up", b"x"), *file_of(".hidden", b"x"), *file_of("\x1b", b"x"), *file_of("\udcff", b"x"),
+                  *file_of("../up", b"x"), *file_of("a/b", b"x"), *file_of(".hidden", b"x"), *file_of("\x1b", b"x"), *file_of("\udcff", b"x"),
                   *file_of("folder", b"x"), *file_of("n" * 201, b"x"), "file - seq variable 0 0"]
         self.assertEqual(self.write_back(folder, [*file_of("a", b"one"), *others]), ([], None))
         self.assertEqual(sorted(one.name for one in self.path.iterdir()), [".daplive", "a", "folder"])

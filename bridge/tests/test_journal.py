@@ -217,7 +217,7 @@ class NotesTest(Case):
         self.assertEqual((left.peer.node, left.peer.station.hex()), (1025, "aa0004000104"))
         self.assertEqual((left.local, left.remote, left.segment), (0x0A01, 0x0B02, 512))
         self.assertEqual((left.taken, left.is_on, left.acknowledged), (2, False, 7))
-        left = left_link([self.NOTE])
+        left = left_link(["#link 1.9 000000000000 0001 0002 64 none", "> 04020001000780", "#other 9 off", self.NOTE])
         self.assertEqual((left.taken, left.is_on, left.acknowledged), (0, True, 0))
 
     def test_no_link_was_left(self):
@@ -273,6 +273,7 @@ class StoredEndTest(JournalCase):
             self.assertEqual(end.say("> 00"), [])
         self.assertEqual(end.say("> 11"), [])
         end.remark("link -")
+        self.assertEqual(Parsed("store", self.path.read_bytes()).told, [], "what follows a line that isn't there is no good")
         self.assertEqual([str(fault) for fault in faults], [f"{self.path}: No space left on device"])
         store.link_closed(is_last=False)
         while store.is_busy:

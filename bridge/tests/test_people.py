@@ -10,7 +10,7 @@ from decnet.hostfile import HostFile
 from decnet.remote import is_remote, read_remote
 from decnet.scripts import Refused
 from decnet.texts import Text, TextFault
-from tests.support import SEED, Case
+from tests.support import SEED, Case, sweep_count
 
 NAMES = {"VAX": 1034, "HERE": 1025}
 
@@ -97,7 +97,7 @@ class OptionsTest(Case):
 
     def test_random_bytes(self):
         chance = random.Random(SEED)
-        for _ in range(300):
+        for _ in range(sweep_count(60, 2000)):
             self.path.write_bytes(chance.choice([b"--", b"", b"--node "]) + chance.randbytes(chance.randrange(40)))
             try:
                 words.read(["serve", "--options", str(self.path), "--interface", "x", "--node", "1.1"])

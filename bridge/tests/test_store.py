@@ -124,11 +124,12 @@ class KilledTest(StoreCase):
         self.say(asking, "create 46 0 2 0 0 15", "report opened 0 2 0 0")
         self.say(asking, "connect", "report connected")
         for number in range(1, 5):
-            time.sleep(0.4)
+            time.sleep(2 if number == 4 else 0.4)  # so that some probes were sent
             self.say(asking, f"put 4{number}", f"report done {number}")
             child.finish(signal.SIGKILL)
             child = self.store("--idle", "0.3")
             self.assertIn("goes on as it was", child.told())
+        time.sleep(4)  # longer than a probe that is never acknowledged is tried
         self.say(asking, "close", "report closed")
         asking.end_input()
         self.assertEqual(asking.finish(), 0, asking.told())

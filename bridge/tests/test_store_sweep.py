@@ -70,7 +70,9 @@ class CutTest(UdpCase):
         """A link, over which a file is made."""
         self.asker.say(f"new 01{turn:02x} 02{turn:02x} 100")
         self.tell(f"new 02{turn:02x} 01{turn:02x} 100")
-        record = lambda most: self.chance.randbytes(self.chance.randrange(1, most)).hex()  # noqa: E731
+        def record(most):
+            return self.chance.randbytes(self.chance.randrange(1, most)).hex()
+
         if turn % 2:
             requests = [f"create {turn:02x}46 16 2 0 0 15", "connect",
                         *(f"put key {self.chance.randrange(1, 9)} {record(150)}" for _ in range(6)),
@@ -189,8 +191,9 @@ class KillTest(UdpCase):
         self.addCleanup(Child.end_all)
 
     def places(self, last):
-        """All places up to the last one, or some."""
-        return range(1, last + 1) if ALL else sorted(random.Random(SEED).sample(range(1, last + 1), 12))
+        """All places up to the last one; or those around the opening of the link, and some others."""
+        opening = range(7, 15)
+        return range(1, last + 1) if ALL else sorted({*opening, *random.Random(SEED).sample(range(1, last + 1), 8)})
 
     def last_place(self, sync):
         """How many places a whole run has."""

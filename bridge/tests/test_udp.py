@@ -1,5 +1,6 @@
 """Frames over UDP: who is heard, what a far end that isn't there does, and the pcap file of what goes by."""
 import contextlib
+import errno
 import os
 import resource
 import signal
@@ -102,6 +103,14 @@ class WireTest(Case):
             wire.search.join()
             wire.refresh()
         self.assertEqual(wire.socket.getpeername(), before)
+
+    def test_a_network_that_says_no_loses_frames_and_ends_nothing(self):
+        path, wire = log_of(self), self.wire()
+        for number in (errno.EHOSTUNREACH, errno.ENETUNREACH, errno.EHOSTDOWN, errno.EPERM, errno.ENOBUFS):
+            def fails(_frame, number=number):
+                raise OSError(number, os.strerror(number))
+            self.assertIsNone(wire.try_to(fails, b"frame"))
+            self.assertIn(f"{os.strerror(number)}: frames are lost", path.read_text())
 
     def test_faults(self):
         port = free_port()

@@ -1,5 +1,6 @@
 """What people type: copy, type, get and put over UDP, with files of this host, users, names of nodes and options."""
 import os
+import pty
 import random
 import signal
 import time
@@ -98,6 +99,18 @@ class CopyTest(WordsCase):
         self.assertEqual(out.read_bytes(), records)
         self.stop(server)
 
+    def test_progress_on_a_terminal(self):
+        server = self.serve()
+        terminal, end = pty.openpty()
+        data = b"".join(b"%d %s\n" % (number, b"x" * 900) for number in range(4000))
+        command = [*self.words("copy", self.far, self.near), "--daplive", PROGRAM]
+        child = self.start([*command, "-", "1.2::P"], stdin=data, stderr=end)
+        os.close(end)
+        self.addCleanup(os.close, terminal)
+        self.assertEqual(child.process.wait(120), 0)
+        self.assertRegex(os.read(terminal, 65536), rb"[0-9,]+ bytes of 3,[0-9]{3},[0-9]{3} \([0-9]+ %\), [0-9,]+ kB/s")
+        self.stop(server)
+
     def test_wrong_words_and_faults(self):
         text = self.host("text", b"x\n")
         for words, what in ((["x", "y"], "one of FROM and TO"), (["/nowhere", "1.2::X"], "/nowhere: No such file"),
@@ -139,6 +152,38 @@ class PeopleTest(WordsCase):
             self.assertEqual((child.finish(), child.out.read_bytes(), child.told()), (0, out, ""))
         self.assertIn("segments of 512 bytes", server.told(), "the serving bridge allows 512")
         self.stop(server)
+
+
+class StandardFilesTest(WordsCase):
+    """Odd standard files have a word and a status, and nothing of them a traceback."""
+
+    def redirected(self, how, role, *words, stdin=b""):
+        command = [*self.words(role, self.far, self.near), "--daplive", PROGRAM, *words]
+        child = self.start(["bash", "-c", f'exec "$@" {how}', "bash", *command], stdin=stdin)
+        status = child.process.wait(60)
+        for word in ("Traceback", "Exception ignored", "Warning"):
+            self.assertNotIn(word, child.told())
+        return status, child.told()
+
+    def test_odd_standard_files(self):
+        server = self.serve()
+        self.type_in("copy", "-", "1.2::A", stdin=b"one\n" * 5000)
+        full, closed = "bridge: standard output: No space left on device\n", "bridge: standard output: closed\n"
+        for how, role, words, wanted in ((">/dev/full", "type", ["1.2::A"], (3, full)), (">&-", "type", ["1.2::A"], (3, closed)),
+                                         (">/dev/full", "get", ["1.2::A", "--number", "1"], (1, None)),
+                                         ("<&-", "copy", ["-", "1.2::B"], (3, "bridge: standard input: closed\n")),
+                                         (">&-", "put", ["1.2::A", "two"], (0, ""))):
+            status, told = self.redirected(how, role, *words)
+            self.assertEqual((status, told if wanted[1] is not None else None), wanted, (how, role, told))
+        status, told = self.redirected("| head -c 1 >/dev/null; exit ${PIPESTATUS[0]}", "type", "1.2::A")
+        self.assertEqual(told, "")
+        self.stop(server)
+
+    def test_a_password_that_cannot_be_printed(self):
+        for how, what in ((">/dev/full", "standard output: No space left on device"), (">&-", "standard output: closed"),
+                          ("<&-", "standard input: closed")):
+            child = self.start(["bash", "-c", f'exec "$@" {how}', "bash", *PYTHON, BRIDGE, "password", "SMITH"], stdin=b"x\n")
+            self.assertEqual((child.process.wait(60), child.told()), (3, f"bridge: {what}\n"))
 
 
 class FolderTest(WordsCase):
