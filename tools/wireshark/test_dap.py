@@ -10,7 +10,6 @@ import random
 import re
 import shutil
 import subprocess
-import sys
 import tempfile
 import unittest
 import xml.etree.ElementTree as ElementTree
@@ -185,9 +184,9 @@ class Case(unittest.TestCase):
             self.assertEqual(found.get(frame), listed.get(frame), f"frame {frame}, {what}")
 
     def compare_file(self, path):
-        """A capture file, whose packets pcap_to_capture.py finds."""
-        words = [sys.executable, EXAMPLES / "pcap_to_capture.py", path]
-        text = subprocess.run(words, capture_output=True, text=True, check=True).stdout
+        """A capture file, whose packets `daplive frames` finds."""
+        with path.open("rb") as file:
+            text = subprocess.run([DAPLIVE, "frames"], stdin=file, capture_output=True, text=True, check=True).stdout
         frames = [int(line.split()[2]) for line in text.splitlines() if line.startswith("# frame ")]
         listed = follow([line for line in text.splitlines() if not line.startswith("#")])
         self.compare(path, {frames[number - 1]: lines for number, lines in listed.items()})
