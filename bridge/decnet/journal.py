@@ -57,7 +57,7 @@ class Parsed:
     def __init__(self, path, data):
         """A KeptFault where damage is told of what was on the disk."""
         self.lines, self.size, self.crc = [], 0, 0  # without the marks; in bytes; of these
-        self.first = 0  # how many of the lines stand before the first mark
+        self.first = self.first_size = 0  # how many of the lines, and of the bytes, stand before the first mark ends
         crc, at, waiting = 0, 0, []
         while (end := data.find(b"\n", at) + 1) > 0:
             line = data[at:end]
@@ -68,7 +68,8 @@ class Parsed:
             crc, at = zlib.crc32(line, crc), end
             if line.startswith(MARK):
                 self.lines += waiting
-                self.first = self.first if self.size else len(waiting)
+                if not self.size:
+                    self.first, self.first_size = len(waiting), at
                 self.size, self.crc, waiting = at, crc, []
         if any(synced > self.size for synced in later_marks(data, self.size)):
             raise KeptFault(f"{path}: damaged at byte {self.size} or behind it, and that was on the disk")
@@ -147,8 +148,8 @@ class Journal(LockedFile):
 
     def go_on(self):
         """Goes on behind the last good mark; what stands behind that is cut."""
-        self.size, self.crc, self.parsed = self.parsed.size, self.parsed.crc, None
-        self.first_size = self.size
+        found, self.parsed = self.parsed, None
+        self.size, self.crc, self.first_size = found.size, found.crc, found.first_size
         try:
             os.ftruncate(self.lock, self.size)
             self.sync()

@@ -221,7 +221,10 @@ class Keeper:
         self.thread.start()
 
     def finish(self, listing):
-        listing.finish()
+        try:
+            listing.finish()
+        except Exception as fault:  # whatever it is, who waits for the save is told
+            listing.fault = KeptFault(f"{type(fault).__name__}: {fault}", of_machine=True)
         self.writing.send(b"\0")
 
     def look(self):

@@ -1,7 +1,6 @@
 """The words of the bridge's command line: its roles, their options, and what each may be."""
 import argparse
 import os
-import pathlib
 import sys
 
 from decnet import nsp, options, program, udp
@@ -265,9 +264,9 @@ def read(words=None):
 
 def config_file(name):
     """A file that is read where it is there."""
-    folder = os.environ.get("XDG_CONFIG_HOME") or pathlib.Path.home() / ".config"
-    path = pathlib.Path(folder) / "daplive" / name
-    return path if path.exists() else None
+    folder = os.environ.get("XDG_CONFIG_HOME") or os.path.expanduser("~/.config")
+    path = os.path.join(folder, "daplive", name)
+    return path if os.path.exists(path) else None
 
 
 def from_file(role, given):

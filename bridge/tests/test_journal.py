@@ -104,10 +104,11 @@ class ParseTest(JournalCase):
 
 class FileTest(JournalCase):
     def test_it_is_gone_on_with(self):
-        told, _ = self.begun(3)
+        told, ends = self.begun(3)
         kept = self.open()
         self.assertEqual(kept.parsed.lines, told)
         kept.go_on()
+        self.assertEqual((kept.first_size, kept.grown), (ends[0], ends[-1] - ends[0]), "what came before counts as grown")
         kept.append("> 00")
         kept.close()
         self.assertEqual(Parsed("store", self.path.read_bytes()).lines, [*told, "> 00"])

@@ -216,6 +216,12 @@ class SaveTest(KeptCase):
         self.assertEqual(told, [("first", texts[0]), ("second", texts[1]), ("third", texts[1])])
 
 
+    def test_a_save_that_fails_in_any_way_is_told(self):
+        file = self.keep()
+        with mock.patch.object(kept.Listing, "finish", side_effect=ZeroDivisionError("odd")):
+            self.assertEqual(str(self.save(file)), "ZeroDivisionError: odd")
+
+
 class LoadTest(KeptCase):
     def test_a_file_that_was_cut_short_is_known(self):
         """Of all fronts of a kept file only the empty one, and all but its last LF, are taken."""
