@@ -9,7 +9,7 @@ from decnet import log, udp
 from tests.station import ASKING, SERVING, Station
 from tests.support import BRIDGE, PROGRAM, PYTHON, Case, expect, expect_equal, need_live_end
 
-HASTE = ["--resend", "0.2", "--tries", "10"]
+HASTE = ["--resend", "0.2", "--tries", "50"]
 LOOPBACK = "127.0.0.1"
 FIRST_PORT, LAST_PORT = 15_000, 32_000  # the system itself gives none of these
 PORTS = itertools.cycle(range(FIRST_PORT, LAST_PORT))

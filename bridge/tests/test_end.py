@@ -60,9 +60,9 @@ class EndTest(Case):
             self.assertIn("has answered nothing for 0.3 seconds", self.fault(end, "hang"))
 
     def test_one_that_works_long_but_says_something_is_waited_for(self):
-        with mock.patch.object(module, "ANSWER_SECONDS", 0.5):
-            end = self.of("for _ in range(10):\n    print('x', flush=True); time.sleep(0.1)")
-            end.seconds = 0.5
+        with mock.patch.object(module, "ANSWER_SECONDS", 2):
+            end = self.of("for _ in range(10):\n    print('x', flush=True); time.sleep(0.3)")
+            end.seconds = 2
             end.has_answered = True
             self.assertEqual(end.say("files"), ["x"] * 10)
 

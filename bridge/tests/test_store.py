@@ -127,7 +127,7 @@ class KilledTest(StoreCase):
             time.sleep(2 if number == 4 else 0.4)  # so that some probes were sent
             self.say(asking, f"put 4{number}", f"report done {number}")
             child.finish(signal.SIGKILL)
-            child = self.store("--idle", "0.3")
+            child = self.store("--idle", "0.3", "--tries", "10")
             self.assertIn("goes on as it was", child.told())
         time.sleep(4)  # longer than a probe that is never acknowledged is tried
         self.say(asking, "close", "report closed")

@@ -6,7 +6,7 @@ import signal
 import time
 
 from decnet.users import make_hash
-from tests.datagrams import LOOPBACK, UdpCase
+from tests.datagrams import HASTE, LOOPBACK, UdpCase
 from tests.station import ASKING, SERVING
 from tests.support import BRIDGE, PROGRAM, PYTHON, SEED, need_live_end, until
 
@@ -21,7 +21,7 @@ class WordsCase(UdpCase):
 
     def type_in(self, role, *words, status=0, stdin=b""):
         """What a bridge prints, and says, for words that people type."""
-        command = [*self.words(role, self.far, self.near), "--daplive", PROGRAM, "--resend", "0.2", "--tries", "10"]
+        command = [*self.words(role, self.far, self.near), "--daplive", PROGRAM, *HASTE]
         child = self.start([*command, *words], stdin=stdin)
         found = child.process.wait(120)
         self.assertNotIn("Traceback", child.told())
