@@ -150,8 +150,7 @@ fn run_helping<R: Read>(alloc: Global, command: &str, reader: &mut R) -> Result<
 }
 
 /// What a pcap file comes to.
-const PCAP: &[u8] =
-    b"bad line 1\ndapnsp: line 1: a pcap file; daplive frames turns it into lines \
+const PCAP: &[u8] = b"bad line 1\ndapnsp: line 1: a pcap file; daplive frames turns it into lines \
 for dapnsp show and daplive follow\n";
 
 /// What a pcapng file comes to: the first byte is a line feed, so its second line is the first that says something.

@@ -248,8 +248,8 @@ module _ (own : ℕ) (node : Node) (link : ℕ) (item : Item) (h : IsShared node
       let r = removed_by before d in
       let g = gone_by node.files files session.phase in
       let same : r ≡ g =
-          ap (λ (x : Option OpenFile). if nat_lt (length d.standing.scene.files) (length node.files) then x else None) (sym (phase-open before.standing before.begun (h.steady link).begun))
-          ∙ ap (λ (l : Files). gone_by node.files l session.phase) (sym left.same_files) in
+      ap (λ (x : Option OpenFile). if nat_lt (length d.standing.scene.files) (length node.files) then x else None) (sym (phase-open before.standing before.begun (h.steady link).begun))
+      ∙ ap (λ (l : Files). gone_by node.files l session.phase) (sym left.same_files) in
       ap (value d.standing.scene.files)
       (map-set (kept_of own d.standing.scene.files) (map (exchange_moved_up r) node.exchanges) link (exchange_of d)
       ∙ ap (λ (l : List SessionValue). set l link (session_of (present_of own d))) (exchanges-moved own node.files d.standing.scene.files r node.exchanges)

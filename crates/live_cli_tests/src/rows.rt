@@ -10,8 +10,7 @@ pub(crate) type Row = (
 );
 
 /// What is told of a pcap file.
-const PCAP: &[u8] =
-    b"bad line 1\ndaplive: line 1: a pcap file; daplive frames turns it into lines \
+const PCAP: &[u8] = b"bad line 1\ndaplive: line 1: a pcap file; daplive frames turns it into lines \
 for dapnsp show and daplive follow\n";
 
 pub(crate) const ROWS: &[Row] = &[
