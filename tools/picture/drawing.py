@@ -119,7 +119,7 @@ class Picture:
             return gaps + self.ack_row(packet)
         if not packet.is_segment:
             return gaps + self.other_row(packet)
-        if packet.completed:
+        if packet.whole:
             return gaps + self.message_row(packet)
         return gaps + self.segment_row(packet)
 
@@ -162,23 +162,20 @@ class Picture:
 
     def lines_of(self, packet):
         """The lines of a packet's messages, each with its message or None; and the messages that one line stands for."""
-        lines, folded = [], []
-        if packet.is_unfinished:  # it fills a gap before the messages
-            lines.append((f'<tspan class="small lost">{self.own_label(packet)}</tspan>', None))
-        for whole in packet.completed:
-            if whole.segments > 1 or whole.first != packet.sequence:
-                said = f"NSP message of {counted(whole.segments, 'segment')}, {whole.first} to {whole.last}"
-                lines.append((f'<tspan class="small">{said}, {counted(whole.length, "byte")}</tspan>', None))
-            for run in runs_of_data(whole.messages):
-                if len(run) == 1:
-                    lines.append((self.message_text(run[0]), self.title(run[0])))
-                else:
-                    lines.append((summed(run), None))
-                    folded += run
+        lines, folded, whole = [], [], packet.whole
+        if whole.segments > 1:
+            said = f"NSP message of {whole.segments} segments, {whole.first} to {whole.last}"
+            lines.append((f'<tspan class="small">{said}, {counted(whole.length, "byte")}</tspan>', None))
+        for run in runs_of_data(whole.messages):
+            if len(run) == 1:
+                lines.append((self.message_text(run[0]), self.title(run[0])))
+            else:
+                lines.append((summed(run), None))
+                folded += run
         return lines, folded
 
     def message_row(self, packet):
-        """A packet with which messages are whole."""
+        """A packet with which an NSP message is whole."""
         lines, folded = self.lines_of(packet)
         height = 8 + LINE * len(lines) + 7
         content = "".join(self.label(packet.direction, 1 + LINE * at, line, "say", title)
@@ -186,7 +183,7 @@ class Picture:
         is_fault = any(one.is_refusal or one.word == "bad" for one in packet.messages)
         content += self.arrow(packet.direction, height - 7, "fault" if is_fault else "solid")
         content += self.gutter(packet, height - 2) + self.segment_side(packet, height - 2)
-        kind = "whole" + " opens" * any(one.word == "access" for one in packet.messages) + " lost" * packet.is_unfinished
+        kind = "whole" + " opens" * any(one.word == "access" for one in packet.messages)
         if not folded:
             return self.framed(packet, kind, svg(height, content))
         inner = "".join(

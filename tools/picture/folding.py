@@ -20,7 +20,7 @@ class Fold:
 
 def is_quiet(packet):
     """Whether no message is whole with it, and it is no fault."""
-    return packet.kind == "ack" or (packet.is_segment and not packet.completed)
+    return packet.kind == "ack" or (packet.is_segment and not packet.whole)
 
 
 def signature(packet):

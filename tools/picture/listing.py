@@ -50,7 +50,7 @@ class Packet:
         self.fields = dict(word.split("=", 1) for word in words if "=" in word)
         self.mark = words[1] if self.is_segment else None
         self.acks = self.fields.get("acks", "-")
-        self.completed = []  # the NSP messages that are whole with it
+        self.whole = None  # the NSP message that is whole with it
         self.retransmits = None  # the packet that had this segment first
         self.is_early = False  # a segment before it comes later, or never
         self.is_unfinished = False  # of an NSP message that is never whole
@@ -62,7 +62,7 @@ class Packet:
 
     @property
     def messages(self):
-        return [one for whole in self.completed for one in whole.messages]
+        return self.whole.messages if self.whole else []
 
     @property
     def sequence(self):
@@ -85,7 +85,7 @@ def list_packets(captured, daplive):
         raise Fault(f"{daplive} follow: ended with status {done.returncode}", FAULT)
     try:
         return read_listing(done.stdout.decode("ascii"), captured)
-    except (BadLine, ValueError, IndexError, KeyError) as fault:
+    except (BadLine, ValueError, IndexError, KeyError, AttributeError) as fault:
         raise Fault(f"{daplive} follow: no listing: {str(fault)[:100]}", FAULT) from fault
     except Disagreement as fault:
         raise Fault(f"{daplive} follow: not as its sequence numbers say: {fault}", FAULT) from fault
@@ -98,9 +98,9 @@ def read_listing(text, captured):
         words = line.split()
         if line.startswith("  message "):
             first, last = words[1].removeprefix("seg=").split("..")
-            packets[-1].completed.append(NspMessage(int(first), int(last), int(words[2].removeprefix("len="))))
+            packets[-1].whole = NspMessage(int(first), int(last), int(words[2].removeprefix("len=")))
         elif line.startswith("  "):
-            packets[-1].completed[-1].messages.append(Message(line[2:]))
+            packets[-1].whole.messages.append(Message(line[2:]))
         elif words[0] in runs:
             fields = dict(word.split("=", 1) for word in words[2:])
             first, last = fields["seg"].split("..")

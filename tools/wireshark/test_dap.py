@@ -183,20 +183,21 @@ class Case(unittest.TestCase):
         for frame in sorted({*listed, *found}):
             self.assertEqual(found.get(frame), listed.get(frame), f"frame {frame}, {what}")
 
-    def compare_file(self, path):
-        """A capture file, whose packets `daplive frames` finds."""
+    @staticmethod
+    def listed_of(path):
+        """The DAP lines of each frame between the first two nodes of a capture file, as `daplive frames` finds them, or None."""
         with path.open("rb") as file:
             text = subprocess.run([DAPLIVE, "frames"], stdin=file, capture_output=True, text=True, check=True).stdout
         frames = [int(line.split()[2]) for line in text.splitlines() if line.startswith("# frame ")]
         listed = follow([line for line in text.splitlines() if not line.startswith("#")])
-        self.compare(path, {frames[number - 1]: lines for number, lines in listed.items()})
+        return {frame: listed.get(number) for number, frame in enumerate(frames, 1)}
 
 
 class ListingTest(Case):
     def test_the_examples(self):
         for name in ("wire.pcap", "wire.pcapng"):
             with self.subTest(name):
-                self.compare_file(EXAMPLES / name)
+                self.compare(EXAMPLES / name, self.listed_of(EXAMPLES / name))
 
     def test_the_page_shows_what_tshark_prints(self):
         page = (ROOT / "docs" / "CAPTURES.md").read_text(encoding="utf-8")
@@ -225,9 +226,12 @@ class ListingTest(Case):
         folder = os.environ.get("TOOLS_CAPTURES")
         if not folder:
             self.skipTest("no TOOLS_CAPTURES")
-        for path in sorted(pathlib.Path(folder).glob("*.pcap*")):
+        listed = {path: self.listed_of(path) for path in pathlib.Path(folder).rglob("*.pcapng") if path.is_file()}
+        self.assertTrue(any(any(lines.values()) for lines in listed.values()), "there are none with DAP messages")
+        for path, lines in listed.items():
             with self.subTest(path.name):
-                self.compare_file(path)
+                found = {frame: some for frame, some in texts(path).items() if frame in lines}
+                self.first_difference(lines, found, "of dec_dap.text")
 
 
 class ReaderTest(Case):
