@@ -11,6 +11,7 @@ from decnet.nsp import FlowControl, Kind, Modifier, Reason
 CONFIRM_SECONDS = 60  # how long an announced link may take to be confirmed
 PROMPT_SECONDS = 5  # how long an answer may take that a node gives at once, where two --resend aren't longer
 CLOSING_TRIES = 5
+STALLED_TRIES = 5  # without an acknowledgement, before that is said
 MAX_PENDING = 64  # packets that a live end wasn't told yet, or hasn't answered; one more is as lost
 MAX_PACKET = nsp.SEGMENT_HEADER + nsp.MAX_SEGMENT
 # answers of a live end behind which its link is of no more use
@@ -171,6 +172,7 @@ class Link:
         self.node, self.end, self.settings, self.told, self.clock = node, end, settings, told, clock
         self.keeper, self.space = keeper, space
         self.carried = lambda count: None  # told of the bytes of each new segment, either way
+        self.noted = lambda text: None  # told of what is to be said of it while it is open
         self.explain = lambda packet: ""  # what to say of a packet that brought an answer without a place
         self.peer, self.local, self.remote = peer, local, 0
         self.state, self.was_open = State.CLOSED, False
@@ -563,6 +565,7 @@ class Link:
             self.shake_again()
         if self.resend.is_due() and not self.pending:
             if self.resend.again():
+                self.note_stall()
                 self.tell("resend")
             else:
                 self.give_up()
@@ -573,6 +576,11 @@ class Link:
                 self.give_up()
         if self.state is State.RUNNING:
             self.look_at_silence()
+
+    def note_stall(self):
+        """Says once that nothing is acknowledged for long: what is answered meanwhile waits."""
+        if self.settings.tries - self.resend.left == STALLED_TRIES:
+            self.noted(f"node {node_text(self.peer.node)} acknowledges nothing; {self.end.waits} segments wait")
 
     def look_at_silence(self):
         """Asks a silent other end whether it is there, and closes a link that is of no use."""

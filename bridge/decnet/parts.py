@@ -123,7 +123,12 @@ def renew_now(store, end, signals):
 
 def open_entry(words, opened):
     """Who may enter."""
-    guard = opened(Guard(Users(words.users))) if words.users is not None else None
+    guard = None
+    if words.users is not None:
+        users = Users(words.users)
+        if users.is_seen_by_others():
+            log.say(f"{words.users}: others can read it: chmod 600 {words.users}")
+        guard = opened(Guard(users))
     return Entry(frozenset(words.allow) if words.allow else None, guard)
 
 

@@ -100,7 +100,9 @@ class Role:
         return self.link_at(peer, local)
 
     def link_at(self, peer, local):
-        return Link(self.node, self.end, self.settings, peer, local, self.told, self.keeper, self.space, self.clock)
+        link = Link(self.node, self.end, self.settings, peer, local, self.told, self.keeper, self.space, self.clock)
+        link.noted = lambda text: log.say(f"link {local:04x}: {text}")
+        return link
 
     def receive(self, arrived):
         """Takes a packet that came; what is no packet of NSP is passed over."""

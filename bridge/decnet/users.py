@@ -9,6 +9,7 @@ import hmac
 import os
 import re
 import socket
+import stat
 import threading
 
 from decnet import log, nsp
@@ -75,6 +76,10 @@ class Users:
         """A KeptFault where the file can't be used."""
         self.path = path
         read_users(path)
+
+    def is_seen_by_others(self):
+        """Whether others can read the hashes, and try passwords at leisure."""
+        return bool(os.stat(self.path).st_mode & (stat.S_IRGRP | stat.S_IROTH))
 
     def refusal(self, body):
         """Why a link with this connect message isn't taken; None where it is. It takes the same time for a user that is

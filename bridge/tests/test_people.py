@@ -59,6 +59,16 @@ class NodesTest(Case):
                 nodes.read_names(self.file("nodes", ["# nodes", line]))
 
 
+    def test_any_bytes(self):
+        chance, path = random.Random(SEED), self.folder / "nodes"
+        for _ in range(2000):
+            path.write_bytes(chance.choice([b"1.1 ", b"", b"# "]) + chance.randbytes(chance.randrange(40)))
+            try:
+                nodes.read_names(path)
+            except ValueError:
+                continue
+
+
 class OptionsTest(Case):
     def setUp(self):
         super().setUp()

@@ -341,6 +341,18 @@ class HoldTest(PairCase):
         self.assertEqual(packet.reason, Reason.TIMED_OUT)
         child.wait_for("no request within 2 seconds")
 
+    def test_an_end_that_acknowledges_nothing_is_told_once_and_given_up(self):
+        answer = ("packet = '60' + line[8:12] + line[4:8] + '0180010000'\n"
+                  "return ['accepted', '< ' + packet] if line[:4] == '> 60' else ['< ' + '60' + '00' * 8] if line == 'resend' else []")
+        script = self.stand_in(answer)
+        script.write_text(script.read_text().replace("print('waits 0', flush=True)", "print('waits 3', flush=True)"))
+        child, raw = self.serve("--resend", "0.2", "--tries", "8", program=script)
+        station = self.station(raw)
+        station.connect(0x0111)
+        station.say_hello()
+        child.wait_for("no answer from node 1.3; 3 segments weren't acknowledged")
+        self.assertEqual(child.told().count("node 1.3 acknowledges nothing; 3 segments wait"), 1)
+
     def test_a_wanted_link_that_answers_stays(self):
         child, station, other = self.hold("--idle", "1")
         station.connect(0x0111)

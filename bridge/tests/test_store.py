@@ -1,5 +1,6 @@
 """Bridges that keep a store: what was reported is there, whatever became of the bridge, and an open link goes on."""
 import os
+import random
 import resource
 import shutil
 import signal
@@ -10,8 +11,9 @@ from decnet import nsp
 from decnet.journal import Parsed
 from decnet.nsp import FlowControl, Kind, Modifier, Reason
 from tests.datagrams import UdpCase
+from tests.patterns import altered
 from tests.station import CONFIGURATION, segment
-from tests.support import APART, PROGRAM, need_live_end, until
+from tests.support import APART, PROGRAM, SEED, need_live_end, sweep_count, until
 
 HASTE = ["--resend", "0.1", "--tries", "100"]
 STORED = ["file 46 seq variable 0 0", "  1 41"]
@@ -102,6 +104,29 @@ class StartTest(StoreCase):
         self.stop(self.store())
         self.stop(self.store("--window", "9", program=other))
         asking.end()
+
+    def test_odd_stores_stop_the_start_without_a_traceback(self):
+        """Altered ones, fronts, other files and any bytes; what is taken is a front of what was there."""
+        child = self.store("--files", self.file("files", STORED))
+        self.assertEqual(self.ask(b"hello\nopen 46 3\nconnect\nput 42\nclose\n").finish(), 0)
+        child.finish(signal.SIGKILL)
+        chance, data, statuses = random.Random(SEED), self.path.read_bytes(), set()
+        for number in range(sweep_count(6, 300)):
+            bad = chance.choice([altered(chance, data), data[:chance.randrange(len(data))], chance.randbytes(200),
+                                 data + chance.randbytes(chance.randrange(99))])
+            self.path.write_bytes(bad)
+            child = self.store(is_ready=False)
+            until(lambda: "takes links" in child.told() or child.process.poll() is not None, "a start or an end")
+            status = child.finish(signal.SIGTERM)
+            statuses.add(status)
+            with self.subTest(number=number, told=child.told()):
+                self.assertNotIn("Traceback", child.told())
+                self.assertIn(status, (0, 1))
+                if status == 0 and bad:
+                    self.assertIn(self.parsed().lines[1:], (STORED, [*STORED, "  2 42"]))
+                elif status:
+                    self.assertEqual(self.path.read_bytes(), bad)
+        self.assertEqual(statuses, {0, 1})
 
     def test_two_bridges_do_not_keep_one_store(self):
         first = self.store()

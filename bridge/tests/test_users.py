@@ -130,6 +130,7 @@ class BridgeTest(UdpCase):
     def test_only_users_enter(self):
         child = self.serve("--users", self.file("users", [f"SMITH {make_hash(b'SECRET')}"]), program=self.stand)
         self.assertIn("anybody may enter, with a user and a password", child.told())
+        self.assertIn("users: others can read it: chmod 600 ", child.told())
         station = self.station()
         for user, password in ((b"SMITH", b"WRONG"), (b"BROWN", b"SECRET"), (b"", b"")):
             self.assertEqual(station.refused(nsp.connect(9, 512, nsp.session(user, password))), REJECTED)
@@ -144,6 +145,11 @@ class BridgeTest(UdpCase):
         self.assertIn("node 1.3 was refused, reason 34", child.told())
 
     def test_a_start_without_users_says_so_and_bad_ones_stop_it(self):
+        users = self.file("good", [f"SMITH {make_hash(b'SECRET')}"])
+        users.chmod(0o600)
+        child = self.serve("--users", users, program=self.stand)
+        self.assertNotIn("others can read it", child.told())
+        self.stop(child)
         child = self.serve(program=self.stand)
         self.assertIn("anybody may enter, with any user or none (no --users)", child.told())
         self.stop(child)
