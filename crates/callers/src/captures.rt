@@ -1,5 +1,8 @@
 //! A capture file of two frames is read, and its packets are written as lines of a capture.
 
+ghost use Rattle.std.specs.Prelude.{OnOk};
+ghost use Rattle.capture_file.specs.Reading.{IsReady};
+
 use crate::trouble::{Lines, Trouble};
 use capture_file::Reading;
 use decnet_frames::{Counts, Ends, Listing, list_frames, read_frame, read_node};
@@ -30,24 +33,37 @@ fn look(frame: &[u8], out: &mut Lines) {
     }
 }
 
-/// Reads the file frame by frame, in as few pieces as there are.
+/// Takes what is next of the file, a header or a record, and what is behind it is given back.
+fn take_next<'a>(
+    reading: &mut Reading,
+    rest: &'a [u8],
+    listing: &mut Listing,
+    text: &mut Vec<u8>,
+    out: &mut Lines,
+) -> Result<&'a [u8], Trouble>
+    requires { IsReady reading.old }
+    ensures { OnOk result (IsReady reading.new) }
+{
+    let step = match reading.take(rest) {
+        Ok(step) => step,
+        Err(_) => return Err(Trouble("a capture file")),
+    };
+    if let Some(given) = step.given {
+        let frame = reading.frame(given);
+        look(frame, out);
+        listing.push_frame(text, given.time, given.is_ethernet, frame)?;
+    }
+    let (_, behind) = rest.split_at(step.taken);
+    Ok(behind)
+}
+
+/// Reads the file: its header, and its two records.
 fn read(alloc: Global, listing: &mut Listing, out: &mut Lines) -> Result<(), Trouble> {
     let mut reading = Reading::new(alloc);
     let mut text = Vec::new(alloc);
-    let mut rest = FILE;
-    while !rest.is_empty() {
-        let step = match reading.take(rest) {
-            Ok(step) => step,
-            Err(_) => return Err(Trouble("a capture file")),
-        };
-        if let Some(given) = step.given {
-            let frame = reading.frame(given);
-            look(frame, out);
-            listing.push_frame(&mut text, given.time, given.is_ethernet, frame)?;
-        }
-        let (_, behind) = rest.split_at(step.taken);
-        rest = behind;
-    }
+    let records = take_next(&mut reading, FILE, listing, &mut text, out)?;
+    let second = take_next(&mut reading, records, listing, &mut text, out)?;
+    take_next(&mut reading, second, listing, &mut text, out)?;
     let at = reading.offset();
     match reading.finish() {
         Ok(()) => out.line(format_args!("captures: {at} bytes, {} of lines", text.len())),

@@ -31,6 +31,9 @@ fn serve(
     message: &[u8],
     out: &mut Lines,
 ) -> Result<(), Trouble> {
+    if link >= shared.links() {
+        return Err(Trouble("a link"));
+    }
     let (item, next) = item_at(message, 0);
     for answer in shared.serve_item(link, item, next)?.answers {
         out.line(format_args!("sharing: link {link}: an answer of {} bytes", answer.len()));
@@ -42,9 +45,7 @@ fn serve(
 pub fn call(alloc: Global, out: &mut Lines) -> Result<(), Trouble> {
     let mut shared = SharedFiles::new(alloc, 1024, 2)?;
     for (link, message) in MESSAGES {
-        if *link < shared.links() {
-            serve(&mut shared, *link, message, out)?;
-        }
+        serve(&mut shared, *link, message, out)?;
     }
     out.line(format_args!("sharing: {} files", shared.files().count()));
     Ok(())
