@@ -1,6 +1,6 @@
 //! A capture file of two frames is read, and its packets are written as lines of a capture.
 
-ghost use Rattle.std.specs.Prelude.{OnOk};
+ghost use Rattle.std.specs.Prelude.{◌<◌, length, IfOk, OnOk};
 ghost use Rattle.capture_file.specs.Reading.{IsReady};
 
 use crate::trouble::{Lines, Trouble};
@@ -33,7 +33,7 @@ fn look(frame: &[u8], out: &mut Lines) {
     }
 }
 
-/// Takes what is next of the file, a header or a record, and what is behind it is given back.
+/// Takes what is next of the file, and gives back what is behind it.
 fn take_next<'a>(
     reading: &mut Reading,
     rest: &'a [u8],
@@ -42,7 +42,9 @@ fn take_next<'a>(
     out: &mut Lines,
 ) -> Result<&'a [u8], Trouble>
     requires { IsReady reading.old }
-    ensures { OnOk result (IsReady reading.new) }
+    ensures ready { OnOk result (IsReady reading.new) }
+    ensures less { IfOk result
+        (λ behind. 0 < length rest.now → length behind.now < length rest.now) }
 {
     let step = match reading.take(rest) {
         Ok(step) => step,
@@ -57,13 +59,14 @@ fn take_next<'a>(
     Ok(behind)
 }
 
-/// Reads the file: its header, and its two records.
+/// Reads the file, unit by unit.
 fn read(alloc: Global, listing: &mut Listing, out: &mut Lines) -> Result<(), Trouble> {
     let mut reading = Reading::new(alloc);
     let mut text = Vec::new(alloc);
-    let records = take_next(&mut reading, FILE, listing, &mut text, out)?;
-    let second = take_next(&mut reading, records, listing, &mut text, out)?;
-    take_next(&mut reading, second, listing, &mut text, out)?;
+    let mut rest = FILE;
+    while !rest.is_empty() {
+        rest = take_next(&mut reading, rest, listing, &mut text, out)?;
+    }
     let at = reading.offset();
     match reading.finish() {
         Ok(()) => out.line(format_args!("captures: {at} bytes, {} of lines", text.len())),
