@@ -14,7 +14,7 @@ import unittest
 from decnet import log
 from decnet.end import DAPLIVE, End
 
-PATIENCE = 30  # seconds for anything that has to happen
+PATIENCE = 60  # seconds for anything that has to happen, on a machine that has much other work
 BUILD_SECONDS = 3600  # ./daplive may have to be built
 PROMPT = 5  # seconds for what happens within one, on a machine that has other work
 APART = 3  # seconds after which a signal is another one, on such a machine too
