@@ -18,7 +18,7 @@ from decnet import program
 HERE = pathlib.Path(__file__).resolve().parent
 ROOT = HERE.parent
 PAGES = ["README.md", "docs/LISTING.md", "docs/LIVE.md", "docs/SCHEDULES.md"]  # which explain what is printed
-SHOWING = [*PAGES, "docs/BRIDGE.md"]
+SHOWING = [*PAGES, "docs/BRIDGE.md", "docs/CAPTURES.md"]
 BLOCK = r"((?:(?!```).*\n)+)```\n"
 SHOWN = re.compile(rf"^```sh\n{BLOCK}\n```\n{BLOCK}", re.M)
 TWO_NODES = "examples/two_nodes"

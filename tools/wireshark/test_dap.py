@@ -201,7 +201,7 @@ class ListingTest(Case):
 
     def test_the_page_shows_what_tshark_prints(self):
         page = (ROOT / "docs" / "CAPTURES.md").read_text(encoding="utf-8")
-        (command, printed), = re.findall(r"^```sh\n(.*\n)```\n\n```\n((?:.*\n)+?)```", page, re.M)
+        (command, printed), = re.findall(r"^```shell\n(tshark .*\n)```\n\n```\n((?:.*\n)+?)```", page, re.M)
         done = subprocess.run(["bash", "-c", command], cwd=ROOT, capture_output=True, text=True, check=True)
         self.assertEqual(done.stdout, printed)
 
