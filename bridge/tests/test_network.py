@@ -138,6 +138,26 @@ class CapturedCase(NetworkCase):
         CapturedCase.seen |= readings.compare(self.capture)
 
 
+def records_by_way(listing):
+    """The records in each direction of a listing, link after link, and each link's in the order in which they were sent: a
+    listing has a message where it is whole."""
+    streams, highest = {}, {}
+    for line in listing:
+        words = line.split()
+        if not line.startswith(" "):
+            stream = (words[1], *(word for word in words if word.startswith(("dst=", "src="))))
+        elif words[0] == "message":
+            last = highest.get(stream, 0)
+            ahead = (int(re.match(r"seg=(\d+)", words[1])[1]) - last) % 4096
+            place = last + (ahead if ahead <= 2048 else ahead - 4096)
+            highest[stream] = max(place, last)
+        elif words[0] == "data":
+            body = words[2].removeprefix("body=").replace("-", "")
+            streams.setdefault(stream, {}).setdefault(place, []).append(body)
+    return {way: [body for stream, places in streams.items() if stream[0] == way
+                  for place in sorted(places) for body in places[place]] for way in "><"}
+
+
 class TransferTest(CapturedCase):
     def test_files_are_stored_fetched_and_saved_and_the_capture_lists_them(self):
         transfers = []
@@ -189,13 +209,7 @@ class TransferTest(CapturedCase):
         for word in ("gap ", "part "):
             found = [line for line in listing if line.startswith(word)]
             expect(not found, f"{found[:1]} in the listing")
-        found, way = {">": [], "<": []}, ""
-        for line in listing:
-            if not line.startswith(" "):
-                way = line.split()[1]
-            record = re.match(r"  data recnum=\S+ body=(\S+)$", line)
-            if record:
-                found[way].append(record[1].replace("-", ""))
+        found = records_by_way(listing)
         stored = [body for transfer in transfers for body in transfer.data_bodies()]
         expect_equal(found[">"], stored, "the records stored by the listing")
         fetched = [body.replace("-", "") for transfer in transfers
