@@ -21,7 +21,7 @@ use Rattle.dap_accessed.specs.declared.phase.OpenFile.{OpenFile}
 use Rattle.dap_accessed.specs.declared.verbs.Verb.{Verb}
 use Rattle.dap_accessed.specs.declared.verbs.Verb.TheVariants as verbs
 use Rattle.dap_accessed.specs.Standing.{Files, place_of, the_file, Place, Fresh, Ready, Opened, Connected, Store, Stopped, Group, Standing, Scene, Effect, start, enters}
-use Rattle.dap_accessed.specs.Past.{asked_shape, kept_attributes, is_dropping, ordinal_so_far}
+use Rattle.dap_accessed.specs.Past.{asked_shape, kept_attributes, is_dropping}
 use Rattle.dap_accessed.specs.Replies.{bare_status, too_large}
 use Rattle.dap_accessed.specs.Accesses.{open_file, create_file, access_file, end_stream, complete}
 use Rattle.dap_accessed.specs.Records.{verb_of, get_pick, got, record_got, at_number, filedata_of, fits_limit, uncurrent, Change, Putting, Updating, changed}

@@ -9,7 +9,6 @@ use Rattle.dap_msg.specs.BothEnds.{least_buffer}
 use Rattle.dap_msg.specs.declared.items.Item.{Item}
 use Rattle.rec_file.specs.declared.shapes.Shape.{Shape}
 use Rattle.rec_file.specs.Files.{FileVal, stored}
-use Rattle.rec_file.specs.Acts.{StreamVal}
 use Rattle.dap_accessed.specs.declared.fault.AddFault.{AddFault}
 use Rattle.dap_accessed.specs.declared.fault.NoMemory.{NoMemory}
 use Rattle.dap_accessed.specs.declared.served.Served.{Served}
@@ -21,7 +20,7 @@ use Rattle.dap_accessed.specs.Adding.{newest, with_new_file, with_record}
 use Rattle.dap_accessed.specs.Storing.{Stores}
 use Rattle.dap_accessed.specs.Sessions.{SessionValue, IsOpenIn, new_session, open_at, phase_moved_up}
 use Rattle.dap_shared.specs.Nodes.{Event, Serves, Begins, Gives, GivesRecord, new_exchange, exchange_at, open_on, node_after}
-use Rattle.dap_shared.specs.Shared.{SharedValue, SharedGiven, SharedServes, kept_of, shared_of}
+use Rattle.dap_shared.specs.Shared.{SharedValue, SharedGiven, SharedServes, kept_of}
 use Rattle.dap_shared.specs.Inner.Beside.{gone_by, session_moved_up}
 use Rattle.dap_shared.specs.Inner.Held.{HasNumber, IsHeld, MovesOn, session_at}
 use Rattle.dap_shared.proofs.Events.{history-shares}
@@ -74,10 +73,10 @@ held-open v link h =
     let node = node_after v.own h.first (length v.sessions) h.events in
     let shares = (history-shares v.own h.first (length v.sessions) h.events h.after.links).0 in
     let kept : session_at v.own link v.sessions ≡ kept_of v.own node.files (exchange_at link node) =
-        ap (λ (w : SharedValue). session_at v.own link w.sessions) h.after.stands ∙ get_or-map (kept_of v.own node.files) node.exchanges link new_exchange in
+    ap (λ (w : SharedValue). session_at v.own link w.sessions) h.after.stands ∙ get_or-map (kept_of v.own node.files) node.exchanges link new_exchange in
     let files : node.files ≡ v.files = sym (ap (λ (w : SharedValue). w.files) h.after.stands) in
     let held : open_at (session_at v.own link v.sessions).phase ≡ open_on (exchange_at link node) =
-        ap (λ (s : SessionValue). open_at s.phase) kept ∙ open-kept v.own node.files (exchange_at link node) (shares.steady link) in
+    ap (λ (s : SessionValue). open_at s.phase) kept ∙ open-kept v.own node.files (exchange_at link node) (shares.steady link) in
     is-open v.files (session_at v.own link v.sessions).phase
     (subst (λ (x : Option OpenFile). IfSome x (λ o. o.at < length v.files)) (sym held) (subst (λ (l : Files). IfSome (open_on (exchange_at link node)) (λ o. o.at < length l)) files (shares.within link)))
     (h.numbers link)
@@ -92,11 +91,11 @@ numbers-then own sessions link r rest s lt e n h i =
       | inl same ↦ subst (λ (k : ℕ). HasNumber (session_at own k (set rest link s)).phase) (sym same) (subst (λ (t : SessionValue). HasNumber t.phase) (sym (get_or-set_same rest link s (new_session own) many)) n)
       | inr other ↦
           let is : session_at own i (set rest link s) ≡ session_moved_up r (session_at own i sessions) =
-              get_or-set_other rest link i s (new_session own) other
-              ∙ ap (λ (l : List SessionValue). get_or l i (new_session own)) e
-              ∙ ap (get_or (map (session_moved_up r) (set sessions link (new_session own))) i) (sym (new-moved r own))
-              ∙ get_or-map (session_moved_up r) (set sessions link (new_session own)) i (new_session own)
-              ∙ ap (session_moved_up r) (get_or-set_other sessions link i (new_session own) (new_session own) other) in
+          get_or-set_other rest link i s (new_session own) other
+          ∙ ap (λ (l : List SessionValue). get_or l i (new_session own)) e
+          ∙ ap (get_or (map (session_moved_up r) (set sessions link (new_session own))) i) (sym (new-moved r own))
+          ∙ get_or-map (session_moved_up r) (set sessions link (new_session own)) i (new_session own)
+          ∙ ap (session_moved_up r) (get_or-set_other sessions link i (new_session own) (new_session own) other) in
           subst (λ (t : SessionValue). HasNumber t.phase) (sym is) (moved-number r (session_at own i sessions) (h i))
     ]
 

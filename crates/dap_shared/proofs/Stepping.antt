@@ -26,16 +26,15 @@ use Rattle.dap_accessed.specs.Effects.{Begun, Does}
 use Rattle.dap_accessed.specs.Groups.{Grouped, answers_of, next_group, one_more}
 use Rattle.dap_accessed.specs.Present.{Present, present_of, phase_of, phase_at, phase_within, looked_back}
 use Rattle.dap_accessed.specs.Served.{AllAtMost, Answered}
-use Rattle.dap_accessed.specs.Sessions.{SessionValue, ServesItem, IsOpenIn, asked_in, joined, moved_up, new_session, open_at, phase_moved_up, refused_session, session_of}
+use Rattle.dap_accessed.specs.Sessions.{SessionValue, asked_in, joined, moved_up, new_session, open_at, phase_moved_up, session_of}
 use Rattle.dap_accessed.proofs.ForCallers.{access-keeps}
 use Rattle.dap_shared.specs.Sharing.{bars, file_locked, open_in, place_moved_up, is_locked, asks_to_open}
-use Rattle.dap_shared.specs.Nodes.{Exchange, Node, Event, Serves, Begins, Gives, GivesRecord, new_exchange, new_node, exchange_at, exchange_of, end_at, before_files, open_on, open_beside, more_beside, answers_beside, begun_moved_up, exchange_moved_up, removed_by, after_event, after_more, after_all, node_after}
+use Rattle.dap_shared.specs.Nodes.{Exchange, Node, Event, Serves, Begins, Gives, GivesRecord, new_exchange, new_node, exchange_at, exchange_of, end_at, before_files, open_on, open_beside, more_beside, answers_beside, begun_moved_up, exchange_moved_up, removed_by, after_event, after_all, node_after}
 use Rattle.dap_shared.specs.Shared.{SharedValue, SharedAfter, SharedBegins, SharedGiven, SharedServes, kept_of, shared_of}
 use Rattle.dap_shared.specs.Keeping.{AreOf}
 use Rattle.dap_shared.specs.Inner.Beside.{is_barred, session_moved_up, gone_by, MovesBeside}
 use Rattle.dap_shared.specs.Inner.Beside as beside
 use Rattle.dap_shared.specs.Inner.Held.{session_at}
-use Rattle.dap_shared.proofs.Changes.{IsSteady}
 use Rattle.dap_shared.proofs.Events.{IsShared, IsSteadyExchange, history-shares, one-new}
 use Rattle.dap_shared.proofs.PutBack.{map-over}
 
@@ -248,8 +247,8 @@ module _ (own : ℕ) (node : Node) (link : ℕ) (item : Item) (h : IsShared node
       let r = removed_by before d in
       let g = gone_by node.files files session.phase in
       let same : r ≡ g =
-          ap (λ (x : Option OpenFile). if nat_lt (length d.standing.scene.files) (length node.files) then x else None) (sym (phase-open before.standing before.begun (h.steady link).begun))
-          ∙ ap (λ (l : Files). gone_by node.files l session.phase) (sym left.same_files) in
+      ap (λ (x : Option OpenFile). if nat_lt (length d.standing.scene.files) (length node.files) then x else None) (sym (phase-open before.standing before.begun (h.steady link).begun))
+      ∙ ap (λ (l : Files). gone_by node.files l session.phase) (sym left.same_files) in
       ap (value d.standing.scene.files)
       (map-set (kept_of own d.standing.scene.files) (map (exchange_moved_up r) node.exchanges) link (exchange_of d)
       ∙ ap (λ (l : List SessionValue). set l link (session_of (present_of own d))) (exchanges-moved own node.files d.standing.scene.files r node.exchanges)

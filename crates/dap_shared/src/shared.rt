@@ -176,7 +176,12 @@ impl SharedFiles {
     /// one of the two would change the file or has made it.
     ///
     /// The only refusal is [`NoMemory`]. Nothing has changed then, and the same call may be made again.
-    pub fn serve_item(&mut self, link: usize, item: Item<'_>, next: usize) -> Result<Served, NoMemory>
+    pub fn serve_item(
+        &mut self,
+        link: usize,
+        item: Item<'_>,
+        next: usize,
+    ) -> Result<Served, NoMemory>
         requires link { link < length self.old.sessions }
         requires spelled { (m : TheMessage) → item ≡ Whole m → IsSpelled m }
         ensures serves { IfOk result (λ served. SharedServes link item.entry

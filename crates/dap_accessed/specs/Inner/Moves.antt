@@ -1,15 +1,12 @@
 -- What an item does to what an end keeps, and its answers.
-use Rattle.std.specs.Prelude.{ℕ, ◌≡◌, ◌<◌, ◌≤◌, Bool, true, false, not, ◌==◌, nat_lt, List, [], ◌∷◌, length, Option, IfSome, IsTrue, Result, IfOk}
+use Rattle.std.specs.Prelude.{ℕ, ◌≡◌, Bool, true, false, not, ◌==◌, nat_lt, List, [], ◌∷◌, length, Option, Result, IfOk}
 use Rattle.std.specs.Global.{Vec}
 use Rattle.dap_msg.specs.Codes as codes
 use Rattle.dap_msg.specs.declared.message.Message.{Message}
 use Rattle.dap_msg.specs.declared.message.Message.TheVariants.{Attrib, Access, Control, Contran, Filedata, Other}
 use Rattle.dap_msg.specs.declared.items.Item.{Item}
 use Rattle.dap_msg.specs.declared.items.Item.TheVariants.{Whole, Malformed}
-use Rattle.dap_msg.specs.BothEnds.{least_buffer}
 use Rattle.rec_file.specs.declared.shapes.Shape.{Shape}
-use Rattle.rec_file.specs.Limits.{greatest_number}
-use Rattle.rec_file.specs.Shapes.{is_shape}
 use Rattle.rec_file.specs.Acts.{StreamVal}
 use Rattle.rec_file.specs.declared.refusals.Refusal.{Refusal}
 use Rattle.dap_accessed.specs.declared.fault.NoMemory.{NoMemory}
@@ -18,7 +15,7 @@ use Rattle.dap_accessed.specs.declared.phase.Phase.{Phase}
 use Rattle.dap_accessed.specs.declared.phase.Phase.TheVariants as phases
 use Rattle.dap_accessed.specs.declared.verbs.Verb.{Verb}
 use Rattle.dap_accessed.specs.declared.verbs.Verb.TheVariants as verbs
-use Rattle.dap_accessed.specs.Standing.{Files, place_of, Place, Scene, Effect, enters, Fresh, Ready, Opened, Connected, Store, Stopped}
+use Rattle.dap_accessed.specs.Standing.{place_of, Place, Scene, Effect, enters, Fresh, Ready, Opened, Connected, Store, Stopped}
 use Rattle.dap_msg.specs.BothEnds.{no_attributes}
 use Rattle.dap_accessed.specs.Past.{asked_shape, next_ordinal}
 use Rattle.dap_accessed.specs.Accesses.{refuse_access, open_file, create_file}

@@ -1,5 +1,4 @@
-use Rattle.std.proofs.Common.{◌≡◌, Bool, List, Option, refl, ap, sym, subst, ◌∙◌, true}
-use Rattle.dap_accessed.specs.declared.phase.OpenFile.{OpenFile}
+use Rattle.std.proofs.Common.{◌≡◌, Bool, List, refl, ap, sym, subst, ◌∙◌, true}
 use Rattle.dap_accessed.specs.Sessions.{SessionValue, IsOpenIn, asked_in}
 use Rattle.dap_shared.specs.Inner.Beside.{Does, is_barred}
 use Rattle.dap_shared.proofs.Stepping.{unmoved}
@@ -8,9 +7,9 @@ use Rattle.dap_shared.proofs.shared.serve_beside.Goals as goal
 pub returns-then-is_barred-clause-ok : goal.returns-then-is_barred-clause-ok
 returns-then-is_barred-clause-ok c =
     let locked : is_barred c.args.others.now.items (asked_in c.args.files.now c.args.session.now.phase c.args.item) ≡ true =
-        ap (is_barred c.args.others.now.items) (sym c.asked-asked.ensures)
-        ∙ ap (λ (l : List SessionValue). is_barred l c.asked-asked.result) (sym c.deref.ensures.value)
-        ∙ sym c.is_barred.ensures ∙ c.if-is_barred.true in
+    ap (is_barred c.args.others.now.items) (sym c.asked-asked.ensures)
+    ∙ ap (λ (l : List SessionValue). is_barred l c.asked-asked.result) (sym c.deref.ensures.value)
+    ∙ sym c.is_barred.ensures ∙ c.if-is_barred.true in
     record {
       does = subst (λ (b : Bool). Does b c.args.item c.args.files.now c.args.session.now c.args.files.now c.refuse_open.new.self c.in_ok-answers.answers) (sym locked)
           (refl, c.in_ok-answers.ensures.session, c.in_ok-answers.ensures.answer, c.in_ok-answers.ensures.most);

@@ -14,7 +14,7 @@ returns-clause-err c =
     (λ h. (
       h.0,
       ap (λ (l : List SessionValue). set l c.args.link c.serve_beside-served.new.session) h.1
-      ∙ ap (λ (t : SessionValue). set (set sessions c.args.link c.replace-session.new.dest) c.args.link t) h.2
-      ∙ put-back sessions c.args.link c.replace-session.new.dest s was,
+          ∙ ap (λ (t : SessionValue). set (set sessions c.args.link c.replace-session.new.dest) c.args.link t) h.2
+          ∙ put-back sessions c.args.link c.replace-session.new.dest s was,
     ))
     c.serve_beside-served.ensures.err

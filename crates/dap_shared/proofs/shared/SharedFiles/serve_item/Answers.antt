@@ -21,5 +21,5 @@ returns-clause-serves c =
     let lt = subst (λ (w : SharedValue). c.args.link < length w.sessions) (sym c.self.view_is) c.requires.link in
     IfOk-weaker c.serve_on.result _ _
     (λ served m. subst (λ (w : SharedValue). SharedServes c.args.link c.args.item w (record { own = v.own; files = c.serve_on.new.files; sessions = c.serve_on.new.sessions.items }) served.answers) c.self.view_is
-        (on-shared v c.args.link c.args.item c.serve_on.new.files c.serve_on.new.sessions.items served.answers c.self.invariant lt m))
+    (on-shared v c.args.link c.args.item c.serve_on.new.files c.serve_on.new.sessions.items served.answers c.self.invariant lt m))
     c.serve_on.ensures.ok
