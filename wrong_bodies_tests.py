@@ -1,5 +1,5 @@
 #!/usr/bin/env -S python3 -X dev -W error
-"""Tests ./wrong_bodies over crates of its own, which takes two minutes of processor.
+"""Tests ./wrong_bodies over crates of its own, which takes three minutes of processor.
 
 usage: ./wrong_bodies_tests.py [TEST ..]    a TEST is a name as `TriedTest.test_a_right_body_is_found`
 """
@@ -109,7 +109,7 @@ class ToolCase(unittest.TestCase):
         folder = tempfile.TemporaryDirectory()
         cls.addClassCleanup(folder.cleanup)
         cls.folder = pathlib.Path(folder.name)
-        cls.rooms = cls.folder / "rooms"
+        cls.rooms, cls.cache = cls.folder / "rooms", cls.folder / "cache"
         cls.rooms.mkdir()
         shutil.copy(ROOT / TOOL, cls.folder)
         answers = cls.folder / "crates" / "small" / "proofs" / "named"
@@ -127,7 +127,8 @@ class ToolCase(unittest.TestCase):
     @classmethod
     def begin(cls, *words):
         return subprocess.Popen([cls.folder / TOOL, *words], stdin=subprocess.DEVNULL, stdout=subprocess.PIPE,
-                                stderr=subprocess.PIPE, text=True, env={**os.environ, "TMPDIR": str(cls.rooms)})
+                                stderr=subprocess.PIPE, text=True,
+                                env={**os.environ, "TMPDIR": str(cls.rooms), "XDG_CACHE_HOME": str(cls.cache)})
 
     @classmethod
     def run_it(cls, *words):
@@ -196,6 +197,34 @@ class BadTest(ToolCase):
         said = self.run_it("--look")[2]
         self.assertIn("crates/small/wrong/constant.edit: it is in must-fail/ too\n", said)
         self.assertIn("crates/small/wrong/without.edit: it has no line 'fn: MODULE::NAME'\n", said)
+
+
+class KeptTest(ToolCase):
+    crates = {"small": (SMALL, {name: SMALL_EDITS[name] for name in ("doubled_thrice", "constant")})}
+    refused = ["small/constant: refused: first_step: `returns`", "small/doubled_thrice: refused: double: `returns`"]
+
+    def tries(self, *words):
+        """The wrong bodies that a run tries; each of the two is refused, now or as it was kept."""
+        status, told, said = self.run_it(*words)
+        self.assertEqual((status, told[-1]), (0, "2 refused, 0 not"), f"{told}\n{said}")
+        self.assertEqual(sorted(line.removesuffix("; kept") for line in told[:-1]), self.refused)
+        return [line.split(":")[0] for line in sorted(told[:-1]) if not line.endswith("; kept")]
+
+    def test_what_was_refused_is_tried_again_where_anything_changed(self):
+        constant, doubled, both = "small/constant", "small/doubled_thrice", ["small/constant", "small/doubled_thrice"]
+        text = self.folder / "crates" / "small" / "src" / "lib.rt"
+        edit = self.folder / "crates" / "small" / "wrong" / "doubled_thrice.edit"
+        self.assertEqual(self.tries(), both)
+        self.assertEqual(self.tries(), [])
+        self.assertEqual(self.tries("--anew"), both)
+        edit.write_text(edit.read_text().replace("new:     u16::from(n) + ", "new:     1 + "))
+        self.assertEqual(self.tries(), [doubled])
+        text.write_text(f"{text.read_text()}// the last line\n")
+        self.assertEqual(self.tries("small"), both)
+        kept = [path for path in self.cache.glob("*/*") if "first_step" in path.read_text()]
+        for path in kept:
+            path.write_text(path.read_text()[:-1])
+        self.assertEqual((len(kept), self.tries()), (2, [constant]))
 
 
 class StopTest(ToolCase):

@@ -17,7 +17,8 @@ from decnet import program
 
 HERE = pathlib.Path(__file__).resolve().parent
 ROOT = HERE.parent
-PAGES = ["README.md", "docs/LISTING.md", "docs/LIVE.md", "docs/SCHEDULES.md"]
+PAGES = ["README.md", "docs/LISTING.md", "docs/LIVE.md", "docs/SCHEDULES.md"]  # which explain what is printed
+SHOWING = [*PAGES, "docs/BRIDGE.md"]
 BLOCK = r"((?:(?!```).*\n)+)```\n"
 SHOWN = re.compile(rf"^```sh\n{BLOCK}\n```\n{BLOCK}", re.M)
 TWO_NODES = "examples/two_nodes"
@@ -50,7 +51,7 @@ def wrong_words():
 
 def wrong_stored():
     """What is wrong with what is stored, or nothing."""
-    texts = {page: (ROOT / page).read_text() for page in PAGES}
+    texts = {page: (ROOT / page).read_text() for page in SHOWING}
     stored = {file.read_text() for file in HERE.glob("*.out")}
     for page, text in texts.items():
         shown = SHOWN.findall(text)
@@ -68,7 +69,7 @@ def wrong_stored():
 def play():
     """Runs all commands."""
     shown, skipped, has_nodes = 0, 0, run(f"{TWO_NODES} </dev/null").returncode == 0
-    for page in PAGES:
+    for page in SHOWING:
         for commands, printed in SHOWN.findall((ROOT / page).read_text()):
             if TWO_NODES in commands and not has_nodes:
                 skipped += 1

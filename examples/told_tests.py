@@ -28,7 +28,7 @@ FILES += [((HERE / f"wire.{kind}").read_bytes(), kind) for kind in ("pcap", "pca
 OTHERS = [(bytes.fromhex(MICROSECONDS)[:3], 1), (bytes.fromhex("a1b2c3d5"), 1), (b"foo\n", 1), (b"#\n\xa1\xb2\xc3\xd4", 2)]
 COMMANDS = {("dapnsp", "show"): "a capture", ("dapnsp", "msg"): "a capture", ("dapnsp", "run"): "a schedule",
             ("daplive", "follow"): "a capture"}
-TURNS = "examples/pcap_to_capture.py turns it into lines for dapnsp show and daplive follow"
+TURNS = "daplive frames turns it into lines for dapnsp show and daplive follow"
 
 ADDRESS, NUMBER = "an address is four hex digits", "a number is decimal digits, ten at most"
 WORDS = [

@@ -11,8 +11,20 @@ NOT_ASKED = {
     "failed": "the link has failed",
     "no-memory": "the live end has no memory",
 }
-# codes of a Status, and reasons with it
-STATUS = {"4032": "no such file", "5027": "no more records", "4030": "the file is in use"}
+# STSCODE of a Status: four bits that say what kind of refusal it is, and twelve that say which
+MICCODE_BITS = 12
+OF_FILES = {4, 5, 6, 7}  # kinds whose other bits are RMS's
+KINDS = {0x2: "it isn't supported there", 0x8: "a message that the other end can't read",
+         0x9: "a value that the other end doesn't take", 0xA: "a message out of its place"}
+# those of RMS, from memory but for 047 and 062
+RMS = {0o31: "there is no current record", 0o40: "no such directory", 0o47: "no more records",
+       0o54: "the file isn't open for that", 0o55: "a file of that name is there", 0o60: "the file is in use",
+       0o62: "no such file", 0o63: "no name of a file", 0o65: "the disk is full", 0o72: "the file can't do that",
+       0o76: "no such key", 0o111: "the record's number is out of range", 0o125: "the user may not do that",
+       0o127: "records aren't had in that way", 0o133: "a record is there", 0o135: "no file has these attributes",
+       0o136: "the record is in use", 0o140: "there is no such record",
+       0o146: "the record's length isn't one of the file's", 0o147: "the record is too long for the buffer"}
+# reasons of the proved end, besides the codes 4000 and 5000
 REASONS = {
     "1": "a file of that name is there",
     "2": "the file isn't open for that",
@@ -76,9 +88,11 @@ def refusal(report):
 
 
 def meaning(code, reason):
-    if code in STATUS:
-        return STATUS[code]
-    return REASONS.get(reason, "for a reason of the other end") if code in ("4000", "5000") else "by the other end"
+    if code in ("4000", "5000"):
+        return REASONS.get(reason, "for a reason of the other end")
+    kind, micro = divmod(int(code, 16), 1 << MICCODE_BITS)
+    found = RMS.get(micro) if kind in OF_FILES else KINDS.get(kind)
+    return found or "by the other end"
 
 
 def is_stopped(report):

@@ -88,9 +88,13 @@ class Asker(Role):
             raise self.end.strange("waits")
         if answer[0].startswith("refused "):
             self.is_due = False
-            self.say(answer[0])
-            self.note_refusal(answers.not_asked(self.request, answer[0]))
+            self.take_refusal(answer[0])
         self.link.do(answer)
+
+    def take_refusal(self, answer):
+        """The request isn't asked."""
+        self.say(answer)
+        self.note_refusal(answers.not_asked(self.request, answer))
 
     def told(self, text):
         if not text.startswith("report "):
@@ -131,13 +135,17 @@ class Asker(Role):
             self.look_at_end()
         self.look()
 
+    def place(self):
+        """What was asked last."""
+        return f"line {self.number}"
+
     def look_at_end(self):
         """Closes the link where nothing more is to be asked, or a report doesn't come."""
         if self.has_failed():
             self.link.disconnect(Reason.NO_ERROR, f"closed at line {self.number}, which was refused")
         elif self.is_due:
             if self.clock() >= self.report_until():
-                why = f"no report of line {self.number} within {self.patience:g} seconds"
+                why = f"no report of {self.place()} within {self.patience:g} seconds"
                 self.link.disconnect(Reason.ABORTED, why)
         elif not self.requests.is_open and not self.requests.whole and not self.end.waits:
             self.is_finished = True

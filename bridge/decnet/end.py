@@ -72,10 +72,12 @@ def unheard():
 class End:
     """A live end. Each line that it is told has one answer, in the order of the lines."""
 
+    is_kept = False  # whether another bridge can go on with its link
+
     def __init__(self, program, words, keep=False, told=None, clock=time.monotonic):
         """With `keep` all lines, in and out, are kept as `transcript`. `told` is called with each line that it writes
         on standard error, which otherwise goes where the program's own does."""
-        self.program, self.keep, self.told, self.clock = str(program), keep, told, clock
+        self.program, self.words, self.keep, self.told, self.clock = str(program), words, keep, told, clock
         try:
             with unheard():
                 self.process = subprocess.Popen(
@@ -94,12 +96,24 @@ class End:
 
     def tell(self, line, answer):
         """Tells it a line; `answer` takes what it answers. Nothing is waited for."""
+        self.queue(line, answer)
+        self.write()
+
+    def queue(self, line, answer):
+        """The same, when `write` is called next."""
+        self.queue_all([line], answer)
+
+    def queue_all(self, lines, answer):
+        """The same of many lines, which go at once; `answer` takes what each of them answers."""
         if not self.asked:
             self.moved_at = self.clock()
-        self.asked.append(answer)
-        self.unwritten.append(line.encode("utf-8", "surrogateescape") + b"\n")
-        self.note(line)
-        self.write()
+        self.asked.extend([answer] * len(lines))
+        self.unwritten.append("".join([f"{line}\n" for line in lines]).encode("utf-8", "surrogateescape"))
+        if self.keep:
+            self.transcript += lines
+
+    def remark(self, text):
+        """A note that is kept with the lines, where they are kept."""
 
     def say(self, line):
         """Tells it a line and waits for the answer: its lines, without the last."""
@@ -120,10 +134,6 @@ class End:
     @property
     def is_busy(self):
         return bool(self.asked)
-
-    def note(self, line):
-        if self.keep:
-            self.transcript.append(line)
 
     # ---- the event loop
 
@@ -163,7 +173,8 @@ class End:
     def take(self, line):
         if not self.asked:
             raise EndFault(f"{self.program} speaks unasked")
-        self.note(line)
+        if self.keep:
+            self.transcript.append(line)
         if not line.startswith(WAITS):
             self.asked[0].take(line)
             return

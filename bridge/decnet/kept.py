@@ -6,35 +6,20 @@ is, both of them comments; a file that begins with HEAD and doesn't end with tha
 HEAD, as people write it, needs no mark.
 """
 import contextlib
-import fcntl
 import hashlib
 import os
-import re
-import secrets
 import socket
-import stat
 import threading
+
+from decnet import log
+from decnet.locked import ENCODING, KeptFault, LockedFile, fault_of
 
 HEAD = "# kept by bridge.py"
 MARK = "# end of files: {} files, {} lines"
 MAX_LINE = 16_777_216  # the most bytes of a line that a live end takes
-BUFFER = 1 << 20
+MODE = 0o640  # of a file that is made
 FILE, RECORD = "file ", "  "  # how a line of files begins
-RANDOM_BYTES = 8
 CLOSE_SECONDS = 0.5  # for a save that is given up
-ENCODING = {"encoding": "utf-8", "errors": "surrogateescape", "newline": "\n"}
-
-
-class KeptFault(Exception):
-    """The lines in the file aren't files, or it isn't to be overwritten; or, `of_machine`, the machine is at fault."""
-
-    def __init__(self, text, of_machine=False):
-        super().__init__(text)
-        self.of_machine = of_machine
-
-
-def fault_of(path, fault):
-    return KeptFault(f"{path}: {fault.strerror or fault}", of_machine=True)
 
 
 # ---- reading
@@ -78,21 +63,18 @@ def check_lines(path, lines):
 # ---- the file
 
 
-class KeptFile:
+class KeptFile(LockedFile):
     """A file that is kept. While it is, no other bridge keeps it, and nobody else may change it."""
 
     def __init__(self, path, loaded=None):
         """`loaded` is the file from which the files come; where it isn't this one, this one has to be empty or missing.
         A fault where it is no plain file, is kept by another bridge, or can't be written anew."""
-        self.path, self.lock = path, None
         self.digest = None  # of what was saved last
+        super().__init__(path, MODE)
         try:
-            self.is_new = self.take_lock()
             self.check(loaded)
             self.clear()
-            beside, file = self.begin_beside()
-            file.close()
-            os.unlink(beside)
+            self.try_beside()
         except OSError as fault:
             self.close()
             raise fault_of(path, fault) from fault
@@ -101,64 +83,11 @@ class KeptFile:
             raise
         self.seen = self.state()
 
-    def take_lock(self):
-        """Opens and locks the file; whether it had to be made."""
-        flags = os.O_RDWR | os.O_CLOEXEC | os.O_NOFOLLOW | os.O_NONBLOCK
-        while True:
-            with contextlib.suppress(FileNotFoundError):
-                self.check_kind(os.lstat(self.path))
-                self.lock, is_new = os.open(self.path, flags), False
-            if self.lock is None:
-                with contextlib.suppress(FileExistsError):
-                    self.lock, is_new = os.open(self.path, flags | os.O_CREAT | os.O_EXCL, 0o640), True
-            if self.lock is not None:
-                self.lock_open(self.lock)
-                if os.path.samestat(os.fstat(self.lock), os.lstat(self.path)):
-                    return is_new
-                self.close()
-
-    def lock_open(self, file):
-        try:
-            fcntl.flock(file, fcntl.LOCK_EX | fcntl.LOCK_NB)
-        except BlockingIOError as fault:
-            raise KeptFault(f"{self.path}: another bridge keeps it") from fault
-
-    def check_kind(self, found):
-        kinds = {stat.S_ISLNK: "a symbolic link", stat.S_ISDIR: "a folder"}
-        what = [text for is_kind, text in kinds.items() if is_kind(found.st_mode)]
-        if not stat.S_ISREG(found.st_mode):
-            raise KeptFault(f"{self.path}: it is {what[0] if what else 'a device'}, and no plain file")
-
     def check(self, loaded):
         """A fault where the file has bytes that aren't loaded: they would be lost."""
         is_loaded = loaded is not None and os.path.exists(loaded) and os.path.samefile(loaded, self.path)
         if os.fstat(self.lock).st_size and not is_loaded:
             raise KeptFault(f"{self.path}: it isn't empty, and isn't the file of --files: it would be overwritten")
-
-    def clear(self):
-        """Removes what a bridge that was killed had begun to write."""
-        folder, name = os.path.split(self.path)
-        begun = re.compile(re.escape(name) + rf"\.new\.[0-9a-f]{{{2 * RANDOM_BYTES}}}")
-        for one in os.listdir(folder or "."):
-            if begun.fullmatch(one):
-                os.unlink(os.path.join(folder, one))
-
-    def begin_beside(self):
-        """A new file beside it, with its owner and its mode: the name, and the file."""
-        old = os.fstat(self.lock)
-        beside = f"{self.path}.new.{secrets.token_hex(RANDOM_BYTES)}"
-        made = os.open(beside, os.O_RDWR | os.O_CREAT | os.O_EXCL | os.O_CLOEXEC, 0o600)
-        file = open(made, "w", buffering=BUFFER, **ENCODING)
-        try:
-            new = os.fstat(made)
-            if (new.st_uid, new.st_gid) != (old.st_uid, old.st_gid):
-                os.fchown(made, old.st_uid, old.st_gid)
-            os.fchmod(made, stat.S_IMODE(old.st_mode))
-        except OSError:
-            file.close()
-            os.unlink(beside)
-            raise
-        return beside, file
 
     def state(self):
         """What changes where somebody else writes the file or puts another in its place."""
@@ -172,31 +101,16 @@ class KeptFile:
         """Whether the file has this already."""
         return digest == self.digest and self.state() == self.seen
 
-    def finish(self, beside, file, digest):
-        """Gives the new file, which is whole, the name of the old one, once it is on the disk."""
-        file.flush()
-        os.fsync(file.fileno())
+    def check_replaced(self):
         if self.state() not in (self.seen, None):
             raise KeptFault(f"{self.path}: somebody else has changed it, and it is left as it is")
-        lock = os.dup(file.fileno())
-        try:
-            self.lock_open(lock)
-            os.replace(beside, self.path)
-        except (OSError, KeptFault):
-            os.close(lock)
-            raise
-        os.close(self.lock)
-        self.lock, self.seen, self.digest = lock, self.state(), digest
-        folder = os.open(os.path.dirname(self.path) or ".", os.O_RDONLY)
-        try:
-            os.fsync(folder)
-        finally:
-            os.close(folder)
 
-    def close(self):
-        if self.lock is not None:
-            os.close(self.lock)
-            self.lock = None
+    def replaced(self):
+        self.seen = self.state()
+
+    def listing(self, then):
+        """What takes the answer to `files`, and puts it in the file's place."""
+        return Listing(self, then)
 
 
 # ---- writing
@@ -224,6 +138,9 @@ class Listing:
         except KeptFault as fault:
             self.fault = fault
 
+    def told(self):
+        return []
+
     def take(self, line):
         if self.fault:
             return
@@ -246,8 +163,8 @@ class Listing:
         with self.keeping_fault():
             if not self.fault and not self.kept.is_as(self.digest.digest()):
                 self.file.write(MARK.format(self.files, self.count) + "\n")
-                self.kept.finish(self.beside, self.file, self.digest.digest())
-                self.beside = None
+                self.kept.replace(self.beside, self.file)
+                self.beside, self.kept.digest = None, self.digest.digest()
         self.clear()
 
     def clear(self):
@@ -260,7 +177,12 @@ class Listing:
 
 
 class Keeper:
-    """Saves the files of a live end, one save after another, while other things go on: a thread waits for the disk."""
+    """Saves the files of a live end, one save after another, while other things go on: a thread waits for the disk.
+
+    Where they are kept gives a `listing`, which takes the lines of the answer to `files` and its end, and then calls what
+    it was given; `finish`, in the thread, lets the disk have them, `fault` says whether it has, and `told` what is to be
+    said then.
+    """
 
     def __init__(self, kept, end, is_changed=False):
         self.kept, self.end, self.is_changed = kept, end, is_changed
@@ -290,7 +212,7 @@ class Keeper:
 
     def begin(self):
         self.served, self.waiting, self.is_changed = self.waiting, [], False
-        self.listing = Listing(self.kept, self.listed)
+        self.listing = self.kept.listing(self.listed)
         self.end.tell("files", self.listing)
 
     def listed(self, listing):
@@ -299,7 +221,10 @@ class Keeper:
         self.thread.start()
 
     def finish(self, listing):
-        listing.finish()
+        try:
+            listing.finish()
+        except Exception as fault:  # whatever it is, who waits for the save is told
+            listing.fault = KeptFault(f"{type(fault).__name__}: {fault}", of_machine=True)
         self.writing.send(b"\0")
 
     def look(self):
@@ -307,6 +232,8 @@ class Keeper:
         self.reading.recv(1)
         self.thread.join()
         fault, served = self.listing.fault, self.served
+        for text in self.listing.told():
+            log.say(text)
         self.listing = self.served = None
         if fault:
             self.is_changed = True

@@ -40,6 +40,19 @@ class State(enum.Enum):
     CLOSED = "the link is closed"
 
 
+@dataclass(frozen=True)
+class LeftLink:
+    """A link without flow control that another bridge left open."""
+
+    peer: object
+    local: int
+    remote: int
+    segment: int
+    taken: int = 0  # messages of the other-data subchannel
+    is_on: bool = True  # whether data is wanted
+    acknowledged: int = 0  # the highest segment that the other end has
+
+
 class Countdown:
     """A wait that begins again so often, until it is stopped."""
 
@@ -127,7 +140,7 @@ class OtherData:
     """The other-data subchannel: link service and interrupt messages, numbered and acknowledged by themselves."""
 
     def __init__(self, clock):
-        self.taken, self.sent = 0, 0
+        self.taken, self.sent, self.is_resumed = 0, 0, False
         self.countdown = Countdown(clock)
 
     def takes(self, number):
@@ -138,18 +151,26 @@ class OtherData:
         return True
 
     def acknowledged(self, number):
+        if self.is_resumed and 0 < (number - self.sent) % nsp.NUMBERS < nsp.AHEAD:
+            self.sent = number  # of the bridge before
         if number == self.sent:
             self.countdown.stop()
+
+    def resume(self, taken):
+        """Goes on behind the messages that a bridge before this one took; what that one sent isn't known."""
+        self.taken, self.is_resumed = taken, True
 
 
 class Link:
     """One link. It acts on nothing but its end node, its live end, and what keeps the files of that."""
 
-    def __init__(self, node, end, settings, peer, local, told, keeper=None, clock=time.monotonic):
+    def __init__(self, node, end, settings, peer, local, told, keeper=None, space=None, clock=time.monotonic):
         """`told` is called with each report of the live end, and with what it says of want of memory. An answer that
-        says that a file is closed goes out when the `keeper` has saved what was changed."""
+        says that a file is closed goes out when the `keeper` has saved what was changed. Where the `space` is full
+        nothing is stored."""
         self.node, self.end, self.settings, self.told, self.clock = node, end, settings, told, clock
-        self.keeper = keeper
+        self.keeper, self.space = keeper, space
+        self.carried = lambda count: None  # told of the bytes of each new segment, either way
         self.explain = lambda packet: ""  # what to say of a packet that brought an answer without a place
         self.peer, self.local, self.remote = peer, local, 0
         self.state, self.was_open = State.CLOSED, False
@@ -165,6 +186,7 @@ class Link:
         self.has_changed = False  # whether anything came on it that may change files
         self.saves = 0  # saves that answers wait for
         self.wanted_at = None  # when another node asked for a link, since this one was heard
+        self.wanted_by = None  # which node that was
         self.half_open_until = None
         # when anything came; when a new segment came; when that, or an acknowledgement of one more segment, came
         self.heard_at = self.used_at = self.moved_at = clock()
@@ -178,11 +200,13 @@ class Link:
 
     def accept(self, connect):
         """Takes the link that a connect initiate asks for; false where the end can't have it. The connect confirm goes
-        out when the live end has the link."""
+        out when the live end has the link. Behind an acknowledgement the connect initiate doesn't come again: where the
+        link is kept, that waits too."""
         if not self.read_sizes(connect):
             return False
         self.state = State.ACCEPTING
-        self.send(nsp.connect_ack(self.remote))
+        if not self.end.is_kept:
+            self.send(nsp.connect_ack(self.remote))
         self.begin(self.accepted)
         return True
 
@@ -194,14 +218,35 @@ class Link:
             self.send(nsp.disconnect_confirm(self.remote, 0, Reason.NO_RESOURCES))
             self.close(f"the live end can't have the link: {answer[0]}")
             return
+        self.end.remark(self.note())
+        if self.state is State.ACCEPTING:
+            if self.end.is_kept:
+                self.send(nsp.connect_ack(self.remote))
+            self.half_open_until = self.clock() + self.prompt()
+            self.confirm()
+
+    def confirm(self):
         self.state = State.CONFIRMING
-        self.half_open_until = self.clock() + self.prompt()
         self.send_until_answered(nsp.confirm(self.remote, self.local, self.settings.segment), self.settings.tries)
+
+    def note(self):
+        """What a bridge has to know besides the live end to go on with the link."""
+        station, flow = self.peer.station.hex(), self.flow.control.name.lower()
+        return f"link {node_text(self.peer.node)} {station} {self.local:04x} {self.remote:04x} {self.segment} {flow}"
+
+    def resume(self, left):
+        """Goes on with a link that another bridge left, before the same live end. The other end may not have the connect
+        confirm; where it has, it acknowledges it again."""
+        self.remote, self.segment, self.acknowledged = left.remote, left.segment, left.acknowledged
+        self.other.resume(left.taken)
+        self.flow.is_on = left.is_on
+        self.confirm()
 
     def connect_again(self):
         """The connect initiate came another time. Where the link is open the other end may have begun anew: it is
         asked."""
-        if self.state in (State.ACCEPTING, State.CONFIRMING, State.RUNNING):
+        is_known = self.state in (State.CONFIRMING, State.RUNNING)
+        if is_known or (self.state is State.ACCEPTING and not self.end.is_kept):
             self.send(nsp.connect_ack(self.remote))
         self.probe()
 
@@ -336,11 +381,21 @@ class Link:
                 self.other.acknowledged(number)
             else:
                 self.note_progress(number)
-        if self.keeper and packet.kind in nsp.SEGMENTS:
-            if packet.kind is not Kind.ONLY or dap.may_change(packet.body):
-                self.has_changed = True
-                self.keeper.note_change()
-        self.ask_end("> " + packet.whole.hex(), lambda answer: self.do(answer, packet))
+        if packet.kind in nsp.SEGMENTS and (packet.kind is not Kind.ONLY or dap.may_change(packet.body)):
+            self.note_change(len(packet.body))
+        if self.state is State.RUNNING:
+            self.ask_end("> " + packet.whole.hex(), lambda answer: self.do(answer, packet))
+
+    def note_change(self, size):
+        """A segment of so many bytes may change files."""
+        if self.space:
+            if self.space.is_full:
+                self.disconnect(Reason.NO_RESOURCES, "the files have as many bytes as --space allows")
+                return
+            self.space.take(size)
+        if self.keeper:
+            self.has_changed = True
+            self.keeper.note_change()
 
     def take_other(self, packet):
         for qualifier, number in packet.acks:
@@ -355,16 +410,22 @@ class Link:
 
     def take_message(self, packet):
         """A link service message, or an interrupt message, which nothing here wants."""
+        before = self.other.taken
         if self.other.takes(packet.number) and packet.kind is Kind.LINK_SERVICE:
             service = nsp.read_link_service(packet.body)
             if service:
                 self.flow.change(service)
-        self.send(nsp.other_ack(self.remote, self.local, self.other.taken))
-        self.send_freed()
+        if self.other.taken != before:
+            self.end.remark(f"other {self.other.taken} {'on' if self.flow.is_on else 'off'}")
+        if self.state is State.RUNNING:
+            self.send(nsp.other_ack(self.remote, self.local, self.other.taken))
+            self.send_freed()
 
     def note_progress(self, number):
         """The other end has the segments up to a number: what waits more has all its tries again."""
-        if 0 < (number - self.acknowledged) % nsp.NUMBERS < nsp.AHEAD:
+        count = (number - self.acknowledged) % nsp.NUMBERS
+        if 0 < count < nsp.AHEAD:
+            self.carried(count * self.segment)
             self.acknowledged, self.moved_at = number, self.clock()
             self.flow.forget(number)
             self.resend.stop()
@@ -394,6 +455,7 @@ class Link:
                 self.send_or_hold(self.read_packet(rest))
             elif word == "accepted":
                 self.used_at = self.moved_at = self.clock()
+                self.carried(len(packet.body) if packet else 0)
             elif word == "report" or text == NO_MEMORY:
                 self.told(text)
             elif word == "refused" and rest.split(" ")[0].rstrip(":") in LINK_FAILED:
@@ -478,10 +540,10 @@ class Link:
     def send_probe(self):
         self.send(nsp.link_service(self.remote, self.local, self.other.taken, self.other.sent))
 
-    def want(self):
+    def want(self, node):
         """Another node asks for a link: this one is closed where its other end is silent for too long."""
         if self.wanted_at is None:
-            self.wanted_at = self.clock()
+            self.wanted_at, self.wanted_by = self.clock(), node
         self.probe()
 
     # ---- the clock
@@ -515,7 +577,8 @@ class Link:
     def look_at_silence(self):
         """Asks a silent other end whether it is there, and closes a link that is of no use."""
         if self.wanted_at is not None and self.clock() >= self.wanted_until():
-            self.give_up()
+            seconds = self.clock() - self.heard_at
+            self.give_up(f" for {seconds:.0f} seconds, and node {node_text(self.wanted_by)} wants a link")
         elif self.clock() >= self.heard_at + self.settings.idle:
             self.probe()
         if self.settings.unused and self.clock() >= self.used_at + self.settings.unused:
@@ -530,8 +593,11 @@ class Link:
             self.packet = nsp.connect_again(self.packet)
         self.send(self.packet, return_wanted=self.state is State.OPENING)
 
-    def give_up(self):
-        self.close(self.why or f"no answer from node {node_text(self.peer.node)}")
+    def give_up(self, more=""):
+        """Closes the link, of which nothing is heard any more."""
+        waits = self.end.waits if self.state is State.RUNNING else 0
+        segments = f"; {waits} segments weren't acknowledged" if waits else ""
+        self.close(self.why or f"no answer from node {node_text(self.peer.node)}{more}{segments}")
 
     def next_at(self):
         """When it is time for something, or None."""

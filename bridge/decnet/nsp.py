@@ -10,6 +10,11 @@ MIN_SEGMENT, MAX_SEGMENT = 64, 1400  # bytes of a segment that is taken and sent
 # MSGFLG, both addresses, two acknowledgement fields, the number: what a data segment has before its bytes
 SEGMENT_HEADER = 11
 IMAGE_LIMIT = 39  # the most bytes of a user, password or account
+# forms of a name in a connect message: an object's number, its name, and its name with the numbers of a group and a user
+BY_NUMBER, BY_NAME, BY_GROUP = 0, 1, 2
+GROUP_BYTES = 4
+NO_OBJECT = 0
+WITH_ACCESS_CONTROL = 1
 SERVICES = 0x01  # in SERVICES: bits that are always so
 VERSION = 0x02  # in INFO: NSP 4.0.0
 FIELD = 0x8000  # in an acknowledgement field; a segment number has it not
@@ -224,8 +229,45 @@ def read(data):
 
 def read_object(body):
     """The object number of a connect initiate's destination name; None where it is named otherwise."""
-    by_number = 0
-    return body[1] if len(body) >= 2 and body[0] == by_number else None
+    return body[1] if len(body) >= 2 and body[0] == BY_NUMBER else None
+
+
+@dataclass(frozen=True)
+class Session:
+    """What a connect initiate says of who asks, and for what."""
+
+    object: int = None  # its number; None where it is named otherwise
+    user: bytes = b""
+    password: bytes = b""
+    account: bytes = b""
+
+
+def read_name(reader):
+    """The object number of a name in a connect message; None where it is named otherwise."""
+    form, number = reader.byte(), reader.byte()
+    if form == BY_NUMBER:
+        return number
+    if form == BY_GROUP:
+        reader.take(GROUP_BYTES)
+    elif form != BY_NAME:
+        raise BadPacket("a name of no form")
+    reader.take(reader.byte())
+    return None
+
+
+def read_session(body):
+    """What stands behind the sizes of a connect initiate; None where it is cut short, or a field is too long."""
+    reader = Reader(body)
+    try:
+        number = read_name(reader)
+        read_name(reader)
+        has_access_control = reader.byte() & WITH_ACCESS_CONTROL
+        images = [reader.take(reader.byte()) for _ in range(3)] if has_access_control else []
+    except BadPacket:
+        return None
+    if any(len(one) > IMAGE_LIMIT for one in images):
+        return None
+    return Session(number, *images)
 
 
 @dataclass(frozen=True)
@@ -259,11 +301,10 @@ def image(data):
 
 def session(user=b"", password=b"", account=b"", name=b"DAPLIVE"):
     """What a connect initiate for FAL says behind the sizes: both names, and the access control where there is any."""
-    by_number, by_name, no_object, with_access_control = 0, 1, 0, 1
-    names = bytes([by_number, FAL, by_name, no_object]) + image(name)
+    names = bytes([BY_NUMBER, FAL, BY_NAME, NO_OBJECT]) + image(name)
     if not (user or password or account):
         return names + b"\0"
-    return names + bytes([with_access_control]) + image(user) + image(password) + image(account)
+    return names + bytes([WITH_ACCESS_CONTROL]) + image(user) + image(password) + image(account)
 
 
 def connect(local, segment, data):

@@ -86,7 +86,7 @@ class Role:
 
     def __init__(self, node, end, settings, clock=time.monotonic):
         self.node, self.end, self.settings, self.clock = node, end, settings, clock
-        self.addresses, self.keeper = Addresses(), None
+        self.addresses, self.keeper, self.space = Addresses(), None, None
         self.refusing = self.addresses.next()  # the address of links that are refused
         self.refused = None  # what was refused last
         self.link = None
@@ -97,7 +97,10 @@ class Role:
         local = self.addresses.next()
         while local == self.refusing:
             local = self.addresses.next()
-        return Link(self.node, self.end, self.settings, peer, local, self.told, self.keeper, self.clock)
+        return self.link_at(peer, local)
+
+    def link_at(self, peer, local):
+        return Link(self.node, self.end, self.settings, peer, local, self.told, self.keeper, self.space, self.clock)
 
     def receive(self, arrived):
         """Takes a packet that came; what is no packet of NSP is passed over."""
@@ -184,8 +187,11 @@ class Role:
         """Looks at what became of the link."""
         if self.link and self.link.state is State.CLOSED and self.is_over(self.link):
             link, self.link = self.link, None
-            log.say(f"link {link.local:04x}: {link.why}")
+            self.tell_closed(link)
             self.closed(link)
+
+    def tell_closed(self, link):
+        log.say(f"link {link.local:04x}: {link.why}")
 
 
 def turn(readers, writers, seconds):
@@ -198,12 +204,13 @@ def turn(readers, writers, seconds):
             writers[file]()
 
 
-def wait_for(is_done, end, signals, more=lambda: None):
-    """Lets a live end answer until something is so; `more` is called between answers. Stopped at a signal."""
+def wait_for(is_done, end, signals, more=lambda: None, files=lambda: {}):
+    """Lets a live end answer until something is so; `more` is called between answers, and `files` are read too. Stopped
+    at a signal."""
     more()
     while not is_done():
         readers, writers = end.files()
-        turn({**readers, **signals.files()}, writers, end.next_at() - end.clock())
+        turn({**readers, **files(), **signals.files()}, writers, end.next_at() - end.clock())
         end.tick()
         if signals.take_stop():
             end.close_seconds = STOP_SECONDS

@@ -66,8 +66,9 @@ class Harm:
 class EndNode:
     """An end node: it says hello, and carries NSP packets to and from other nodes over a wire."""
 
-    def __init__(self, wire, node, router=None, harm=None, clock=time.monotonic):
-        self.wire, self.node, self.router, self.harm, self.clock = wire, node, router, harm, clock
+    def __init__(self, wire, node, router=None, harm=None, tap=None, clock=time.monotonic):
+        """With a `tap` each frame that is sent or comes is noted there."""
+        self.wire, self.node, self.router, self.harm, self.tap, self.clock = wire, node, router, harm, tap, clock
         self.hello_at = clock()
 
     @property
@@ -83,11 +84,14 @@ class EndNode:
         """Says hello where it is time."""
         if self.clock() >= self.hello_at:
             self.hello_at = self.clock() + frames.HELLO_SECONDS
+            self.wire.refresh()
             self.send_frame(self.hello_frame())
 
     def start(self):
         """Says the first hello; a fault where the network is down."""
-        self.wire.start(self.hello_frame())
+        frame = self.hello_frame()
+        self.note(frame)
+        self.wire.start(frame)
         self.hello_at = self.clock() + frames.HELLO_SECONDS
 
     def way_to(self, node):
@@ -100,12 +104,20 @@ class EndNode:
 
     def send_frame(self, frame):
         for one in self.harm.carry(frame) if self.harm else [frame]:
+            self.note(one)
             self.wire.send(one)
 
     def receive(self):
         """The NSP packet of the next frame; None where there is no frame, or it is another's."""
         frame = self.wire.receive()
-        return read_frame(frame, self.node) if frame else None
+        if not frame:
+            return None
+        self.note(frame)
+        return read_frame(frame, self.node)
+
+    def note(self, frame):
+        if self.tap:
+            self.tap.note(frame)
 
     def close(self):
         self.wire.close()

@@ -1,4 +1,5 @@
-"""What carries Ethernet frames: a raw socket on an interface, or, for tests, a socket that somebody hands over."""
+"""What carries Ethernet frames: a raw socket on an interface, or, for tests, a socket that somebody hands over. Frames over
+UDP are in `udp`."""
 import errno
 import fcntl
 import os
@@ -23,6 +24,8 @@ class WireFault(Exception):
 class Wire:
     """Frames, sent and received, none of which is waited for."""
 
+    told_faults = TOLD
+
     def __init__(self, name, raw):
         self.name, self.socket, self.fault = name, raw, None
         raw.setblocking(False)
@@ -45,7 +48,7 @@ class Wire:
         try:
             return call(argument)
         except OSError as fault:
-            if fault.errno in TOLD:
+            if fault.errno in self.told_faults:
                 self.tell_once(fault)
             elif fault.errno not in SILENT:
                 raise WireFault(f"{self.name}: {fault.strerror}") from fault
@@ -55,6 +58,9 @@ class Wire:
         if self.fault != fault.errno:
             self.fault = fault.errno
             log.say(f"{self.name}: {fault.strerror}: frames are lost")
+
+    def refresh(self):
+        """Called now and then, for what is to be done besides."""
 
     def start(self, frame):
         """Sends the first frame; a fault where it can't be sent."""

@@ -3,11 +3,22 @@ import os
 import re
 import subprocess
 
-from decnet import frames, nsp, routing
+from decnet import captures, frames, nsp, routing
 from decnet.address import ethernet_address, node_text, read_node
 from decnet.nsp import Kind
 from tests.station import ASKING, SERVING
 from tests.support import PATIENCE, expect, expect_equal
+
+
+class Kept:
+    """A capture file that a bridge writes."""
+
+    def __init__(self, path):
+        self.path = path
+
+    def frames(self):
+        with open(self.path, "rb") as file:
+            return list(captures.frames(file))
 
 
 def tshark_text(path):

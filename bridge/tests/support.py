@@ -26,6 +26,8 @@ BUILT = BRIDGE.parent.parent / "crates/daplive/out/daplive"  # as ./daplive buil
 PROGRAM = os.environ.get("DAPLIVE") or str(BUILT)
 SEED = int(os.environ.get("BRIDGE_SEED") or 1)
 KEEP = os.environ.get("BRIDGE_KEEP")
+os.environ["XDG_CONFIG_HOME"] = "/nowhere"  # no file of options of who runs the tests holds
+ALL = bool(os.environ.get("BRIDGE_ALL"))  # whether sweeps are run in their whole form
 
 
 def expect(is_so, what):
@@ -36,6 +38,11 @@ def expect(is_so, what):
 def expect_equal(found, wanted, what):
     if found != wanted:
         raise AssertionError(f"{what}: {str(found)[:300]!r} instead of {str(wanted)[:300]!r}")
+
+
+def sweep_count(short, whole):
+    """How many of a sweep are run."""
+    return whole if ALL else short
 
 
 def until(happens, what, seconds=PATIENCE):

@@ -144,7 +144,7 @@ class SaveTest(KeptCase):
         for call in ("os.fsync", "os.replace", "os.fchmod"):
             self.path.write_text(WHOLE)
             file = self.keep(self.path)
-            with mock.patch(f"decnet.kept.{call}", side_effect=full):
+            with mock.patch(f"decnet.locked.{call}", side_effect=full):
                 self.assertIn("No space left on device", str(self.save(file, ["file 48 seq variable 0 0"])))
             self.assertEqual(self.path.read_text(), WHOLE, call)
             self.assertEqual(self.names(), ["kept"])
@@ -165,7 +165,7 @@ class SaveTest(KeptCase):
     def test_a_symbolic_link_in_the_way_is_not_followed(self):
         """The name beside the file can't be guessed, and is made anew in any case."""
         victim = self.file("victim", ["precious"])
-        with mock.patch("decnet.kept.secrets.token_hex", return_value="1" * 16):
+        with mock.patch("decnet.locked.secrets.token_hex", return_value="1" * 16):
             file = self.keep()
             (self.folder / ("kept.new." + "1" * 16)).symlink_to(victim)
             self.assertIn("File exists", str(self.save(file)))
@@ -214,6 +214,12 @@ class SaveTest(KeptCase):
         texts = ["\n".join([HEAD, f"file {count} seq variable 0 0", "# end of files: 1 files, 1 lines", ""])
                  for count in ("01", "02")]
         self.assertEqual(told, [("first", texts[0]), ("second", texts[1]), ("third", texts[1])])
+
+
+    def test_a_save_that_fails_in_any_way_is_told(self):
+        file = self.keep()
+        with mock.patch.object(kept.Listing, "finish", side_effect=ZeroDivisionError("odd")):
+            self.assertEqual(str(self.save(file)), "ZeroDivisionError: odd")
 
 
 class LoadTest(KeptCase):

@@ -18,6 +18,7 @@ import unittest
 from decnet import nsp
 from decnet.nsp import FlowControl, Kind, Modifier, Qualifier, Reason
 from tests import readings
+from tests.datagrams import UdpCase
 from tests.network import LIBC, Capture, Network, ip
 from tests.patterns import altered, good_frame, packets
 from tests.station import ASKING, CONFIGURATION, SERVING, SILENCE, Station, segment
@@ -433,6 +434,26 @@ class LinkTest(CapturedCase):
         head = bytes.fromhex("d4c3b2a1020004000000000000000000ffff000001000000")
         path.write_bytes(head + b"".join(bytes(8) + 2 * len(frame).to_bytes(4, "little") + frame for frame in frames))
         return path
+
+
+class PcapTest(UdpCase):
+    """The frames that --pcap writes, of bridges over UDP; tshark reads each as it was meant."""
+
+    def test_both_pcap_files_are_read_as_they_were_meant(self):
+        serving, asking = (readings.Kept(self.folder / f"{name}.pcap") for name in ("serving", "asking"))
+        server = self.serve("--pcap", serving.path, "--idle", "0.3", "--links", "1")
+        child = self.begin("ask", "--pcap", asking.path, stdin=None)
+        child.write(b"hello\ncreate 46 0 2 0 0 15\nconnect\n")
+        child.wait_for("report connected", child.out)
+        time.sleep(1)
+        child.write(b"store " + b" ".join([b"41" * 500] * 50) + b"\nclose\n")
+        child.end_input()
+        expect_equal((child.finish(), server.finish()), (0, 0), "the exit statuses")
+        kinds = readings.compare(serving)
+        expect_equal(kinds, readings.compare(asking), "the kinds of frames of both sides")
+        wanted = {"hello", Kind.CONNECT, Kind.CONNECT_ACK, Kind.CONFIRM, Kind.ONLY, Kind.DATA_ACK, Kind.LINK_SERVICE, Kind.OTHER_ACK,
+                  Kind.DISCONNECT, Kind.DISCONNECT_CONFIRM}
+        expect(wanted <= kinds, f"there are only {kinds}")
 
 
 class FaultTest(NetworkCase):

@@ -1,16 +1,21 @@
 """A quick sweep of attacks on a serving bridge: altered frames, limits of memory, kills at any time."""
+import contextlib
 import os
 import random
 import signal
 import time
 
+from decnet import nsp
+from decnet.journal import Parsed
 from decnet.kept import KeptFault, read_lines
+from decnet.users import make_hash
+from tests.datagrams import UdpCase
 from tests.pairs import HASTE, PairCase
 from tests.patterns import altered, good_frame, packets
 from tests.station import SERVING
-from tests.support import PROGRAM, SEED, child_of, need_live_end
+from tests.support import PROGRAM, SEED, child_of, need_live_end, sweep_count
 
-FRAMES, ROUND = 5000, 1000
+FRAMES, ROUND = sweep_count(5000, 20_000), 1000
 LIMITS = range(3_000, 9_000, 300)  # kB of memory that a live end may have
 KILLS = 30
 GOOD = b"hello\nopen 4b455054 2\nconnect\nfetch\nclose\n"
@@ -94,3 +99,41 @@ class SweepTest(PairCase):
         self.assertEqual(killed, KILLS)
         self.assertGreater(len(closed), KILLS)
         self.assertRaises(KeptFault, list, read_lines(self.folder / "nowhere"))
+
+
+class DatagramTest(UdpCase):
+    """Altered frames and any bytes over UDP, also connect messages of users; a good client is served afterwards."""
+
+    ROUND = 2000
+
+    def datagram(self, chance, patterns):
+        """An altered frame, or, of each eleven one, any bytes."""
+        if chance.random() < 1 / 11:
+            return chance.randbytes(chance.randrange(2000))
+        packet = chance.choice(patterns)
+        if packet[0] in nsp.CONNECTS:
+            packet = altered(chance, nsp.connect(chance.randrange(1, 9), 512, nsp.session(b"SMITH", b"SECRET")))
+        return altered(chance, good_frame(packet))[:1514]
+
+    def test_a_good_client_is_served_after_altered_datagrams(self):
+        chance, path = random.Random(SEED), self.folder / "store"
+        users = self.file("users", [f"SMITH {make_hash(b'SECRET')}"])
+        server = self.serve("--store", path, "--users", users, "--idle", "1", "--tries", "5")
+        patterns, sent = [packet for packet, _ in packets()], 0
+        for _ in range(sweep_count(1, 11)):
+            station = self.station()
+            for _ in range(self.ROUND):
+                with contextlib.suppress(OSError):
+                    station.send_frame(self.datagram(chance, patterns))
+                sent += 1
+                if sent % 50 == 0:
+                    time.sleep(0.002)
+            station.close()
+            time.sleep(5)  # longer than a link that was opened meanwhile lasts
+            name = f"{sent:06}"
+            requests = f"hello\ncreate {name} 0 2 0 0 15\nconnect\nput 41\nclose\n".encode()
+            child = self.ask(requests, "--user", "SMITH", "--password", "SECRET", "--tries", "60")
+            self.assertEqual((child.finish(), child.reports()[-1:]), (0, ["report closed"]), child.told() + server.told())
+        self.stop(server)
+        self.assertEqual(len([line for line in Parsed(path, path.read_bytes()).lines if line.startswith("file ")]), sweep_count(1, 11))
+        print(f"{sent} altered frames and random bytes over UDP; a good client was served after each {self.ROUND}")

@@ -2,7 +2,7 @@
 --
 --   tshark -X lua_script:dap.lua -r wire.pcap
 --
--- or copy it to the personal Lua plugins folder (Wireshark: Help, About, Folders; tshark: -G folders). tools/README.md
+-- or copy it to the personal Lua plugins folder (Wireshark: Help, About, Folders; tshark: -G folders). docs/CAPTURES.md
 -- says what it shows. The protocol is dec_dap, for the names dap.* belong to another one.
 --
 -- It takes dec_dna's entry in the dissector tables, and calls it first. A postdissector can't reassemble: dec_dna has no
@@ -458,9 +458,9 @@ local function read_connect(bytes)
 end
 
 -- A stream: the segments of one direction of a link, by their sequence numbers without modulus; where the fragment of a
--- message begins (`left`, by its last) and ends (`right`, by its first); and the messages that are whole.
+-- message begins (`left`, by its last) and ends (`right`, by its first).
 local function new_stream()
-  return { segments = {}, left = {}, right = {}, messages = {} }
+  return { segments = {}, left = {}, right = {} }
 end
 
 -- The sequence number without modulus: nearest to the highest so far, and ahead where both are as near.
@@ -480,7 +480,6 @@ local function completed(stream, segment)
   stream.right[from], stream.left[to] = to, from
   if not (BEGINS[segments[from].mark] and ENDS[segments[to].mark]) then return nil end
   local message = { from = from, to = to, frame = segment.frame }
-  stream.messages[#stream.messages + 1] = message
   for sequence = from, to do segments[sequence].message = message end
   return message
 end
@@ -493,28 +492,8 @@ local function take_segment(stream, segment)
   if stream.segments[at] then return stream.segments[at], nil end
   if highest and at > highest + 1 then segment.skipped = at - highest - 1 end
   stream.highest = math.max(highest or at, at)
-  stream.lowest = math.min(stream.lowest or at, at)
   stream.segments[at] = segment
   return segment, completed(stream, segment)
-end
-
--- By frame, the messages of a stream where `daplive follow` lists them: at the latest of the frames that hold the stream up to
--- the message's end. Each message gets that frame as `listed_in`.
-local function messages_by_frame(stream)
-  local sequences, frames, latest, result = {}, {}, 0, {}
-  for sequence in pairs(stream.segments) do sequences[#sequences + 1] = sequence end
-  table.sort(sequences)
-  for _, sequence in ipairs(sequences) do
-    latest = math.max(latest, stream.segments[sequence].frame)
-    frames[sequence] = latest
-  end
-  table.sort(stream.messages, function(one, other) return one.from < other.from end)
-  for _, message in ipairs(stream.messages) do
-    message.listed_in = frames[message.to]
-    result[message.listed_in] = result[message.listed_in] or {}
-    table.insert(result[message.listed_in], message)
-  end
-  return result
 end
 
 local function bytes_of(stream, message)
@@ -621,8 +600,6 @@ dap.experts = { malformed, bad_segment, refusal, hole, again }
 
 dap.prefs.fal = Pref.bool("Leave links to other objects out", true,
   "Read as DAP the links whose Connect Initiate names object 17 (FAL), and those whose Connect Initiate isn't in the capture")
-dap.prefs.hold = Pref.bool("Hold messages back behind a missing segment", false,
-  "Show a message where its receiver could read it, after what was lost before it (tshark: with -2), not where it is whole")
 
 ---------------------------------------------------------------------------------------------------------------------
 -- Wireshark: the tree. `range_of(at, size)` is the range of bytes of an NSP message.
@@ -757,9 +734,8 @@ local function add_note(tree, payload, segment, kept, elsewhere)
     return string.format("segment %d (%s)", segment.number, segment.mark)
   end
   item:set_text(string.format("DECnet Data Access Protocol, %s segment %d of an NSP message", segment.mark, segment.number))
-  local frame = dap.prefs.hold and elsewhere.listed_in or elsewhere.frame
-  item:add(fields["nsp.message_in"], payload, frame)
-  return string.format("segment %d (%s) of the message in frame %d", segment.number, segment.mark, frame)
+  item:add(fields["nsp.message_in"], payload, elsewhere.frame)
+  return string.format("segment %d (%s) of the message in frame %d", segment.number, segment.mark, elsewhere.frame)
 end
 
 -- Three or more Data in a row are one entry of the Info column.
@@ -805,18 +781,6 @@ local function is_wanted(from, to, segment)
   return object == nil or object == FAL
 end
 
--- With `hold`, in the first pass: the messages behind which nothing is missing any more.
-local function next_in_order(stream)
-  local whole, at = {}, math.max(stream.next or 0, stream.lowest)
-  while stream.segments[at] and stream.segments[at].message do
-    local message = stream.segments[at].message
-    whole[#whole + 1] = message
-    at = message.to + 1
-  end
-  stream.next = at
-  return whole
-end
-
 local function keep(pinfo, from, to, bytes)
   local object, address = read_connect(bytes)
   if object then
@@ -831,9 +795,7 @@ local function keep(pinfo, from, to, bytes)
   streams[key] = streams[key] or new_stream()
   local stream = streams[key]
   local counts, message = take_segment(stream, segment)
-  stream.by_frame = nil
-  local whole = dap.prefs.hold and next_in_order(stream) or { message }
-  return { stream = stream, segment = segment, counts = counts, whole = whole }
+  return { stream = stream, segment = segment, counts = counts, whole = message }
 end
 
 local function show_fault(kept, tree, range)
@@ -844,27 +806,17 @@ local function show_fault(kept, tree, range)
   bad:add_proto_expert_info(bad_segment, string.format("%s at byte %d", kept.fault, kept.fault_at))
 end
 
--- The NSP messages that are shown in a frame.
-local function messages_in(kept, pinfo)
-  if not (pinfo.visited and dap.prefs.hold) then return kept.whole end
-  kept.stream.by_frame = kept.stream.by_frame or messages_by_frame(kept.stream)
-  return kept.stream.by_frame[pinfo.number] or {}
-end
-
 local function show(kept, pinfo, tree, range)
-  local stream, segment, summaries, is_here = kept.stream, kept.segment, {}, false
+  local segment, message, summaries, note = kept.segment, kept.whole, {}, nil
   local payload = #segment.payload > 0 and range(segment.payload_at) or range
-  for _, message in ipairs(messages_in(kept, pinfo)) do
-    local is_only = message.from == message.to and kept.counts == segment and message.from == segment.sequence
-    local added = is_only and add_only(tree, payload, segment) or add_reassembled(tree, range, stream, message)
-    for _, text in ipairs(added) do summaries[#summaries + 1] = text end
-    is_here = is_here or message == kept.counts.message
+  if not message then
+    note = add_note(tree, payload, segment, kept, kept.counts.message)
+  elseif message.from == message.to then
+    summaries = add_only(tree, payload, segment)
+  else
+    summaries = add_reassembled(tree, range, kept.stream, message)
   end
-  local note
-  local elsewhere = not is_here and kept.counts.message or nil
-  if kept.counts ~= segment or elsewhere or #summaries == 0 then
-    note = add_note(tree, payload, segment, kept, elsewhere)
-  end
+  if message and #summaries == 0 then note = "an empty NSP message" end
   if segment.skipped then
     local item = tree:add(fields["nsp.missing"], segment.skipped):set_generated()
     item:add_proto_expert_info(hole, counted(segment.skipped, "segment") .. " missing before this one, so far")

@@ -10,7 +10,6 @@ import random
 import re
 import shutil
 import subprocess
-import sys
 import tempfile
 import unittest
 import xml.etree.ElementTree as ElementTree
@@ -51,8 +50,7 @@ WRONG_BODIES = [
     ("not cut after a last mark", "if behind and not BEGINS[behind.mark] and not ENDS[segment.mark] then",
      "if behind and not BEGINS[behind.mark] then"),
     ("one acknowledgement field at most", "local FIELDS_BEFORE_PAYLOAD = 3", "local FIELDS_BEFORE_PAYLOAD = 2"),
-    ("held by its own segments alone", "latest = math.max(latest, stream.segments[sequence].frame)",
-     "latest = stream.segments[sequence].frame"),
+    ("a message that a late segment completes is left out", "from = stream.left[at - 1] end", "from = at end"),
     ("an Ethernet's filling is payload", "local range = tvb(at, stop - at)", "local range = tvb(at)"),
 ]
 TRIED = WRONG_BODIES if ALL else WRONG_BODIES[:3]
@@ -79,20 +77,20 @@ def follow(lines):
 
 # ---- tshark
 
-def tshark(pcap, *words, lua=LUA, hold=True):
+def tshark(pcap, *words, lua=LUA):
     """What tshark prints of a capture file."""
-    options = ["-X", f"lua_script:{lua}", "-o", f"dec_dap.hold:{str(hold).upper()}", "-r", pcap]
-    done = subprocess.run(["tshark", *["-2"] * hold, *options, *words], capture_output=True, text=True, check=False)
+    command = ["tshark", "-X", f"lua_script:{lua}", "-r", pcap, *words]
+    done = subprocess.run(command, capture_output=True, text=True, check=False)
     if "Lua" in done.stderr or "Lua Error" in done.stdout:
         raise AssertionError(f"{pcap}: {(done.stderr + done.stdout)[:300]}")
     return done.stdout
 
 
-def texts(pcap, **more):
+def texts(pcap, lua=LUA, passes=()):
     """By frame the lines that dap.lua gives; no frame has an error of Lua."""
     result = {}
-    words = ["-T", "fields", "-E", "aggregator=|", "-e", "frame.number", "-e", "dec_dap.text", "-e", "_ws.expert.message"]
-    for line in tshark(pcap, *words, **more).splitlines():
+    words = [*passes, "-T", "fields", "-E", "aggregator=|", "-e", "frame.number", "-e", "dec_dap.text", "-e", "_ws.expert.message"]
+    for line in tshark(pcap, *words, lua=lua).splitlines():
         number, lines, _ = line.split("\t")
         if lines:
             result[int(number)] = lines.split("|")
@@ -179,18 +177,16 @@ class Case(unittest.TestCase):
         self.assertTrue(listed)
         self.first_difference(listed, rebuilt_lines(pcap), "of the fields")
         self.first_difference(listed, texts(pcap), "of dec_dap.text")
-        held_not = texts(pcap, hold=False)
-        count = lambda lines: collections.Counter(line for some in lines.values() for line in some)
-        self.assertEqual(count(held_not), count(listed), "without hold")
+        self.first_difference(listed, texts(pcap, passes=["-2"]), "in two passes")
 
     def first_difference(self, listed, found, what):
         for frame in sorted({*listed, *found}):
             self.assertEqual(found.get(frame), listed.get(frame), f"frame {frame}, {what}")
 
     def compare_file(self, path):
-        """A capture file, whose packets pcap_to_capture.py finds."""
-        words = [sys.executable, EXAMPLES / "pcap_to_capture.py", path]
-        text = subprocess.run(words, capture_output=True, text=True, check=True).stdout
+        """A capture file, whose packets `daplive frames` finds."""
+        with path.open("rb") as file:
+            text = subprocess.run([DAPLIVE, "frames"], stdin=file, capture_output=True, text=True, check=True).stdout
         frames = [int(line.split()[2]) for line in text.splitlines() if line.startswith("# frame ")]
         listed = follow([line for line in text.splitlines() if not line.startswith("#")])
         self.compare(path, {frames[number - 1]: lines for number, lines in listed.items()})
@@ -203,7 +199,7 @@ class ListingTest(Case):
                 self.compare_file(EXAMPLES / name)
 
     def test_the_page_shows_what_tshark_prints(self):
-        page = (ROOT / "tools" / "README.md").read_text(encoding="utf-8")
+        page = (ROOT / "docs" / "CAPTURES.md").read_text(encoding="utf-8")
         (command, printed), = re.findall(r"^```sh\n(.*\n)```\n\n```\n((?:.*\n)+?)```", page, re.M)
         done = subprocess.run(["bash", "-c", command], cwd=ROOT, capture_output=True, text=True, check=True)
         self.assertEqual(done.stdout, printed)
@@ -271,7 +267,7 @@ class LinkTypesTest(Case):
     def lines_of(self, frames, link=made_captures.LINK_ETHERNET, *words):
         path = self.folder / "link.pcap"
         path.write_bytes(made_captures.pcap(frames, link))
-        found = tshark(path, *words, "-T", "fields", "-e", "frame.number", "-e", "dec_dap.text", hold=False)
+        found = tshark(path, *words, "-T", "fields", "-e", "frame.number", "-e", "dec_dap.text")
         return [line.split("\t")[1] for line in found.splitlines()]
 
     def test_link_types(self):

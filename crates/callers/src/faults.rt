@@ -1,12 +1,15 @@
 //! What each fault of the libraries prints.
 
 use crate::trouble::Lines;
+use capture_file as file;
+use capture_file::FileFault;
 use dap_accessed::{AddFault, NoMemory};
 use dap_accessing::{AskFault, ReadFault};
 use dap_end::{EndFault, TakeFault};
 use dap_fields::FieldFault;
 use dap_msg::{FaultKind, MsgFault};
 use dap_world::WorldFault;
+use decnet_frames::{Counts, FramesFault};
 use linewise::TalkFault;
 use nsp_link::{Got, LinkFault};
 use nsp_seg::SegFault;
@@ -113,6 +116,38 @@ const OF_WORLDS: &[WorldFault] = &[
     WorldFault::BadSetup,
 ];
 
+const FILE_KINDS: &[file::FaultKind] = &[
+    file::FaultKind::UnknownMagic,
+    file::FaultKind::UnknownOrder,
+    file::FaultKind::OtherLink,
+    file::FaultKind::BadLength,
+    file::FaultKind::TooLong,
+    file::FaultKind::TooManyInterfaces,
+    file::FaultKind::CutShort,
+    file::FaultKind::NoMemory,
+];
+
+const OF_FILES: &[FileFault] = &[FileFault {
+    kind: file::FaultKind::BadLength,
+    at: 1024,
+}];
+
+const OF_FRAMES: &[FramesFault] = &[
+    FramesFault::File(
+        FileFault {
+            kind: file::FaultKind::CutShort,
+            at: 0,
+        },
+        Counts {
+            taken: 0,
+            passed: 0,
+        },
+    ),
+    FramesFault::ReadFailed,
+    FramesFault::WriteFailed,
+    FramesFault::NoMemory,
+];
+
 const OF_TALKS: &[TalkFault] = &[TalkFault::ReadFailed, TalkFault::WriteFailed];
 
 /// Prints faults of one type, each in a line.
@@ -138,4 +173,7 @@ pub fn call(out: &mut Lines) {
     print("taking", OF_TAKING, out);
     print("world", OF_WORLDS, out);
     print("talk", OF_TALKS, out);
+    print("file kind", FILE_KINDS, out);
+    print("file", OF_FILES, out);
+    print("frames", OF_FRAMES, out);
 }

@@ -2,6 +2,7 @@
 #![tactic(auto)]
 
 mod asking;
+mod captures;
 mod ends;
 mod faults;
 mod fields;
@@ -30,6 +31,7 @@ fn call_all(alloc: Global, out: &mut Lines) -> Result<(), Trouble> {
     sharing::call(alloc, out)?;
     ends::call(alloc, out)?;
     worlds::call(alloc, out)?;
+    captures::call(alloc, out)?;
     faults::call(out);
     Ok(())
 }

@@ -29,7 +29,7 @@ fn help<E: Write>(reading: Reading, front: &[u8], fault: CaptureFault, error_wri
         (Some(kind), CaptureFault::BadLine(_) | CaptureFault::TooLarge) => {
             let _ = writeln!(
                 error_writer,
-                "{program}: line 1: {kind}; examples/pcap_to_capture.py turns it into lines for dapnsp show and daplive follow"
+                "{program}: line 1: {kind}; daplive frames turns it into lines for dapnsp show and daplive follow"
             );
         }
         (None, CaptureFault::BadLine(number)) => {

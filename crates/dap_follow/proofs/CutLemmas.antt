@@ -361,12 +361,12 @@ pub listed : (ordered : List Placed) (p : Piece) (front back : List Piece) → i
 listed ordered p front back message parts =
     let kept : filter is_message (p ∷ back) ≡ p ∷ filter is_message back = rw message refl in
     let bytes = λ (m : Message). payload m.piece in
-    let before = map (message_of ordered) (filter is_message front) in
-    let among : messages ordered ≡ before ++ message_of ordered p ∷ map (message_of ordered) (filter is_message back) =
-    ap (λ (ps : List Piece). map (message_of ordered) (filter is_message ps)) parts
-    ∙ ap (map (message_of ordered)) (filter-append is_message front (p ∷ back) ∙ ap (λ (ps : List Piece). filter is_message front ++ ps) kept)
-    ∙ map-append (message_of ordered) (filter is_message front) (p ∷ filter is_message back) in
-    let carried = ap (map bytes) among ∙ map-append bytes before (message_of ordered p ∷ map (message_of ordered) (filter is_message back)) in
+    let before = map message_of (filter is_message front) in
+    let among : messages ordered ≡ before ++ message_of p ∷ map message_of (filter is_message back) =
+    ap (λ (ps : List Piece). map message_of (filter is_message ps)) parts
+    ∙ ap (map message_of) (filter-append is_message front (p ∷ back) ∙ ap (λ (ps : List Piece). filter is_message front ++ ps) kept)
+    ∙ map-append message_of (filter is_message front) (p ∷ filter is_message back) in
+    let carried = ap (map bytes) among ∙ map-append bytes before (message_of p ∷ map message_of (filter is_message back)) in
     subst (λ (all : List (List ℕ)). Contains all (payload p)) (sym carried) (Contains-append_right (map bytes before) _ (payload p) (0, omega arith, refl))
 
 pub run_listed : (q : ℕ) (cut : List cutting.Piece) (ordered : List Placed) → Marked true cut → HasRun q cut ordered → IsListed (flat_map (λ (c : cutting.Piece). c.payload) cut) (messages ordered)

@@ -1,5 +1,5 @@
 -- The pieces of segments in order.
-use Rattle.std.proofs.Common.{◌≡◌, ◌==◌, ◌<◌, ◌≤◌, ◌+◌, ◌-◌, ◌/◌, ◌++◌, ◌&&◌, ℕ, zero, suc, Bool, true, false, List, [], ◌∷◌, length, take, drop, get_or, max, add-one, Some, None, refl, sym, ap, ◌∙◌, subst, arith, ⊎_elim}
+use Rattle.std.proofs.Common.{◌≡◌, ◌==◌, ◌<◌, ◌≤◌, ◌+◌, ◌-◌, ◌/◌, ◌++◌, ◌&&◌, ℕ, zero, suc, Bool, true, false, List, [], ◌∷◌, length, take, drop, get_or, add-one, Some, None, refl, sym, ap, ◌∙◌, subst, arith, ⊎_elim}
 use Rattle.std.specs.Global.{Vec}
 use Rattle.std.specs.Prelude.{codes, fold, if◌then◌else◌, nat_lt, slice_get, slice_set}
 use Rattle.dap_text.specs.Text.{line_feed}
@@ -15,7 +15,7 @@ use Rattle.dap_follow.specs.Streams.{Placed}
 use Rattle.dap_listing.specs.Messages.{IsMessagesText}
 use Rattle.dap_follow.specs.Following.{IsMessageText, gap_line, part_line, range_text, stream_text}
 use Rattle.dap_follow.specs.Joined.{Message, Piece, is_message, joins, payload, pieces, tail, with_segment}
-use Rattle.dap_follow.specs.Inner.Listing.{AreSpelled, IsCutOff, IsPiece, ListsPiece, UnderAll, digits_of, message_at, values, latest, message_heading, part_text, AreMessageLines, no_more, one_more, segments}
+use Rattle.dap_follow.specs.Inner.Listing.{AreSpelled, IsCutOff, IsPiece, ListsPiece, UnderAll, digits_of, message_at, values, message_heading, part_text, AreMessageLines, no_more, one_more, segments}
 use Rattle.dap_follow.specs.Inner.Placing.{counted_value}
 use Rattle.dap_follow.specs.declared.places.Counted.{Counted}
 use Rattle.dap_follow.specs.declared.streams.Stream.{Stream}
@@ -42,10 +42,6 @@ last_of (c ∷ cs) d p some is =
     let first : counted_value c ≡ p.head = sym (head_is p.head (counted_value c) p.others (values cs) is) in
     let others : values cs ≡ p.others = sym (tail_is p.head (counted_value c) p.others (values cs) is) in
     ap (λ (i : ℕ). counted_value (get_or (c ∷ cs) i d)) at ∙ last_is c cs d ∙ ap (λ (s : Placed). end_of s (values cs)) first ∙ ap (end_of p.head) others
-
-pub latest-append : (xs ys : List Placed) → latest (xs ++ ys) ≡ max (latest xs) (latest ys)
-latest-append [] ys = omega arith
-latest-append (x ∷ xs) ys = let rest = latest-append xs ys in omega (arith, rest)
 
 -- ---- the first piece
 

@@ -1,6 +1,6 @@
 -- The messages of a stream. By the law `cut_messages_are_listed` a message that a link cut is one of them, in
 -- whatever order its segments came.
-use Rattle.std.specs.Prelude.{ℕ, ◌+◌, ◌==◌, ◌&&◌, not, nat_le, Bool, List, [], ◌∷◌, fold, map, max, if◌then◌else◌}
+use Rattle.std.specs.Prelude.{ℕ, ◌+◌, ◌==◌, ◌&&◌, not, Bool, List, [], ◌∷◌, fold, map, max, if◌then◌else◌}
 use Rattle.std.specs.List.{filter, flat_map}
 use Rattle.dap_follow.specs.Streams.{Placed}
 
@@ -41,10 +41,15 @@ pub record Message : Type 0 where
   pub packet : ℕ
   pub piece : Piece
 
--- A message is listed under the latest packet among those that hold the stream up to the message's end.
-abbrev pub message_of : List Placed → Piece → Message
-message_of ordered p = record { packet = fold (λ latest s. max latest s.packet) 0 (filter (λ s. nat_le s.place (tail p).place) ordered); piece = p }
+-- the latest packet of segments
+abbrev pub latest : List Placed → ℕ
+latest [] = 0
+latest (s ∷ others) = max s.packet (latest others)
+
+-- A message is listed under the packet with which it is whole: the latest of those of its own segments.
+abbrev pub message_of : Piece → Message
+message_of p = record { packet = latest (p.head ∷ p.others); piece = p }
 
 -- the messages of a stream
 abbrev pub messages : List Placed → List Message
-messages ordered = map (message_of ordered) (filter is_message (pieces ordered))
+messages ordered = map message_of (filter is_message (pieces ordered))

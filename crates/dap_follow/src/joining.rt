@@ -1,13 +1,13 @@
 //! The pieces of a stream, and what is listed of them.
 
-ghost use Rattle.std.specs.Prelude.{◌≡◌, ◌≤◌, ◌<◌, ℕ, List, OnOk, drop, length, max, take};
+ghost use Rattle.std.specs.Prelude.{◌≡◌, ◌≤◌, ◌<◌, ℕ, List, OnOk, drop, length, take};
 ghost use Rattle.std.specs.List.{AllByRecursion};
 ghost use Rattle.dap_text.specs.Adding.{Adds, AddsSome};
-ghost use Rattle.dap_follow.specs.Joined.{Piece, joins as do_join, pieces, tail};
+ghost use Rattle.dap_follow.specs.Joined.{Piece, joins as do_join, latest, pieces, tail};
 ghost use Rattle.dap_follow.specs.Following.{IsMessageText, gap_line, length_text, range_text, stream_text};
 ghost use Rattle.dap_follow.specs.Inner.Keeping.{IsGood};
-ghost use Rattle.dap_follow.specs.Inner.Listing.{AreSpelled, IsCutOff, IsPiece, ListsPiece, ListsStream, digits_of, latest as latest_of, part_text, values};
-ghost use Rattle.dap_follow.specs.Inner.Placing.{Rises, counted_value};
+ghost use Rattle.dap_follow.specs.Inner.Listing.{AreSpelled, IsCutOff, IsPiece, ListsPiece, ListsStream, digits_of, part_text, values};
+ghost use Rattle.dap_follow.specs.Inner.Placing.{counted_value};
 
 use crate::places::{Counted, ROUND};
 use crate::streams::Stream;
@@ -45,11 +45,11 @@ fn ends<'a, 'b>(piece: &'b [Counted<'a>]) -> (&'b Counted<'a>, &'b Counted<'a>)
     (&piece[0], &piece[piece.len() - 1])
 }
 
-/// The latest packet of some before and of a piece.
-fn latest_after(latest: usize, piece: &[Counted<'_>]) -> usize
-    ensures { result ≡ max latest (latest_of (values piece.now)) }
+/// The latest packet of a piece.
+fn latest_packet(piece: &[Counted<'_>]) -> usize
+    ensures { result ≡ latest (values piece.now) }
 {
-    let mut latest = latest;
+    let mut latest = 0;
     for segment in piece {
         latest = latest.max(segment.packet);
     }
@@ -209,18 +209,15 @@ pub(crate) fn list_stream(
     rest: &mut Vec<u8>,
     room: &mut Room,
 ) -> Result<(), AllocError>
-    requires rises { Rises ordered.now }
-    requires good { AllByRecursion (IsGood (length lines.old)) ordered.now }
+    requires { AllByRecursion (IsGood (length lines.old)) ordered.now }
     ensures { OnOk result
         (ListsStream stream.now (values ordered.now) lines.old lines.new rest.old rest.new) }
 {
-    let mut latest = 0;
     let mut at = 0;
     while at < ordered.len() {
         let end = at + piece_len(&ordered[at..]);
         let piece = &ordered[at..end];
-        latest = latest_after(latest, piece);
-        list_piece(stream, latest, piece, lines, rest, room)?;
+        list_piece(stream, latest_packet(piece), piece, lines, rest, room)?;
         push_gap(rest, stream, piece, &ordered[end..])?;
         at = end;
     }

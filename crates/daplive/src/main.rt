@@ -1,4 +1,4 @@
-//! The program `daplive`: one end of a DECnet file access, over lines; and listings of captures.
+//! The program `daplive`: one end of a DECnet file access, over lines; listings of captures, and the packets in capture files.
 #![tactic(auto)]
 
 use cli_faults::{ErrorOutput, Output, exit_status};

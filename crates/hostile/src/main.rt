@@ -8,6 +8,7 @@
 
 mod altered;
 mod bytes;
+mod captures;
 mod devices;
 mod ends;
 mod files;
@@ -22,6 +23,7 @@ mod worlds;
 mod writers;
 
 use altered::{alter_all, alter_heard, alter_received, alter_served};
+use captures::{Frames, alter_files};
 use dap_world::WorldSetup;
 use devices::{read_all, write_all};
 use ends::{ASKED_RECORDS, ASKED_STORING, ASKED_TRANSFER, Asking, Line, Serving};
@@ -163,6 +165,7 @@ fn grow(alloc: Global, seen: &mut Seen) -> Result<(), Ending> {
     grow_asking(alloc, seen)?;
     grow_worlds(alloc, seen)?;
     grow_directed(alloc, seen)?;
+    make_all("capture files", Frames::new(alloc), seen)?;
     grow_listings(alloc, seen)
 }
 
@@ -173,6 +176,7 @@ fn alter(alloc: Global, text: &mut Text) -> Result<(), Trouble> {
     alter_served(alloc)?.note("altered messages served", text);
     alter_heard(alloc)?.note("altered answers read", text);
     alter_received(alloc, text)?.note("altered packets received", text);
+    alter_files(alloc)?.note("altered capture files", text);
     Ok(())
 }
 

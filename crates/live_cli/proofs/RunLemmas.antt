@@ -10,10 +10,12 @@ use Rattle.clap.proofs.OnLiterals.{clap_on_literals}
 use Rattle.live_cli.specs.declared.words.Role.{Role}
 use Rattle.live_cli.specs.declared.words.Role.TheVariants.{Serve, Ask}
 use Rattle.live_cli.specs.declared.words.Task.{Task}
-use Rattle.live_cli.specs.declared.words.Task.TheVariants.{End, Follow}
+use Rattle.live_cli.specs.declared.words.Task.TheVariants.{End, Follow, Frames}
 use Rattle.dap_listing.specs.declared.fault.CaptureFault.TheVariants.{NoMemory}
+use Rattle.decnet_frames.proofs.ForCallers.{nothing_written}
+use Rattle.decnet_frames.specs.declared.run.FramesFault.TheVariants.{NoMemory as Wants}
 use Rattle.live_cli.specs.Running.{TaskGives}
-use Rattle.live_cli.specs.Words.{daplive, task_of, usual}
+use Rattle.live_cli.specs.Words.{daplive, frames_line, task_of, usual}
 use Rattle.live_cli.specs.Inner.CommandLine.{end_line_by, serve_line_by}
 
 pub some_from : {X : Type 0} {P Q : X → Type 0} (o : Option X) → IfSome o P → ((x : X) → P x → Q x) → IfSome o Q
@@ -23,7 +25,7 @@ some_from (Some x) holds next = next x holds
 -- the command line, with the digits of what is usual
 pub daplive_by : daplive ≡ fold with_subcommand (new_program (codes "daplive"))
     (serve_line_by.top ∷ (end_line_by (codes "ask") (codes "0101") (codes "0202")).top
-    ∷ (new_app (codes "follow")).top ∷ [])
+    ∷ (new_app (codes "follow")).top ∷ frames_line.top ∷ [])
 unfolding digits
 daplive_by = refl
 
@@ -55,11 +57,21 @@ pub names_follow : (program : Text) → task_of (program ∷ codes "follow" ∷ 
 unfolding clap_on_literals digits
 names_follow program = refl
 
+-- and on that of the frames
+pub no_fault_frames : (program : Text) → fault_of daplive (program ∷ codes "frames" ∷ []) ≡ []
+unfolding clap_on_literals digits
+no_fault_frames program = refl
+
+pub names_frames : (program : Text) → task_of (program ∷ codes "frames" ∷ []) ≡ Some (Frames None)
+unfolding clap_on_literals digits
+names_frames program = refl
+
 -- out of memory, of whatever input
 pub refused : (task : Task) (known old new : Option (List ℕ)) (status : ℕ) → (status ≡ 3) × Keeps old new → IfSome known (λ input. TaskGives task input old new status)
 refused task None old new status memory = tt
 refused (End options) (Some input) old new status memory = inr (memory.1, memory.0)
 refused Follow (Some input) old new status memory = (Err NoMemory, memory.1, memory.0)
+refused (Frames ends) (Some input) old new status memory = inr (Wants, nothing_written ends input old new memory.1, memory.0)
 
 -- two things that the words name are one
 pub one_task : (words : List Text) (a b : Task) → Some a ≡ task_of words → task_of words ≡ Some b → a ≡ b

@@ -5,6 +5,11 @@ use Rattle.std.specs.Io.KnownBytes.{Appends, Keeps}
 use Rattle.nsp_link.specs.declared.link.LinkSetup.{LinkSetup}
 use Rattle.dap_follow.specs.Following.{FollowGives}
 use Rattle.dap_listing.specs.Gives.{HasStatus}
+use Rattle.decnet_frames.specs.Listed.{IsListed, IsListedTo}
+use Rattle.decnet_frames.specs.declared.run.FramesFault.{FramesFault}
+use Rattle.decnet_frames.specs.declared.run.FramesFault.TheVariants.{File}
+use Rattle.decnet_frames.specs.declared.text.Counts.{Counts}
+use Rattle.decnet_frames.specs.declared.text.Ends.{Ends}
 use Rattle.linewise.specs.Talks.{Answering, Talked, Fails, is_bad}
 use Rattle.linewise.specs.declared.talking.Became.{Became}
 use Rattle.linewise.specs.declared.talking.TalkFault.{TalkFault}
@@ -16,7 +21,12 @@ use Rattle.live_cli.specs.declared.words.Options.{Options}
 use Rattle.live_cli.specs.declared.words.Role.{Role}
 use Rattle.live_cli.specs.declared.words.Role.TheVariants.{Serve, Ask}
 use Rattle.live_cli.specs.declared.words.Task.{Task}
-use Rattle.live_cli.specs.declared.words.Task.TheVariants.{End, Follow}
+use Rattle.live_cli.specs.declared.words.Task.TheVariants.{End, Follow, Frames}
+
+-- the exit status of a fault
+abbrev pub frames_status : FramesFault → ℕ
+frames_status (File fault counts) = 1
+frames_status _ = 3
 
 -- how the link is set up
 abbrev pub setup_of : Options → LinkSetup
@@ -37,8 +47,16 @@ GivesAs Serve o input written holds status =
 GivesAs Ask o input written holds status =
     (first : Asking) × asking.IsNew (setup_of o) o.buffer first × AnswersAll asking.answered asking.waiting first input written holds status
 
--- An end answers; or memory is refused before there is one, nothing is written, and the status is 3; or a capture is
--- listed.
+-- The lines of a capture file's frames are written, and the status is 0; or those before a fault of the file, and it is 1; or the
+-- reader or the writer fails, or memory is refused, and it is 3.
+abbrev pub FramesGive : Option Ends → List ℕ → (written holds : Option (List ℕ)) → ℕ → Type 0
+FramesGive ends input written holds status =
+    ((counts : Counts) × IsListed ends input written holds counts × (status ≡ 0))
+    ⊎ ((fault : FramesFault) × IsListedTo ends input written holds fault × (status ≡ frames_status fault))
+
+-- An end answers; or memory is refused before there is one, nothing is written, and the status is 3; a capture is
+-- listed; or the frames of a capture file are.
 abbrev pub TaskGives : Task → List ℕ → (written holds : Option (List ℕ)) → ℕ → Type 0
 TaskGives (End o) input written holds status = GivesAs o.role o input written holds status ⊎ (Keeps written holds × (status ≡ 3))
 TaskGives Follow input written holds status = HasStatus (FollowGives input written holds) status
+TaskGives (Frames ends) input written holds status = FramesGive ends input written holds status

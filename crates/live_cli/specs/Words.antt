@@ -1,7 +1,7 @@
 -- The command line of `daplive`.
-use Rattle.std.specs.Prelude.{ℕ, List, [], ◌∷◌, codes, bytes_eq, fold, if◌then◌else◌, pos, max, Option, Some, option_map, option_and_then}
+use Rattle.std.specs.Prelude.{ℕ, List, [], ◌∷◌, codes, bytes_eq, fold, if◌then◌else◌, pos, max, Option, Some, None, option_map, option_and_then}
 use Rattle.std.specs.Fmt.{decimal}
-use Rattle.clap.specs.Words.{App, Row, Rule, Text, first_of, new_app, new_rule, subcommand_of, with_rule, with_subcommand}
+use Rattle.clap.specs.Words.{App, Row, Rule, Text, all_of, first_of, new_app, new_rule, subcommand_of, with_rule, with_subcommand}
 use Rattle.cli_faults.specs.Programs.{new_program}
 use Rattle.clap.specs.declared.builder.value_parser.ValueParser.TheVariants as parser
 use Rattle.dap_msg.specs.BothEnds.{greatest_message, least_buffer}
@@ -9,11 +9,13 @@ use Rattle.nsp_link.specs.Limits.{largest_segment, largest_window}
 use Rattle.dap_text.specs.Text.{word_text}
 use Rattle.dap_text.specs.Words.{decimal_of, short}
 use Rattle.dap_live.specs.Orders.{address_of}
+use Rattle.decnet_frames.specs.Nodes.{node_of}
+use Rattle.decnet_frames.specs.declared.text.Ends.{Ends}
 use Rattle.live_cli.specs.declared.words.Options.{Options}
 use Rattle.live_cli.specs.declared.words.Role.{Role}
 use Rattle.live_cli.specs.declared.words.Role.TheVariants.{Serve, Ask}
 use Rattle.live_cli.specs.declared.words.Task.{Task}
-use Rattle.live_cli.specs.declared.words.Task.TheVariants.{End, Follow}
+use Rattle.live_cli.specs.declared.words.Task.TheVariants.{End, Follow, Frames}
 
 -- how many bytes of answers may wait: at least this
 abbrev pub least_waiting : ℕ
@@ -53,10 +55,14 @@ end_line (word, o) = fold with_rule (new_app word)
 abbrev pub serve_line : App
 serve_line = with_rule (end_line (usual Serve)) (number (codes "waiting") (decimal usual_waiting) least_waiting greatest_waiting)
 
--- all words: one of three subcommands
+-- the subcommand `frames`, which has two nodes or none
+abbrev pub frames_line : App
+frames_line = with_rule (new_app (codes "frames")) (record (new_rule (codes "nodes")) { value_names = 2 })
+
+-- all words: one of four subcommands
 abbrev pub daplive : App
 daplive = fold with_subcommand (new_program (codes "daplive"))
-    (serve_line.top ∷ (end_line (usual Ask)).top ∷ (new_app (codes "follow")).top ∷ [])
+    (serve_line.top ∷ (end_line (usual Ask)).top ∷ (new_app (codes "follow")).top ∷ frames_line.top ∷ [])
 
 -- ---- What they say.
 
@@ -88,11 +94,22 @@ options_of role rows =
       waiting = waiting;
     })) (waiting_of role rows))))))
 
+-- both ends, of two addresses of nodes
+abbrev pub ends_by : Option ℕ → Option ℕ → Option Ends
+ends_by (Some first) (Some other) = Some (record { first = first; other = other })
+ends_by _ _ = None
+
+-- both ends, by two words; `clap` lets no other number of words pass but none
+abbrev pub ends_of : Option (List Text) → Option (Option Ends)
+ends_of (Some (first ∷ other ∷ [])) = option_map Some (ends_by (node_of first) (node_of other))
+ends_of words = Some None
+
 -- what a subcommand and its options name
 abbrev pub task_in : Text × List Row → Option Task
 task_in p =
     if bytes_eq p.0 (codes "serve") then option_map End (options_of Serve p.1)
     else if bytes_eq p.0 (codes "ask") then option_map End (options_of Ask p.1)
+    else if bytes_eq p.0 (codes "frames") then option_map Frames (ends_of (all_of (codes "nodes") p.1))
     else Some Follow
 
 -- what the words name, the program's name first, where nothing is at fault in them

@@ -1,4 +1,4 @@
-//! The command line of the program `daplive`: its options, what it answers or lists, and the exit status.
+//! The command line of the program `daplive`: its options, what it answers, lists or writes, and the exit status.
 #![tactic(auto)]
 
 mod laws;

@@ -8,7 +8,7 @@ ghost use Rattle.dap_msg.specs.BothEnds.{least_buffer};
 ghost use Rattle.live_cli.specs.declared.words.Task.{Task as TheTask};
 ghost use Rattle.live_cli.specs.declared.words.Role.TheVariants as role;
 ghost use Rattle.live_cli.specs.declared.words.Role.{Role as TheRole};
-ghost use Rattle.live_cli.specs.Running.{AnswersAll, GivesAs, TaskGives, setup_of};
+ghost use Rattle.live_cli.specs.Running.{AnswersAll, GivesAs, TaskGives, frames_status, setup_of};
 ghost use Rattle.live_cli.specs.Inner.CommandLine.{HasRoom};
 ghost use Rattle.live_cli.specs.Words.{daplive, task_of, usual};
 
@@ -17,6 +17,7 @@ use clap::error::ErrorKind;
 use cli_faults::{Fronted, Reading, finish_reading, refuse};
 use dap_follow::follow;
 use dap_live::{Asking, Serving};
+use decnet_frames::{Counts, Ends, FramesFault, list_frames};
 use linewise::{Answers, talk};
 use nsp_link::{LARGEST_LIMIT, LinkFault, LinkSetup};
 use std::alloc::Global;
@@ -156,6 +157,62 @@ fn list<R: BufRead, W: Write, E: Write>(
     finish_reading(FOLLOWING, lines.front(), outcome, error_writer)
 }
 
+/// Reports how many frames were written, and how many passed over.
+fn tell_counts<E: Write>(counts: Counts, error_writer: &mut E) {
+    let _ = writeln!(
+        error_writer,
+        "taken {} passed {}",
+        counts.taken, counts.passed
+    );
+}
+
+/// Reports that an input, of which these are the first bytes, has lines of a capture where a capture file is read.
+fn tell_lines<E: Write>(front: &[u8], error_writer: &mut E) {
+    if let [b'>' | b'<' | b'#', ..] = front {
+        let _ = writeln!(
+            error_writer,
+            "daplive: lines of a capture, which daplive follow and dapnsp show read; frames reads a pcap or pcapng file"
+        );
+    }
+}
+
+/// Reports why the frames of a capture file, of which these are the first bytes, aren't written to its end, and answers the exit
+/// status.
+fn finish_frames<E: Write>(fault: FramesFault, front: &[u8], error_writer: &mut E) -> u8
+    ensures { result ≡ frames_status fault }
+{
+    let _ = writeln!(error_writer, "{fault}");
+    match fault {
+        FramesFault::File(_, counts) => {
+            tell_lines(front, error_writer);
+            tell_counts(counts, error_writer);
+            1
+        }
+        FramesFault::ReadFailed | FramesFault::WriteFailed | FramesFault::NoMemory => 3,
+    }
+}
+
+/// Writes the packets in a capture file, and answers the exit status.
+fn write_frames<R: BufRead, W: Write, E: Write>(
+    alloc: Global,
+    ends: Option<Ends>,
+    reader: &mut R,
+    writer: &mut W,
+    error_writer: &mut E,
+) -> u8
+    ensures { IfSome (R.remaining reader.old) (λ input. TaskGives (Task.Frames ends) input
+        (W.contents writer.old) (W.contents writer.new) result) }
+{
+    let mut file = Fronted::new(reader);
+    match list_frames(alloc, ends, &mut file, writer) {
+        Ok(counts) => {
+            tell_counts(counts, error_writer);
+            0
+        }
+        Err(fault) => finish_frames(fault, file.front(), error_writer),
+    }
+}
+
 /// Does what was named, and answers the exit status.
 fn run_task<R: BufRead, W: Write, E: Write>(
     alloc: Global,
@@ -171,6 +228,7 @@ fn run_task<R: BufRead, W: Write, E: Write>(
     match task {
         Task::End(options) => run_options(alloc, options, reader, writer, error_writer),
         Task::Follow => list(alloc, reader, writer, error_writer),
+        Task::Frames(ends) => write_frames(alloc, ends, reader, writer, error_writer),
     }
 }
 
@@ -185,8 +243,8 @@ fn refuse_word<E: Write>(misspelt: Misspelt<'_>, error_writer: &mut E) -> u8
 /// Does what the words name, the program's name first, and answers the exit status.
 ///
 /// 0: the input ended, or help was asked for and written. 1: the input ended, and some line was none of the end's;
-/// of a capture, that some line is at fault, or too large, which is reported. 2: the words name nothing. 3: the
-/// reader or the writer failed, or memory was refused; of an end, before the first line. Nothing is read where the
+/// of a capture, that some line is at fault, or too large, which is reported; of a capture file, that it is at fault.
+/// 2: the words name nothing. 3: the reader or the writer failed, or memory was refused; of an end, before the first line. Nothing is read where the
 /// words name nothing or ask for help. What is wrong is reported to the error writer, whose failure changes
 /// nothing.
 pub fn run_words<R: BufRead, W: Write, E: Write>(
@@ -209,6 +267,10 @@ pub fn run_words<R: BufRead, W: Write, E: Write>(
     ensures follow { (program : List ℕ)
         → map string_bytes words.now ≡ program ∷ codes "follow" ∷ []
         → IfSome (R.remaining reader.old) (λ input. TaskGives Task.Follow input
+        (W.contents writer.old) (W.contents writer.new) result) }
+    ensures frames { (program : List ℕ)
+        → map string_bytes words.now ≡ program ∷ codes "frames" ∷ []
+        → IfSome (R.remaining reader.old) (λ input. TaskGives (Task.Frames None) input
         (W.contents writer.old) (W.contents writer.new) result) }
     ensures digits { fault_of daplive (map string_bytes words.now) ≡ []
         → task_of (map string_bytes words.now) ≡ None

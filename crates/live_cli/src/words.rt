@@ -1,16 +1,17 @@
 //! What the words say.
 
 ghost use Rattle.std.specs.Result.{result_ok};
-ghost use Rattle.std.specs.Prelude.{◌≡◌, ◌≤◌, false, IfErr, IfOk, IfSome, Some, codes, map, option_and_then, option_map, pos, string_bytes};
-ghost use Rattle.clap.specs.Words.{FailsBy, app_of, fault_of, first_of, found_of, kind_of, new_app, rows_of, rule_of, subcommand_of};
+ghost use Rattle.std.specs.Prelude.{◌≡◌, ◌≤◌, false, IfErr, IfOk, IfSome, None, Some, codes, map, option_and_then, option_map, pos, string_bytes};
+ghost use Rattle.clap.specs.Words.{FailsBy, all_of, app_of, fault_of, first_of, found_of, kind_of, new_app, rows_of, rule_of, subcommand_of};
 ghost use Rattle.clap.specs.declared.builder.value_parser.ValueParser.TheVariants as parser;
 ghost use Rattle.dap_msg.specs.BothEnds.{greatest_message, least_buffer};
 ghost use Rattle.nsp_link.specs.Limits.{largest_segment, largest_window};
 ghost use Rattle.clap.specs.declared.builder.command.Command.TheViews.{out-Command};
 ghost use Rattle.dap_text.specs.Words.{short};
 ghost use Rattle.dap_live.specs.Orders.{address_of};
-ghost use Rattle.live_cli.specs.Words.{daplive, greatest_waiting, least_waiting, option as option_rule, options_of, task_in as task_of_rows, task_of, waiting_of};
-ghost use Rattle.live_cli.specs.Inner.CommandLine.{HasAddresses, HasLimits, HasRoom, HasWaiting, IsCommandLine, IsEndLine, IsServeLine};
+ghost use Rattle.decnet_frames.specs.Nodes.{node_of};
+ghost use Rattle.live_cli.specs.Words.{daplive, ends_of, greatest_waiting, least_waiting, option as option_rule, options_of, task_in as task_of_rows, task_of, waiting_of};
+ghost use Rattle.live_cli.specs.Inner.CommandLine.{HasAddresses, HasLimits, HasRoom, HasWaiting, IsCommandLine, IsEndLine, IsFramesLine, IsServeLine};
 ghost use Rattle.live_cli.specs.Inner.Spelling.{IsMisspelt};
 
 use clap::builder::ValueParser;
@@ -19,6 +20,7 @@ use clap::{Arg, ArgMatches, Command, Error, value_parser};
 use dap_live::read_address;
 use dap_msg::{GREATEST_MESSAGE, LEAST_BUFFER};
 use dap_text::{is, read_number};
+use decnet_frames::{Ends, read_node};
 use nsp_link::{LARGEST_SEGMENT, LARGEST_WINDOW};
 use std::alloc::Global;
 use std::fmt;
@@ -26,7 +28,7 @@ use std::fmt::Display;
 
 const ABOUT: &str =
     "A client or a server for DECnet file access, over lines of standard input and output. A bridge carries \
-the lines, and has the network and the timers. It also lists captured packets, with messages reassembled.";
+the lines, and has the network and the timers. It also lists captured packets, with messages reassembled, and reads capture files.";
 
 const LINES: &str = "\
 Each line is answered before the next is read. Each answer ends with 'waits N': N packets aren't acknowledged yet, and one
@@ -57,6 +59,15 @@ them. At the end 'gap' has the segments that are missing, and 'part' those that 
 Example: echo '> 600201040305800100060200' | ./daplive follow
 
 docs/LISTING.md explains each word of a listing.";
+
+const FRAMES: &str = "\
+Reads a capture file of Ethernet frames, pcap or pcapng, as 'tcpdump -w' writes it, and writes each DECnet packet between two nodes as
+soon as its frame is read: a comment with its number, its time and its nodes, and a line of > or < with its NSP packet in hex.
+FIRST and OTHER are the nodes, as 1.10 1.20; without them they are the source and the destination of the first packet. At the end
+'taken' counts the frames that were written, and 'passed' the others.
+
+Example: ./daplive frames <examples/wire.pcap | ./daplive follow
+Live: tcpdump -i eth0 --immediate-mode -U -w - ether proto 0x6003 | ./daplive frames";
 
 /// What help says of an end, and the addresses that are usual for it.
 struct Usual {
@@ -260,6 +271,21 @@ fn follow_command<'a>(alloc: Global) -> Command<'a>
         .after_help(FOLLOW)
 }
 
+/// The command line of the frames of a capture file.
+fn frames_command<'a>(alloc: Global) -> Result<Command<'a>, Error>
+    ensures line { IfOk result IsFramesLine }
+    ensures memory { IfErr result (λ error. kind_of error ≡ ErrorKind.OutOfMemory) }
+{
+    let nodes = Arg::new(alloc, "nodes")
+        .value_names(&["FIRST", "OTHER"])
+        .help("Two nodes, as 1.10 1.20");
+    let command = Command::new(alloc, "frames")
+        .about("Writes the NSP packets in a capture file as lines for follow")
+        .after_help(FRAMES)
+        .arg(nodes)?;
+    Ok(command)
+}
+
 /// The program's command line.
 fn command_line<'a>(alloc: Global) -> Result<Command<'a>, Error>
     ensures line { IfOk result IsCommandLine }
@@ -272,6 +298,7 @@ fn command_line<'a>(alloc: Global) -> Result<Command<'a>, Error>
     let command = command.subcommand(serve_command(alloc)?)?;
     let command = command.subcommand(end_command(alloc, &ASKING)?)?;
     let command = command.subcommand(follow_command(alloc))?;
+    let command = command.subcommand(frames_command(alloc)?)?;
     Ok(command)
 }
 
@@ -303,6 +330,8 @@ pub enum Task {
     End(Options),
     /// Lists a capture.
     Follow,
+    /// Writes the packets in a capture file, between these nodes or those of the first packet.
+    Frames(Option<Ends>),
 }
 
 /// How an option's value has to be spelled.
@@ -314,6 +343,8 @@ pub(crate) enum Digits {
     Number,
     /// By the same, of a number of bytes that may wait.
     Bytes,
+    /// By the address of a node.
+    Node,
 }
 
 /// An option whose value isn't spelled so.
@@ -329,13 +360,17 @@ impl Display for Digits {
         f.write_str(match self {
             Digits::Address => "an address is four hex digits",
             Digits::Number | Digits::Bytes => "a number is decimal digits, ten at most",
+            Digits::Node => "a node is an area, 1 to 63, a point, and a number, 1 to 1023, as 1.10",
         })
     }
 }
 
 impl Display for Misspelt<'_> {
     fn fmt<W: fmt::Write>(&self, f: &mut fmt::Formatter<W>) -> fmt::Result {
-        write!(f, "--{} {}: {}", self.option, self.value, self.digits)
+        match self.digits {
+            Digits::Node => write!(f, "{}: {}", self.value, self.digits),
+            _ => write!(f, "--{} {}: {}", self.option, self.value, self.digits),
+        }
     }
 }
 
@@ -437,6 +472,48 @@ fn options_in<'a>(role: Role, matches: &ArgMatches<'a>) -> Result<Options, Missp
     })
 }
 
+/// A node, by its address.
+fn node_in(text: &str) -> Result<u16, Misspelt<'_>>
+    ensures value { result_ok result ≡ node_of text.now }
+    ensures misspelt { IfErr result (λ m. (m.digits ≡ Digits.Node)
+        × (m.value.now ≡ text.now) × (node_of m.value.now ≡ None)) }
+{
+    match read_node(text.as_bytes()) {
+        Some(node) => Ok(node),
+        None => {
+            Err(Misspelt {
+                option: "nodes",
+                value: text,
+                digits: Digits::Node,
+            })
+        }
+    }
+}
+
+/// The words after `frames`.
+fn nodes_of<'a, 'b>(matches: &'b ArgMatches<'a>) -> Option<&'b [&'a str]>
+    ensures { option_map (λ s. map (λ word. word.now) s.now) result
+        ≡ all_of (codes "nodes") (rows_of (found_of matches.now)) }
+{
+    matches.get_strs("nodes")
+}
+
+/// The nodes between which packets are wanted, or the first address that is none.
+fn ends_in<'a>(matches: &ArgMatches<'a>) -> Result<Option<Ends>, Misspelt<'a>>
+    ensures ends { result_ok result
+        ≡ ends_of (all_of (codes "nodes") (rows_of (found_of matches.now))) }
+    ensures misspelt { IfErr result (IsMisspelt (rows_of (found_of matches.now))) }
+{
+    match nodes_of(matches) {
+        Some([first, other]) => {
+            let first = node_in(first)?;
+            let other = node_in(other)?;
+            Ok(Some(Ends { first, other }))
+        }
+        _ => Ok(None),
+    }
+}
+
 /// What a word and those after it name.
 fn task_in<'a>(name: &str, matches: &ArgMatches<'a>) -> Result<Task, Misspelt<'a>>
     ensures task { result_ok result ≡ task_of_rows (name.now, rows_of (found_of matches.now)) }
@@ -447,13 +524,14 @@ fn task_in<'a>(name: &str, matches: &ArgMatches<'a>) -> Result<Task, Misspelt<'a
         Ok(Task::End(options_in(Role::Serve, matches)?))
     } else if is(name.as_bytes(), "ask") {
         Ok(Task::End(options_in(Role::Ask, matches)?))
+    } else if is(name.as_bytes(), "frames") {
+        Ok(Task::Frames(ends_in(matches)?))
     } else {
         Ok(Task::Follow)
     }
 }
 
-/// What the words name, the program's name first, or the first address that isn't four hex digits, or number that isn't
-/// decimal digits.
+/// What the words name, the program's name first, or the first address or number that isn't spelled as it has to be.
 pub(crate) fn read_words<'a>(
     alloc: Global,
     words: &'a [String],

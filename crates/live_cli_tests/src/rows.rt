@@ -11,7 +11,7 @@ pub(crate) type Row = (
 
 /// What is told of a pcap file.
 const PCAP: &[u8] =
-    b"bad line 1\ndaplive: line 1: a pcap file; examples/pcap_to_capture.py turns it into lines \
+    b"bad line 1\ndaplive: line 1: a pcap file; daplive frames turns it into lines \
 for dapnsp show and daplive follow\n";
 
 pub(crate) const ROWS: &[Row] = &[
@@ -212,7 +212,7 @@ part > dst=0202 src=0101 seg=3..3 len=5\n",
         b"\x0a\x0d\x0d\x0a\x1c\x00",
         1,
         b"",
-        b"bad line 2\ndaplive: line 1: a pcapng file; examples/pcap_to_capture.py turns it into lines \
+        b"bad line 2\ndaplive: line 1: a pcapng file; daplive frames turns it into lines \
 for dapnsp show and daplive follow\n",
     ),
     // Inputs that are none: one is too short.
@@ -229,6 +229,57 @@ for dapnsp show and daplive follow\n",
         1,
         b"",
         b"bad line 1\ndaplive: line 1: not a line of a capture; see daplive follow --help\n",
+    ),
+    // A capture file, and one that is cut short after its header.
+    (
+        &["frames"],
+        b"\xd4\xc3\xb2\xa1\x02\x00\x04\x00\x00\x00\x00\x00\x00\x00\x00\x00\x00\x00\x04\x00\x01\x00\
+\x00\x00\x07\x00\x00\x00\x05\x00\x00\x00\x1d\x00\x00\x00\x1d\x00\x00\x00\x00\x00\x00\x00\
+\x00\x00\x00\x00\x00\x00\x00\x00`\x03\x0d\x00\x02\x02\x04\x01\x04\x00\x04\x02\x01\x01\x03\
+\xff\x8f",
+        0,
+        b"# frame 1 7.000005 1.1 -> 1.2\n> 0402010103ff8f\n",
+        b"taken 1 passed 0\n",
+    ),
+    (
+        &["frames", "1.2", "1.1"],
+        b"\xd4\xc3\xb2\xa1\x02\x00\x04\x00\x00\x00\x00\x00\x00\x00\x00\x00\x00\x00\x04\x00\x01\x00\
+\x00\x00\x07\x00\x00\x00\x05\x00\x00\x00\x1d\x00\x00\x00\x1d\x00\x00\x00\x00\x00\x00\x00\
+\x00\x00\x00\x00\x00\x00\x00\x00`\x03\x0d\x00\x02\x02\x04\x01\x04\x00\x04\x02\x01\x01\x03\
+\xff\x8f\x00",
+        1,
+        b"# frame 1 7.000005 1.1 -> 1.2\n< 0402010103ff8f\n",
+        b"bad cut-short at=69\ntaken 1 passed 0\n",
+    ),
+    // Lines in the place of a capture file, and words that name no nodes.
+    (
+        &["frames"],
+        b"> 600201040305800100060200\n",
+        1,
+        b"",
+        b"bad unknown at=0\ndaplive: lines of a capture, which daplive follow and dapnsp show read; \
+frames reads a pcap or pcapng file\ntaken 0 passed 0\n",
+    ),
+    (
+        &["frames"],
+        b"",
+        1,
+        b"",
+        b"bad cut-short at=0\ntaken 0 passed 0\n",
+    ),
+    (
+        &["frames", "1.1", "64.1"],
+        b"",
+        2,
+        b"",
+        b"daplive: 64.1: a node is an area, 1 to 63, a point, and a number, 1 to 1023, as 1.10\n",
+    ),
+    (
+        &["frames", "1.0", "64.1"],
+        b"",
+        2,
+        b"",
+        b"daplive: 1.0: a node is an area, 1 to 63, a point, and a number, 1 to 1023, as 1.10\n",
     ),
     (&["follow"], b"\n", 0, b"", b""),
 ];

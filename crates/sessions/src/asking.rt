@@ -1,22 +1,21 @@
 //! The suite `asking`: the end that asks, without a link.
 
+use crate::call::Call;
+use crate::out::Out;
 use crate::playing::Suite;
-use crate::printing::{push_all, push_fault, push_next};
-use crate::trouble::Trouble;
-use crate::words::{buffer, bytes, number, octet, place, request, short, word};
 use dap_accessing::{Accessing, AskFault, Octets, ReadFault, ReadStep, Request};
-use dap_text::{Words, is, push_number, push_report, push_str};
-use std::alloc::Global;
 
-/// An end that asks.
+/// An end that asks, if there is one.
 #[derive(Drop)]
 pub struct Asking {
-    alloc: Global,
-    end: Option<Accessing>,
+    pub end: Option<Accessing>,
 }
 
+/// What a request comes to: its messages.
+type Asked = Result<Vec<Vec<u8>>, AskFault>;
+
 /// Asks a request in its steps.
-fn ask_in_steps(end: &mut Accessing, request: &Request) -> Result<Vec<Vec<u8>>, AskFault> {
+fn ask_in_steps(end: &mut Accessing, request: &Request) -> Asked {
     let number = request.number();
     end.check(request)?;
     let prepared = end.prepare(request, &number)?;
@@ -24,24 +23,37 @@ fn ask_in_steps(end: &mut Accessing, request: &Request) -> Result<Vec<Vec<u8>>, 
 }
 
 /// The messages of a request, or why it isn't asked.
-fn push_asked(text: &mut Vec<u8>, asked: Result<Vec<Vec<u8>>, AskFault>) -> Result<(), Trouble> {
+fn put_asked(asked: Asked, out: &mut Out) {
     match asked {
-        Ok(messages) => push_all(text, &messages),
-        Err(fault) => push_fault(text, &fault),
+        Ok(messages) => out.all(&messages),
+        Err(fault) => out.fault(&fault),
+    }
+}
+
+/// The lengths of messages.
+fn put_lengths(messages: &[Vec<u8>], out: &mut Out) {
+    out.put("lengths");
+    for message in messages.iter() {
+        out.number(" ", message.len());
     }
 }
 
 /// The lengths of the messages of a request, or why it isn't asked.
-fn push_lengths(text: &mut Vec<u8>, asked: Result<Vec<Vec<u8>>, AskFault>) -> Result<(), Trouble> {
+fn put_asked_lengths(asked: Asked, out: &mut Out) {
     match asked {
-        Ok(messages) => {
-            push_str(text, "lengths")?;
-            for message in messages.iter() {
-                push_number(text, " ", message.len())?;
-            }
-            Ok(())
-        }
-        Err(fault) => push_fault(text, &fault),
+        Ok(messages) => put_lengths(&messages, out),
+        Err(fault) => out.fault(&fault),
+    }
+}
+
+/// Asks a request, all at once or in its steps.
+fn ask(end: &mut Accessing, request: &Request, call: &Call, out: &mut Out) {
+    if call.is("steps") {
+        put_asked(ask_in_steps(end, request), out);
+    } else if call.is("lengths") {
+        put_asked_lengths(end.ask(request), out);
+    } else {
+        put_asked(end.ask(request), out);
     }
 }
 
@@ -54,80 +66,59 @@ fn read(end: &mut Accessing, message: &[u8], at: usize) -> Result<ReadStep, Read
     }
 }
 
-/// What an answer comes to: a report, or that more is to come, or why it isn't read.
-fn hear(
-    alloc: Global,
-    end: &mut Accessing,
-    words: &mut Words<'_>,
-    text: &mut Vec<u8>,
-) -> Result<(), Trouble> {
-    let message = bytes(alloc, words)?;
-    match read(end, &message, place(words)?) {
-        Ok(step) => {
-            match &step.report {
-                Some(report) => push_report(text, report)?,
-                None => push_str(text, "waits")?,
-            }
-            push_next(text, step.next, message.len())
-        }
-        Err(fault) => push_fault(text, &fault),
+/// What an answer came to: a report, or that more is to come.
+fn put_step(step: &ReadStep, len: usize, out: &mut Out) {
+    match &step.report {
+        Some(report) => out.report(report),
+        None => out.put("waits"),
+    }
+    out.behind(step.next, len);
+}
+
+/// What an answer comes to, or why it isn't read.
+fn hear(end: &mut Accessing, call: &mut Call, out: &mut Out) {
+    let message = call.bytes();
+    let at = if call.has_more() { call.size() } else { 0 };
+    match read(end, &message, at) {
+        Ok(step) => put_step(&step, message.len(), out),
+        Err(fault) => out.fault(&fault),
     }
 }
 
 /// A request to open a file with any FAC: `NAME FAC`.
-fn opening(alloc: Global, words: &mut Words<'_>) -> Result<Request, Trouble> {
-    let name = Octets(bytes(alloc, words)?);
-    let fac = number(words, u32::MAX)?;
-    Ok(Request::OpenFile { name, fac })
+fn opening(call: &mut Call) -> Request {
+    Request::OpenFile {
+        name: Octets(call.bytes()),
+        fac: call.long(),
+    }
 }
 
 /// A request to make a file with any FAC: `NAME ORG RFM MRS MRN FAC`.
-fn making(alloc: Global, words: &mut Words<'_>) -> Result<Request, Trouble> {
-    let name = Octets(bytes(alloc, words)?);
-    let org = octet(words)?;
-    let rfm = octet(words)?;
-    let mrs = short(words)?;
-    let mrn = number(words, u32::MAX)?;
-    let fac = number(words, u32::MAX)?;
-    Ok(Request::Create {
-        name,
-        org,
-        rfm,
-        mrs,
-        mrn,
-        fac,
-    })
+fn making(call: &mut Call) -> Request {
+    Request::Create {
+        name: Octets(call.bytes()),
+        org: call.octet(),
+        rfm: call.octet(),
+        mrs: call.short(),
+        mrn: call.long(),
+        fac: call.long(),
+    }
 }
 
 /// A call of an end.
-fn act(
-    alloc: Global,
-    end: &mut Accessing,
-    call: &[u8],
-    mut words: Words<'_>,
-    text: &mut Vec<u8>,
-) -> Result<(), Trouble> {
-    match call {
-        _ if is(call, "ask") => push_asked(text, end.ask(&request(alloc, words)?)),
-        _ if is(call, "steps") => push_asked(text, ask_in_steps(end, &request(alloc, words)?)),
-        _ if is(call, "lengths") => push_lengths(text, end.ask(&request(alloc, words)?)),
-        _ if is(call, "open") => push_asked(text, end.ask(&opening(alloc, &mut words)?)),
-        _ if is(call, "create") => push_asked(text, end.ask(&making(alloc, &mut words)?)),
-        _ if is(call, "hear") => hear(alloc, end, &mut words, text),
-        _ => Err(Trouble::BadLine),
-    }
-}
-
-impl Asking {
-    /// Without an end.
-    pub fn new(alloc: Global) -> Asking {
-        Asking { alloc, end: None }
-    }
-
-    /// A new end.
-    fn make(&mut self, words: &mut Words<'_>, text: &mut Vec<u8>) -> Result<(), Trouble> {
-        self.end = Some(Accessing::new(self.alloc, buffer(words)?));
-        Ok(push_str(text, "made")?)
+fn act(end: &mut Accessing, call: &mut Call, out: &mut Out) {
+    if call.is("hear") {
+        hear(end, call, out);
+    } else if call.is("open") {
+        ask(end, &opening(call), call, out);
+    } else if call.is("create") {
+        ask(end, &making(call), call, out);
+    } else if call.is("ask") || call.is("steps") || call.is("lengths") {
+        if let Some(request) = call.request() {
+            ask(end, &request, call, out);
+        }
+    } else {
+        call.refuse();
     }
 }
 
@@ -136,15 +127,14 @@ impl Suite for Asking {
         self.end = None;
     }
 
-    fn call(&mut self, line: &[u8], text: &mut Vec<u8>) -> Result<(), Trouble> {
-        let mut words = Words::of(line);
-        let call = word(&mut words)?;
-        if is(call, "new") {
-            return self.make(&mut words, text);
+    fn call(&mut self, call: &mut Call, out: &mut Out) {
+        if call.is("new") {
+            self.end = Some(Accessing::new(call.alloc(), call.buffer()));
+            return out.put("made");
         }
         match &mut self.end {
-            Some(end) => act(self.alloc, end, call, words, text),
-            None => Err(Trouble::BadLine),
+            Some(end) => act(end, call, out),
+            None => call.refuse(),
         }
     }
 }

@@ -1,231 +1,236 @@
 //! The suite `ends`: one end over its link, for any peer, which serves or asks.
 
+use crate::call::Call;
+use crate::out::Out;
 use crate::playing::Suite;
-use crate::printing::{
-    push_all, push_bytes, push_done, push_got, push_number_or, push_packet, push_table,
-};
-use crate::trouble::Trouble;
-use crate::words::{buffer, bytes, link_setup, most, number, request, shape, size, word};
 use dap_accessing::Report;
 use dap_end::{AskingEnd, Heard, ServingEnd};
-use dap_text::{Words, is, push_number, push_report, push_str};
-use nsp_link::{LinkEnd, LinkFault};
-use std::alloc::Global;
+use nsp_link::LinkEnd;
 
-/// An end.
-#[derive(Drop)]
-enum Held {
-    Serving(ServingEnd),
-    Asking(AskingEnd),
-}
-
-/// An end over its link.
+/// An end over its link: one that serves, or one that asks.
 #[derive(Drop)]
 pub struct Ending {
-    alloc: Global,
-    end: Option<Held>,
+    pub serving: Option<ServingEnd>,
+    pub asking: Option<AskingEnd>,
 }
 
 /// The sizes of an end's link.
-fn push_sizes(link: &LinkEnd, text: &mut Vec<u8>) -> Result<(), Trouble> {
-    push_number(text, "unacked ", link.unacked())?;
-    push_number(text, " waiting ", link.waiting_bytes())?;
-    Ok(push_str(
-        text,
-        if link.has_failed() {
-            " failed"
-        } else {
-            " runs"
-        },
-    )?)
+fn put_sizes(link: &LinkEnd, out: &mut Out) {
+    out.number("unacked ", link.unacked());
+    out.number(" waiting ", link.waiting_bytes());
+    out.put(if link.has_failed() {
+        " failed"
+    } else {
+        " runs"
+    });
 }
 
 /// Behind what an end did: the packets that it wrote, and what it reported.
-fn push_left(text: &mut Vec<u8>, packets: &[Vec<u8>], reports: &[Report]) -> Result<(), Trouble> {
-    push_str(text, ", ")?;
-    push_all(text, packets)?;
+fn put_left(packets: &[Vec<u8>], reports: &[Report], out: &mut Out) {
+    out.put(", ");
+    out.all(packets);
     for report in reports.iter() {
-        push_str(text, " report ")?;
-        push_report(text, report)?;
+        out.put(" report ");
+        out.report(report);
     }
-    Ok(())
 }
 
 /// A packet comes to an end that serves: `PACKET [MOST]`.
-fn take_to_serve(
-    alloc: Global,
-    end: &mut ServingEnd,
-    words: &mut Words<'_>,
-    text: &mut Vec<u8>,
-) -> Result<(), Trouble> {
-    let packet = bytes(alloc, words)?;
-    let mut out = Vec::new(alloc);
-    let came = end.take(&packet, most(words)?, &mut out);
-    push_got(text, came)?;
-    push_left(text, &out, &[])
+fn take_to_serve(end: &mut ServingEnd, call: &mut Call, out: &mut Out) {
+    let packet = call.bytes();
+    let most = if call.has_more() {
+        u64::from(call.long())
+    } else {
+        u64::MAX
+    };
+    let mut packets = Vec::new(call.alloc());
+    out.got(end.take(&packet, most, &mut packets));
+    put_left(&packets, &[], out);
 }
 
 /// An end that serves goes on.
-fn serve_on(alloc: Global, end: &mut ServingEnd, text: &mut Vec<u8>) -> Result<(), Trouble> {
-    let mut out = Vec::new(alloc);
-    let came = end.go_on(u64::MAX, &mut out);
-    push_done(text, came)?;
-    push_left(text, &out, &[])
+fn serve_on(end: &mut ServingEnd, call: &Call, out: &mut Out) {
+    let mut packets = Vec::new(call.alloc());
+    out.done(end.go_on(u64::MAX, &mut packets));
+    put_left(&packets, &[], out);
 }
 
 /// A file is added: `NAME ORG RFM MRS MRN`.
-fn add(
-    alloc: Global,
-    end: &mut ServingEnd,
-    words: &mut Words<'_>,
-    text: &mut Vec<u8>,
-) -> Result<(), Trouble> {
-    let name = bytes(alloc, words)?;
-    match shape(words)? {
-        Some(shape) => push_done(text, end.add(&name, shape)),
-        None => push_bytes(text, None),
+fn add(end: &mut ServingEnd, call: &mut Call, out: &mut Out) {
+    let name = call.bytes();
+    match call.shape() {
+        Some(shape) => out.done(end.add(&name, shape)),
+        None => out.none(),
     }
-}
-
-/// A record is added: `N BODY`.
-fn add_record(
-    alloc: Global,
-    end: &mut ServingEnd,
-    words: &mut Words<'_>,
-    text: &mut Vec<u8>,
-) -> Result<(), Trouble> {
-    let at = number(words, u32::MAX)?;
-    push_done(text, end.add_record(at, &bytes(alloc, words)?))
 }
 
 /// How many messages answer the one that is served, or that there is none.
-fn serve(end: &mut ServingEnd, text: &mut Vec<u8>) -> Result<(), Trouble> {
-    match end.serve()? {
-        Some(answers) => Ok(push_number(text, "served ", answers)?),
-        None => push_bytes(text, None),
+fn serve(end: &mut ServingEnd, out: &mut Out) {
+    match end.serve() {
+        Ok(Some(answers)) => out.number("served ", answers),
+        Ok(None) => out.none(),
+        Err(fault) => out.fault(&fault),
     }
 }
 
-/// A call of an end that serves.
-fn call_serving(
-    alloc: Global,
-    end: &mut ServingEnd,
-    call: &[u8],
-    mut words: Words<'_>,
-    text: &mut Vec<u8>,
-) -> Result<(), Trouble> {
-    match call {
-        _ if is(call, "take") => take_to_serve(alloc, end, &mut words, text),
-        _ if is(call, "go-on") => serve_on(alloc, end, text),
-        _ if is(call, "receive") => push_got(text, end.receive(&bytes(alloc, &mut words)?)),
-        _ if is(call, "serve") => serve(end, text),
-        _ if is(call, "post") => push_number_or(text, end.post()),
-        _ if is(call, "emit") => push_packet(text, end.emit()),
-        _ if is(call, "ack") => push_packet(text, end.ack().map(Some)),
-        _ if is(call, "resend") => push_packet(text, end.resend(size(&mut words)?).map(Some)),
-        _ if is(call, "renew") => push_done(text, end.renew(alloc, link_setup(alloc, &mut words)?)),
-        _ if is(call, "add") => add(alloc, end, &mut words, text),
-        _ if is(call, "record") => add_record(alloc, end, &mut words, text),
-        _ if is(call, "files") => push_table(text, end.files()),
-        _ if is(call, "sizes") => push_sizes(end.link(), text),
-        _ => Err(Trouble::BadLine),
+/// Calls of an end that serves which concern its files.
+fn file(end: &mut ServingEnd, call: &mut Call, out: &mut Out) {
+    if call.is("add") {
+        add(end, call, out);
+    } else if call.is("record") {
+        let number = call.long();
+        out.done(end.add_record(number, &call.bytes()));
+    } else if call.is("files") {
+        out.table(end.files());
+    } else {
+        call.refuse();
+    }
+}
+
+/// Calls of an end that serves which write.
+fn write_served(end: &mut ServingEnd, call: &mut Call, out: &mut Out) {
+    if call.is("post") {
+        out.number_or(end.post());
+    } else if call.is("emit") {
+        out.next_packet(end.emit());
+    } else if call.is("ack") {
+        out.packet(end.ack());
+    } else if call.is("resend") {
+        out.packet(end.resend(call.size()));
+    } else {
+        file(end, call, out);
+    }
+}
+
+/// Calls of an end that serves.
+fn call_serving(end: &mut ServingEnd, call: &mut Call, out: &mut Out) {
+    if call.is("take") {
+        take_to_serve(end, call, out);
+    } else if call.is("go-on") {
+        serve_on(end, call, out);
+    } else if call.is("receive") {
+        out.got(end.receive(&call.bytes()));
+    } else if call.is("serve") {
+        serve(end, out);
+    } else if call.is("renew") {
+        out.done(end.renew(call.alloc(), call.link_setup()));
+    } else if call.is("sizes") {
+        put_sizes(end.link(), out);
+    } else {
+        write_served(end, call, out);
     }
 }
 
 /// A packet comes to an end that asks.
-fn take_to_read(
-    alloc: Global,
-    end: &mut AskingEnd,
-    words: &mut Words<'_>,
-    text: &mut Vec<u8>,
-) -> Result<(), Trouble> {
-    let packet = bytes(alloc, words)?;
-    let mut out = Vec::new(alloc);
-    let mut reports = Vec::new(alloc);
-    let came = end.take(&packet, &mut out, &mut reports);
-    push_got(text, came)?;
-    push_left(text, &out, &reports)
+fn take_to_read(end: &mut AskingEnd, call: &mut Call, out: &mut Out) {
+    let packet = call.bytes();
+    let mut packets = Vec::new(call.alloc());
+    let mut reports = Vec::new(call.alloc());
+    out.got(end.take(&packet, &mut packets, &mut reports));
+    put_left(&packets, &reports, out);
 }
 
 /// An end that asks goes on.
-fn ask_on(alloc: Global, end: &mut AskingEnd, text: &mut Vec<u8>) -> Result<(), Trouble> {
-    let mut out = Vec::new(alloc);
-    let mut reports = Vec::new(alloc);
-    let came = end.go_on(&mut out, &mut reports);
-    push_done(text, came)?;
-    push_left(text, &out, &reports)
+fn ask_on(end: &mut AskingEnd, call: &Call, out: &mut Out) {
+    let mut packets = Vec::new(call.alloc());
+    let mut reports = Vec::new(call.alloc());
+    out.done(end.go_on(&mut packets, &mut reports));
+    put_left(&packets, &reports, out);
 }
 
 /// What the next message says, or that there is none.
-fn read(end: &mut AskingEnd, text: &mut Vec<u8>) -> Result<(), Trouble> {
+fn read(end: &mut AskingEnd, out: &mut Out) {
     match end.read() {
-        Ok(Heard::Report(report)) => Ok(push_report(text, &report)?),
-        Ok(Heard::Part) => Ok(push_str(text, "waits")?),
-        Ok(Heard::Nothing) => push_bytes(text, None),
-        Err(fault) => push_done(text, Err(fault)),
+        Ok(Heard::Report(report)) => out.report(&report),
+        Ok(Heard::Part) => out.put("waits"),
+        Ok(Heard::Nothing) => out.none(),
+        Err(fault) => out.fault(&fault),
     }
 }
 
-/// A call of an end that asks.
-fn call_asking(
-    alloc: Global,
-    end: &mut AskingEnd,
-    call: &[u8],
-    mut words: Words<'_>,
-    text: &mut Vec<u8>,
-) -> Result<(), Trouble> {
-    match call {
-        _ if is(call, "ask") => push_number_or(text, end.ask(&request(alloc, words)?)),
-        _ if is(call, "take") => take_to_read(alloc, end, &mut words, text),
-        _ if is(call, "go-on") => ask_on(alloc, end, text),
-        _ if is(call, "receive") => push_got(text, end.receive(&bytes(alloc, &mut words)?)),
-        _ if is(call, "read") => read(end, text),
-        _ if is(call, "post") => push_number_or(text, end.post()),
-        _ if is(call, "emit") => push_packet(text, end.emit()),
-        _ if is(call, "ack") => push_packet(text, end.ack().map(Some)),
-        _ if is(call, "resend") => push_packet(text, end.resend(size(&mut words)?).map(Some)),
-        _ if is(call, "renew") => push_done(text, end.renew(alloc, link_setup(alloc, &mut words)?)),
-        _ if is(call, "sizes") => push_sizes(end.link(), text),
-        _ => Err(Trouble::BadLine),
+/// A request.
+fn ask(end: &mut AskingEnd, call: &mut Call, out: &mut Out) {
+    if let Some(request) = call.request() {
+        out.number_or(end.ask(&request));
     }
+}
+
+/// Calls of an end that asks which write.
+fn write_asked(end: &mut AskingEnd, call: &mut Call, out: &mut Out) {
+    if call.is("post") {
+        out.number_or(end.post());
+    } else if call.is("emit") {
+        out.next_packet(end.emit());
+    } else if call.is("ack") {
+        out.packet(end.ack());
+    } else if call.is("resend") {
+        out.packet(end.resend(call.size()));
+    } else {
+        call.refuse();
+    }
+}
+
+/// Calls of an end that asks.
+fn call_asking(end: &mut AskingEnd, call: &mut Call, out: &mut Out) {
+    if call.is("ask") {
+        ask(end, call, out);
+    } else if call.is("take") {
+        take_to_read(end, call, out);
+    } else if call.is("go-on") {
+        ask_on(end, call, out);
+    } else if call.is("receive") {
+        out.got(end.receive(&call.bytes()));
+    } else if call.is("read") {
+        read(end, out);
+    } else if call.is("renew") {
+        out.done(end.renew(call.alloc(), call.link_setup()));
+    } else if call.is("sizes") {
+        put_sizes(end.link(), out);
+    } else {
+        write_asked(end, call, out);
+    }
+}
+
+/// A new end that serves: `BUFSIZ LINK`.
+fn serving(call: &mut Call) -> Option<ServingEnd> {
+    let bufsiz = call.buffer();
+    ServingEnd::new(call.alloc(), bufsiz, call.link_setup()).ok()
+}
+
+/// A new end that asks: `BUFSIZ LINK`.
+fn asking(call: &mut Call) -> Option<AskingEnd> {
+    let bufsiz = call.buffer();
+    AskingEnd::new(call.alloc(), bufsiz, call.link_setup()).ok()
 }
 
 impl Ending {
-    /// Without an end.
-    pub fn new(alloc: Global) -> Ending {
-        Ending { alloc, end: None }
-    }
-
-    /// A new end.
-    fn make(&mut self, serves: bool, words: &mut Words<'_>) -> Result<(), Trouble> {
-        let bufsiz = buffer(words)?;
-        let setup = link_setup(self.alloc, words)?;
-        let end = if serves {
-            ServingEnd::new(self.alloc, bufsiz, setup).map(Held::Serving)
+    /// A call of the end that is there.
+    fn act(&mut self, call: &mut Call, out: &mut Out) {
+        if let Some(end) = &mut self.serving {
+            call_serving(end, call, out);
+        } else if let Some(end) = &mut self.asking {
+            call_asking(end, call, out);
         } else {
-            AskingEnd::new(self.alloc, bufsiz, setup).map(Held::Asking)
-        };
-        self.end = end.ok();
-        Ok(())
+            call.refuse();
+        }
     }
 }
 
 impl Suite for Ending {
     fn begin(&mut self) {
-        self.end = None;
+        self.serving = None;
+        self.asking = None;
     }
 
-    fn call(&mut self, line: &[u8], text: &mut Vec<u8>) -> Result<(), Trouble> {
-        let mut words = Words::of(line);
-        let call = word(&mut words)?;
-        if is(call, "serving") || is(call, "asking") {
-            self.make(is(call, "serving"), &mut words)?;
-            return push_done(text, Ok::<(), LinkFault>(()));
-        }
-        match &mut self.end {
-            Some(Held::Serving(end)) => call_serving(self.alloc, end, call, words, text),
-            Some(Held::Asking(end)) => call_asking(self.alloc, end, call, words, text),
-            None => Err(Trouble::BadLine),
+    fn call(&mut self, call: &mut Call, out: &mut Out) {
+        if call.is("serving") {
+            self.serving = serving(call);
+            out.put("made");
+        } else if call.is("asking") {
+            self.asking = asking(call);
+            out.put("made");
+        } else {
+            self.act(call, out);
         }
     }
 }

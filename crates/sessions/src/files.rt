@@ -3,21 +3,19 @@
 ghost use Rattle.std.specs.Prelude.{IsTrue};
 ghost use Rattle.rec_file.specs.Shapes.{is_shape};
 
+use crate::call::Call;
+use crate::out::Out;
 use crate::playing::Suite;
-use crate::printing::{push_bytes, push_number_or};
-use crate::trouble::Trouble;
-use crate::words::{bytes, number, request, shape, size, word};
 use dap_accessing::{By, Request};
-use dap_text::{Words, is, push_number, push_str};
 use rec_file::{
-    AnyFile, Format, MAX_NUMBER, Org, Pick, RecordFile, Refusal, RelFile, Rights, SeqFile, Shape,
-    Stream, first_record, key_number,
+    AnyFile, Format, MAX_NUMBER, Org, Pick, RecordFile, RelFile, Rights, SeqFile, Shape, Stream,
+    first_record, key_number,
 };
 use std::alloc::Global;
 
 /// A file, by itself or as any file.
 #[derive(Drop)]
-enum Kept {
+pub enum Kept {
     Any(AnyFile),
     Relative(RelFile),
     Sequential(SeqFile),
@@ -26,29 +24,16 @@ enum Kept {
 /// A file, the streams over it, and the one that calls go to.
 #[derive(Drop)]
 pub struct Filing {
-    alloc: Global,
-    file: Option<Kept>,
-    streams: Vec<Stream>,
-    here: usize,
+    pub file: Option<Kept>,
+    pub streams: Vec<Stream>,
+    pub here: usize,
 }
 
-impl Filing {
-    /// Without a file.
-    pub fn new(alloc: Global) -> Filing {
-        Filing {
-            alloc,
-            file: None,
-            streams: Vec::new(alloc),
-            here: 0,
-        }
-    }
-}
-
-/// A new file: `any`, or the one of its organization.
-fn new_file(alloc: Global, kind: &[u8], shape: Shape) -> Kept
+/// A new file: any one, or that of its organization.
+fn new_file(alloc: Global, is_any: bool, shape: Shape) -> Kept
     requires { IsTrue (is_shape shape) }
 {
-    if is(kind, "any") {
+    if is_any {
         Kept::Any(AnyFile::new(alloc, shape))
     } else if shape.is_sequential() {
         Kept::Sequential(SeqFile::new(alloc, shape))
@@ -57,37 +42,29 @@ fn new_file(alloc: Global, kind: &[u8], shape: Shape) -> Kept
     }
 }
 
-/// `get`, `put`, `upd` and `del`, as many as there are.
-fn rights(mut words: Words<'_>) -> Rights {
-    let mut rights = Rights {
-        get: false,
-        put: false,
-        upd: false,
-        del: false,
-    };
-    for _ in 0..4 {
-        let word = words.next().unwrap_or(b"");
-        rights.get |= is(word, "get");
-        rights.put |= is(word, "put");
-        rights.upd |= is(word, "upd");
-        rights.del |= is(word, "del");
+/// A new file: `any` or `own`, and its attributes.
+fn make(call: &mut Call, out: &mut Out) -> Option<Kept> {
+    let is_any = call.either("any", "own");
+    match call.shape() {
+        Some(shape) => {
+            out.put("made");
+            Some(new_file(call.alloc(), is_any, shape))
+        }
+        None => {
+            out.none();
+            None
+        }
     }
-    rights
 }
 
-/// What a call of a stream comes to.
-fn act<F: RecordFile>(
-    file: &mut F,
-    stream: &mut Stream,
-    asked: &Request,
-) -> Option<Result<u32, Refusal>> {
-    Some(match asked {
-        Request::Get(by) => stream.get(file, pick(*by)),
-        Request::Put { key, body } => stream.put(file, *key, &body.0),
-        Request::Update { body } => stream.update(file, &body.0),
-        Request::Delete => stream.delete(file),
-        _ => return None,
-    })
+/// `get`, `put`, `upd` and `del`, in this order, and `-` in the place of each that isn't given.
+fn rights(call: &mut Call) -> Rights {
+    Rights {
+        get: call.either("get", "-"),
+        put: call.either("put", "-"),
+        upd: call.either("upd", "-"),
+        del: call.either("del", "-"),
+    }
 }
 
 /// Which record is picked.
@@ -99,107 +76,57 @@ fn pick(by: By) -> Pick {
     }
 }
 
-/// What is read of a file: the record of a number, the first from a number on, or the greatest number.
-fn look<F: RecordFile>(
-    file: &F,
-    call: &[u8],
-    words: &mut Words<'_>,
-    text: &mut Vec<u8>,
-) -> Result<(), Trouble> {
-    if is(call, "highest") {
-        return Ok(push_number(text, "", file.highest())?);
+/// A call of a stream that needs the file.
+fn act<F: RecordFile>(file: &mut F, stream: &mut Stream, asked: &Request, out: &mut Out) {
+    match asked {
+        Request::Get(by) => out.number_or(stream.get(file, pick(*by))),
+        Request::Put { key, body } => out.number_or(stream.put(file, *key, &body.0)),
+        Request::Update { body } => out.number_or(stream.update(file, &body.0)),
+        Request::Delete => out.number_or(stream.delete(file)),
+        _ => out.none(),
     }
-    let from = number(words, u32::MAX)?;
-    if is(call, "record") {
-        return push_bytes(text, file.lookup(from));
-    }
+}
+
+/// The first record from a number on.
+fn put_first<F: RecordFile>(file: &F, from: u32, out: &mut Out) {
     match first_record(file, from) {
         Some((found, body)) => {
-            push_number(text, "", found)?;
-            push_str(text, " ")?;
-            push_bytes(text, Some(body))
+            out.number("", found);
+            out.put(" ");
+            out.bytes(body);
         }
-        None => push_bytes(text, None),
+        None => out.none(),
     }
 }
 
-/// Whether a call moves the stream without the file, or asks where it is.
-fn is_move(call: &[u8]) -> bool {
-    is(call, "rewind") || is(call, "forget") || is(call, "seek") || is(call, "tell")
+/// What is read of a file: the record of a number, the first from a number on, or the greatest number.
+fn look<F: RecordFile>(file: &F, call: &mut Call, out: &mut Out) {
+    if call.is("highest") {
+        out.number("", file.highest());
+    } else if call.is("record") {
+        out.some_bytes(file.lookup(call.long()));
+    } else {
+        put_first(file, call.long(), out);
+    }
 }
 
-/// The stream reads from a number on, where it isn't 0.
+/// The stream reads from a number on, where there may be such a record.
 fn seek(stream: &mut Stream, number: u32) {
     if (1..=MAX_NUMBER).contains(&number) {
         stream.seek(number);
     }
 }
 
-impl Filing {
-    /// Whether there is a file of the shape that the words say.
-    fn make(&mut self, words: &mut Words<'_>, text: &mut Vec<u8>) -> Result<(), Trouble> {
-        let kind = word(words)?;
-        match shape(words)? {
-            Some(shape) => {
-                self.file = Some(new_file(self.alloc, kind, shape));
-                Ok(push_str(text, "made")?)
-            }
-            None => push_bytes(text, None),
-        }
+/// A call of a stream without the file, and where it then reads.
+fn move_it(stream: &mut Stream, call: &mut Call, out: &mut Out) {
+    if call.is("rewind") {
+        stream.rewind();
+    } else if call.is("forget") {
+        stream.forget();
+    } else if call.is("seek") {
+        seek(stream, call.long());
     }
-
-    /// A new stream.
-    fn open(&mut self, words: Words<'_>, text: &mut Vec<u8>) -> Result<(), Trouble> {
-        self.here = self.streams.len();
-        self.streams.push(Stream::new(rights(words)))?;
-        Ok(push_str(text, "open")?)
-    }
-
-    /// The stream that calls go to.
-    fn stream(&mut self) -> Result<&mut Stream, Trouble> {
-        self.streams.get_mut(self.here).ok_or(Trouble::BadLine)
-    }
-
-    /// A call of the stream, and where it then reads.
-    fn moved(
-        &mut self,
-        call: &[u8],
-        words: &mut Words<'_>,
-        text: &mut Vec<u8>,
-    ) -> Result<(), Trouble> {
-        let stream = self.stream()?;
-        if is(call, "rewind") {
-            stream.rewind();
-        } else if is(call, "forget") {
-            stream.forget();
-        } else if is(call, "seek") {
-            seek(stream, number(words, MAX_NUMBER)?);
-        }
-        Ok(push_number(text, "at ", stream.next())?)
-    }
-
-    /// A call of the stream that needs the file.
-    fn act(&mut self, line: &[u8], text: &mut Vec<u8>) -> Result<(), Trouble> {
-        let asked = request(self.alloc, Words::of(line))?;
-        let stream = self.streams.get_mut(self.here).ok_or(Trouble::BadLine)?;
-        let came = match &mut self.file {
-            Some(Kept::Any(file)) => act(file, stream, &asked),
-            Some(Kept::Relative(file)) => act(file, stream, &asked),
-            Some(Kept::Sequential(file)) => act(file, stream, &asked),
-            None => None,
-        };
-        push_number_or(text, came.ok_or(Trouble::BadLine)?)
-    }
-
-    /// What is read of the file.
-    fn look(&self, call: &[u8], words: &mut Words<'_>, text: &mut Vec<u8>) -> Result<(), Trouble> {
-        match &self.file {
-            Some(Kept::Any(file)) => look(file, call, words, text),
-            Some(Kept::Relative(file)) => look(file, call, words, text),
-            Some(Kept::Sequential(file)) => look(file, call, words, text),
-            None => Err(Trouble::BadLine),
-        }
-    }
+    out.number("at ", stream.next());
 }
 
 /// The word for an organization.
@@ -219,28 +146,73 @@ fn format_word(shape: Shape) -> &'static str {
 }
 
 /// A shape, and its greatest number.
-fn push_shape(words: &mut Words<'_>, text: &mut Vec<u8>) -> Result<(), Trouble> {
-    let Some(shape) = shape(words)? else {
-        return push_bytes(text, None);
-    };
-    push_str(text, org_word(shape))?;
-    push_str(text, format_word(shape))?;
-    push_number(text, "", shape.mrs)?;
-    push_number(text, " ", shape.mrn)?;
-    push_number(text, " most ", shape.limit())?;
-    Ok(())
+fn put_shape(shape: Shape, out: &mut Out) {
+    out.put(org_word(shape));
+    out.put(format_word(shape));
+    out.number("", shape.mrs);
+    out.number(" ", shape.mrn);
+    out.number(" most ", shape.limit());
 }
 
-/// Whether a shape allows a length.
-fn push_allowed(words: &mut Words<'_>, text: &mut Vec<u8>) -> Result<(), Trouble> {
-    let length = size(words)?;
-    let shape = shape(words)?.ok_or(Trouble::BadLine)?;
-    let word = if shape.allows(length) {
-        "allowed"
-    } else {
-        "refused"
-    };
-    Ok(push_str(text, word)?)
+/// Calls without a file: what attributes name, whether they allow a length, and the number of a KEY.
+fn tell(call: &mut Call, out: &mut Out) {
+    if call.is("key") {
+        return out.number_or(key_number(&call.bytes()));
+    }
+    let length = if call.is("allows") { call.size() } else { 0 };
+    match call.shape() {
+        Some(shape) if call.is("allows") => {
+            out.put(if shape.allows(length) {
+                "allowed"
+            } else {
+                "refused"
+            });
+        }
+        Some(shape) => put_shape(shape, out),
+        None => out.none(),
+    }
+}
+
+impl Filing {
+    /// A new stream.
+    fn open(&mut self, call: &mut Call, out: &mut Out) {
+        self.here = self.streams.len();
+        if self.streams.push(Stream::new(rights(call))).is_err() {
+            call.refuse();
+        }
+        out.put("open");
+    }
+
+    /// A call of the stream without the file.
+    fn move_here(&mut self, call: &mut Call, out: &mut Out) {
+        match self.streams.get_mut(self.here) {
+            Some(stream) => move_it(stream, call, out),
+            None => call.refuse(),
+        }
+    }
+
+    /// What a call of the stream that needs the file comes to.
+    fn act(&mut self, asked: &Request, out: &mut Out) {
+        let Some(stream) = self.streams.get_mut(self.here) else {
+            return out.none();
+        };
+        match &mut self.file {
+            Some(Kept::Any(file)) => act(file, stream, asked, out),
+            Some(Kept::Relative(file)) => act(file, stream, asked, out),
+            Some(Kept::Sequential(file)) => act(file, stream, asked, out),
+            None => out.none(),
+        }
+    }
+
+    /// What is read of the file.
+    fn look(&self, call: &mut Call, out: &mut Out) {
+        match &self.file {
+            Some(Kept::Any(file)) => look(file, call, out),
+            Some(Kept::Relative(file)) => look(file, call, out),
+            Some(Kept::Sequential(file)) => look(file, call, out),
+            None => call.refuse(),
+        }
+    }
 }
 
 impl Suite for Filing {
@@ -249,26 +221,22 @@ impl Suite for Filing {
         self.streams.clear();
     }
 
-    fn call(&mut self, line: &[u8], text: &mut Vec<u8>) -> Result<(), Trouble> {
-        let mut words = Words::of(line);
-        match word(&mut words)? {
-            call if is(call, "new") => self.make(&mut words, text),
-            call if is(call, "stream") => self.open(words, text),
-            call if is(call, "turn") => {
-                self.here = size(&mut words)?.saturating_sub(1);
-                self.moved(call, &mut words, text)
-            }
-            call if is_move(call) => self.moved(call, &mut words, text),
-            call if is(call, "record") || is(call, "first") || is(call, "highest") => {
-                self.look(call, &mut words, text)
-            }
-            call if is(call, "shape") => push_shape(&mut words, text),
-            call if is(call, "allows") => push_allowed(&mut words, text),
-            call if is(call, "key") => push_number_or(
-                text,
-                key_number(&bytes(self.alloc, &mut words)?),
-            ),
-            _ => self.act(line, text),
+    fn call(&mut self, call: &mut Call, out: &mut Out) {
+        if call.is("new") {
+            self.file = make(call, out);
+        } else if call.is("stream") {
+            self.open(call, out);
+        } else if call.is("turn") {
+            self.here = call.size().saturating_sub(1);
+            self.move_here(call, out);
+        } else if call.is("rewind") || call.is("forget") || call.is("seek") || call.is("tell") {
+            self.move_here(call, out);
+        } else if call.is("record") || call.is("first") || call.is("highest") {
+            self.look(call, out);
+        } else if call.is("shape") || call.is("allows") || call.is("key") {
+            tell(call, out);
+        } else if let Some(asked) = call.whole_request() {
+            self.act(&asked, out);
         }
     }
 }

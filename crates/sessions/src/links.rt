@@ -1,47 +1,38 @@
 //! The suite `links`: one end of an NSP link.
 
+use crate::call::Call;
+use crate::out::Out;
 use crate::playing::Suite;
-use crate::printing::{push_bytes, push_done, push_got, push_packet};
-use crate::trouble::Trouble;
-use crate::words::{all_bytes, bytes, link_setup, number, size, word};
-use dap_text::{Words, is, push_number, push_str};
 use nsp_link::{Got, LinkEnd, LinkFault};
-use std::alloc::Global;
 
-/// An end of a link.
+/// An end of a link, if there is one.
 #[derive(Drop)]
 pub struct Linking {
-    alloc: Global,
-    end: Option<LinkEnd>,
+    pub end: Option<LinkEnd>,
 }
 
-impl Linking {
-    /// Without an end.
-    pub fn new(alloc: Global) -> Linking {
-        Linking { alloc, end: None }
-    }
-
-    /// Whether there is an end of the setup that the words say.
-    fn make(&mut self, words: &mut Words<'_>, text: &mut Vec<u8>) -> Result<(), Trouble> {
-        match LinkEnd::new(self.alloc, link_setup(self.alloc, words)?) {
-            Ok(end) => {
-                self.end = Some(end);
-                push_done(text, Ok::<(), LinkFault>(()))
-            }
-            Err(fault) => push_done(text, Err(fault)),
+/// A new end.
+fn make(call: &mut Call, out: &mut Out) -> Option<LinkEnd> {
+    match LinkEnd::new(call.alloc(), call.link_setup()) {
+        Ok(end) => {
+            out.put("done");
+            Some(end)
+        }
+        Err(fault) => {
+            out.fault(&fault);
+            None
         }
     }
 }
 
-/// Appends the sizes of an end: segments that aren't acknowledged, that were sent and that were taken; bytes of a message
-/// that isn't whole; segments that are held.
-fn push_sizes(end: &LinkEnd, text: &mut Vec<u8>) -> Result<(), Trouble> {
-    push_number(text, "unacked ", end.unacked())?;
-    push_number(text, " sent ", end.sent_count())?;
-    push_number(text, " received ", end.received_count())?;
-    push_number(text, " partial ", end.partial_len())?;
-    push_number(text, " held ", end.held_count())?;
-    Ok(())
+/// The sizes of an end: segments that aren't acknowledged, that were sent and that were taken; bytes of a message that isn't
+/// whole; segments that are held.
+fn put_sizes(end: &LinkEnd, out: &mut Out) {
+    out.number("unacked ", end.unacked());
+    out.number(" sent ", end.sent_count());
+    out.number(" received ", end.received_count());
+    out.number(" partial ", end.partial_len());
+    out.number(" held ", end.held_count());
 }
 
 /// So many messages of a byte are sent, and so many packets written.
@@ -61,63 +52,71 @@ fn come(end: &mut LinkEnd, number: u16) -> Result<Got, LinkFault> {
     end.receive(&[0x60, 2, 2, 1, 1, 0, 0x80, number[0], number[1]])
 }
 
-/// Messages of one segment come, with the numbers from one up to another: what became of the last, where it is the same of
-/// all.
-fn come_all(end: &mut LinkEnd, first: u16, last: u16, text: &mut Vec<u8>) -> Result<(), Trouble> {
+/// Messages of one segment come, with the numbers from one up to another: what became of them, where it is the same of all.
+fn come_all(end: &mut LinkEnd, first: u16, last: u16, out: &mut Out) {
     let got = come(end, first);
     for number in first.saturating_add(1)..=last {
         if come(end, number) != got {
-            return Ok(push_number(text, "another at ", number)?);
+            return out.number("another at ", number);
         }
     }
-    push_got(text, got)
+    out.got(got);
+}
+
+/// Calls that send.
+fn send(end: &mut LinkEnd, call: &mut Call, out: &mut Out) {
+    if call.is("send") {
+        out.done(end.send(&call.bytes()));
+    } else if call.is("send-all") {
+        out.done(end.send_all(&call.all_bytes()));
+    } else if call.is("check") {
+        out.done(end.check_messages(&call.all_bytes()));
+    } else if call.is("fill") {
+        let sent = call.size();
+        out.done(fill(end, sent, call.size()));
+    } else {
+        call.refuse();
+    }
 }
 
 /// Calls that write.
-fn write(
-    alloc: Global,
-    end: &mut LinkEnd,
-    call: &[u8],
-    mut words: Words<'_>,
-    text: &mut Vec<u8>,
-) -> Result<(), Trouble> {
-    match call {
-        _ if is(call, "send") => push_done(text, end.send(&bytes(alloc, &mut words)?)),
-        _ if is(call, "send-all") => push_done(text, end.send_all(&all_bytes(alloc, words)?)),
-        _ if is(call, "check") => push_done(text, end.check_messages(&all_bytes(alloc, words)?)),
-        _ if is(call, "may-send") => Ok(push_str(text, if end.may_send() { "yes" } else { "no" })?),
-        _ if is(call, "next") => push_packet(text, end.next_packet()),
-        _ if is(call, "resend") => push_packet(text, end.resend(size(&mut words)?).map(Some)),
-        _ if is(call, "ack") => push_packet(text, end.ack_packet().map(Some)),
-        _ if is(call, "fill") => {
-            let sent = size(&mut words)?;
-            push_done(text, fill(end, sent, size(&mut words)?))
-        }
-        _ => Err(Trouble::BadLine),
+fn write(end: &mut LinkEnd, call: &mut Call, out: &mut Out) {
+    if call.is("may-send") {
+        out.yes(end.may_send());
+    } else if call.is("next") {
+        out.next_packet(end.next_packet());
+    } else if call.is("resend") {
+        out.packet(end.resend(call.size()));
+    } else if call.is("ack") {
+        out.packet(end.ack_packet());
+    } else {
+        send(end, call, out);
+    }
+}
+
+/// The oldest message is given away.
+fn take_message(end: &mut LinkEnd, out: &mut Out) {
+    match end.take_message() {
+        Some(message) => out.bytes(&message),
+        None => out.none(),
     }
 }
 
 /// Calls that take what comes, or tell how an end stands.
-fn take(
-    alloc: Global,
-    end: &mut LinkEnd,
-    call: &[u8],
-    mut words: Words<'_>,
-    text: &mut Vec<u8>,
-) -> Result<(), Trouble> {
-    match call {
-        _ if is(call, "receive") => push_got(text, end.receive(&bytes(alloc, &mut words)?)),
-        _ if is(call, "come") => {
-            let first = number(&mut words, 4095)? as u16;
-            come_all(end, first, number(&mut words, 4095)? as u16, text)
-        }
-        _ if is(call, "peek") => push_bytes(text, end.peek_message()),
-        _ if is(call, "take") => match end.take_message() {
-            Some(message) => push_bytes(text, Some(&message)),
-            None => push_bytes(text, None),
-        },
-        _ if is(call, "sizes") => push_sizes(end, text),
-        _ => write(alloc, end, call, words, text),
+fn take(end: &mut LinkEnd, call: &mut Call, out: &mut Out) {
+    if call.is("receive") {
+        out.got(end.receive(&call.bytes()));
+    } else if call.is("come") {
+        let first = call.number(4095) as u16;
+        come_all(end, first, call.number(4095) as u16, out);
+    } else if call.is("peek") {
+        out.some_bytes(end.peek_message());
+    } else if call.is("take") {
+        take_message(end, out);
+    } else if call.is("sizes") {
+        put_sizes(end, out);
+    } else {
+        write(end, call, out);
     }
 }
 
@@ -126,15 +125,14 @@ impl Suite for Linking {
         self.end = None;
     }
 
-    fn call(&mut self, line: &[u8], text: &mut Vec<u8>) -> Result<(), Trouble> {
-        let mut words = Words::of(line);
-        let call = word(&mut words)?;
-        if is(call, "new") {
-            return self.make(&mut words, text);
+    fn call(&mut self, call: &mut Call, out: &mut Out) {
+        if call.is("new") {
+            self.end = make(call, out);
+            return;
         }
         match &mut self.end {
-            Some(end) => take(self.alloc, end, call, words, text),
-            None => Err(Trouble::BadLine),
+            Some(end) => take(end, call, out),
+            None => call.refuse(),
         }
     }
 }

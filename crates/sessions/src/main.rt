@@ -3,14 +3,14 @@
 #![tactic(auto)]
 
 mod asking;
+mod call;
 mod ends;
 mod files;
 mod links;
+mod out;
 mod playing;
-mod printing;
 mod serving;
 mod trouble;
-mod words;
 mod worlds;
 
 use asking::Asking;
@@ -20,44 +20,73 @@ use links::Linking;
 use playing::{Script, Tally, play_all};
 use serving::Serving;
 use std::alloc::Global;
-use std::fs;
 use std::process::ExitCode;
+use std::{fs, io};
 use trouble::Trouble;
 use worlds::Worlds;
 
 /// Plays a file by its suite.
 fn play_file(alloc: Global, script: &Script, tally: &mut Tally) -> Result<(), Trouble> {
     match script.suite() {
-        "files" => play_all(script, tally, Filing::new(alloc)),
-        "links" => play_all(script, tally, Linking::new(alloc)),
-        "serving" => play_all(script, tally, Serving::new(alloc)),
-        "asking" => play_all(script, tally, Asking::new(alloc)),
-        "ends" => play_all(script, tally, Ending::new(alloc)),
-        "worlds" => play_all(script, tally, Worlds::new(alloc)),
+        "files" => {
+            let (file, streams) = (None, Vec::new(alloc));
+            let here = 0;
+            play_all(
+                script,
+                tally,
+                Filing {
+                    file,
+                    streams,
+                    here,
+                },
+            )
+        }
+        "links" => play_all(script, tally, Linking { end: None }),
+        "serving" => play_all(script, tally, Serving { end: None }),
+        "asking" => play_all(script, tally, Asking { end: None }),
+        "ends" => {
+            let (serving, asking) = (None, None);
+            play_all(script, tally, Ending { serving, asking })
+        }
+        "worlds" => {
+            let (world, list) = (None, Vec::new(alloc));
+            play_all(script, tally, Worlds { world, list })
+        }
         _ => Err(Trouble::NoSuite),
     }
 }
 
-/// Plays the files of these names; whether each line came to what it says.
-fn play_each(rt: &HostRuntime) -> Result<bool, Trouble> {
-    let mut is_good = true;
+/// Plays the file of a name; whether each line came to what it says.
+fn play_named(rt: &HostRuntime, name: &str) -> Result<bool, Trouble> {
+    let text = fs::read_to_string(rt, name)?;
+    let script = Script::new(rt.alloc(), text.as_str())?;
+    let mut tally = Tally::new(rt.stdout(), String::from_str(rt.alloc(), name)?);
+    play_file(rt.alloc(), &script, &mut tally)?;
+    tally.end()
+}
+
+/// Plays the files of these names, up to one that can't be played: the exit status.
+fn play_each(rt: &HostRuntime) -> io::Result<u8> {
+    let mut status = 0;
     for name in std::env::args(rt)?.skip(1) {
-        let text = fs::read_to_string(rt, name.as_str())?;
-        let script = Script::new(rt.alloc(), text.as_str())?;
-        let mut tally = Tally::new(rt.stdout(), name);
-        play_file(rt.alloc(), &script, &mut tally)?;
-        is_good &= tally.end()?;
+        match play_named(rt, name.as_str()) {
+            Ok(true) => {}
+            Ok(false) => status = 1,
+            Err(trouble) => {
+                let _ = eprintln!(rt; "sessions: {name}: {trouble}");
+                return Ok(trouble.status());
+            }
+        }
     }
-    Ok(is_good)
+    Ok(status)
 }
 
 fn main(rt: HostRuntime) -> ExitCode {
     match play_each(&rt) {
-        Ok(true) => ExitCode::SUCCESS,
-        Ok(false) => ExitCode::FAILURE,
-        Err(trouble) => {
-            let _ = eprintln!(rt; "{trouble}");
-            ExitCode::from(trouble.status())
+        Ok(status) => ExitCode::from(status),
+        Err(_) => {
+            let _ = eprintln!(rt; "sessions: the words are no text, or memory ran out");
+            ExitCode::from(3)
         }
     }
 }

@@ -3,6 +3,8 @@
 //! Before the first case stand names (`let NAME TEXT`) and parts (`part NAME`), which are lines that cases have in common. In
 //! a call and in what it comes to, a name stands for its text, and `{PIECE*N}` for so many pieces.
 
+use crate::call::Call;
+use crate::out::Out;
 use crate::trouble::Trouble;
 use std::alloc::Global;
 use std::collections::BTreeMap;
@@ -20,7 +22,7 @@ pub trait Suite {
     fn begin(&mut self);
 
     /// Appends what a call comes to.
-    fn call(&mut self, line: &[u8], text: &mut Vec<u8>) -> Result<(), Trouble>;
+    fn call(&mut self, call: &mut Call, out: &mut Out);
 }
 
 /// The lines of a file.
@@ -188,14 +190,23 @@ impl Tally {
     }
 }
 
+/// What a call comes to.
+fn came<S: Suite>(script: &Script, suite: &mut S, line: &str) -> Result<Vec<u8>, Trouble> {
+    let spelled = script.spelled(line)?;
+    let mut call = Call::new(script.alloc, spelled.as_str())?;
+    let mut out = Out::new(script.alloc);
+    suite.call(&mut call, &mut out);
+    if call.is_refused() {
+        return Err(Trouble::BadLine);
+    }
+    out.whole().ok_or(Trouble::NoMemory)
+}
+
 /// What the line at a place comes to, if not what it says.
 fn other<S: Suite>(script: &Script, suite: &mut S, at: usize) -> Result<Option<String>, Trouble> {
-    let (call, expected) = script.line(at).split_once(ARROW).ok_or(Trouble::BadLine)?;
-    let call = script.spelled(call)?;
-    let expected = script.spelled(expected)?;
-    let mut text = Vec::new(script.alloc);
-    suite.call(call.as_bytes(), &mut text)?;
-    if text.as_slice() == expected.as_bytes() {
+    let (line, expected) = script.line(at).split_once(ARROW).ok_or(Trouble::BadLine)?;
+    let text = came(script, suite, line)?;
+    if text.as_slice() == script.spelled(expected)?.as_bytes() {
         return Ok(None);
     }
     match String::from_utf8(text) {

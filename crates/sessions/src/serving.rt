@@ -1,77 +1,56 @@
 //! The suite `serving`: the end that holds the files, without a link.
 
+use crate::call::Call;
+use crate::out::Out;
 use crate::playing::Suite;
-use crate::printing::{push_all, push_bytes, push_next, push_table};
-use crate::trouble::Trouble;
-use crate::words::{buffer, bytes, place, word};
-use dap_accessed::Accessed;
-use dap_text::{Words, is, push_decimal, push_str};
-use std::alloc::Global;
+use dap_accessed::{Accessed, NoMemory, Served};
 
-/// An end that serves.
+/// An end that serves, if there is one.
 #[derive(Drop)]
 pub struct Serving {
-    alloc: Global,
-    end: Option<Accessed>,
+    pub end: Option<Accessed>,
+}
+
+/// Serves the message at a place.
+fn serve_at(end: &mut Accessed, message: &[u8], at: usize) -> Result<Served, NoMemory> {
+    if at < message.len() {
+        end.serve(message, at)
+    } else {
+        end.serve(&[], 0)
+    }
 }
 
 /// Serves a message: all bytes, or those from a place on.
-fn serve(
-    alloc: Global,
-    end: &mut Accessed,
-    words: &mut Words<'_>,
-    text: &mut Vec<u8>,
-) -> Result<(), Trouble> {
-    let message = bytes(alloc, words)?;
-    let at = place(words)?;
-    let served = if at < message.len() {
-        end.serve(&message, at)?
-    } else {
-        end.serve(&[], 0)?
-    };
-    push_all(text, &served.answers)?;
-    push_next(text, served.next, message.len())
+fn serve(end: &mut Accessed, call: &mut Call, out: &mut Out) {
+    let message = call.bytes();
+    let at = if call.has_more() { call.size() } else { 0 };
+    match serve_at(end, &message, at) {
+        Ok(served) => {
+            out.all(&served.answers);
+            out.behind(served.next, message.len());
+        }
+        Err(fault) => out.fault(&fault),
+    }
 }
 
 /// The place of the file of a name.
-fn find(
-    alloc: Global,
-    end: &Accessed,
-    words: &mut Words<'_>,
-    text: &mut Vec<u8>,
-) -> Result<(), Trouble> {
-    match end.files().find(&bytes(alloc, words)?) {
-        Some(at) => Ok(push_decimal(text, at)?),
-        None => push_bytes(text, None),
+fn find(end: &Accessed, call: &mut Call, out: &mut Out) {
+    match end.files().find(&call.bytes()) {
+        Some(at) => out.number("", at),
+        None => out.none(),
     }
 }
 
 /// A call of an end.
-fn act(
-    alloc: Global,
-    end: &mut Accessed,
-    call: &[u8],
-    words: &mut Words<'_>,
-    text: &mut Vec<u8>,
-) -> Result<(), Trouble> {
-    match call {
-        _ if is(call, "serve") => serve(alloc, end, words, text),
-        _ if is(call, "files") => push_table(text, end.files()),
-        _ if is(call, "find") => find(alloc, end, words, text),
-        _ => Err(Trouble::BadLine),
-    }
-}
-
-impl Serving {
-    /// Without an end.
-    pub fn new(alloc: Global) -> Serving {
-        Serving { alloc, end: None }
-    }
-
-    /// A new end.
-    fn make(&mut self, words: &mut Words<'_>, text: &mut Vec<u8>) -> Result<(), Trouble> {
-        self.end = Some(Accessed::new(self.alloc, buffer(words)?));
-        Ok(push_str(text, "made")?)
+fn act(end: &mut Accessed, call: &mut Call, out: &mut Out) {
+    if call.is("serve") {
+        serve(end, call, out);
+    } else if call.is("files") {
+        out.table(end.files());
+    } else if call.is("find") {
+        find(end, call, out);
+    } else {
+        call.refuse();
     }
 }
 
@@ -80,15 +59,14 @@ impl Suite for Serving {
         self.end = None;
     }
 
-    fn call(&mut self, line: &[u8], text: &mut Vec<u8>) -> Result<(), Trouble> {
-        let mut words = Words::of(line);
-        let call = word(&mut words)?;
-        if is(call, "new") {
-            return self.make(&mut words, text);
+    fn call(&mut self, call: &mut Call, out: &mut Out) {
+        if call.is("new") {
+            self.end = Some(Accessed::new(call.alloc(), call.buffer()));
+            return out.put("made");
         }
         match &mut self.end {
-            Some(end) => act(self.alloc, end, call, &mut words, text),
-            None => Err(Trouble::BadLine),
+            Some(end) => act(end, call, out),
+            None => call.refuse(),
         }
     }
 }

@@ -1,6 +1,5 @@
 //! What ends a run, or makes a line none of a suite's.
 
-use dap_accessed::NoMemory;
 use std::alloc::{AllocError, AllocFailed};
 use std::io;
 use thiserror::Error;
@@ -36,12 +35,6 @@ impl<T: Drop> From<AllocFailed<T>> for Trouble {
 
 impl From<AllocError> for Trouble {
     fn from(_e: AllocError) -> Trouble {
-        Trouble::NoMemory
-    }
-}
-
-impl From<NoMemory> for Trouble {
-    fn from(_e: NoMemory) -> Trouble {
         Trouble::NoMemory
     }
 }

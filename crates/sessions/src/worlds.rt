@@ -1,70 +1,80 @@
 //! The suite `worlds`: both ends, both links and the network between them.
 
+use crate::call::Call;
+use crate::out::Out;
 use crate::playing::Suite;
-use crate::printing::{push_bytes, push_done, push_fault, push_number_or, push_packet, push_table};
-use crate::trouble::Trouble;
-use crate::words::{number, request, short, size, word};
-use dap_text::{Words, got_word, is, push_number, push_report, push_str};
+use dap_text::got_word;
 use dap_world::{End, Event, RecordFile, Request, Step, World, WorldFault, WorldSetup};
-use std::alloc::Global;
 
 /// A world, and requests that wait to be asked over a clean network.
 #[derive(Drop)]
 pub struct Worlds {
-    alloc: Global,
-    world: Option<World>,
-    list: Vec<Request>,
+    pub world: Option<World>,
+    pub list: Vec<Request>,
 }
 
 /// One of the ends: `a`, which asks, or `b`, which serves.
-fn end(words: &mut Words<'_>) -> Result<End, Trouble> {
-    match word(words)? {
-        b"a" => Ok(End::A),
-        b"b" => Ok(End::B),
-        _ => Err(Trouble::BadLine),
+fn end(call: &mut Call) -> End {
+    if call.either("a", "b") {
+        End::A
+    } else {
+        End::B
     }
 }
 
-/// The event that a line says, as in a schedule.
-fn event(alloc: Global, call: &[u8], mut words: Words<'_>) -> Result<Event, Trouble> {
-    Ok(match call {
-        _ if is(call, "ask") => Event::Ask(request(alloc, words)?),
-        _ if is(call, "post") => Event::Post(end(&mut words)?),
-        _ if is(call, "emit") => Event::Emit(end(&mut words)?),
-        _ if is(call, "resend") => {
-            let end = end(&mut words)?;
-            Event::Resend(end, size(&mut words)?)
+/// The event of an end that a call says, as in a schedule.
+fn event_of_end(call: &mut Call) -> Option<Event> {
+    let end = end(call);
+    if call.is("post") {
+        Some(Event::Post(end))
+    } else if call.is("emit") {
+        Some(Event::Emit(end))
+    } else if call.is("ack") {
+        Some(Event::Ack(end))
+    } else if call.is("resend") {
+        Some(Event::Resend(end, call.size()))
+    } else if call.is("deliver") {
+        Some(Event::Deliver(end, call.size()))
+    } else {
+        None
+    }
+}
+
+/// The event that a call says, as in a schedule.
+fn event(call: &mut Call) -> Option<Event> {
+    if call.is("ask") {
+        match call.request() {
+            Some(request) => Some(Event::Ask(request)),
+            None => None,
         }
-        _ if is(call, "ack") => Event::Ack(end(&mut words)?),
-        _ if is(call, "deliver") => {
-            let end = end(&mut words)?;
-            Event::Deliver(end, size(&mut words)?)
-        }
-        _ if is(call, "serve") => Event::Serve,
-        _ if is(call, "read") => Event::Read,
-        _ => return Err(Trouble::BadLine),
-    })
+    } else if call.is("serve") {
+        Some(Event::Serve)
+    } else if call.is("read") {
+        Some(Event::Read)
+    } else {
+        event_of_end(call)
+    }
 }
 
 /// The newest packet of an end.
-fn push_newest(world: &World, end: End, text: &mut Vec<u8>) -> Result<(), Trouble> {
+fn put_newest(world: &World, end: End, out: &mut Out) {
     match world.wire(end).last() {
-        Some(wired) => push_bytes(text, Some(&wired.packet)),
-        None => push_bytes(text, None),
+        Some(wired) => out.bytes(&wired.packet),
+        None => out.none(),
     }
 }
 
 /// A report by its place.
-fn push_told(world: &World, at: usize, text: &mut Vec<u8>) -> Result<(), Trouble> {
+fn put_told(world: &World, at: usize, out: &mut Out) {
     match world.reports().get(at) {
-        Some(report) => Ok(push_report(text, report)?),
-        None => push_bytes(text, None),
+        Some(report) => out.report(report),
+        None => out.none(),
     }
 }
 
 /// The newest report.
-fn push_newest_report(world: &World, text: &mut Vec<u8>) -> Result<(), Trouble> {
-    push_told(world, world.reports().len().saturating_sub(1), text)
+fn put_newest_report(world: &World, out: &mut Out) {
+    put_told(world, world.reports().len().saturating_sub(1), out);
 }
 
 /// The end that writes a packet in an event.
@@ -76,31 +86,38 @@ fn writing_end(event: &Event) -> End {
 }
 
 /// What a step says.
-fn push_step(world: &World, event: &Event, step: Step, text: &mut Vec<u8>) -> Result<(), Trouble> {
+fn put_step(world: &World, writer: End, step: Step, out: &mut Out) {
     match step {
-        Step::Asked(count) => push_number(text, "asked ", count)?,
-        Step::Posted(count) => push_number(text, "posted ", count)?,
+        Step::Asked(count) => out.number("asked ", count),
+        Step::Posted(count) => out.number("posted ", count),
         Step::Packet(place) => {
-            push_number(text, "packet ", place)?;
-            push_str(text, " ")?;
-            return push_newest(world, writing_end(event), text);
+            out.number("packet ", place);
+            out.put(" ");
+            put_newest(world, writer, out);
         }
-        Step::Delivered(got) => push_str(text, got_word(got))?,
-        Step::Served(count) => push_number(text, "served ", count)?,
-        Step::Nothing => push_str(text, "read")?,
+        Step::Delivered(got) => out.put(got_word(got)),
+        Step::Served(count) => out.number("served ", count),
+        Step::Nothing => out.put("read"),
         Step::Reported => {
-            push_str(text, "report ")?;
-            return push_newest_report(world, text);
+            out.put("report ");
+            put_newest_report(world, out);
         }
     }
-    Ok(())
 }
 
 /// An event happens.
-fn happen(world: &mut World, event: &Event, text: &mut Vec<u8>) -> Result<(), Trouble> {
+fn happen(world: &mut World, event: &Event, out: &mut Out) {
     match world.apply(event) {
-        Ok(step) => push_step(world, event, step, text),
-        Err(fault) => push_fault(text, &fault),
+        Ok(step) => put_step(world, writing_end(event), step, out),
+        Err(fault) => out.fault(&fault),
+    }
+}
+
+/// The event that a call says happens.
+fn happen_so(world: &mut World, call: &mut Call, out: &mut Out) {
+    match event(call) {
+        Some(event) => happen(world, &event, out),
+        None => call.refuse(),
     }
 }
 
@@ -133,20 +150,23 @@ fn turn(world: &mut World, request: Request) -> Result<(u32, u32), WorldFault> {
     Ok((served, happen_all(world, &Event::Read)))
 }
 
-/// What a turn comes to: the packet of A, how many messages of it were served, the packet of B, how many of it were read, and
+/// What a turn came to: the packet of A, how many messages of it were served, the packet of B, how many of it were read, and
 /// the report.
-fn push_turn(world: &mut World, request: Request, text: &mut Vec<u8>) -> Result<(), Trouble> {
+fn put_turn(world: &World, served: u32, read: u32, out: &mut Out) {
+    put_newest(world, End::A, out);
+    out.number(" served ", served);
+    out.put(" ");
+    put_newest(world, End::B, out);
+    out.number(" read ", read);
+    out.put(" report ");
+    put_newest_report(world, out);
+}
+
+/// A request over a clean network.
+fn take_turn(world: &mut World, request: Request, out: &mut Out) {
     match turn(world, request) {
-        Ok((served, read)) => {
-            push_newest(world, End::A, text)?;
-            push_number(text, " served ", served)?;
-            push_str(text, " ")?;
-            push_newest(world, End::B, text)?;
-            push_number(text, " read ", read)?;
-            push_str(text, " report ")?;
-            push_newest_report(world, text)
-        }
-        Err(fault) => push_fault(text, &fault),
+        Ok((served, read)) => put_turn(world, served, read, out),
+        Err(fault) => out.fault(&fault),
     }
 }
 
@@ -173,144 +193,119 @@ fn emit(world: &mut World, segments: usize) -> Result<(), WorldFault> {
 
 /// Requests that were asked, messages sent by A, served by B and read by A; reports; segments of A that aren't acknowledged,
 /// and those that B took; packets of both.
-fn push_sizes(world: &World, text: &mut Vec<u8>) -> Result<(), Trouble> {
-    push_number(text, "asked ", world.requests().len())?;
-    push_number(text, " sent ", world.sent().len())?;
-    push_number(text, " served ", world.taken().len())?;
-    push_number(text, " read ", world.read_count())?;
-    push_number(text, " reports ", world.reports().len())?;
-    push_number(text, " unacked ", world.link(End::A).unacked())?;
-    push_number(text, " took ", world.link(End::B).received_count())?;
-    push_number(text, " packets ", world.wire(End::A).len())?;
-    push_number(text, " ", world.wire(End::B).len())?;
-    Ok(())
+fn put_sizes(world: &World, out: &mut Out) {
+    out.number("asked ", world.requests().len());
+    out.number(" sent ", world.sent().len());
+    out.number(" served ", world.taken().len());
+    out.number(" read ", world.read_count());
+    out.number(" reports ", world.reports().len());
+    out.number(" unacked ", world.link(End::A).unacked());
+    out.number(" took ", world.link(End::B).received_count());
+    out.number(" packets ", world.wire(End::A).len());
+    out.number(" ", world.wire(End::B).len());
 }
 
 /// The record of the first file under a number.
-fn push_record(world: &World, words: &mut Words<'_>, text: &mut Vec<u8>) -> Result<(), Trouble> {
-    let number = number(words, u32::MAX)?;
+fn put_record(world: &World, number: u32, out: &mut Out) {
     if world.files().count() == 0 {
-        return push_bytes(text, None);
+        return out.none();
     }
-    push_bytes(text, world.files().file(0).lookup(number))
+    out.some_bytes(world.files().file(0).lookup(number));
 }
 
-/// A call that tells how a world stands, or an event.
-fn look(
-    alloc: Global,
-    world: &mut World,
-    call: &[u8],
-    mut words: Words<'_>,
-    text: &mut Vec<u8>,
-) -> Result<(), Trouble> {
-    match call {
-        _ if is(call, "report") => push_told(world, size(&mut words)?.saturating_sub(1), text),
-        _ if is(call, "newest") => push_newest_report(world, text),
-        _ if is(call, "files") => push_table(text, world.files()),
-        _ if is(call, "record") => push_record(world, &mut words, text),
-        _ if is(call, "sizes") => push_sizes(world, text),
-        _ if is(call, "fresh") => push_fresh(world, text),
-        _ if is(call, "acknowledgement") => push_acknowledgement(world, &mut words, text),
-        _ => happen(world, &event(alloc, call, words)?, text),
-    }
-}
-
-/// Whether nothing happened.
-fn push_fresh(world: &World, text: &mut Vec<u8>) -> Result<(), Trouble> {
-    Ok(push_str(text, if world.is_fresh() { "yes" } else { "no" })?)
-}
-
-/// The acknowledgement that an end's link would write.
-fn push_acknowledgement(
-    world: &World,
-    words: &mut Words<'_>,
-    text: &mut Vec<u8>,
-) -> Result<(), Trouble> {
-    push_packet(text, world.link(end(words)?).ack_packet().map(Some))
-}
-
-/// A call of a world: many events at once, or one, or how it stands.
-fn act(
-    alloc: Global,
-    world: &mut World,
-    call: &[u8],
-    mut words: Words<'_>,
-    text: &mut Vec<u8>,
-) -> Result<(), Trouble> {
-    match call {
-        _ if is(call, "turn") => push_turn(world, request(alloc, words)?, text),
-        _ if is(call, "settle") => push_number_or(text, world.settle(end(&mut words)?)),
-        _ if is(call, "finish") => push_number_or(text, world.finish()),
-        _ if is(call, "emits") => push_done(text, emit(world, size(&mut words)?)),
-        _ if is(call, "bring") => push_brought(world, &mut words, text),
-        _ => look(alloc, world, call, words, text),
+/// A call that tells how a world stands.
+fn look(world: &mut World, call: &mut Call, out: &mut Out) {
+    if call.is("report") {
+        put_told(world, call.size().saturating_sub(1), out);
+    } else if call.is("newest") {
+        put_newest_report(world, out);
+    } else if call.is("files") {
+        out.table(world.files());
+    } else if call.is("record") {
+        put_record(world, call.long(), out);
+    } else if call.is("sizes") {
+        put_sizes(world, out);
+    } else if call.is("fresh") {
+        out.yes(world.is_fresh());
+    } else if call.is("acknowledgement") {
+        out.packet(world.link(end(call)).ack_packet());
+    } else {
+        happen_so(world, call, out);
     }
 }
 
-/// `N M`: segments come.
-fn push_brought(
-    world: &mut World,
-    words: &mut Words<'_>,
-    text: &mut Vec<u8>,
-) -> Result<(), Trouble> {
-    let segments = size(words)?;
-    push_done(text, bring(world, segments, size(words)?))
+/// A call of a world: many events at once, or another.
+fn act(world: &mut World, call: &mut Call, out: &mut Out) {
+    if call.is("turn") {
+        if let Some(request) = call.request() {
+            take_turn(world, request, out);
+        }
+    } else if call.is("settle") {
+        out.number_or(world.settle(end(call)));
+    } else if call.is("finish") {
+        out.number_or(world.finish());
+    } else if call.is("emits") {
+        out.done(emit(world, call.size()));
+    } else if call.is("bring") {
+        let segments = call.size();
+        out.done(bring(world, segments, call.size()));
+    } else {
+        look(world, call, out);
+    }
 }
 
 /// Requests are asked over a clean network, of a fresh world.
-fn direct(world: &mut World, list: &[Request], text: &mut Vec<u8>) -> Result<(), Trouble> {
+fn direct(world: &mut World, list: &[Request], call: &mut Call, out: &mut Out) {
     if !world.is_fresh() {
-        return Err(Trouble::BadLine);
+        return call.refuse();
     }
     match world.direct(list) {
-        Ok(()) => Ok(push_str(text, "done")?),
+        Ok(()) => out.put("done"),
         Err((at, fault)) => {
-            push_number(text, "at ", at)?;
-            push_str(text, " ")?;
-            push_fault(text, &fault)
+            out.number("at ", at);
+            out.put(" ");
+            out.fault(&fault);
+        }
+    }
+}
+
+/// A new world: `SEG WINDOW BUFA BUFB`.
+fn make(call: &mut Call, out: &mut Out) -> Option<World> {
+    let setup = WorldSetup {
+        seg_size: call.size(),
+        window: call.size(),
+        bufsiz_a: call.short(),
+        bufsiz_b: call.short(),
+    };
+    match World::new(call.alloc(), setup) {
+        Ok(world) => {
+            out.put("made");
+            Some(world)
+        }
+        Err(fault) => {
+            out.fault(&fault);
+            None
         }
     }
 }
 
 impl Worlds {
-    /// Without a world.
-    pub fn new(alloc: Global) -> Worlds {
-        Worlds {
-            alloc,
-            world: None,
-            list: Vec::new(alloc),
-        }
-    }
-
-    /// A new world: `SEG WINDOW BUFA BUFB`.
-    fn make(&mut self, words: &mut Words<'_>, text: &mut Vec<u8>) -> Result<(), Trouble> {
-        let seg_size = size(words)?;
-        let window = size(words)?;
-        let bufsiz_a = short(words)?;
-        let bufsiz_b = short(words)?;
-        self.begin();
-        match World::new(
-            self.alloc,
-            WorldSetup {
-                seg_size,
-                window,
-                bufsiz_a,
-                bufsiz_b,
-            },
-        ) {
-            Ok(world) => {
-                self.world = Some(world);
-                Ok(push_str(text, "made")?)
+    /// A request waits more.
+    fn add(&mut self, call: &mut Call, out: &mut Out) {
+        if let Some(request) = call.request() {
+            if self.list.push(request).is_err() {
+                call.refuse();
             }
-            Err(fault) => push_fault(text, &fault),
         }
+        out.number("", self.list.len());
     }
 
-    /// The requests that wait are asked over a clean network.
-    fn direct(&mut self, text: &mut Vec<u8>) -> Result<(), Trouble> {
+    /// A call of the world that is there.
+    fn act(&mut self, call: &mut Call, out: &mut Out) {
         match &mut self.world {
-            Some(world) => direct(world, &self.list, text),
-            None => Err(Trouble::BadLine),
+            Some(world) if call.is("direct") => direct(world, &self.list, call, out),
+            Some(world) => act(world, call, out),
+            None => call.refuse(),
         }
     }
 }
@@ -321,22 +316,14 @@ impl Suite for Worlds {
         self.list.clear();
     }
 
-    fn call(&mut self, line: &[u8], text: &mut Vec<u8>) -> Result<(), Trouble> {
-        let mut words = Words::of(line);
-        let call = word(&mut words)?;
-        if is(call, "new") {
-            return self.make(&mut words, text);
-        }
-        if is(call, "list") {
-            self.list.push(request(self.alloc, words)?)?;
-            return Ok(push_number(text, "", self.list.len())?);
-        }
-        if is(call, "direct") {
-            return self.direct(text);
-        }
-        match &mut self.world {
-            Some(world) => act(self.alloc, world, call, words, text),
-            None => Err(Trouble::BadLine),
+    fn call(&mut self, call: &mut Call, out: &mut Out) {
+        if call.is("new") {
+            self.list.clear();
+            self.world = make(call, out);
+        } else if call.is("list") {
+            self.add(call, out);
+        } else {
+            self.act(call, out);
         }
     }
 }

@@ -1,5 +1,5 @@
 -- What the program lists of a stream.
-use Rattle.std.specs.Prelude.{◌≡◌, ◌==◌, ◌+◌, ◌/◌, ⊤, ℕ, List, [], ◌∷◌, ◌++◌, length, map, max, codes, if◌then◌else◌}
+use Rattle.std.specs.Prelude.{◌≡◌, ◌==◌, ◌+◌, ◌/◌, ⊤, ℕ, List, [], ◌∷◌, ◌++◌, length, map, codes, if◌then◌else◌}
 use Rattle.std.specs.List.{AllByRecursion, filter, flat_map, zip}
 use Rattle.std.specs.Global.{Vec}
 use Rattle.dap_text.specs.Adding.{Adds}
@@ -14,11 +14,6 @@ use Rattle.dap_follow.specs.declared.streams.Stream.{Stream}
 
 abbrev pub values : List Counted → List Placed
 values cs = map counted_value cs
-
--- the latest packet
-abbrev pub latest : List Placed → ℕ
-latest [] = 0
-latest (s ∷ others) = max s.packet (latest others)
 
 abbrev pub message_heading : Piece → List ℕ
 message_heading p = piece_text (codes "  message") p

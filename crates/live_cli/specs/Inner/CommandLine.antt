@@ -6,8 +6,8 @@ use Rattle.clap.specs.Words.{App, Text, app_of, new_app, with_rule}
 use Rattle.dap_msg.specs.BothEnds.{greatest_message, least_buffer}
 use Rattle.nsp_link.specs.Limits.{largest_segment, largest_window}
 use Rattle.live_cli.specs.declared.words.Task.{Task}
-use Rattle.live_cli.specs.declared.words.Task.TheVariants.{End, Follow}
-use Rattle.live_cli.specs.Words.{daplive, greatest_waiting, least_waiting, number, option}
+use Rattle.live_cli.specs.declared.words.Task.TheVariants.{End, Follow, Frames}
+use Rattle.live_cli.specs.Words.{daplive, frames_line, greatest_waiting, least_waiting, number, option}
 
 -- the command is another with more words, none of them global
 pub record Becomes (before : Command) (line : App) (command : Command) : Type 0 where
@@ -55,6 +55,11 @@ pub record IsServeLine (command : Command) : Type 0 where
   pub app : app_of command ≡ serve_line_by
   pub local : (out-Command command).has_globals ≡ false
 
+-- a command that is the command line of `frames`
+pub record IsFramesLine (command : Command) : Type 0 where
+  pub app : app_of command ≡ frames_line
+  pub local : (out-Command command).has_globals ≡ false
+
 -- a command that is the program's command line
 pub record IsCommandLine (command : Command) : Type 0 where
   pub app : app_of command ≡ daplive
@@ -65,3 +70,4 @@ pub record IsCommandLine (command : Command) : Type 0 where
 abbrev pub HasRoom : Task → Type 0
 HasRoom (End options) = least_buffer ≤ options.buffer
 HasRoom Follow = Unit {0}
+HasRoom (Frames ends) = Unit {0}

@@ -3,17 +3,24 @@ use Rattle.std.specs.Prelude.{◌≡◌, ℕ, List, Option, None, IfSome}
 use Rattle.clap.specs.Words.{Row, Text, first_of}
 use Rattle.dap_text.specs.Words.{decimal_of, short}
 use Rattle.dap_live.specs.Orders.{address_of}
+use Rattle.decnet_frames.specs.Nodes.{node_of}
 use Rattle.live_cli.specs.declared.words.Digits.{Digits}
-use Rattle.live_cli.specs.declared.words.Digits.TheVariants.{Address, Bytes, Number}
+use Rattle.live_cli.specs.declared.words.Digits.TheVariants.{Address, Bytes, Node, Number}
 use Rattle.live_cli.specs.declared.words.Misspelt.{Misspelt}
 use Rattle.live_cli.specs.Words.{greatest_waiting}
 
 -- what a value says that has to be spelled so
 abbrev pub read_of : Digits → Text → Option ℕ
 read_of Address = address_of
+read_of Node = node_of
 read_of Number = short
 read_of Bytes = decimal_of greatest_waiting
 
+-- it is the value of its option; of nodes, it may be any
+abbrev pub IsValue : Digits → List Row → (option text : Text) → Type 0
+IsValue Node rows option text = Unit {0}
+IsValue _ rows option text = IfSome (first_of option rows) (λ value. value ≡ text)
+
 -- it is the value of its option, if that has one, and says nothing
 abbrev pub IsMisspelt : List Row → Misspelt → Type 0
-IsMisspelt rows m = IfSome (first_of m.option.now rows) (λ value. value ≡ m.value.now) × (read_of m.digits m.value.now ≡ None)
+IsMisspelt rows m = IsValue m.digits rows m.option.now m.value.now × (read_of m.digits m.value.now ≡ None)

@@ -4,7 +4,6 @@ use Rattle.dap_follow.specs.Joined.{pieces}
 use Rattle.dap_follow.specs.Following.{rest_lines}
 use Rattle.dap_follow.specs.Inner.Keeping.{IsGood}
 use Rattle.dap_follow.specs.Inner.Listing.{UnderAll, all_rest_lines, values}
-use Rattle.dap_follow.specs.Inner.Placing.{Rises}
 use Rattle.dap_follow.specs.declared.places.Places.{Places}
 use Rattle.dap_follow.specs.declared.places.Counted.{Counted}
 use Rattle.dap_follow.proofs.JoiningLemmas.{under_none}
@@ -29,17 +28,8 @@ unreachable-requires c =
     let each = subst (λ (keys : List Stream). KeepsEach k.0 keys c.args.streams.now.places.items) (sym k.1.names) k.1.each in
     key_there k.0 c.loop-at.at c.args.streams.now.names.keys c.args.streams.now.places.items each below (sym c.in_default.ensures.key)
 
-pub list_stream-requires-clause-rises : goal.list_stream-requires-clause-rises
-list_stream-requires-clause-rises c =
-    let k = c.requires in
-    let below : c.loop-at.at < length c.args.streams.now.places.items = search rules in
-    let each = subst (λ (keys : List Stream). KeepsEach k.0 keys c.args.streams.now.places.items) (sym k.1.names) k.1.each in
-    let one = kept_one k.0 c.loop-at.at c.args.streams.now.names.keys c.args.streams.now.places.items c.index.result.now each below in
-    let kept = subst (λ (p : Places). KeepsStream k.0 one.0 p) (sym c.index.ensures) one.2 in
-    subst Rises (sym c.deref.ensures.value) kept.keeps.rises
-
-pub list_stream-requires-clause-good : goal.list_stream-requires-clause-good
-list_stream-requires-clause-good c =
+pub list_stream-requires : goal.list_stream-requires
+list_stream-requires c =
     let k = c.requires in
     let below : c.loop-at.at < length c.args.streams.now.places.items = search rules in
     let each = subst (λ (keys : List Stream). KeepsEach k.0 keys c.args.streams.now.places.items) (sym k.1.names) k.1.each in

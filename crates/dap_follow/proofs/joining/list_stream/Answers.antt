@@ -1,8 +1,8 @@
-use Rattle.std.proofs.Common.{arith, ◌≡◌, ◌<◌, ◌+◌, ◌-◌, ℕ, List, [], length, length-drop, take, drop, refl, sym, subst}
+use Rattle.std.proofs.Common.{arith, ◌≡◌, ◌<◌, ◌+◌, ◌-◌, ℕ, List, [], length, length-drop, length-take, take, drop, refl, sym, subst}
 use Rattle.std.proofs.lemmas.List.{take_all}
 use Rattle.dap_follow.specs.declared.places.Counted.{Counted}
 use Rattle.dap_follow.proofs.JoiningLemmas.{under_none}
-use Rattle.dap_follow.proofs.StreamLemmas.{latest_more, listed_more, packet_high, packet_low, piece_good}
+use Rattle.dap_follow.proofs.StreamLemmas.{listed_more, packet_high, packet_low, piece_good}
 use Rattle.dap_follow.proofs.joining.list_stream.Goals as goal
 
 -- from a place to the end
@@ -10,10 +10,10 @@ to_end : (o : List Counted) (a : ℕ) → take (length o - a) (drop a o) ≡ dro
 to_end o a = take_all (length o - a) (drop a o) (omega (arith, length-drop a o))
 
 pub loop-at-init : goal.loop-at-init
-loop-at-init c = record { within = omega arith; latest_is = refl; cut = ([], refl, under_none 1 c.args.lines.now); rest = refl }
+loop-at-init c = record { within = omega arith; cut = ([], refl, under_none 1 c.args.lines.now); rest = refl }
 
 pub list_piece-requires-clause-spelled : goal.list_piece-requires-clause-spelled
-list_piece-requires-clause-spelled c = piece_good c.args.ordered.now c.loop-at.at _ _ c.requires.good
+list_piece-requires-clause-spelled c = piece_good c.args.ordered.now c.loop-at.at _ _ c.requires
 
 pub list_piece-requires-clause-first : goal.list_piece-requires-clause-first
 list_piece-requires-clause-first c =
@@ -21,9 +21,10 @@ list_piece-requires-clause-first c =
     let a = c.loop-at.at in
     let n = c.piece_len.result in
     let size : a + n - a ≡ n = omega arith in
-    let more = rw size at c.latest_after-latest.ensures in
-    let is = latest_more o a n c.loop-at.latest c.latest_after-latest.result c.loop-at.invariant.latest_is more in
-    subst (λ (k : ℕ). 0 < k) (sym is) (packet_low o (a + n) (length c.args.lines.now) c.requires.good (omega (arith, c.piece_len.ensures.some)) (omega (arith, c.loop-at-test.true)))
+    let is = rw size at c.latest_packet.ensures in
+    let len = rw (to_end o a) at c.piece_len.ensures in
+    let some : 0 < length (take n (drop a o)) = omega (arith, length-take n (drop a o), len.some, len.within) in
+    subst (λ (k : ℕ). 0 < k) (sym is) (packet_low o a n (length c.args.lines.now) c.requires some)
 
 pub list_piece-requires-clause-last : goal.list_piece-requires-clause-last
 list_piece-requires-clause-last c =
@@ -31,9 +32,8 @@ list_piece-requires-clause-last c =
     let a = c.loop-at.at in
     let n = c.piece_len.result in
     let size : a + n - a ≡ n = omega arith in
-    let more = rw size at c.latest_after-latest.ensures in
-    let is = latest_more o a n c.loop-at.latest c.latest_after-latest.result c.loop-at.invariant.latest_is more in
-    let high = packet_high o (a + n) (length c.args.lines.now) c.requires.good in
+    let is = rw size at c.latest_packet.ensures in
+    let high = packet_high o a n (length c.args.lines.now) c.requires in
     omega (arith, is, high, c.loop-at.auto.lines)
 
 pub loop-at-preserved : goal.loop-at-preserved
@@ -42,9 +42,9 @@ loop-at-preserved c =
     let a = c.loop-at.at in
     let n = c.piece_len.result in
     let size : a + n - a ≡ n = omega arith in
-    let more = rw size at c.latest_after-latest.ensures in
+    let is = rw size at c.latest_packet.ensures in
     let len = rw (to_end o a) at c.piece_len.ensures in
     let lists = rw size at c.in_ok-list_piece.ensures in
     let gaps = rw (size, to_end o (a + n)) at c.in_ok-push_gap.ensures in
     listed_more c.args.stream.now o c.args.lines.now c.loop-at.lines c.list_piece.new.lines c.args.rest.now c.loop-at.rest c.list_piece.new.rest c.push_gap.new.text
-    c.loop-at.latest c.latest_after-latest.result a n c.requires.rises c.loop-at.invariant len.some len.within len.cut more lists gaps
+    c.latest_packet.result a n c.loop-at.invariant len.within len.cut is lists gaps

@@ -1,0 +1,124 @@
+"""DAP messages, written. They are read by `daplive follow`, which is proved."""
+import enum
+import struct
+
+from decnet.nsp import image
+
+# types of messages
+CONFIG, ATTRIBUTES, ACCESS, CONTROL, CONTINUE, ACK, COMPLETE, DATA, STATUS = range(1, 10)
+HAS_LENGTH, LONG_LENGTH = 2, 4  # FLAGS
+SHORT, MORE, BITS = 256, 0x80, 7  # a length of one byte is below SHORT; bytes of an extensible field, and bits in each
+
+
+class Access(enum.IntEnum):
+    """ACCFUNC."""
+
+    OPEN = 1
+    CREATE = 2
+    RENAME = 3
+    ERASE = 4
+    DIRECTORY = 6
+    NONE = 99
+
+
+class Fac(enum.IntFlag):
+    """FAC."""
+
+    PUT = 1
+    GET = 2
+    UPDATE = 4
+    DELETE = 8
+    ALL = 15
+    BLOCKS = 32
+
+
+class Control(enum.IntEnum):
+    """CTLFUNC."""
+
+    GET = 1
+    CONNECT = 2
+    UPDATE = 3
+    PUT = 4
+    DELETE = 5
+    REWIND = 6
+    FIND = 14
+
+
+class Rac(enum.IntEnum):
+    """RAC."""
+
+    NEXT = 0
+    KEY = 1
+    WHOLE = 3
+    BLOCK = 4
+
+
+class Complete(enum.IntEnum):
+    """CMPFUNC."""
+
+    CLOSE = 1
+    RESPONSE = 2
+    PURGE = 3
+    END_OF_STREAM = 4
+
+
+def message(kind, operand, has_length=True):
+    if not has_length:
+        return bytes([kind, 0]) + operand
+    if len(operand) < SHORT:
+        return bytes([kind, HAS_LENGTH, len(operand)]) + operand
+    return bytes([kind, HAS_LENGTH | LONG_LENGTH]) + struct.pack("<H", len(operand)) + operand
+
+
+def extensible(number):
+    """A number in as few bytes as it takes, the lowest bits first."""
+    out = b""
+    while number >= MORE:
+        out += bytes([number % MORE | MORE])
+        number >>= BITS
+    return out + bytes([number])
+
+
+def number(value):
+    """A record's number as a key has it."""
+    return value.to_bytes(4, "little")
+
+
+def config(bufsiz=1024, ostype=7, filesys=3, version=(5, 6, 0, 0, 0), syscap=0, has_length=True):
+    return message(CONFIG, struct.pack("<HBB5B", bufsiz, ostype, filesys, *version) + extensible(syscap), has_length)
+
+
+# the fields of an Attributes message that are written, by the bits of its menu
+FIELDS = {"org": (1, lambda value: bytes([value])), "rfm": (2, lambda value: bytes([value])), "rat": (3, extensible),
+          "mrs": (5, lambda value: struct.pack("<H", value)), "fsz": (8, lambda value: bytes([value])),
+          "mrn": (9, lambda value: image(number(value)))}
+
+
+def attributes(**given):
+    menu = sum(1 << FIELDS[name][0] for name in given)
+    return message(ATTRIBUTES, extensible(menu) + b"".join(write(given[name]) for name, (_, write) in FIELDS.items() if name in given))
+
+
+def access(function, name, fac=Fac.GET):
+    opt = shr = 0
+    return message(ACCESS, bytes([function]) + extensible(opt) + image(name) + extensible(fac) + extensible(shr))
+
+
+def control(function, rac=None, key=None, rop=None):
+    menu, out = 0, b""
+    if rac is not None:
+        menu, out = menu | 1, out + bytes([rac])
+    if key is not None:
+        menu, out = menu | 2, out + image(key)
+    if rop is not None:
+        menu, out = menu | 8, out + extensible(rop)
+    return message(CONTROL, bytes([function]) + (extensible(menu) + out if menu else b""))
+
+
+def complete(function):
+    fop = 0
+    return message(COMPLETE, bytes([function]) + extensible(fop))
+
+
+def data(record, recnum=b""):
+    return message(DATA, image(recnum) + record)

@@ -1,0 +1,147 @@
+"""The parts of a bridge, made by the words of the command line. What is `opened` is closed by who asks for it."""
+import os
+import re
+
+from decnet import frames, log, nsp, routing, udp, wire
+from decnet.asker import InputFault
+from decnet.end import Answer, End, EndFault
+from decnet.folder import Folder
+from decnet.hostfile import HostFault
+from decnet.journal import Journal
+from decnet.kept import KeptFile, read_lines
+from decnet.link import MAX_PACKET, Settings
+from decnet.locked import KeptFault
+from decnet.pcap import Pcap
+from decnet.role import Signals, finish, run, wait_for
+from decnet.server import Entry, load, replay
+from decnet.stored import Store, StoredEnd, program_of
+from decnet.users import Guard, Users
+
+OF_LINES = re.compile(r"(daplive: line|bad line) \d+")  # the live end counts lines that the user never saw
+
+
+def open_signals(words, opened, with_times=False):
+    """The log, and the signals that stop the bridge."""
+    return opened(Signals(opened(log.start("bridge", words.log, with_times))))
+
+
+def settings_of(words, unused=None):
+    """What holds for all links."""
+    return Settings(words.segment, words.resend, words.tries, words.idle, unused)
+
+
+def open_node(words, opened):
+    """The end node, on what carries its frames."""
+    tap = opened(Pcap(words.pcap)) if words.pcap is not None else None
+    harm = routing.Harm(words.harm, words.seed) if words.harm else None
+    return opened(routing.EndNode(open_wire(words), words.node, words.router, harm, tap))
+
+
+def open_wire(words):
+    if words.frames is not None:
+        return wire.given(words.frames)
+    if words.udp is not None:
+        return udp.Udp(words.udp)
+    longest = frames.BEFORE_PACKET + MAX_PACKET - nsp.MAX_SEGMENT + words.segment
+    return wire.interface(words.interface, words.node, longest)
+
+
+def start_end(words, signals):
+    """The live end, which answers."""
+    role = "serve" if words.role == "serve" else "ask"
+    named = ["window", "buffer", *(["waiting"] if role == "serve" else [])]
+    options = [word for name in named if getattr(words, name) for word in (f"--{name}", str(getattr(words, name)))]
+    kind = End if words.store is None else StoredEnd
+    end = kind(words.daplive, [role, *options], told=tell_of_end)
+    try:
+        answers = []
+        end.tell("new", Answer(answers.append))
+        wait_for(lambda: answers, end, signals)
+    except BaseException:
+        end.close()
+        raise
+    return end
+
+
+def tell_of_end(text):
+    """What the live end says on standard error; what it says of lines is told where its answer is read."""
+    if not OF_LINES.match(text):
+        log.say(text)
+
+
+def keep_file(words):
+    """Where the files are kept that are saved when one is closed; None where they aren't."""
+    if words.folder is not None:
+        return Folder(words.folder)
+    if words.save is None:
+        return None
+    kept = KeptFile(words.save, words.files)
+    if kept.is_new:
+        log.say(f"{words.save}: a new file")
+    return kept
+
+
+def load_files(words, kept, end, space, signals):
+    """Gives a live end its files; whether some aren't yet where they are kept."""
+    if words.folder is not None:
+        load(end, words.folder, kept.read_lines(), space, signals)
+        for text in kept.listing(None).told():
+            log.say(text)
+        return False
+    if words.files is None:
+        return False
+    load(end, words.files, read_lines(words.files), space, signals)
+    return kept is not None and not os.path.samefile(words.files, words.save)
+
+
+def open_store(words, opened, end, space, signals):
+    """The store, from which the live end stands again as it stood; and the link that was open then, or None."""
+    journal = opened(Journal(words.store, f"{program_of(end)} {' '.join(end.words)}", words.sync))
+    is_new, is_good = journal.is_empty, not journal.is_empty and journal.parsed.lines[0] == journal.head()
+    if is_new:
+        log.say(f"{words.store}: a new store")
+        if words.files is not None:
+            load(end, words.files, read_lines(words.files), space, signals)
+    elif words.files is not None:
+        raise KeptFault(f"{words.store}: it has files, and --files would add to them")
+    has_packets, left = bool(journal.parsed.told), replay(end, journal, space, signals)
+    journal.go_on()
+    store = opened(Store(end, journal, words.growth))
+    if left is None and (has_packets or not is_good):
+        renew_now(store, end, signals)
+    return store, left
+
+
+def renew_now(store, end, signals):
+    """Writes a store anew before any link is taken; a fault where that can't be."""
+    faults = []
+    store.renew(faults.append)
+    wait_for(lambda: faults, end, signals, files=store.files)
+    if faults[0]:
+        raise faults[0]
+
+
+def open_entry(words, opened):
+    """Who may enter."""
+    guard = opened(Guard(Users(words.users))) if words.users is not None else None
+    return Entry(frozenset(words.allow) if words.allow else None, guard)
+
+
+def end_beside(words):
+    """A live end that serves nobody, for a probe."""
+    end = End(words.daplive, ["serve"], told=tell_of_end)
+    end.say("new")
+    return end
+
+
+def carry(role, signals):
+    """Runs the role; at a fault the link, and what can still be saved, is seen to."""
+    try:
+        return run(role, signals)
+    except wire.WireFault:
+        role.lose_network()
+        finish(role, signals)
+        raise
+    except (EndFault, InputFault, HostFault, BrokenPipeError):
+        role.abandon()
+        raise

@@ -1,0 +1,184 @@
+"""A live end whose lines are kept in a journal: what it answers is done when the line that it answers is kept."""
+import hashlib
+import pathlib
+import time
+
+from decnet import log, nsp
+from decnet.address import read_node
+from decnet.end import End
+from decnet.journal import NOTE
+from decnet.kept import Keeper
+from decnet.link import LeftLink
+from decnet.locked import fault_of
+from decnet.nsp import FlowControl, Qualifier
+from decnet.routing import Peer
+
+QUERIES = ("files",)  # lines that change nothing
+OF_LINK = ("resend", "ack")  # lines that may change the link, and no file
+ONLY_ACK, NO_MEMORY = "ack-only", "refused no-memory"
+SEGMENTS = ("< 00", "< 20", "< 40", "< 60")  # how a packet with a segment begins in an answer
+RETRY_SECONDS = 10  # before a journal that couldn't be written is tried again
+CHUNK = 1 << 20
+
+
+def program_of(end):
+    """The SHA-256 of the program that runs as a live end, which has answered."""
+    digest, running = hashlib.sha256(), pathlib.Path(f"/proc/{end.process.pid}/exe")
+    try:
+        with open(running, "rb") as file:
+            while chunk := file.read(CHUNK):
+                digest.update(chunk)
+    except OSError as fault:
+        raise fault_of(end.program, fault) from fault
+    return digest.hexdigest()
+
+
+def left_link(lines):
+    """The link that was open when the bridge before ended, by the lines of its journal; None where there was none that can
+    be gone on with."""
+    words, others, packet = [], [], None
+    for line in lines:
+        if line.startswith(NOTE + "link "):
+            words, others, packet = line.split(" ")[1:], [], None
+        elif line.startswith(NOTE + "other "):
+            others = line.split(" ")[1:]
+        elif line.startswith("> "):
+            packet = line[2:]
+    if len(words) != 6 or words[5] != FlowControl.NONE.name.lower():
+        return None
+    taken, is_on = (int(others[0]), others[1] == "on") if others else (0, True)
+    return LeftLink(Peer(read_node(words[0]), bytes.fromhex(words[1])), int(words[2], 16), int(words[3], 16),
+                    int(words[4]), taken, is_on, acknowledged_in(packet))
+
+
+def acknowledged_in(packet):
+    """The segment up to which a packet acknowledges; 0 where it doesn't."""
+    if packet is None:
+        return 0
+    acks = nsp.read(bytes.fromhex(packet)).acks
+    return max((number for qualifier, number in acks if qualifier in (Qualifier.ACK, Qualifier.NAK)), default=0)
+
+
+class Kept:
+    """The answer to a line that is kept: it is given on when the line is, and none is where the line can't be."""
+
+    def __init__(self, end, line, answer):
+        self.end_of, self.line, self.answer, self.lines = end, line, answer, []
+
+    def take(self, text):
+        self.lines.append(text)
+
+    def end(self):
+        if self.end_of.keep_line(self.line, self.lines):
+            for text in self.lines:
+                self.answer.take(text)
+        self.answer.end()
+
+
+class StoredEnd(End):
+    """A live end that has a journal, once `journal` is set."""
+
+    journal = None
+    fault = None  # why the journal can't be written
+    is_due = False  # whether a line was told that the disk hasn't, besides acknowledgements
+    has_wanted_memory = False  # whether a line was answered by want of memory: a replay may do more than was done
+
+    @property
+    def is_kept(self):
+        return self.journal is not None
+
+    def queue(self, line, answer):
+        is_kept = self.is_kept and line not in QUERIES
+        self.queue_all([line], Kept(self, line, answer) if is_kept else answer)
+
+    def failed(self, fault):
+        """Told when a line can't be kept."""
+
+    def keep_line(self, line, answer):
+        """Keeps a line, and lets the disk have it before what its answer says goes out; false where that can't be."""
+        if self.fault:
+            return False
+        is_only_ack = line in OF_LINK or answer[:1] == [ONLY_ACK]
+        self.is_due = self.is_due or not is_only_ack or NO_MEMORY in answer
+        self.has_wanted_memory = self.has_wanted_memory or NO_MEMORY in answer
+        try:
+            self.journal.append(line)
+            if self.journal.sync_when == "always" or (self.is_due and any(text.startswith(SEGMENTS) for text in answer)):
+                self.journal.sync()
+                self.is_due = False
+        except OSError as fault:
+            self.fail(fault)
+        return self.fault is None
+
+    def remark(self, text):
+        if self.is_kept and not self.fault:
+            try:
+                self.journal.append(NOTE + text)
+            except OSError as fault:
+                self.fail(fault)
+
+    def fail(self, fault):
+        self.fault = fault_of(self.journal.path, fault)
+        self.failed(self.fault)
+
+
+class Store:
+    """The journal of a serving bridge: when it is written anew, and whether a link may be taken."""
+
+    def __init__(self, end, journal, growth, clock=time.monotonic):
+        """A link may let the journal grow by so many bytes."""
+        self.end, self.growth, self.clock = end, growth, clock
+        self.keeper = Keeper(journal, end)
+        self.tried_at = clock()
+        end.journal = journal
+
+    @property
+    def is_busy(self):
+        return self.keeper.is_busy
+
+    @property
+    def fault(self):
+        """Why no link is taken."""
+        return self.end.fault
+
+    @property
+    def has_grown_too_much(self):
+        return self.end.journal.grown > self.growth
+
+    def files(self):
+        return self.keeper.files()
+
+    def renew(self, then=lambda fault: None):
+        """Writes the journal anew, with the files alone; no link may be open. `then` is called with what is wrong, or
+        None."""
+        if not self.is_busy:
+            self.tried_at = self.clock()
+            self.keeper.save(lambda fault: (self.renewed(fault), then(fault)))
+
+    def renewed(self, fault):
+        """It is written anew; or it stays as it was, which is enough where lines can still be put behind it."""
+        if fault:
+            log.say(f"{fault}: the store isn't written anew")
+        else:
+            self.end.fault, self.end.has_wanted_memory, self.end.is_due = None, False, False
+
+    def try_again(self):
+        """Tries it after some time where the journal couldn't be written."""
+        if self.fault and self.clock() >= self.tried_at + RETRY_SECONDS:
+            self.renew()
+
+    def link_closed(self, is_last):
+        """A link is closed, behind which the bridge ends if it `is_last`."""
+        self.end.remark("link -")
+        if is_last:
+            self.stop()
+        elif self.fault or self.end.has_wanted_memory or self.end.journal.is_long() or self.has_grown_too_much:
+            self.renew()
+
+    def stop(self):
+        """Writes it anew where it isn't the files alone: another daplive may take those."""
+        if self.end.journal.grown or self.fault:
+            self.renew()
+
+    def close(self):
+        self.keeper.close()

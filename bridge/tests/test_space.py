@@ -1,0 +1,82 @@
+"""How much a link may store: what is counted, and what becomes of a link that stores more."""
+from decnet import nsp
+from decnet.nsp import Kind, Reason
+from decnet.space import LISTED, Space
+from tests.datagrams import UdpCase
+from tests.station import CONFIGURATION, segment
+from tests.support import Case, expect_equal
+
+DATA = b"\x08\0\0A"  # a Data message, which may change a file
+
+
+class CountTest(Case):
+    def space(self, sizes, most=1000):
+        """Before a live end that lists files of these sizes, one after another."""
+        self.sizes = self.folder / "sizes"
+        self.sizes.write_text(" ".join(map(str, sizes)))
+        end = self.end("serve", program=self.stand_in(
+            f"first, *rest = open({str(self.sizes)!r}).read().split()\nopen({str(self.sizes)!r}, 'w').write(' '.join(rest or [first]))\n"
+            "return ['x' * (int(first) - 1)]"))
+        return Space(end, most), end
+
+    def settle(self, end):
+        while end.is_busy:
+            end.turn()
+
+    def test_it_counts_where_it_may_be_full(self):
+        space, end = self.space([500, 900, 950])
+        lines = list(enumerate(["file 46 seq variable 0 0", "  1 41", "> " + "00" * 20]))
+        self.assertEqual(list(space.noted(iter(lines))), lines)
+        self.assertEqual(space.used, 25 + 7 + LISTED * 21)
+        space.take(100)
+        self.assertFalse(space.is_counting)
+        space.take(100)
+        self.assertTrue(space.is_counting)
+        space.take(10)
+        self.settle(end)
+        self.assertEqual((space.used, space.is_full), (500 + 50, False))
+        space.take(95)
+        self.settle(end)
+        self.assertEqual((space.used, space.is_full), (900, False))
+        space.take(21)
+        self.settle(end)
+        self.assertTrue(space.is_full)
+
+    def test_there_is_space_again_where_files_are_gone(self):
+        space, end = self.space([990, 300])
+        space.take(400)
+        self.settle(end)
+        self.assertTrue(space.is_full)
+        space.link_closed()
+        self.settle(end)
+        self.assertEqual((space.used, space.is_full), (300, False))
+
+    def test_the_most_that_a_record_can_come_to(self):
+        for size in (0, 1, 2, 100):
+            listed = len(f"  4294967295 {'00' * size or '-'}\n")
+            self.assertLessEqual(listed, LISTED * (3 + size))
+
+
+class BridgeTest(UdpCase):
+    def test_a_link_that_stores_too_much_is_closed_and_one_that_reads_is_not(self):
+        answer = "return ['file 46 seq variable 0 0', '  1 ' + '41' * 600] if line == 'files' else ['accepted'] if line[0] == '>' else []"
+        child = self.serve("--space", "1024", program=self.stand_in(answer))
+        station = self.station()
+        for local in (1, 2):
+            station.connect(local)
+            station.say(segment(station.remote, station.local, 1, CONFIGURATION))
+            for number in range(2, 80):
+                station.say(segment(station.remote, station.local, number, DATA))
+                if station.hear(0.02):
+                    break
+            expect_equal(number < 79, True, "the link is closed")
+            station.say(nsp.disconnect_confirm(station.remote, station.local, Reason.COMPLETE))
+            station.hear_all()
+        child.wait_for("the files have 1230 bytes, and --space allows 1024: nothing more is stored")
+        child.wait_for("the files have as many bytes as --space allows")
+        station.connect(3)
+        for number in range(1, 50):
+            station.say(segment(station.remote, station.local, number, CONFIGURATION))
+        station.hear_nothing({Kind.DISCONNECT}, "where nothing is stored")
+        station.disconnect()
+        self.stop(child)

@@ -1,0 +1,249 @@
+"""Bridges that keep a store: what was reported is there, whatever became of the bridge, and an open link goes on."""
+import os
+import resource
+import shutil
+import signal
+import subprocess
+import time
+
+from decnet import nsp
+from decnet.journal import Parsed
+from decnet.nsp import FlowControl, Kind, Modifier, Reason
+from tests.datagrams import UdpCase
+from tests.station import CONFIGURATION, segment
+from tests.support import APART, PROGRAM, need_live_end, until
+
+HASTE = ["--resend", "0.1", "--tries", "100"]
+STORED = ["file 46 seq variable 0 0", "  1 41"]
+
+
+def listed(program, lines):
+    """The files of a live end that is told lines."""
+    text = "".join(f"{line}\n" for line in [*lines, "files"])
+    run = subprocess.run([program, "serve"], input=text.encode(), capture_output=True, check=True, timeout=600)
+    found = run.stdout.decode().splitlines()[:-1]
+    at = len(found)
+    while at and found[at - 1].startswith(("file ", "  ")):
+        at -= 1
+    return found[at:]
+
+
+class StoreCase(UdpCase):
+    def setUp(self):
+        super().setUp()
+        need_live_end()
+        self.path = self.folder / "store"
+
+    def parsed(self):
+        return Parsed(self.path, self.path.read_bytes())
+
+    def kept(self):
+        """The files as a live end stands that is told the store."""
+        return listed(PROGRAM, self.parsed().lines)
+
+    def store(self, *words, **more):
+        return self.serve("--store", self.path, *words, **more)
+
+    def asking(self, *words):
+        """A bridge that asks what it is told later."""
+        return self.begin("ask", *HASTE, *words, stdin=None)
+
+    def say(self, child, request, report):
+        count = len(child.reports())
+        child.write(f"{request}\n".encode())
+        until(lambda: len(child.reports()) > count or child.process.poll() is not None, f"a report of {request}")
+        self.assertEqual(child.reports()[count:], [report], child.told())
+
+
+class StartTest(StoreCase):
+    def test_files_of_a_file_begin_it_and_are_not_added_again(self):
+        files = self.file("files", STORED)
+        child = self.store("--files", files)
+        self.assertIn("a new store", child.told())
+        self.stop(child)
+        self.assertEqual(self.parsed().lines[1:], STORED)
+        child = self.store("--files", files, is_ready=False)
+        self.assertEqual(child.finish(), 1)
+        self.assertIn("it has files, and --files would add to them", child.told())
+
+    def test_it_is_an_input_of_a_live_end(self):
+        child = self.store()
+        self.assertEqual(self.ask(b"hello\ncreate 46 0 2 0 0 15\nconnect\nput 41\nclose\n").finish(), 0)
+        self.assertEqual(child.finish(signal.SIGKILL), -signal.SIGKILL)
+        run = subprocess.run([PROGRAM, "serve"], input=self.path.read_bytes() + b"files\n", capture_output=True, check=True)
+        self.assertEqual(run.stdout.decode().splitlines()[-3:-1], STORED)
+
+    def test_damage_stops_the_start(self):
+        self.stop(self.store("--files", self.file("files", STORED)))
+        data = self.path.read_bytes()
+        for at, text in ((90, "it is no file that --store began, or it is damaged"), (3, "it is damaged")):
+            bad = bytearray(data)
+            bad[at] ^= 1
+            self.path.write_bytes(bad)
+            child = self.store(is_ready=False)
+            self.assertEqual(child.finish(), 1)
+            self.assertIn(text, child.told())
+            self.assertEqual(self.path.read_bytes(), bytes(bad))
+
+    def test_another_program_takes_the_files_and_not_the_packets(self):
+        other = self.folder / "daplive"
+        shutil.copy(PROGRAM, other)
+        with open(other, "ab") as file:
+            file.write(b"\0")
+        child = self.store()
+        asking = self.asking()
+        self.say(asking, "hello", "report ready 1024")
+        child.finish(signal.SIGKILL)
+        for more in ({"program": other}, {}):
+            words = [] if more else ["--window", "9"]
+            child = self.store(*words, is_ready=False, **more)
+            self.assertEqual(child.finish(), 1)
+            self.assertIn("it has packets that another daplive was told", child.told())
+        self.stop(self.store())
+        self.stop(self.store("--window", "9", program=other))
+        asking.end()
+
+    def test_two_bridges_do_not_keep_one_store(self):
+        first = self.store()
+        self.near, self.far = self.far, self.near
+        second = self.store(is_ready=False)
+        self.assertEqual(second.finish(), 1)
+        self.assertIn("another bridge keeps it", second.told())
+        self.stop(first)
+
+    def test_words_that_do_not_fit(self):
+        for words in (["--store", self.path, "--save", self.path], ["--sync", "never"], ["--growth", "1048576"]):
+            self.assertEqual(self.serve(*words, is_ready=False).finish(), 2)
+
+
+class KilledTest(StoreCase):
+    def test_a_link_goes_on_behind_a_kill(self):
+        """The other end sees a pause; its interrupt and link service messages are known too."""
+        child, asking = self.store(), self.asking("--idle", "0.3")
+        self.say(asking, "hello", "report ready 1024")
+        self.say(asking, "create 46 0 2 0 0 15", "report opened 0 2 0 0")
+        self.say(asking, "connect", "report connected")
+        for number in range(1, 5):
+            time.sleep(2 if number == 4 else 0.4)  # so that some probes were sent
+            self.say(asking, f"put 4{number}", f"report done {number}")
+            child.finish(signal.SIGKILL)
+            child = self.store("--idle", "0.3")
+            self.assertIn("goes on as it was", child.told())
+        time.sleep(4)  # longer than a probe that is never acknowledged is tried
+        self.say(asking, "close", "report closed")
+        asking.end_input()
+        self.assertEqual(asking.finish(), 0, asking.told())
+        child.wait_for("closed by node 1.1")
+        self.stop(child)
+        self.assertEqual(self.parsed().lines[1:], [STORED[0], *(f"  {number} 4{number}" for number in range(1, 5))])
+
+    def test_a_link_that_was_stopped_by_the_other_end_stays_so(self):
+        child, station = self.store(), self.station()
+        station.connect(0x0111)
+        station.request(1, modifier=Modifier.STOP)
+        child.finish(signal.SIGKILL)
+        child = self.store()
+        station.hear_kind(Kind.CONFIRM)
+        station.acknowledge(0)
+        station.say_hello()
+        station.hear_nothing(nsp.SEGMENTS, "where nothing is wanted")
+        station.request(2, modifier=Modifier.START)
+        self.assertEqual(station.hear_segments(1), CONFIGURATION_ANSWER)
+        station.disconnect()
+        self.stop(child)
+
+    def test_a_link_with_flow_control_is_gone(self):
+        child, station = self.store(), self.station()
+        station.connect(0x0111, control=FlowControl.SEGMENTS)
+        station.say_hello()
+        child.finish(signal.SIGKILL)
+        child = self.store()
+        self.assertNotIn("goes on as it was", child.told())
+        station.hear_all()
+        station.say(segment(station.remote, station.local, 2, CONFIGURATION))
+        self.assertEqual(station.hear_kind(Kind.DISCONNECT_CONFIRM).reason, Reason.NO_LINK)
+        self.assertEqual(self.parsed().told, [])
+        self.stop(child)
+
+    def test_a_link_that_was_closed_is_not_taken_up(self):
+        child = self.store()
+        self.assertEqual(self.ask(b"hello\n").finish(), 0)
+        child.wait_for("closed by node 1.1")
+        child.finish(signal.SIGKILL)
+        child = self.store()
+        self.assertNotIn("goes on as it was", child.told())
+        self.assertEqual(self.parsed().told, [])
+        self.stop(child)
+
+
+class SizeTest(StoreCase):
+    def test_it_is_written_anew_behind_a_link_when_it_has_doubled(self):
+        child = self.store()
+        records = " ".join(["41" * 1000] * 300)
+        for name in ("46", "47"):
+            self.assertTrue(name == "46" or self.parsed().told)
+            requests = f"hello\ncreate {name} 0 2 0 0 15\nconnect\nstore {records}\nclose\n"
+            self.assertEqual(self.ask(requests.encode(), "--segment", "1400").finish(), 0)
+        until(lambda: not self.parsed().told, "a store with files alone")
+        self.assertEqual(len(self.parsed().lines), 1 + 2 * 301)
+        self.stop(child)
+
+    def test_a_link_that_grows_it_without_an_end_is_closed(self):
+        child = self.store("--growth", str(1 << 20), "--buffer", "8192")
+        asking = self.asking("--segment", "1400", "--buffer", "8192")
+        self.say(asking, "hello", "report ready 8192")
+        self.say(asking, "create 46 16 2 0 0 15", "report opened 16 2 0 0")
+        self.say(asking, "connect", "report connected")
+        asking.write(b"".join(b"put key 1 %s\nget key 1\ndelete\n" % (b"41" * 4000) for _ in range(200)))
+        self.assertEqual(asking.finish(), 1)
+        self.assertIn("reason 1 (no resources)", asking.told())
+        child.wait_for("the store has grown as much as --growth allows for a link")
+        until(lambda: not self.parsed().told, "a store with files alone")
+        self.assertEqual(self.ask(b"hello\n").finish(), 0)
+        self.stop(child)
+
+    def done(self, asking):
+        return {int(line.split()[2]) for line in asking.reports() if line.startswith("report done")}
+
+    def test_a_full_disk_loses_nothing_that_was_reported_and_takes_links_again(self):
+        """A limit on the size of files is as a full disk; the messages go to a device."""
+        def ignore():
+            signal.signal(signal.SIGXFSZ, signal.SIG_IGN)
+
+        child = self.store("--log", "/dev/null", is_ready=False, preexec_fn=ignore)
+        until(lambda: self.path.exists() and self.path.stat().st_size, "a store")
+        asking = self.asking()
+        for request, report in (("hello", "report ready 1024"), ("create 46 16 2 0 0 15", "report opened 16 2 0 0"),
+                                ("connect", "report connected")):
+            self.say(asking, request, report)
+        asking.write(b"".join(b"put key %d %s\n" % (number, b"41" * 99) for number in range(1, 60)))
+        until(lambda: len(self.done(asking)) == 59, "all reports")
+        resource.prlimit(child.process.pid, resource.RLIMIT_FSIZE, (5000, resource.RLIM_INFINITY))
+        asking.write(b"put key 100 42\n")
+        self.assertEqual(asking.finish(), 1)
+        self.assertIn("reason 1 (no resources)", asking.told())
+        done, kept = self.done(asking), self.kept()
+        self.assertEqual(kept, ["file 46 rel variable 0 0", *(f"  {number} {'41' * 99}" for number in range(1, 60))])
+        self.assertEqual(done, set(range(1, 60)))
+        time.sleep(0.5)
+        self.assertIn("reason 32", self.ask(b"hello\n").told(), "no link is taken while the store can't be written")
+        resource.prlimit(child.process.pid, resource.RLIMIT_FSIZE, (resource.RLIM_INFINITY, resource.RLIM_INFINITY))
+        until(lambda: self.ask(b"hello\n").finish() == 0, "a link that is taken again")
+        self.stop(child)
+        self.assertEqual([line for line in self.kept() if line.split()[0] != "100"], kept)
+
+    def test_the_third_signal_waits_for_nothing_and_loses_nothing(self):
+        child, asking = self.store(), self.asking()
+        for request, report in (("hello", "report ready 1024"), ("create 46 0 2 0 0 15", "report opened 0 2 0 0"),
+                                ("connect", "report connected"), ("put 41", "report done 1")):
+            self.say(asking, request, report)
+        os.kill(asking.process.pid, signal.SIGSTOP)
+        for _ in range(2):
+            child.process.send_signal(signal.SIGTERM)
+            time.sleep(APART)
+        self.assertEqual(child.finish(), 0, child.told())
+        os.kill(asking.process.pid, signal.SIGKILL)
+        self.assertEqual(self.kept(), STORED)
+
+
+CONFIGURATION_ANSWER = CONFIGURATION

@@ -1,0 +1,5 @@
+mod OptionLemmas
+mod StateLemmas
+mod OneLemmas
+mod WrittenLemmas
+pub mod ForCallers

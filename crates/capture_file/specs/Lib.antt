@@ -1,0 +1,7 @@
+pub mod Numbers
+pub mod Units
+pub mod Meanings
+pub mod Files
+pub mod Written
+pub mod Reading
+pub mod Inner

@@ -1,0 +1,97 @@
+-- The units of a file: the header and the records of pcap, the blocks of pcapng. The head of each tells how long it is.
+use Rattle.std.specs.Prelude.{◌≡◌, ℕ, ◌+◌, ◌-◌, ◌%◌, ◌≤◌, ◌==◌, ◌||◌, not, nat_lt, Bool, true, List, ◌++◌, take, drop, length, if◌then◌else◌, Option, Some, None, Result, Ok, Err}
+use Rattle.capture_file.specs.Numbers.{u32_at}
+use Rattle.capture_file.specs.declared.fault.FaultKind.{FaultKind}
+use Rattle.capture_file.specs.declared.fault.FaultKind.TheVariants.{UnknownMagic, UnknownOrder, BadLength, TooLong}
+use Rattle.capture_file.specs.declared.units.Order.{Order}
+use Rattle.capture_file.specs.declared.units.Order.TheVariants.{Big, Little}
+use Rattle.capture_file.specs.declared.units.Format.{Format}
+use Rattle.capture_file.specs.declared.units.Format.TheVariants.{Start, Pcap, Section}
+use Rattle.capture_file.specs.declared.units.Extent.{Extent}
+
+-- how many bytes tell how long a unit is
+abbrev pub head_len : Format → ℕ
+head_len (Pcap order digits) = 16
+head_len Start = 12
+head_len (Section order) = 12
+
+-- the most bytes of a frame in a record, and of a block that is kept: as many as tcpdump takes
+abbrev pub max_unit : ℕ
+max_unit = 262144
+
+-- ---- pcap: a magic number, which tells the byte order and the digits of a second
+
+-- what the magic number tells
+abbrev pub pcap_by : ℕ → Option Format
+pcap_by magic =
+    if magic == 0xA1B2C3D4 then Some (Pcap Big 6)
+    else if magic == 0xA1B23C4D then Some (Pcap Big 9)
+    else if magic == 0xD4C3B2A1 then Some (Pcap Little 6)
+    else if magic == 0x4D3CB2A1 then Some (Pcap Little 9)
+    else None
+
+-- what the first bytes of a pcap file tell
+abbrev pub pcap_of : List ℕ → Option Format
+pcap_of head = pcap_by (u32_at Big 0 head)
+
+-- a header of 24 bytes
+abbrev pub file_extent : Option Format → Result Extent FaultKind
+file_extent None = Err UnknownMagic
+file_extent (Some format) = Ok (record { long = 24; whole = true })
+
+-- a record: 16 bytes, of which the third number says how many of a frame follow
+abbrev pub record_extent : ℕ → Result Extent FaultKind
+record_extent count = if nat_lt max_unit count then Err TooLong else Ok (record { long = 16 + count; whole = true })
+
+-- ---- pcapng: a type, a length, what the block says, and the length again
+
+-- the type of a section header reads alike from both ends
+abbrev pub is_section : List ℕ → Bool
+is_section head = u32_at Big 0 head == 0x0A0D0D0A
+
+-- its third number tells the byte order
+abbrev pub order_of : List ℕ → Option Order
+order_of head =
+    if u32_at Big 8 head == 0x1A2B3C4D then Some Big
+    else if u32_at Little 8 head == 0x1A2B3C4D then Some Little
+    else None
+
+-- an interface, a packet and a simple packet are kept whole, and of other blocks the head and the length at the end
+abbrev pub is_passed : ℕ → Bool
+is_passed kind = not (kind == 1 || kind == 3 || kind == 6)
+
+-- a block of this type and length, which has at least so many bytes
+abbrev pub block_extent : ℕ → ℕ → ℕ → Result Extent FaultKind
+block_extent least kind long =
+    if nat_lt long least || not (long % 4 == 0) then Err BadLength
+    else if is_passed kind then Ok (record { long = long; whole = nat_lt long 16 })
+    else if nat_lt max_unit long then Err TooLong
+    else Ok (record { long = long; whole = true })
+
+-- the header of a section of this byte order
+abbrev pub ordered_extent : Option Order → List ℕ → Result Extent FaultKind
+ordered_extent None head = Err UnknownOrder
+ordered_extent (Some order) head = block_extent 28 0x0A0D0D0A (u32_at order 4 head)
+
+-- how long the header of a section is
+abbrev pub section_extent : List ℕ → Result Extent FaultKind
+section_extent head = ordered_extent (order_of head) head
+
+-- ---- a unit
+
+-- how long a unit with this head is, and whether all of it is kept
+abbrev pub extent_of : Format → List ℕ → Result Extent FaultKind
+extent_of (Pcap order digits) head = record_extent (u32_at order 8 head)
+extent_of Start head = if is_section head then section_extent head else file_extent (pcap_of head)
+extent_of (Section order) head =
+    if is_section head then section_extent head else block_extent 12 (u32_at order 0 head) (u32_at order 4 head)
+
+-- as long as its head says
+pub record IsUnit (format : Format) (extent : Extent) (unit : List ℕ) : Type 0 where
+  pub has_head : head_len format ≤ length unit
+  pub extent_is : extent_of format (take (head_len format) unit) ≡ Ok extent
+  pub long : length unit ≡ extent.long
+
+-- what is kept of a unit, or of a prefix of one
+abbrev pub kept_of : Extent → List ℕ → List ℕ
+kept_of extent unit = if extent.whole then unit else take 12 unit ++ drop (extent.long - 4) unit

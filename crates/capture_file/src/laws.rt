@@ -1,0 +1,33 @@
+//! Laws over the definitions alone. The functions do nothing: their contracts are the laws.
+
+ghost use Rattle.std.specs.Prelude.{◌≡◌, ℕ, List, map};
+ghost use Rattle.std.specs.List.{AllByRecursion};
+ghost use Rattle.capture_file.specs.Files.{IsCut, IsWhole, Stops};
+ghost use Rattle.capture_file.specs.Meanings.{Record};
+ghost use Rattle.capture_file.specs.Written.{Fits, Frame, pcap_bytes, record_in};
+ghost use Rattle.capture_file.specs.declared.fault.FaultKind.{FaultKind};
+ghost use Rattle.capture_file.specs.declared.units.Order.{Order as TheOrder};
+
+/// Bytes are a whole file, or one at fault, or one that is cut short, and only one of these: with one list of records, and the fault
+/// or the cut at one offset.
+pub fn files_have_one_reading()
+    ensures whole { (bytes : List ℕ) (records others : List Record) → IsWhole bytes records
+        → IsWhole bytes others → records ≡ others }
+    ensures stops { (bytes : List ℕ) (records others : List Record) (kind other : FaultKind)
+        (at place : ℕ) → Stops bytes records kind at → Stops bytes others other place
+        → (records ≡ others) × (kind ≡ other) × (at ≡ place) }
+    ensures cut { (bytes : List ℕ) (records others : List Record) (at place : ℕ)
+        → IsCut bytes records at → IsCut bytes others place → (records ≡ others) × (at ≡ place) }
+    ensures whole_or_stops { (bytes : List ℕ) (records others : List Record) (kind : FaultKind)
+        (at : ℕ) → IsWhole bytes records → Stops bytes others kind at → ⊥ }
+    ensures whole_or_cut { (bytes : List ℕ) (records others : List Record) (at : ℕ)
+        → IsWhole bytes records → IsCut bytes others at → ⊥ }
+    ensures cut_or_stops { (bytes : List ℕ) (records others : List Record) (kind : FaultKind)
+        (at place : ℕ) → IsCut bytes records place → Stops bytes others kind at → ⊥ }
+{}
+
+/// A pcap file of frames, as a plain writer writes it, is read as these frames.
+pub fn written_files_are_read()
+    ensures { (order : TheOrder) (frames : List Frame) → AllByRecursion Fits frames
+        → IsWhole (pcap_bytes order frames) (map record_in frames) }
+{}

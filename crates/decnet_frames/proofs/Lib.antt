@@ -1,0 +1,5 @@
+mod ListingLemmas
+mod BytesLemmas
+mod TimeLemmas
+mod ReadBack
+pub mod ForCallers

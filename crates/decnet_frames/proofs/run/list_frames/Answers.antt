@@ -1,0 +1,16 @@
+use Rattle.std.proofs.lemmas.Result.{IfErr-weaker, IfOk-weaker}
+use Rattle.decnet_frames.proofs.ListingLemmas.{at_start, nothing_came}
+use Rattle.decnet_frames.proofs.run.list_frames.Goals as goal
+
+pub returns-clause-whole : goal.returns-clause-whole
+returns-clause-whole g c =
+    let start = at_start c.args.ends c.new-frames.result (g.R.Read.remaining c.args.reader.now) (g.W.Write.contents c.args.writer.now) c.new-frames.ensures.listed c.new-frames.ensures.text in
+    IfOk-weaker c.list_all.result _ _ (λ counts whole. whole c.args.ends _ _ start) c.list_all.ensures.whole
+
+pub returns-clause-fault : goal.returns-clause-fault
+returns-clause-fault g c =
+    let start = at_start c.args.ends c.new-frames.result (g.R.Read.remaining c.args.reader.now) (g.W.Write.contents c.args.writer.now) c.new-frames.ensures.listed c.new-frames.ensures.text in
+    IfErr-weaker c.list_all.result _ _ (λ fault to. to c.args.ends _ _ start) c.list_all.ensures.fault
+
+pub returns-in_default-clause-fault : goal.returns-in_default-clause-fault
+returns-in_default-clause-fault g c = nothing_came c.args.ends (g.R.Read.remaining c.args.reader.now) (g.W.Write.contents c.args.writer.now)

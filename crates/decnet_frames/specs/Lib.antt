@@ -1,0 +1,5 @@
+pub mod Frames
+pub mod Lines
+pub mod Nodes
+pub mod Listed
+pub mod Inner

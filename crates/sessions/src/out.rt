@@ -1,0 +1,168 @@
+//! What a call comes to, as text.
+
+use dap_accessed::FileTable;
+use dap_accessing::Report;
+use dap_text::{
+    got_word, push_decimal, push_files, push_image, push_number, push_report, push_str,
+};
+use itoa::Integer;
+use nsp_link::Got;
+use std::alloc::{AllocError, Global};
+use std::fmt::Display;
+use std::io::Write;
+
+/// The text of what a call comes to, and whether memory was wanting for some of it.
+#[derive(Drop)]
+pub struct Out {
+    text: Vec<u8>,
+    is_short: bool,
+}
+
+impl Out {
+    /// Nothing yet.
+    pub fn new(alloc: Global) -> Out {
+        Out {
+            text: Vec::new(alloc),
+            is_short: false,
+        }
+    }
+
+    /// The whole text, if memory sufficed.
+    pub fn whole(self) -> Option<Vec<u8>> {
+        if self.is_short { None } else { Some(self.text) }
+    }
+
+    /// Whether something was appended.
+    fn keep(&mut self, appended: Result<(), AllocError>) {
+        if appended.is_err() {
+            self.is_short = true;
+        }
+    }
+
+    /// Words.
+    pub fn put(&mut self, words: &str) {
+        let appended = push_str(&mut self.text, words);
+        self.keep(appended);
+    }
+
+    /// A number behind a word.
+    pub fn number<I: Integer>(&mut self, word: &str, number: I) {
+        let appended = push_number(&mut self.text, word, number);
+        self.keep(appended);
+    }
+
+    /// Bytes.
+    pub fn bytes(&mut self, bytes: &[u8]) {
+        let appended = push_image(&mut self.text, "", bytes);
+        self.keep(appended);
+    }
+
+    /// There is nothing.
+    pub fn none(&mut self) {
+        self.put("none");
+    }
+
+    /// Bytes, or that there are none.
+    pub fn some_bytes(&mut self, bytes: Option<&[u8]>) {
+        match bytes {
+            Some(bytes) => self.bytes(bytes),
+            None => self.none(),
+        }
+    }
+
+    /// A report.
+    pub fn report(&mut self, report: &Report) {
+        let appended = push_report(&mut self.text, report);
+        self.keep(appended);
+    }
+
+    /// A refusal.
+    pub fn fault<E: Display>(&mut self, fault: &E) {
+        if write!(self.text, "refused: {fault}").is_err() {
+            self.is_short = true;
+        }
+    }
+
+    /// That a call is done, or a refusal.
+    pub fn done<E: Display + Drop>(&mut self, came: Result<(), E>) {
+        match came {
+            Ok(()) => self.put("done"),
+            Err(fault) => self.fault(&fault),
+        }
+    }
+
+    /// A number, or a refusal.
+    pub fn number_or<I: Integer, E: Display + Drop>(&mut self, came: Result<I, E>) {
+        match came {
+            Ok(number) => {
+                let appended = push_decimal(&mut self.text, number);
+                self.keep(appended);
+            }
+            Err(fault) => self.fault(&fault),
+        }
+    }
+
+    /// What became of a packet, or a refusal.
+    pub fn got<E: Display + Drop>(&mut self, came: Result<Got, E>) {
+        match came {
+            Ok(got) => self.put(got_word(got)),
+            Err(fault) => self.fault(&fault),
+        }
+    }
+
+    /// A packet, or a refusal.
+    pub fn packet<E: Display + Drop>(&mut self, came: Result<Vec<u8>, E>) {
+        match came {
+            Ok(packet) => self.bytes(&packet),
+            Err(fault) => self.fault(&fault),
+        }
+    }
+
+    /// The next packet, or that there is none, or a refusal.
+    pub fn next_packet<E: Display + Drop>(&mut self, came: Result<Option<Vec<u8>>, E>) {
+        match came {
+            Ok(Some(packet)) => self.bytes(&packet),
+            Ok(None) => self.none(),
+            Err(fault) => self.fault(&fault),
+        }
+    }
+
+    /// Packets or messages, or that there are none.
+    pub fn all(&mut self, all: &[Vec<u8>]) {
+        for (at, bytes) in all.iter().enumerate() {
+            if at > 0 {
+                self.put(" ");
+            }
+            self.bytes(bytes);
+        }
+        if all.is_empty() {
+            self.none();
+        }
+    }
+
+    /// Where the next message begins, if not behind all.
+    pub fn behind(&mut self, next: usize, len: usize) {
+        if next != len {
+            self.number(" next ", next);
+        }
+    }
+
+    /// All files, in one line.
+    pub fn table(&mut self, files: &FileTable) {
+        if files.count() == 0 {
+            return self.none();
+        }
+        let appended = push_files(&mut self.text, files);
+        self.keep(appended);
+        for byte in self.text.iter_mut() {
+            if *byte == b'\n' {
+                *byte = b';';
+            }
+        }
+    }
+
+    /// Yes or no.
+    pub fn yes(&mut self, is_so: bool) {
+        self.put(if is_so { "yes" } else { "no" });
+    }
+}
