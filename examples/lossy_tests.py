@@ -19,6 +19,7 @@ import sys
 from concurrent.futures import ThreadPoolExecutor
 
 from decnet import program
+from decnet.listed import messages_by_way
 from decnet.lossy import Both, Line
 
 # the programs, as `./daplive` and `./dapnsp` build them
@@ -127,19 +128,16 @@ class Requests:
 
 
 def messages_of(daplive, lines, other_way=False):
-    """The DAP messages that went each way in a capture."""
+    """The DAP messages that went each way in a capture, in the order in which they were sent."""
     capture = "".join(f"{line}\n" for line in lines if line[:1] in ("<", ">"))
     run = subprocess.run([str(daplive), "follow"], input=capture, capture_output=True, text=True, check=False)
-    messages, way = {"<": [], ">": []}, None
-    for line in run.stdout.splitlines():
+    listing = run.stdout.splitlines()
+    for line in listing:
         if line.startswith(("part", "gap", "  bad")):
             raise program.Fault(f"daplive follow: {line}")
-        if not line.startswith("  "):
-            way = line.split()[1]
-        elif not line.startswith("  message "):
-            messages[way].append(line)
     if run.returncode:
         raise program.Fault(f"daplive follow: {run.stderr}")
+    messages = messages_by_way(listing)
     return {"<": messages[">"], ">": messages["<"]} if other_way else messages
 
 

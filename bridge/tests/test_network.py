@@ -16,6 +16,7 @@ import time
 import unittest
 
 from decnet import nsp
+from decnet.listed import messages_by_way
 from decnet.nsp import FlowControl, Kind, Modifier, Qualifier, Reason
 from tests import readings
 from tests.datagrams import UdpCase
@@ -139,23 +140,10 @@ class CapturedCase(NetworkCase):
 
 
 def records_by_way(listing):
-    """The records in each direction of a listing, link after link, and each link's in the order in which they were sent: a
-    listing has a message where it is whole."""
-    streams, highest = {}, {}
-    for line in listing:
-        words = line.split()
-        if not line.startswith(" "):
-            stream = (words[1], *(word for word in words if word.startswith(("dst=", "src="))))
-        elif words[0] == "message":
-            last = highest.get(stream, 0)
-            ahead = (int(re.match(r"seg=(\d+)", words[1])[1]) - last) % 4096
-            place = last + (ahead if ahead <= 2048 else ahead - 4096)
-            highest[stream] = max(place, last)
-        elif words[0] == "data":
-            body = words[2].removeprefix("body=").replace("-", "")
-            streams.setdefault(stream, {}).setdefault(place, []).append(body)
-    return {way: [body for stream, places in streams.items() if stream[0] == way
-                  for place in sorted(places) for body in places[place]] for way in "><"}
+    """The records in each direction of a listing, in the order in which they were sent."""
+    found = {way: [line.split()[2] for line in lines if line.startswith("  data ")]
+             for way, lines in messages_by_way(listing).items()}
+    return {way: [body.removeprefix("body=").replace("-", "") for body in bodies] for way, bodies in found.items()}
 
 
 class TransferTest(CapturedCase):

@@ -1,0 +1,23 @@
+"""What a listing of `daplive follow` has."""
+import re
+
+NUMBERS, HALF = 4096, 2048  # segment numbers, and how many of them are ahead of one
+
+
+def messages_by_way(listing):
+    """The lines of DAP messages in each direction, link after link, and each link's in the order in which they were sent: the
+    listing has a message where it is whole."""
+    streams, highest = {}, {}
+    for line in listing:
+        words = line.split()
+        if not line.startswith("  "):
+            stream = (words[1], *(word for word in words if word.startswith(("dst=", "src="))))
+        elif words[0] == "message":
+            last = highest.get(stream, 0)
+            ahead = (int(re.match(r"seg=(\d+)", words[1])[1]) - last) % NUMBERS
+            place = last + (ahead if ahead <= HALF else ahead - NUMBERS)
+            highest[stream] = max(place, last)
+        else:
+            streams.setdefault(stream, {}).setdefault(place, []).append(line)
+    return {way: [line for stream, places in streams.items() if stream[0] == way
+                  for place in sorted(places) for line in places[place]] for way in "><"}
