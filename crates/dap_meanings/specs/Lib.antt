@@ -1,0 +1,5 @@
+pub mod Inner
+pub mod Tables
+pub mod Quoted
+pub mod Frames
+pub mod Meanings

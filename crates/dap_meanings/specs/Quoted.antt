@@ -1,0 +1,27 @@
+-- Bytes as text.
+use Rattle.std.specs.Prelude.{ℕ, ◌==◌, ◌&&◌, ◌||◌, nat_le, nat_lt, Bool, List, [], ◌∷◌, ◌++◌, codes, length, take, if◌then◌else◌}
+use Rattle.std.specs.List.{flat_map, list_all}
+
+-- a space or a visible character of ASCII
+abbrev pub is_printable : ℕ → Bool
+is_printable byte = nat_le 0x20 byte && nat_le byte 0x7E
+
+-- a quote or a backslash is behind a backslash
+abbrev pub escaped : ℕ → List ℕ
+escaped byte = if byte == 34 || byte == 92 then 92 ∷ byte ∷ [] else byte ∷ []
+
+-- how many bytes are quoted at most
+abbrev pub quoted_at_most : ℕ
+quoted_at_most = 60
+
+-- the quote at the end, and two dots where there are more bytes
+abbrev pub closing : List ℕ → List ℕ
+closing bytes = if nat_lt quoted_at_most (length bytes) then codes "\".." else codes "\""
+
+-- the first bytes in quotes
+abbrev pub quote : List ℕ → List ℕ
+quote bytes = codes "\"" ++ (flat_map escaped (take quoted_at_most bytes) ++ closing bytes)
+
+-- bytes that are all printable, in quotes; others have no words
+abbrev pub quoted : List ℕ → List (List ℕ)
+quoted bytes = if list_all is_printable bytes then quote bytes ∷ [] else []

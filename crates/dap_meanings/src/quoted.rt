@@ -1,0 +1,88 @@
+//! Bytes as text.
+
+ghost use Rattle.std.specs.Prelude.{◌≡◌, OnOk, take};
+ghost use Rattle.std.specs.List.{flat_map, list_all};
+ghost use Rattle.dap_text.specs.Adding.{Adds};
+ghost use Rattle.dap_meanings.specs.Quoted.{closing, escaped, quoted_at_most, is_printable as printable, quote, quoted as quoted_words};
+ghost use Rattle.dap_meanings.specs.Inner.Words.{said};
+
+use crate::words::Word;
+use dap_text::push_str;
+use std::alloc::AllocError;
+
+/// How many bytes are quoted at most.
+const QUOTED_AT_MOST: usize = 60;
+
+/// Whether a byte is a space or a visible character of ASCII.
+fn is_printable(byte: u8) -> bool
+    ensures { result ≡ printable byte }
+{
+    b' ' <= byte && byte <= b'~'
+}
+
+/// Whether all bytes are.
+fn are_printable(bytes: &[u8]) -> bool
+    ensures { result ≡ list_all printable bytes.now }
+{
+    for byte in bytes {
+        if !is_printable(*byte) {
+            return false;
+        }
+    }
+    true
+}
+
+/// What bytes say as text, if all are printable.
+pub(crate) fn quoted(bytes: &[u8]) -> Word<'_>
+    ensures { said result ≡ quoted_words bytes.now }
+{
+    if are_printable(bytes) {
+        Word::Quoted(bytes)
+    } else {
+        Word::Nothing
+    }
+}
+
+/// Appends bytes, with a backslash before each quote and each backslash.
+fn push_escaped(text: &mut Vec<u8>, bytes: &[u8]) -> Result<(), AllocError>
+    ensures { OnOk result (Adds text.old text.new (flat_map escaped bytes.now)) }
+{
+    for byte in bytes {
+        if *byte == b'"' || *byte == b'\\' {
+            push_str(text, "\\")?;
+        }
+        text.push(*byte)?;
+    }
+    Ok(())
+}
+
+/// The first bytes, as many as are quoted.
+fn first_bytes(bytes: &[u8]) -> &[u8]
+    ensures { result.now ≡ take quoted_at_most bytes.now }
+{
+    if bytes.len() <= QUOTED_AT_MOST {
+        bytes
+    } else {
+        &bytes[..QUOTED_AT_MOST]
+    }
+}
+
+/// Appends the quote at the end, and two dots where there are more bytes.
+fn push_closing(text: &mut Vec<u8>, bytes: &[u8]) -> Result<(), AllocError>
+    ensures { OnOk result (Adds text.old text.new (closing bytes.now)) }
+{
+    if bytes.len() > QUOTED_AT_MOST {
+        push_str(text, "\"..")
+    } else {
+        push_str(text, "\"")
+    }
+}
+
+/// Appends the first bytes in quotes.
+pub(crate) fn push_quote(text: &mut Vec<u8>, bytes: &[u8]) -> Result<(), AllocError>
+    ensures { OnOk result (Adds text.old text.new (quote bytes.now)) }
+{
+    push_str(text, "\"")?;
+    push_escaped(text, first_bytes(bytes))?;
+    push_closing(text, bytes)
+}

@@ -1,0 +1,481 @@
+//! What the numbers of a listing mean.
+
+ghost use Rattle.std.specs.Prelude.{◌≡◌, ◌<◌, [], length, map, option_copied};
+ghost use Rattle.std.specs.Option.{option_map_or};
+ghost use Rattle.dap_meanings.specs.Tables as tables;
+ghost use Rattle.dap_meanings.specs.Tables.{word_in};
+ghost use Rattle.dap_meanings.specs.Meanings.{if_there};
+ghost use Rattle.dap_meanings.specs.Inner.Words.{entry_of, said};
+
+use crate::words::Word;
+use dap_msg::codes;
+
+/// A number, and what it says.
+#[derive(Clone, Copy)]
+struct Entry {
+    number: u16,
+    word: &'static str,
+}
+
+/// MSGFLG (NSP 4.0.0, message formats): the packets that set up a link and take it down.
+const CONTROL_PACKETS: [Entry; 6] = [
+    Entry {
+        number: 0x08,
+        word: "no operation",
+    },
+    Entry {
+        number: 0x18,
+        word: "connect initiate",
+    },
+    Entry {
+        number: 0x28,
+        word: "connect confirm",
+    },
+    Entry {
+        number: 0x38,
+        word: "disconnect initiate",
+    },
+    Entry {
+        number: 0x48,
+        word: "disconnect confirm",
+    },
+    Entry {
+        number: 0x68,
+        word: "connect initiate again",
+    },
+];
+
+/// OSTYPE (DAP 5.6.0, Configuration message). All but 7 are from memory.
+const SYSTEMS: [Entry; 10] = [
+    Entry {
+        number: 1,
+        word: "RT-11",
+    },
+    Entry {
+        number: 2,
+        word: "RSTS/E",
+    },
+    Entry {
+        number: 3,
+        word: "RSX-11S",
+    },
+    Entry {
+        number: 4,
+        word: "RSX-11M",
+    },
+    Entry {
+        number: 6,
+        word: "IAS",
+    },
+    Entry {
+        number: 7,
+        word: "VAX/VMS",
+    },
+    Entry {
+        number: 8,
+        word: "TOPS-20",
+    },
+    Entry {
+        number: 9,
+        word: "TOPS-10",
+    },
+    Entry {
+        number: 12,
+        word: "RSX-11M-PLUS",
+    },
+    Entry {
+        number: 18,
+        word: "Ultrix-32",
+    },
+];
+
+/// ORG (DAP 5.6.0, Attributes message).
+const ORGANIZATIONS: [Entry; 3] = [
+    Entry {
+        number: 0,
+        word: "sequential",
+    },
+    Entry {
+        number: 16,
+        word: "relative",
+    },
+    Entry {
+        number: 32,
+        word: "indexed",
+    },
+];
+
+/// RFM (DAP 5.6.0, Attributes message).
+const FORMATS: [Entry; 5] = [
+    Entry {
+        number: 0,
+        word: "undefined",
+    },
+    Entry {
+        number: 1,
+        word: "fixed",
+    },
+    Entry {
+        number: 2,
+        word: "variable",
+    },
+    Entry {
+        number: 3,
+        word: "VFC",
+    },
+    Entry {
+        number: 4,
+        word: "stream",
+    },
+];
+
+/// ACCFUNC (DAP 5.6.0, Access message).
+const ACCESS_FUNCTIONS: [Entry; 2] = [
+    Entry {
+        number: 1,
+        word: "open",
+    },
+    Entry {
+        number: 2,
+        word: "create",
+    },
+];
+
+/// CTLFUNC (DAP 5.6.0, Control message).
+const CONTROL_FUNCTIONS: [Entry; 6] = [
+    Entry {
+        number: 1,
+        word: "get",
+    },
+    Entry {
+        number: 2,
+        word: "connect",
+    },
+    Entry {
+        number: 3,
+        word: "update",
+    },
+    Entry {
+        number: 4,
+        word: "put",
+    },
+    Entry {
+        number: 5,
+        word: "delete",
+    },
+    Entry {
+        number: 6,
+        word: "rewind",
+    },
+];
+
+/// RAC (DAP 5.6.0, Control message).
+const RECORD_ACCESSES: [Entry; 4] = [
+    Entry {
+        number: 0,
+        word: "sequential",
+    },
+    Entry {
+        number: 1,
+        word: "by number",
+    },
+    Entry {
+        number: 2,
+        word: "by RFA",
+    },
+    Entry {
+        number: 3,
+        word: "whole file",
+    },
+];
+
+/// CONFUNC (DAP 5.6.0, Continue Transfer message).
+const CONTINUE_FUNCTIONS: [Entry; 4] = [
+    Entry {
+        number: 1,
+        word: "try again",
+    },
+    Entry {
+        number: 2,
+        word: "skip",
+    },
+    Entry {
+        number: 3,
+        word: "abort",
+    },
+    Entry {
+        number: 4,
+        word: "resume",
+    },
+];
+
+/// CMPFUNC (DAP 5.6.0, Access Complete message).
+const COMPLETE_FUNCTIONS: [Entry; 5] = [
+    Entry {
+        number: 1,
+        word: "close",
+    },
+    Entry {
+        number: 2,
+        word: "response",
+    },
+    Entry {
+        number: 3,
+        word: "purge",
+    },
+    Entry {
+        number: 4,
+        word: "end of stream",
+    },
+    Entry {
+        number: 5,
+        word: "skip",
+    },
+];
+
+/// The types of the messages that aren't decoded (DAP 5.6.0, message formats).
+const OTHER_TYPES: [Entry; 7] = [
+    Entry {
+        number: 10,
+        word: "key definition",
+    },
+    Entry {
+        number: 11,
+        word: "allocation",
+    },
+    Entry {
+        number: 12,
+        word: "summary",
+    },
+    Entry {
+        number: 13,
+        word: "date and time",
+    },
+    Entry {
+        number: 14,
+        word: "protection",
+    },
+    Entry {
+        number: 15,
+        word: "name",
+    },
+    Entry {
+        number: 16,
+        word: "access control list",
+    },
+];
+
+/// STSCODE (DAP 5.6.0, Status message), where MACCODE and MICCODE together have a word. `4030` is from memory.
+const STATUS_CODES: [Entry; 3] = [
+    Entry {
+        number: codes::END_OF_FILE,
+        word: "end of file",
+    },
+    Entry {
+        number: codes::FILE_NOT_FOUND,
+        word: "file not found",
+    },
+    Entry {
+        number: 0x4030,
+        word: "file locked",
+    },
+];
+
+/// The reason in STV of a refused Access or operation on a record.
+const REASONS: [Entry; 12] = [
+    Entry {
+        number: 1,
+        word: "file exists",
+    },
+    Entry {
+        number: 2,
+        word: "not permitted",
+    },
+    Entry {
+        number: 3,
+        word: "no current record",
+    },
+    Entry {
+        number: 4,
+        word: "record not found",
+    },
+    Entry {
+        number: 5,
+        word: "record exists",
+    },
+    Entry {
+        number: 6,
+        word: "number out of range",
+    },
+    Entry {
+        number: 7,
+        word: "bad length",
+    },
+    Entry {
+        number: 8,
+        word: "bad access mode",
+    },
+    Entry {
+        number: 9,
+        word: "delete not allowed",
+    },
+    Entry {
+        number: 10,
+        word: "too large for buffer",
+    },
+    Entry {
+        number: 11,
+        word: "bad attributes",
+    },
+    Entry {
+        number: 12,
+        word: "bad key",
+    },
+];
+
+/// MACCODE (DAP 5.6.0, Status message).
+const STATUS_KINDS: [Entry; 10] = [
+    Entry {
+        number: 0,
+        word: "pending",
+    },
+    Entry {
+        number: 1,
+        word: "success",
+    },
+    Entry {
+        number: 2,
+        word: "unsupported",
+    },
+    Entry {
+        number: 4,
+        word: "error on opening",
+    },
+    Entry {
+        number: 5,
+        word: "transfer error",
+    },
+    Entry {
+        number: 6,
+        word: "transfer warning",
+    },
+    Entry {
+        number: 7,
+        word: "termination error",
+    },
+    Entry {
+        number: 8,
+        word: "format",
+    },
+    Entry {
+        number: 9,
+        word: "invalid",
+    },
+    Entry {
+        number: 10,
+        word: "out of synchronization",
+    },
+];
+
+/// The word of a number, if the table has one.
+fn word_of(table: &[Entry], number: u16) -> Word<'static>
+    ensures { said result ≡ word_in (map entry_of table.now) number }
+{
+    for entry in table {
+        if entry.number == number {
+            return Word::Named(entry.word);
+        }
+    }
+    Word::Nothing
+}
+
+/// The word of a packet's first byte.
+pub(crate) fn control_packet(flag: u8) -> Word<'static>
+    ensures { said result ≡ word_in tables.control_packets flag }
+{
+    word_of(&CONTROL_PACKETS, u16::from(flag))
+}
+
+/// The word of OSTYPE.
+pub(crate) fn system(ostype: u8) -> Word<'static>
+    ensures { said result ≡ word_in tables.systems ostype }
+{
+    word_of(&SYSTEMS, u16::from(ostype))
+}
+
+/// The word of ORG.
+pub(crate) fn organization(org: u8) -> Word<'static>
+    ensures { said result ≡ word_in tables.organizations org }
+{
+    word_of(&ORGANIZATIONS, u16::from(org))
+}
+
+/// The word of RFM.
+pub(crate) fn format(rfm: u8) -> Word<'static>
+    ensures { said result ≡ word_in tables.formats rfm }
+{
+    word_of(&FORMATS, u16::from(rfm))
+}
+
+/// The word of ACCFUNC.
+pub(crate) fn access_function(func: u8) -> Word<'static>
+    ensures { said result ≡ word_in tables.access_functions func }
+{
+    word_of(&ACCESS_FUNCTIONS, u16::from(func))
+}
+
+/// The word of CTLFUNC.
+pub(crate) fn control_function(func: u8) -> Word<'static>
+    ensures { said result ≡ word_in tables.control_functions func }
+{
+    word_of(&CONTROL_FUNCTIONS, u16::from(func))
+}
+
+/// The word of RAC.
+pub(crate) fn record_access(rac: u8) -> Word<'static>
+    ensures { said result ≡ word_in tables.record_accesses rac }
+{
+    word_of(&RECORD_ACCESSES, u16::from(rac))
+}
+
+/// The word of CONFUNC.
+pub(crate) fn continue_function(func: u8) -> Word<'static>
+    ensures { said result ≡ word_in tables.continue_functions func }
+{
+    word_of(&CONTINUE_FUNCTIONS, u16::from(func))
+}
+
+/// The word of CMPFUNC.
+pub(crate) fn complete_function(func: u8) -> Word<'static>
+    ensures { said result ≡ word_in tables.complete_functions func }
+{
+    word_of(&COMPLETE_FUNCTIONS, u16::from(func))
+}
+
+/// The word of a message's type.
+pub(crate) fn other_type(number: u8) -> Word<'static>
+    ensures { said result ≡ word_in tables.other_types number }
+{
+    word_of(&OTHER_TYPES, u16::from(number))
+}
+
+/// The word of a reason.
+pub(crate) fn reason(stv: u8) -> Word<'static>
+    ensures { said result ≡ word_in tables.reasons stv }
+{
+    word_of(&REASONS, u16::from(stv))
+}
+
+/// The word of STSCODE as a whole.
+pub(crate) fn status_code(code: u16) -> Word<'static>
+    ensures { said result ≡ word_in tables.status_codes code }
+{
+    word_of(&STATUS_CODES, code)
+}
+
+/// The word of MACCODE.
+pub(crate) fn status_kind(maccode: u16) -> Word<'static>
+    ensures { said result ≡ word_in tables.status_kinds maccode }
+{
+    word_of(&STATUS_KINDS, maccode)
+}
