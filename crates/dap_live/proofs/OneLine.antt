@@ -210,7 +210,7 @@ unread_bad : (line : List ℕ) (b : Became) → b ≢ NoMemory → ((b ≡ BadLi
 unread_bad line b want (inl h) = h
 unread_bad line b want (inr none) = absurd (want none)
 
-module _ {E : Type 0} (answered : Answering E) (waiting : E → ℕ) (AreSame : E → E → Type 0)
+module _ {E : Type 0} (answered : Answering E) (waiting : E → Option ℕ) (AreSame : E → E → Type 0)
     (answers : (one other new end : E) (line said more : List ℕ) (b c : Became) → AreSame one other → b ≢ NoMemory → c ≢ NoMemory
     → answered one line new said b → answered other line end more c → AreSame new end × (said ≡ more) × (b ≡ c))
     (waits : (one other : E) → AreSame one other → waiting one ≡ waiting other) where

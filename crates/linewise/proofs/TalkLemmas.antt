@@ -6,8 +6,9 @@ use Rattle.std.specs.Io.KnownBytes.{Appends, IsAtEnd}
 use Rattle.std.specs.Io.BufRead.{first_line, drop_through}
 use Rattle.std.proofs.KnownBytes.{Appends-nil, Appends-trans, Appends-kept, Keeps-refl}
 use Rattle.linewise.specs.declared.talking.Became.{Became}
+use Rattle.linewise.specs.declared.talking.Became.TheVariants.{NoMemory}
 use Rattle.linewise.specs.declared.talking.TalkFault.{TalkFault}
-use Rattle.linewise.specs.declared.talking.TalkFault.TheVariants.{ReadFailed, WriteFailed}
+use Rattle.linewise.specs.declared.talking.TalkFault.TheVariants.{ReadFailed, WriteFailed, NoMemory as OutOfMemory}
 use Rattle.linewise.specs.declared.talking.Next.TheVariants.{Over, Line}
 use Rattle.linewise.specs.Talks.{Answering, Fails, Talked, is_bad}
 use Rattle.linewise.specs.Inner.Steps.{HasTalked, Breaks, Goes, Ends}
@@ -20,7 +21,7 @@ bad_more : (bad : Bool) (lines : List (Option Became)) (became : Option Became) 
 bad_more bad lines became is =
     ap (λ (b : Bool). b || is_bad became) is ∙ ap (λ (b : Bool). list_any is_bad lines || b) (sym (or_none (is_bad became))) ∙ sym (list_any-append is_bad lines (became ∷ []))
 
-module _ {E : Type 0} (answered : Answering E) (waiting : E → ℕ) where
+module _ {E : Type 0} (answered : Answering E) (waiting : E → Option ℕ) where
   pub begins : (e : E) (unread written : Option (List ℕ)) → HasTalked answered waiting e unread written e unread written false
   begins e None written = _
   begins e (Some input) written = (input, [], [], refl, Appends-nil written, Talked.begins, refl)
@@ -66,6 +67,7 @@ module _ {E : Type 0} (answered : Answering E) (waiting : E → ℕ) where
   fails old now next (Some input) written left holds last bad WriteFailed before end =
       let broke : Breaks answered waiting now (first_line before.0) next holds last = rw before.3 at end in
       (now, holds, before.0, before.1, broke.1, before.2, broke.0, before.5, before.4, broke.2, broke.3)
+  fails old now next (Some input) written left holds last bad OutOfMemory before end = absurd end
   fails old now next (Some input) written left holds last bad ReadFailed before end = (
     before.0,
     before.1,
@@ -73,6 +75,23 @@ module _ {E : Type 0} (answered : Answering E) (waiting : E → ℕ) where
     subst (λ e. Talked answered waiting old input e before.0 before.1 before.2) (sym end.0) before.5,
     Appends-kept written holds last before.1 before.4 end.1,
   )
+
+  -- memory was refused to a line
+  pub stops : (old now next : E) (unread written left holds later_left later_holds : Option (List ℕ)) (bad : Bool) (became : Option Became)
+      → HasTalked answered waiting old unread written now left holds bad
+      → Goes answered waiting now next left later_left holds later_holds (Line became) → became ≡ Some NoMemory → waiting next ≡ None
+      → IfSome unread (λ input. Fails answered waiting old input next written later_holds OutOfMemory)
+  stops old now next None written left holds later_left later_holds bad became before line memory none = _
+  stops old now next (Some input) written left holds later_left later_holds bad became before line memory none =
+      let (some, dropped, says) = rw before.3 at line in (
+        drop_through 10 before.0,
+        before.1 ++ says.0,
+        before.2,
+        subst (λ b. Talked answered waiting old input next (drop_through 10 before.0) (before.1 ++ says.0) (before.2 ++ b ∷ [])) memory
+            (Talked.goes now before.0 before.1 says.0 before.2 became before.5 some says.1),
+        Appends-trans written holds later_holds before.1 says.0 before.4 says.2,
+        none,
+      )
 
   -- the last round ends a talk too
   pub gives_up : (old now : E) (unread written left holds : Option (List ℕ)) (bad : Bool)

@@ -34,7 +34,7 @@ setup_of o = record { local = o.local; remote = o.remote; seg_size = o.segment; 
 
 -- The end answers all lines of the input, and the status is 1 if some line was bad and 0 otherwise; or the reader or
 -- the writer fails, and it is 3.
-abbrev pub AnswersAll : {E : Type 0} → Answering E → (E → ℕ) → E → List ℕ → (written holds : Option (List ℕ)) → ℕ → Type 0
+abbrev pub AnswersAll : {E : Type 0} → Answering E → (E → Option ℕ) → E → List ℕ → (written holds : Option (List ℕ)) → ℕ → Type 0
 AnswersAll {E} answered waiting first input written holds status =
     ((last : E) × (text : List ℕ) × (lines : List (Option Became)) × Talked answered waiting first input last [] text lines
     × Appends written holds text × (status ≡ (if list_any is_bad lines then 1 else 0)))

@@ -1,6 +1,6 @@
 -- Before the first line, after each and at the end.
 use Rattle.std.proofs.Common.{sym}
-use Rattle.linewise.proofs.TalkLemmas.{begins, goes_on, ends, fails, gives_up}
+use Rattle.linewise.proofs.TalkLemmas.{begins, goes_on, ends, fails, gives_up, stops}
 use Rattle.linewise.proofs.talking.talk.Goals as goal
 
 pub loop-number-init : goal.loop-number-init
@@ -20,3 +20,8 @@ loop-number-preserved g c =
 
 pub returns-clause-fault : goal.returns-clause-fault
 returns-clause-fault g c = gives_up g.E.Answers.answered g.E.Answers.waiting _ _ _ _ _ _ _ c.loop-number.invariant
+
+pub returns-then-ends_talk-clause-fault : goal.returns-then-ends_talk-clause-fault
+returns-then-ends_talk-clause-fault g c =
+    stops g.E.Answers.answered g.E.Answers.waiting _ _ _ _ _ _ _ _ _ _ c.in-Ok-Line.became c.loop-number.invariant (rw c.in-Ok-Line.field-0-is at c.in-Ok-Line.ensures.goes)
+    (c.ends_talk.ensures.memory c.if-ends_talk.true) (c.ends_talk.ensures.waiting c.if-ends_talk.true)
