@@ -248,6 +248,6 @@ module _ {E : Type 0} (answered : Answering E) (waiting : E → Option ℕ) (Are
       let t = any_line one other new end line x.text y.text b c same nb nc x.answers y.answers in (
         t.0,
         x.says ∙ ap (λ (l : List ℕ). said_of l b (waiting new)) t.1 ∙ ap (λ (o : Option Became). said_of y.text o (waiting new)) t.2
-            ∙ ap (λ (n : ℕ). said_of y.text c n) (waits new end t.0) ∙ sym y.says,
+            ∙ ap (λ (n : Option ℕ). said_of y.text c n) (waits new end t.0) ∙ sym y.says,
         t.2,
       )
