@@ -96,6 +96,10 @@ pub data Talked {E : Type 0} (answered : Answering E) (waiting : E → Option �
       → SaysTo answered waiting now (first_line rest) new more became
       → Talked answered waiting old input new (drop_through 10 rest) (said ++ more) (lines ++ became ∷ [])
 
+-- An answerer whose answers never have an ending was out of memory at none of these lines: a conversation ends with such a line.
+abbrev pub IsUnbroken : {E : Type 0} → (E → Option ℕ) → List (Option Became) → Type 0
+IsUnbroken {E} waiting lines = ((e : E) → waiting e ≡ None) → AllByRecursion (λ became. became ≢ Some NoMemory) lines
+
 -- Two such conversations of ends of one value over one input have the same text, and the same became of each line,
 -- unless memory was refused.
 abbrev pub HaveOneText : {E : Type 0} → Answering E → (E → Option ℕ) → (AreSame : E → E → Type 0) → Type 0
@@ -110,10 +114,11 @@ HaveOneText answered waiting AreSame =
 abbrev pub Fails : {E : Type 0} → Answering E → (E → Option ℕ) → E → List ℕ → E → Option (List ℕ) → Option (List ℕ) → TalkFault → Type 0
 Fails answered waiting old input new written holds ReadFailed =
     (rest said : List ℕ) × (lines : List (Option Became)) × Talked answered waiting old input new rest said lines × Appends written holds said
+    × IsUnbroken waiting lines
 Fails answered waiting old input new written holds OutOfMemory =
     (rest said : List ℕ) × (lines : List (Option Became)) × Talked answered waiting old input new rest said (lines ++ Some NoMemory ∷ [])
-    × Appends written holds said × (waiting new ≡ None)
+    × Appends written holds said × (waiting new ≡ None) × IsUnbroken waiting lines
 Fails {E} answered waiting old input new written holds WriteFailed =
     (now : E) × (held : Option (List ℕ)) × (rest said more : List ℕ) × (lines : List (Option Became)) × (became : Option Became)
     × Talked answered waiting old input now rest said lines × Appends written held said
-    × SaysTo answered waiting now (first_line rest) new more became × WritesFront held holds more
+    × SaysTo answered waiting now (first_line rest) new more became × WritesFront held holds more × IsUnbroken waiting lines

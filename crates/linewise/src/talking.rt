@@ -5,7 +5,7 @@ ghost use Rattle.std.specs.List.{concat, list_any};
 ghost use Rattle.std.specs.Io.KnownBytes.{Appends, Keeps, IsAtEnd};
 ghost use Rattle.std.specs.Io.BufRead.{first_line, drop_through, strip_last};
 ghost use Rattle.linewise.specs.Output.{WritesFront};
-ghost use Rattle.linewise.specs.Talks.{ComesIn, Fails, Talked, is_bad as is_bad_line, is_skipped as says_nothing};
+ghost use Rattle.linewise.specs.Talks.{ComesIn, Fails, IsUnbroken, Talked, is_bad as is_bad_line, is_skipped as says_nothing};
 ghost use Rattle.linewise.specs.declared.talking.Became.{Became as TheBecame};
 ghost use Rattle.linewise.specs.Inner.Kept.{Holds, without_end as ended};
 ghost use Rattle.linewise.specs.Inner.Steps.{BeginsLine, Breaks, Completes, Ends, Goes, Says};
@@ -294,6 +294,7 @@ fn is_bad(became: Option<Became>) -> bool
 fn ends_talk<E: Answers>(end: &E, became: Option<Became>) -> bool
     ensures memory { result ≡ true → became ≡ Some TheBecame.NoMemory }
     ensures waiting { result ≡ true → E.waiting end.now ≡ None }
+    ensures goes { result ≡ false → E.waiting end.now ≡ None → became ≢ Some TheBecame.NoMemory }
 {
     match became {
         Some(Became::NoMemory) => end.waits().is_none(),
@@ -321,7 +322,7 @@ pub fn talk<E: Answers, R: BufRead, W: Write, F: Write>(
         × (lines : List (Option TheBecame))
         × Talked E.answered E.waiting end.old input end.new [] text lines
         × Appends (W.contents writer.old) (W.contents writer.new) text
-        × (bad ≡ list_any is_bad_line lines))) }
+        × (bad ≡ list_any is_bad_line lines) × IsUnbroken E.waiting lines)) }
     ensures fault { IfErr result (λ fault. IfSome (R.remaining reader.old) (λ input.
         Fails E.answered E.waiting end.old input end.new (W.contents writer.old)
         (W.contents writer.new) fault)) }

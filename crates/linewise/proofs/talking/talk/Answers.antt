@@ -16,7 +16,8 @@ returns-in-Err-clause-fault g c =
 
 pub loop-number-preserved : goal.loop-number-preserved
 loop-number-preserved g c =
-    rw (sym c.is_bad-bad.ensures) at (goes_on g.E.Answers.answered g.E.Answers.waiting _ _ _ _ _ _ _ _ _ _ _ c.loop-number.invariant (rw c.in-Ok-Line.field-0-is at c.in-Ok-Line.ensures.goes))
+    rw (sym c.is_bad-bad.ensures) at (goes_on g.E.Answers.answered g.E.Answers.waiting _ _ _ _ _ _ _ _ _ _ _ c.loop-number.invariant (rw c.in-Ok-Line.field-0-is at c.in-Ok-Line.ensures.goes)
+    (c.ends_talk.ensures.goes c.if-ends_talk.false))
 
 pub returns-clause-fault : goal.returns-clause-fault
 returns-clause-fault g c = gives_up g.E.Answers.answered g.E.Answers.waiting _ _ _ _ _ _ _ c.loop-number.invariant
