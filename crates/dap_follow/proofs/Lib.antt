@@ -1,3 +1,4 @@
+pub mod ForCallers
 pub mod PlacingLemmas
 pub mod NameLemmas
 pub mod KeepingLemmas

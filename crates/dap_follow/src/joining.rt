@@ -85,7 +85,7 @@ fn gather(piece: &[Counted<'_>], digits: &mut Vec<u8>) -> Result<(), AllocError>
 }
 
 /// Appends the numbers of two places.
-fn push_range(text: &mut Vec<u8>, from: u64, to: u64) -> Result<(), AllocError>
+pub fn push_range(text: &mut Vec<u8>, from: u64, to: u64) -> Result<(), AllocError>
     ensures { OnOk result (Adds text.old text.new (range_text from to)) }
 {
     push_number(text, " seg=", from % ROUND)?;
@@ -93,7 +93,7 @@ fn push_range(text: &mut Vec<u8>, from: u64, to: u64) -> Result<(), AllocError>
 }
 
 /// Appends how many bytes there are, and the end of the line.
-fn push_length(text: &mut Vec<u8>, count: usize) -> Result<(), AllocError>
+pub fn push_length(text: &mut Vec<u8>, count: usize) -> Result<(), AllocError>
     ensures { OnOk result ((bytes : List ℕ) → length bytes ≡ count
         → Adds text.old text.new (length_text bytes)) }
 {
@@ -102,7 +102,7 @@ fn push_length(text: &mut Vec<u8>, count: usize) -> Result<(), AllocError>
 }
 
 /// Appends a stream: its way, its receiver and its sender.
-fn push_stream(text: &mut Vec<u8>, stream: &Stream) -> Result<(), AllocError>
+pub fn push_stream(text: &mut Vec<u8>, stream: &Stream) -> Result<(), AllocError>
     ensures { OnOk result (Adds text.old text.new (stream_text stream.now)) }
 {
     push_str(text, " ")?;

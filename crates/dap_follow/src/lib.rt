@@ -9,4 +9,6 @@ mod reading;
 mod streams;
 
 pub use following::follow;
+pub use joining::{push_length, push_range, push_stream};
 pub use laws::cut_messages_are_listed;
+pub use streams::Stream;

@@ -13,10 +13,10 @@ use std::alloc::{AllocError, Global};
 
 /// The segments that go one way between two ends.
 #[derive(Clone, Copy, PartialEq, Eq, Hash)]
-pub(crate) struct Stream {
-    pub(crate) way: Direction,
-    pub(crate) dst: u16,
-    pub(crate) src: u16,
+pub struct Stream {
+    pub way: Direction,
+    pub dst: u16,
+    pub src: u16,
 }
 
 /// The streams in the order in which they appear, and the segments of each that count.

@@ -1,6 +1,8 @@
 //! The captured packets of an input, one after another.
 
-ghost use Rattle.std.specs.Prelude.{◌≡◌, ◌≢◌, ◌<◌, ◌≤◌, ◌+◌, ◌*◌, ◌/◌, ◌^◌, [], ◌∷◌, IfErr, IfOk, IfSome, MatchOption, OnOk, Some, codes, length, slice_get};
+ghost use Rattle.std.specs.Prelude.{◌≡◌, ◌≢◌, ◌<◌, ◌≤◌, ◌+◌, ◌*◌, ◌/◌, ◌^◌, [], ◌∷◌, IfErr, IfOk, IfSome, MatchOption, Ok, OnOk, Some, codes, length, option_map, slice_get};
+ghost use Rattle.std.specs.Result.{result_err};
+ghost use Rattle.dap_listing.specs.Lines.{line_of};
 ghost use Rattle.dap_listing.specs.Captured.{Spell};
 ghost use Rattle.dap_listing.specs.declared.fault.CaptureFault.TheVariants.{NoMemory, ReadFailed, WriteFailed};
 ghost use Rattle.dap_listing.specs.Listing.{arrow_text, captures, faults_from, heading, packet_limit};
@@ -67,6 +69,24 @@ pub fn next_packet<'a>(at: usize, bytes: &'a [u8]) -> Result<Option<Found<'a>>, 
         }
     }
     Ok(None)
+}
+
+/// The captured packet of a line, which comes without its end: the way that it went and the hex digits of its bytes; nothing
+/// where the line is skipped. Takes no memory.
+///
+/// `BadLine`, with this number, and `TooLarge`: the line is at fault.
+pub fn line_packet(number: usize, line: &[u8]) -> Result<Option<(Direction, &[u8])>, CaptureFault>
+    ensures says { IfOk result (λ read.
+        line_of packet_limit line.now ≡ Ok (option_map (λ has. (has.0, has.1.now)) read)) }
+    ensures spelled { IfOk result (λ read. IfSome read
+        (λ has. Spell has.1.now (length has.1.now / 2))) }
+    ensures short { IfOk result (λ read. IfSome read
+        (λ has. length has.1.now ≤ 2 * packet_limit)) }
+    ensures fault { IfErr result (λ fault.
+        option_map (λ kind. kind number) (result_err (line_of packet_limit line.now))
+        ≡ Some fault) }
+{
+    read_line(number, line, Listed::Packets.limit())
 }
 
 /// The sign of a direction.

@@ -17,7 +17,7 @@ mod packet;
 mod text;
 
 pub use captured::{CapturedPacket, CapturedSegment};
-pub use captures::{Found, PACKET_LIMIT, arrow, next_packet, push_heading};
+pub use captures::{Found, PACKET_LIMIT, arrow, line_packet, next_packet, push_heading};
 pub use commands::{messages, show};
 pub use fault::{CaptureFault, Outcome, finish};
 pub use input::{INPUT_LIMIT, read_input};

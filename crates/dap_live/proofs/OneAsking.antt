@@ -357,10 +357,10 @@ asking_answers : (one other new end : Asking) (line said more : List ℕ) (b c :
 asking_answers one other new end line said more b c same nb nc x y = order_one one other new end (order_of line) said more b c (line_fits line) same nb nc x y
 
 asking_waits : (one other : Asking) → AreSameAsking one other → waiting one ≡ waiting other
-asking_waits one other same =
-    ap (λ (v : AskingValue). waits_of v.port.link (goes_on one.end || nat_lt 0 (length one.reports.items))) same.0
+asking_waits one other same = ap (λ (n : ℕ). Some n)
+    (ap (λ (v : AskingValue). waits_of v.port.link (goes_on one.end || nat_lt 0 (length one.reports.items))) same.0
     ∙ ap (λ (b : Bool). waits_of other.end.port.link (b || nat_lt 0 (length one.reports.items))) (goes_alike one.end other.end same.0)
-    ∙ ap (λ (l : List Report). waits_of other.end.port.link (goes_on other.end || nat_lt 0 (length l))) same.2
+    ∙ ap (λ (l : List Report). waits_of other.end.port.link (goes_on other.end || nat_lt 0 (length l))) same.2)
 
 pub asking_text : HaveOneText answered waiting AreSameAsking
 asking_text = one_text answered waiting AreSameAsking (one_answer answered waiting AreSameAsking asking_answers asking_waits)

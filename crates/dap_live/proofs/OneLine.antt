@@ -210,7 +210,7 @@ unread_bad : (line : List ℕ) (b : Became) → b ≢ NoMemory → ((b ≡ BadLi
 unread_bad line b want (inl h) = h
 unread_bad line b want (inr none) = absurd (want none)
 
-module _ {E : Type 0} (answered : Answering E) (waiting : E → ℕ) (AreSame : E → E → Type 0)
+module _ {E : Type 0} (answered : Answering E) (waiting : E → Option ℕ) (AreSame : E → E → Type 0)
     (answers : (one other new end : E) (line said more : List ℕ) (b c : Became) → AreSame one other → b ≢ NoMemory → c ≢ NoMemory
     → answered one line new said b → answered other line end more c → AreSame new end × (said ≡ more) × (b ≡ c))
     (waits : (one other : E) → AreSame one other → waiting one ≡ waiting other) where
@@ -248,6 +248,6 @@ module _ {E : Type 0} (answered : Answering E) (waiting : E → ℕ) (AreSame : 
       let t = any_line one other new end line x.text y.text b c same nb nc x.answers y.answers in (
         t.0,
         x.says ∙ ap (λ (l : List ℕ). said_of l b (waiting new)) t.1 ∙ ap (λ (o : Option Became). said_of y.text o (waiting new)) t.2
-            ∙ ap (λ (n : ℕ). said_of y.text c n) (waits new end t.0) ∙ sym y.says,
+            ∙ ap (λ (n : Option ℕ). said_of y.text c n) (waits new end t.0) ∙ sym y.says,
         t.2,
       )

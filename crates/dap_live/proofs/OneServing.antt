@@ -312,8 +312,9 @@ serving_answers one other new end line said more b c same nb nc x y = order_one 
 pub serving_text : HaveOneText answered waiting AreSameServing
 serving_text =
     one_text answered waiting AreSameServing
-    (one_answer answered waiting AreSameServing serving_answers (λ one other same. ap (λ (v : ServingValue). waits_of v.port.link (is_behind one.most_waiting v)) same.0
-    ∙ ap (λ (n : ℕ). waits_of other.end.port.link (is_behind n other.end)) same.2))
+    (one_answer answered waiting AreSameServing serving_answers (λ one other same. ap (λ (n : ℕ). Some n)
+    (ap (λ (v : ServingValue). waits_of v.port.link (is_behind one.most_waiting v)) same.0
+    ∙ ap (λ (n : ℕ). waits_of other.end.port.link (is_behind n other.end)) same.2)))
 
 -- new ends that are set up alike
 pub new_serving : (files : Files) (one other : Serving) → IsAfter (nothing_yet files) one.end → IsAfter (nothing_yet files) other.end → one.end.port ≡ other.end.port

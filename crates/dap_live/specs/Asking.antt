@@ -1,5 +1,5 @@
 -- What a client does by a line, and what it answers.
-use Rattle.std.specs.Prelude.{false, ◌≡◌, ◌⊎◌, ℕ, ◌++◌, Bool, MatchBool, not, ◌&&◌, ◌||◌, nat_lt, length, List, [], ◌∷◌, codes, Result, Err}
+use Rattle.std.specs.Prelude.{false, ◌≡◌, ◌⊎◌, ℕ, ◌++◌, Bool, MatchBool, not, ◌&&◌, ◌||◌, nat_lt, length, List, [], ◌∷◌, codes, Option, Some, Result, Err}
 use Rattle.std.specs.List.{concat}
 use Rattle.std.specs.Fmt.{decimal}
 use Rattle.nsp_link.specs.declared.link.Got.{Got}
@@ -111,5 +111,5 @@ abbrev pub answered : Asking → List ℕ → Asking → List ℕ → Became →
 answered old line new text became = DoesOrder IsForAsking Does DoesAll old (order_of line) new text became
 
 -- the packets that aren't acknowledged, and one more where going on would do something, or reports wait
-abbrev pub waiting : Asking → ℕ
-waiting asking = waits_of asking.end.port.link (goes_on asking.end || nat_lt 0 (length asking.reports.items))
+abbrev pub waiting : Asking → Option ℕ
+waiting asking = Some (waits_of asking.end.port.link (goes_on asking.end || nat_lt 0 (length asking.reports.items)))

@@ -1,5 +1,5 @@
 -- What a server does by a line, and what it answers.
-use Rattle.std.specs.Prelude.{◌≡◌, Bool, ℕ, MatchBool, List, [], MatchOption}
+use Rattle.std.specs.Prelude.{◌≡◌, Bool, ℕ, MatchBool, List, [], MatchOption, Option, Some}
 use Rattle.rec_file.specs.Shapes.{checked_shape}
 use Rattle.dap_msg.specs.Codes.{stscode, reasons}
 use Rattle.dap_accessed.specs.Standing.{Files}
@@ -102,5 +102,5 @@ abbrev pub pieces : Serving → FilesPlace → List (List ℕ)
 pieces serving place = lines_from serving.end.present.files place
 
 -- the packets that aren't acknowledged, and one more where something is left
-abbrev pub waiting : Serving → ℕ
-waiting serving = waits_of serving.end.port.link (is_behind serving.most_waiting serving.end)
+abbrev pub waiting : Serving → Option ℕ
+waiting serving = Some (waits_of serving.end.port.link (is_behind serving.most_waiting serving.end))

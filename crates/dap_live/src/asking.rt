@@ -372,7 +372,7 @@ impl Answers for Asking {
         Ok(None)
     }
 
-    fn waits(&self) -> usize {
-        waits(self.end.link(), is_behind(self))
+    fn waits(&self) -> Option<usize> {
+        Some(waits(self.end.link(), is_behind(self)))
     }
 }

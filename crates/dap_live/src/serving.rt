@@ -374,7 +374,7 @@ impl Answers for Serving {
         push_files_line(text, self.end.files(), place)
     }
 
-    fn waits(&self) -> usize {
-        waits(self.end.link(), is_behind(&self.end, self.most_waiting))
+    fn waits(&self) -> Option<usize> {
+        Some(waits(self.end.link(), is_behind(&self.end, self.most_waiting)))
     }
 }

@@ -8,7 +8,7 @@ use Rattle.linewise.specs.declared.talking.Became.TheVariants.{NoMemory}
 use Rattle.linewise.specs.Talks.{Answering, SaysTo, Talked, HaveOneText}
 
 -- the lines, from the first on
-data Answers {E : Type 0} (answered : Answering E) (waiting : E → ℕ) : E → List ℕ → E → List ℕ → List ℕ → List (Option Became) → Type 0 where
+data Answers {E : Type 0} (answered : Answering E) (waiting : E → Option ℕ) : E → List ℕ → E → List ℕ → List ℕ → List (Option Became) → Type 0 where
   over : {e : E} {input : List ℕ} → Answers answered waiting e input e input [] []
   next : {old new : E} {input rest text : List ℕ} {lines : List (Option Became)} (mid : E) (said more : List ℕ) (became : Option Became) (later : List (Option Became))
       → 0 < length input → became ≢ Some NoMemory → SaysTo answered waiting old (first_line input) mid said became
@@ -22,7 +22,7 @@ parts : (front back : List (Option Became)) → Sates (front ++ back) → Sates 
 parts [] back h = (tt, h)
 parts (became ∷ front) back h = let rest = parts front back h.1 in ((h.0, rest.0), rest.1)
 
-module _ {E : Type 0} (answered : Answering E) (waiting : E → ℕ) where
+module _ {E : Type 0} (answered : Answering E) (waiting : E → Option ℕ) where
   behind : (old now new : E) (input rest said more : List ℕ) (lines : List (Option Became)) (became : Option Became)
       → Answers answered waiting old input now rest said lines → 0 < length rest → became ≢ Some NoMemory
       → SaysTo answered waiting now (first_line rest) new more became
@@ -49,7 +49,7 @@ module _ {E : Type 0} (answered : Answering E) (waiting : E → ℕ) where
       → SaysTo answered waiting one line new said b → SaysTo answered waiting other line end more c
       → AreSame new end × (said ≡ more) × (b ≡ c)
 
-module _ {E : Type 0} (answered : Answering E) (waiting : E → ℕ) (AreSame : E → E → Type 0) (answer_one : OneAnswer answered waiting AreSame) where
+module _ {E : Type 0} (answered : Answering E) (waiting : E → Option ℕ) (AreSame : E → E → Type 0) (answer_one : OneAnswer answered waiting AreSame) where
   both : (one other new end : E) (input left rest text more : List ℕ) (lines others : List (Option Became)) → AreSame one other → left ≡ [] → rest ≡ []
       → Answers answered waiting one input new left text lines → Answers answered waiting other input end rest more others
       → (text ≡ more) × (lines ≡ others)

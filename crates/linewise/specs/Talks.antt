@@ -10,7 +10,7 @@ use Rattle.linewise.specs.declared.talking.Became.TheVariants.{Done, BadLine, No
 use Rattle.linewise.specs.declared.talking.Answer.{Answer}
 use Rattle.linewise.specs.declared.talking.Answer.TheVariants.{Whole, Begun}
 use Rattle.linewise.specs.declared.talking.TalkFault.{TalkFault}
-use Rattle.linewise.specs.declared.talking.TalkFault.TheVariants.{ReadFailed, WriteFailed}
+use Rattle.linewise.specs.declared.talking.TalkFault.TheVariants.{ReadFailed, WriteFailed, NoMemory as OutOfMemory}
 
 -- ---- A line.
 
@@ -31,11 +31,16 @@ refusal_of Done = []
 refusal_of BadLine = codes "refused bad-line\n"
 refusal_of NoMemory = codes "refused no-memory\n"
 
--- An answer is the end's text, the line of a refusal, and `waits N`: N packets aren't acknowledged, and one more is
--- counted where something is left to do. A line that is skipped has none.
-abbrev pub said_of : List ℕ → Option Became → ℕ → List ℕ
+-- How an answer ends: with the line of a refusal, and `waits N`, where N packets aren't acknowledged, and one more is
+-- counted where something is left to do. Where an answerer names no count, its answers have no ending.
+abbrev pub ending_of : Became → Option ℕ → List ℕ
+ending_of became None = []
+ending_of became (Some count) = refusal_of became ++ (codes "waits " ++ (decimal count ++ codes "\n"))
+
+-- An answer is a text and its ending. A line that is skipped has none.
+abbrev pub said_of : List ℕ → Option Became → Option ℕ → List ℕ
 said_of text None count = []
-said_of text (Some became) count = text ++ (refusal_of became ++ (codes "waits " ++ (decimal count ++ codes "\n")))
+said_of text (Some became) count = text ++ ending_of became count
 
 -- what an end does by a line: the end then, its text, and what became of the line
 abbrev pub Answering : Type 0 → Type 1
@@ -70,7 +75,7 @@ AnswersLine answered old line new text (Some became) =
     ⊎ ((is_skipped line ≡ false) × (length line ≤ longest) × answered old line new text became)
 
 -- what is answered to a line
-pub record SaysTo {E : Type 0} (answered : Answering E) (waiting : E → ℕ) (old : E) (line : List ℕ) (new : E) (said : List ℕ) (became : Option Became) : Type 0 where
+pub record SaysTo {E : Type 0} (answered : Answering E) (waiting : E → Option ℕ) (old : E) (line : List ℕ) (new : E) (said : List ℕ) (became : Option Became) : Type 0 where
   pub text : List ℕ
   pub answers : AnswersLine answered old line new text became
   pub says : said ≡ said_of text became (waiting new)
@@ -84,27 +89,36 @@ is_bad _ = false
 
 -- The end answered the lines of an input, one after another, up to this rest. The text is its answers, joined, and
 -- the list is what became of the lines.
-pub data Talked {E : Type 0} (answered : Answering E) (waiting : E → ℕ) : E → List ℕ → E → List ℕ → List ℕ → List (Option Became) → Type 0 where
+pub data Talked {E : Type 0} (answered : Answering E) (waiting : E → Option ℕ) : E → List ℕ → E → List ℕ → List ℕ → List (Option Became) → Type 0 where
   begins : {e : E} {input : List ℕ} → Talked answered waiting e input e input [] []
   goes : {old new : E} {input : List ℕ} (now : E) (rest said more : List ℕ) (lines : List (Option Became)) (became : Option Became)
       → Talked answered waiting old input now rest said lines → 0 < length rest
       → SaysTo answered waiting now (first_line rest) new more became
       → Talked answered waiting old input new (drop_through 10 rest) (said ++ more) (lines ++ became ∷ [])
 
+-- An answerer whose answers never have an ending was out of memory at none of these lines: a conversation ends with such a line.
+abbrev pub IsUnbroken : {E : Type 0} → (E → Option ℕ) → List (Option Became) → Type 0
+IsUnbroken {E} waiting lines = ((e : E) → waiting e ≡ None) → AllByRecursion (λ became. became ≢ Some NoMemory) lines
+
 -- Two such conversations of ends of one value over one input have the same text, and the same became of each line,
 -- unless memory was refused.
-abbrev pub HaveOneText : {E : Type 0} → Answering E → (E → ℕ) → (AreSame : E → E → Type 0) → Type 0
+abbrev pub HaveOneText : {E : Type 0} → Answering E → (E → Option ℕ) → (AreSame : E → E → Type 0) → Type 0
 HaveOneText answered waiting AreSame =
     (one other new end : _) (input text more : List ℕ) (lines others : List (Option Became)) → AreSame one other
     → Talked answered waiting one input new [] text lines → Talked answered waiting other input end [] more others
     → AllByRecursion (λ became. became ≢ Some NoMemory) (lines ++ others) → (text ≡ more) × (lines ≡ others)
 
 -- What was written where a conversation ended before its input. The reader failed: the answers to all lines before.
--- The writer failed: these, and a prefix of the next answer.
-abbrev pub Fails : {E : Type 0} → Answering E → (E → ℕ) → E → List ℕ → E → Option (List ℕ) → Option (List ℕ) → TalkFault → Type 0
+-- The writer failed: these, and a prefix of the next answer. Memory was refused to an answer that has no ending to say so: all
+-- answers with that one.
+abbrev pub Fails : {E : Type 0} → Answering E → (E → Option ℕ) → E → List ℕ → E → Option (List ℕ) → Option (List ℕ) → TalkFault → Type 0
 Fails answered waiting old input new written holds ReadFailed =
     (rest said : List ℕ) × (lines : List (Option Became)) × Talked answered waiting old input new rest said lines × Appends written holds said
+    × IsUnbroken waiting lines
+Fails answered waiting old input new written holds OutOfMemory =
+    (rest said : List ℕ) × (lines : List (Option Became)) × Talked answered waiting old input new rest said (lines ++ Some NoMemory ∷ [])
+    × Appends written holds said × (waiting new ≡ None) × IsUnbroken waiting lines
 Fails {E} answered waiting old input new written holds WriteFailed =
     (now : E) × (held : Option (List ℕ)) × (rest said more : List ℕ) × (lines : List (Option Became)) × (became : Option Became)
     × Talked answered waiting old input now rest said lines × Appends written held said
-    × SaysTo answered waiting now (first_line rest) new more became × WritesFront held holds more
+    × SaysTo answered waiting now (first_line rest) new more became × WritesFront held holds more × IsUnbroken waiting lines

@@ -1,11 +1,11 @@
 //! Writing one answer.
 
-ghost use Rattle.std.specs.Prelude.{◌≡◌, ◌++◌, OnOk, IfErr, codes};
+ghost use Rattle.std.specs.Prelude.{◌≡◌, ◌++◌, OnOk, IfErr, Some, codes};
 ghost use Rattle.std.specs.Fmt.{decimal};
 ghost use Rattle.std.specs.Io.KnownBytes.{Appends, Keeps};
 ghost use Rattle.linewise.specs.Output.{WritesFront};
-ghost use Rattle.linewise.specs.Talks.{refusal_of};
-ghost use Rattle.linewise.specs.Inner.Endings.{ending_of, waits_text};
+ghost use Rattle.linewise.specs.Talks.{ending_of, refusal_of};
+ghost use Rattle.linewise.specs.Inner.Endings.{waits_text};
 
 use crate::talking::{Became, TalkFault};
 use itoa::Buffer;
@@ -62,23 +62,41 @@ fn refusal_line(became: Became) -> &'static [u8]
     }
 }
 
+/// Writes the line of a refusal, and the last line.
+fn write_count<W: Write>(became: Became, waits: usize, writer: &mut W) -> Result<(), TalkFault>
+    ensures whole { OnOk result (Appends (W.contents writer.old) (W.contents writer.new)
+        (ending_of became (Some waits))) }
+    ensures fault { IfErr result (λ fault. fault ≡ TalkFault.WriteFailed) }
+    ensures front { WritesFront (W.contents writer.old) (W.contents writer.new)
+        (ending_of became (Some waits)) }
+{
+    write_text(refusal_line(became), writer)?;
+    write_waits(waits, writer)
+}
+
 /// Writes how an answer ends. It takes no memory.
-fn write_ending<W: Write>(became: Became, waits: usize, writer: &mut W) -> Result<(), TalkFault>
+fn write_ending<W: Write>(
+    became: Became,
+    waits: Option<usize>,
+    writer: &mut W,
+) -> Result<(), TalkFault>
     ensures whole { OnOk result (Appends (W.contents writer.old) (W.contents writer.new)
         (ending_of became waits)) }
     ensures fault { IfErr result (λ fault. fault ≡ TalkFault.WriteFailed) }
     ensures front { WritesFront (W.contents writer.old) (W.contents writer.new)
         (ending_of became waits) }
 {
-    write_text(refusal_line(became), writer)?;
-    write_waits(waits, writer)
+    match waits {
+        Some(count) => write_count(became, count, writer),
+        None => write_text(b"", writer),
+    }
 }
 
 /// Writes an answer.
 fn write_parts<W: Write>(
     text: &[u8],
     became: Became,
-    waits: usize,
+    waits: Option<usize>,
     writer: &mut W,
 ) -> Result<(), TalkFault>
     ensures whole { OnOk result (Appends (W.contents writer.old) (W.contents writer.new)
@@ -106,7 +124,7 @@ fn flush<W: Write>(writer: &mut W) -> Result<(), TalkFault>
 pub(crate) fn write_answer<W: Write>(
     text: &[u8],
     became: Became,
-    waits: usize,
+    waits: Option<usize>,
     writer: &mut W,
 ) -> Result<(), TalkFault>
     ensures whole { OnOk result (Appends (W.contents writer.old) (W.contents writer.new)

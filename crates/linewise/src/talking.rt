@@ -5,7 +5,7 @@ ghost use Rattle.std.specs.List.{concat, list_any};
 ghost use Rattle.std.specs.Io.KnownBytes.{Appends, Keeps, IsAtEnd};
 ghost use Rattle.std.specs.Io.BufRead.{first_line, drop_through, strip_last};
 ghost use Rattle.linewise.specs.Output.{WritesFront};
-ghost use Rattle.linewise.specs.Talks.{ComesIn, Fails, Talked, is_bad as is_bad_line, is_skipped as says_nothing};
+ghost use Rattle.linewise.specs.Talks.{ComesIn, Fails, IsUnbroken, Talked, is_bad as is_bad_line, is_skipped as says_nothing};
 ghost use Rattle.linewise.specs.declared.talking.Became.{Became as TheBecame};
 ghost use Rattle.linewise.specs.Inner.Kept.{Holds, without_end as ended};
 ghost use Rattle.linewise.specs.Inner.Steps.{BeginsLine, Breaks, Completes, Ends, Goes, Says};
@@ -47,8 +47,9 @@ pub trait Answers {
     // What it may come to by a line, the text of its answer, and what became of the line.
     ghost answered: { Self → List ℕ → Self → List ℕ → Became → Type 0 };
 
-    // How many packets it waits to be acknowledged, and one more where it has something left to do.
-    ghost waiting: { Self → ℕ };
+    // How many packets it waits to be acknowledged, and one more where it has something left to do; or that its answers have
+    // no ending.
+    ghost waiting: { Self → Option ℕ };
 
     // The pieces of an answer from a place on.
     ghost pieces: { Self → Self.Place → List (List ℕ) };
@@ -69,8 +70,9 @@ pub trait Answers {
         ensures piece { IfOk result (GivesPiece (pieces self.now) place text.new.items) }
         ensures refused { OnErr result (0 < length (pieces self.now place)) };
 
-    /// How many packets it waits to be acknowledged, and one more where it has something left to do.
-    fn waits(&self) -> usize
+    /// How many packets it waits to be acknowledged, and one more where it has something left to do. `None`: its answers have
+    /// no ending.
+    fn waits(&self) -> Option<usize>
         ensures { result ≡ waiting self.now };
 }
 
@@ -80,6 +82,8 @@ pub trait Answers {
 pub enum TalkFault {
     ReadFailed,
     WriteFailed,
+    /// Memory was refused to an answer that has no ending to say so.
+    NoMemory,
 }
 
 impl TalkFault {
@@ -88,6 +92,7 @@ impl TalkFault {
         match self {
             TalkFault::ReadFailed => "read failed",
             TalkFault::WriteFailed => "write failed",
+            TalkFault::NoMemory => "no memory",
         }
     }
 }
@@ -285,6 +290,18 @@ fn is_bad(became: Option<Became>) -> bool
     matches!(became, Some(Became::BadLine))
 }
 
+/// Whether a line's answer can't say that memory was refused to it.
+fn ends_talk<E: Answers>(end: &E, became: Option<Became>) -> bool
+    ensures memory { result ≡ true → became ≡ Some TheBecame.NoMemory }
+    ensures waiting { result ≡ true → E.waiting end.now ≡ None }
+    ensures goes { result ≡ false → E.waiting end.now ≡ None → became ≢ Some TheBecame.NoMemory }
+{
+    match became {
+        Some(Became::NoMemory) => end.waits().is_none(),
+        Some(Became::Done | Became::BadLine) | None => false,
+    }
+}
+
 /// Answers the lines of an input until it ends, and returns whether some line was none of the end's.
 ///
 /// Each line is answered, and its answer written and flushed, before the next one is read; of an answer that is
@@ -293,7 +310,7 @@ fn is_bad(became: Option<Became>) -> bool
 /// nothing is kept. A bad line is reported to the error writer by its number, from 1, before its answer is written.
 ///
 /// Faults: the reader failed, and all lines before are answered; the writer failed, and a prefix of the answers is
-/// written.
+/// written; memory was refused to an answer that has no ending, and all lines up to that one are answered.
 pub fn talk<E: Answers, R: BufRead, W: Write, F: Write>(
     alloc: Global,
     end: &mut E,
@@ -305,7 +322,7 @@ pub fn talk<E: Answers, R: BufRead, W: Write, F: Write>(
         × (lines : List (Option TheBecame))
         × Talked E.answered E.waiting end.old input end.new [] text lines
         × Appends (W.contents writer.old) (W.contents writer.new) text
-        × (bad ≡ list_any is_bad_line lines))) }
+        × (bad ≡ list_any is_bad_line lines) × IsUnbroken E.waiting lines)) }
     ensures fault { IfErr result (λ fault. IfSome (R.remaining reader.old) (λ input.
         Fails E.answered E.waiting end.old input end.new (W.contents writer.old)
         (W.contents writer.new) fault)) }
@@ -323,7 +340,12 @@ pub fn talk<E: Answers, R: BufRead, W: Write, F: Write>(
             &mut line,
             &mut text,
         ) {
-            Ok(Next::Line(became)) => bad |= is_bad(became),
+            Ok(Next::Line(became)) => {
+                if ends_talk(end, became) {
+                    return Err(TalkFault::NoMemory);
+                }
+                bad |= is_bad(became);
+            }
             Ok(Next::Over) => return Ok(bad),
             Err(fault) => return Err(fault),
         }

@@ -1,10 +1,12 @@
 -- What `daplive` does with an input, and its exit status.
-use Rattle.std.specs.Prelude.{◌≡◌, ◌⊎◌, ℕ, List, [], if◌then◌else◌, Option}
+use Rattle.std.specs.Prelude.{◌≡◌, ◌⊎◌, ℕ, nat_lt, length, List, [], ◌++◌, if◌then◌else◌, Option}
 use Rattle.std.specs.List.{list_any}
 use Rattle.std.specs.Io.KnownBytes.{Appends, Keeps}
 use Rattle.nsp_link.specs.declared.link.LinkSetup.{LinkSetup}
 use Rattle.dap_follow.specs.Following.{FollowGives}
 use Rattle.dap_listing.specs.Gives.{HasStatus}
+use Rattle.dap_listing.specs.Listing.{captures, faults_from, packet_limit}
+use Rattle.dap_watch.specs.Watched.{IsWatched}
 use Rattle.decnet_frames.specs.Listed.{IsListed, IsListedTo}
 use Rattle.decnet_frames.specs.declared.run.FramesFault.{FramesFault}
 use Rattle.decnet_frames.specs.declared.run.FramesFault.TheVariants.{File}
@@ -21,7 +23,7 @@ use Rattle.live_cli.specs.declared.words.Options.{Options}
 use Rattle.live_cli.specs.declared.words.Role.{Role}
 use Rattle.live_cli.specs.declared.words.Role.TheVariants.{Serve, Ask}
 use Rattle.live_cli.specs.declared.words.Task.{Task}
-use Rattle.live_cli.specs.declared.words.Task.TheVariants.{End, Follow, Frames}
+use Rattle.live_cli.specs.declared.words.Task.TheVariants.{End, Follow, Frames, Watch}
 
 -- the exit status of a fault
 abbrev pub frames_status : FramesFault → ℕ
@@ -34,7 +36,7 @@ setup_of o = record { local = o.local; remote = o.remote; seg_size = o.segment; 
 
 -- The end answers all lines of the input, and the status is 1 if some line was bad and 0 otherwise; or the reader or
 -- the writer fails, and it is 3.
-abbrev pub AnswersAll : {E : Type 0} → Answering E → (E → ℕ) → E → List ℕ → (written holds : Option (List ℕ)) → ℕ → Type 0
+abbrev pub AnswersAll : {E : Type 0} → Answering E → (E → Option ℕ) → E → List ℕ → (written holds : Option (List ℕ)) → ℕ → Type 0
 AnswersAll {E} answered waiting first input written holds status =
     ((last : E) × (text : List ℕ) × (lines : List (Option Became)) × Talked answered waiting first input last [] text lines
     × Appends written holds text × (status ≡ (if list_any is_bad lines then 1 else 0)))
@@ -46,6 +48,14 @@ GivesAs Serve o input written holds status =
     (first : Serving) × serving.IsNew (setup_of o) o.buffer o.waiting [] first × AnswersAll serving.answered serving.waiting first input written holds status
 GivesAs Ask o input written holds status =
     (first : Asking) × asking.IsNew (setup_of o) o.buffer first × AnswersAll asking.answered asking.waiting first input written holds status
+
+-- The listing of all packets is written, and the status is 1 where some line is bad and 0 otherwise; or the reader or the writer fails,
+-- or memory is refused, and it is 3.
+abbrev pub WatchGives : List ℕ → (written holds : Option (List ℕ)) → ℕ → Type 0
+WatchGives input written holds status =
+    ((text rest : List ℕ) × IsWatched (captures packet_limit input) text rest × Appends written holds (text ++ rest)
+    × (status ≡ (if nat_lt 0 (length (faults_from packet_limit 1 input)) then 1 else 0)))
+    ⊎ (status ≡ 3)
 
 -- The lines of a capture file's frames are written, and the status is 0; or those before a fault of the file, and it is 1; or the
 -- reader or the writer fails, or memory is refused, and it is 3.
@@ -59,4 +69,5 @@ FramesGive ends input written holds status =
 abbrev pub TaskGives : Task → List ℕ → (written holds : Option (List ℕ)) → ℕ → Type 0
 TaskGives (End o) input written holds status = GivesAs o.role o input written holds status ⊎ (Keeps written holds × (status ≡ 3))
 TaskGives Follow input written holds status = HasStatus (FollowGives input written holds) status
+TaskGives Watch input written holds status = WatchGives input written holds status
 TaskGives (Frames ends) input written holds status = FramesGive ends input written holds status

@@ -15,7 +15,7 @@ use Rattle.live_cli.specs.declared.words.Options.{Options}
 use Rattle.live_cli.specs.declared.words.Role.{Role}
 use Rattle.live_cli.specs.declared.words.Role.TheVariants.{Serve, Ask}
 use Rattle.live_cli.specs.declared.words.Task.{Task}
-use Rattle.live_cli.specs.declared.words.Task.TheVariants.{End, Follow, Frames}
+use Rattle.live_cli.specs.declared.words.Task.TheVariants.{End, Follow, Frames, Watch}
 
 -- how many bytes of answers may wait: at least this
 abbrev pub least_waiting : ℕ
@@ -59,10 +59,10 @@ serve_line = with_rule (end_line (usual Serve)) (number (codes "waiting") (decim
 abbrev pub frames_line : App
 frames_line = with_rule (new_app (codes "frames")) (record (new_rule (codes "nodes")) { value_names = 2 })
 
--- all words: one of four subcommands
+-- all words: one of five subcommands
 abbrev pub daplive : App
 daplive = fold with_subcommand (new_program (codes "daplive"))
-    (serve_line.top ∷ (end_line (usual Ask)).top ∷ (new_app (codes "follow")).top ∷ frames_line.top ∷ [])
+    (serve_line.top ∷ (end_line (usual Ask)).top ∷ (new_app (codes "follow")).top ∷ frames_line.top ∷ (new_app (codes "watch")).top ∷ [])
 
 -- ---- What they say.
 
@@ -110,6 +110,7 @@ task_in p =
     if bytes_eq p.0 (codes "serve") then option_map End (options_of Serve p.1)
     else if bytes_eq p.0 (codes "ask") then option_map End (options_of Ask p.1)
     else if bytes_eq p.0 (codes "frames") then option_map Frames (ends_of (all_of (codes "nodes") p.1))
+    else if bytes_eq p.0 (codes "watch") then Some Watch
     else Some Follow
 
 -- what the words name, the program's name first, where nothing is at fault in them

@@ -17,6 +17,7 @@ use clap::error::ErrorKind;
 use cli_faults::{Fronted, Reading, finish_reading, refuse};
 use dap_follow::follow;
 use dap_live::{Asking, Serving};
+use dap_watch::watch;
 use decnet_frames::{Counts, Ends, FramesFault, list_frames};
 use linewise::{Answers, talk};
 use nsp_link::{LARGEST_LIMIT, LinkFault, LinkSetup};
@@ -157,6 +158,22 @@ fn list<R: BufRead, W: Write, E: Write>(
     finish_reading(FOLLOWING, lines.front(), outcome, error_writer)
 }
 
+/// Lists a capture as its lines come, and answers the exit status.
+fn watch_lines<R: BufRead, W: Write, E: Write>(
+    alloc: Global,
+    reader: &mut R,
+    writer: &mut W,
+    error_writer: &mut E,
+) -> u8
+    ensures { IfSome (R.remaining reader.old) (λ input. TaskGives Task.Watch input
+        (W.contents writer.old) (W.contents writer.new) result) }
+{
+    match watch(alloc, reader, writer, error_writer) {
+        Ok(bad) => status(bad),
+        Err(fault) => tell(fault, error_writer),
+    }
+}
+
 /// Reports how many frames were written, and how many passed over.
 fn tell_counts<E: Write>(counts: Counts, error_writer: &mut E) {
     let _ = writeln!(
@@ -228,6 +245,7 @@ fn run_task<R: BufRead, W: Write, E: Write>(
     match task {
         Task::End(options) => run_options(alloc, options, reader, writer, error_writer),
         Task::Follow => list(alloc, reader, writer, error_writer),
+        Task::Watch => watch_lines(alloc, reader, writer, error_writer),
         Task::Frames(ends) => write_frames(alloc, ends, reader, writer, error_writer),
     }
 }

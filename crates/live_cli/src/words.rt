@@ -60,6 +60,12 @@ Example: echo '> 600201040305800100060200' | ./daplive follow
 
 docs/LISTING.md explains each word of a listing.";
 
+const WATCH: &str = "\
+Reads the lines that follow reads, and lists each packet before it reads the next line: with the messages that are whole with it. At
+the end come 'gap' and 'part', as those of follow. A line that is none is reported, and the listing goes on.
+
+Live: tcpdump -i eth0 --immediate-mode -U -w - ether proto 0x6003 | ./daplive frames | ./daplive watch";
+
 const FRAMES: &str = "\
 Reads a capture file of Ethernet frames, pcap or pcapng, as 'tcpdump -w' writes it, and writes each DECnet packet between two nodes as
 soon as its frame is read: a comment with its number, its time and its nodes, and a line of > or < with its NSP packet in hex.
@@ -271,6 +277,16 @@ fn follow_command<'a>(alloc: Global) -> Command<'a>
         .after_help(FOLLOW)
 }
 
+/// The command line of the listing that is written as lines come.
+fn watch_command<'a>(alloc: Global) -> Command<'a>
+    ensures app { app_of result ≡ new_app (codes "watch") }
+    ensures local { (out-Command result).has_globals ≡ false }
+{
+    Command::new(alloc, "watch")
+        .about("Lists captured NSP packets as their lines come, with DAP messages reassembled")
+        .after_help(WATCH)
+}
+
 /// The command line of the frames of a capture file.
 fn frames_command<'a>(alloc: Global) -> Result<Command<'a>, Error>
     ensures line { IfOk result IsFramesLine }
@@ -299,6 +315,7 @@ fn command_line<'a>(alloc: Global) -> Result<Command<'a>, Error>
     let command = command.subcommand(end_command(alloc, &ASKING)?)?;
     let command = command.subcommand(follow_command(alloc))?;
     let command = command.subcommand(frames_command(alloc)?)?;
+    let command = command.subcommand(watch_command(alloc))?;
     Ok(command)
 }
 
@@ -330,6 +347,8 @@ pub enum Task {
     End(Options),
     /// Lists a capture.
     Follow,
+    /// Lists a capture as its lines come.
+    Watch,
     /// Writes the packets in a capture file, between these nodes or those of the first packet.
     Frames(Option<Ends>),
 }
@@ -526,6 +545,8 @@ fn task_in<'a>(name: &str, matches: &ArgMatches<'a>) -> Result<Task, Misspelt<'a
         Ok(Task::End(options_in(Role::Ask, matches)?))
     } else if is(name.as_bytes(), "frames") {
         Ok(Task::Frames(ends_in(matches)?))
+    } else if is(name.as_bytes(), "watch") {
+        Ok(Task::Watch)
     } else {
         Ok(Task::Follow)
     }

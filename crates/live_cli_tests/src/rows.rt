@@ -280,5 +280,91 @@ frames reads a pcap or pcapng file\ntaken 0 passed 0\n",
         b"",
         b"daplive: 1.0: a node is an area, 1 to 63, a point, and a number, 1 to 1023, as 1.10\n",
     ),
+    // The same captures as their lines come; and a line at fault among others.
+    (
+        &["watch"],
+        b"> 20020201010100010001020a\n\
+> 400202010103000600000000\n\
+> 000202010102000004070305\n\
+> 00020201010200ff\n",
+        0,
+        b"1 > segment first dst=0202 src=0101 seg=1 acks=- len=5\n\
+2 > segment last dst=0202 src=0101 seg=3 acks=- len=5\n\
+3 > segment middle dst=0202 src=0101 seg=2 acks=- len=5\n\
+\x20 message seg=1..3 len=15\n\
+\x20 config bufsiz=513 ostype=10 filesys=0 version=4.7.3.5.6 syscap=0\n\
+4 > segment middle dst=0202 src=0101 seg=2 acks=- len=1\n",
+        b"",
+    ),
+    (
+        &["watch"],
+        b"> 20020201010100010001020a\n\
+> 400202010103000600000000\n",
+        0,
+        b"1 > segment first dst=0202 src=0101 seg=1 acks=- len=5\n\
+2 > segment last dst=0202 src=0101 seg=3 acks=- len=5\n\
+part > dst=0202 src=0101 seg=1..1 len=5\n\
+gap > dst=0202 src=0101 seg=2..2\n\
+part > dst=0202 src=0101 seg=3..3 len=5\n",
+        b"",
+    ),
+    (
+        &["watch"],
+        b"> 400202010100000600000000\n\
+> 0002020101ff0f0004070305\n\
+> 2002020101fe0f010001020a\n",
+        0,
+        b"1 > segment last dst=0202 src=0101 seg=0 acks=- len=5\n\
+2 > segment middle dst=0202 src=0101 seg=4095 acks=- len=5\n\
+3 > segment first dst=0202 src=0101 seg=4094 acks=- len=5\n\
+\x20 message seg=4094..0 len=15\n\
+\x20 config bufsiz=513 ostype=10 filesys=0 version=4.7.3.5.6 syscap=0\n",
+        b"",
+    ),
+    (
+        &["watch"],
+        b"> 20020201010100010001020a\n\
+< 600101020201000700\n\
+> 6004040101010000\n\
+> 6002\n\
+> 04020201010180\n\
+> 4002020101020000040703050600000000\n",
+        0,
+        b"1 > segment first dst=0202 src=0101 seg=1 acks=- len=5\n\
+2 < segment only dst=0101 src=0202 seg=1 acks=- len=2\n\
+\x20 message seg=1..1 len=2\n\
+\x20 bad truncated type=7 at=2\n\
+3 > segment only dst=0404 src=0101 seg=1 acks=- len=1\n\
+\x20 message seg=1..1 len=1\n\
+\x20 bad type type=0 at=0\n\
+4 > bad truncated at=1\n\
+5 > ack dst=0202 src=0101 acks=0:1\n\
+6 > segment last dst=0202 src=0101 seg=2 acks=- len=10\n\
+\x20 message seg=1..2 len=15\n\
+\x20 config bufsiz=513 ostype=10 filesys=0 version=4.7.3.5.6 syscap=0\n",
+        b"",
+    ),
+    (
+        &["watch"],
+        b"> 6002\n> 6\n\xd4\xc3\n# a comment\n> 04020201010180\n",
+        1,
+        b"1 > bad truncated at=1\n2 > ack dst=0202 src=0101 acks=0:1\n",
+        b"bad line 2\nbad line 3\n",
+    ),
+    // A repeat of a segment of a listed message isn't taken again.
+    (
+        &["watch"],
+        b"> 6002020101010001\n> 6002020101010002\n> 60020201010300060200\n",
+        0,
+        b"1 > segment only dst=0202 src=0101 seg=1 acks=- len=1\n\
+\x20 message seg=1..1 len=1\n\
+\x20 bad truncated type=1 at=1\n\
+2 > segment only dst=0202 src=0101 seg=1 acks=- len=1\n\
+3 > segment only dst=0202 src=0101 seg=3 acks=- len=3\n\
+\x20 message seg=3..3 len=3\n\
+\x20 ack\n\
+gap > dst=0202 src=0101 seg=2..2\n",
+        b"",
+    ),
     (&["follow"], b"\n", 0, b"", b""),
 ];

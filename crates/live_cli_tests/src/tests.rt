@@ -55,7 +55,7 @@ impl BufRead for Broken {
 
 #[test]
 fn a_read_that_fails_is_told_alone(rt: HostRuntime) -> Result<(), Fail> {
-    for word in ["follow", "frames", "serve", "ask"] {
+    for word in ["follow", "frames", "watch", "serve", "ask"] {
         let words = words_of(rt.alloc(), &[word])?;
         let mut written = Vec::new(rt.alloc());
         let mut told = Vec::new(rt.alloc());

@@ -4,14 +4,14 @@ use Rattle.std.specs.List.{list_any, concat}
 use Rattle.std.specs.Io.KnownBytes.{Appends, Keeps, IsAtEnd}
 use Rattle.std.specs.Io.BufRead.{first_line, drop_through}
 use Rattle.linewise.specs.Output.{WritesFront}
-use Rattle.linewise.specs.Talks.{Answering, AnswersLine, Begins, ComesIn, SaysTo, Talked, is_bad}
+use Rattle.linewise.specs.Talks.{Answering, AnswersLine, Begins, ComesIn, IsUnbroken, SaysTo, Talked, is_bad}
 use Rattle.linewise.specs.declared.talking.Became.{Became}
 use Rattle.linewise.specs.declared.talking.Answer.{Answer}
 use Rattle.linewise.specs.declared.talking.Answer.TheVariants.{Whole, Begun}
 use Rattle.linewise.specs.declared.talking.Next.{Next}
 use Rattle.linewise.specs.declared.talking.Next.TheVariants.{Over, Line}
 use Rattle.linewise.specs.declared.talking.TalkFault.{TalkFault}
-use Rattle.linewise.specs.declared.talking.TalkFault.TheVariants.{ReadFailed, WriteFailed}
+use Rattle.linewise.specs.declared.talking.TalkFault.TheVariants.{ReadFailed, WriteFailed, NoMemory as OutOfMemory}
 
 -- what comes of a line, or how its answer begins
 abbrev pub BeginsLine : {E P : Type 0} → Answering E → (E → P → List (List ℕ)) → E → List ℕ → E → List ℕ → Option (Answer P) → Type 0
@@ -31,29 +31,30 @@ HasWritten pieces left first text written holds =
     (front : List (List ℕ)) × (said : List ℕ) × (pieces ≡ front ++ left) × (said ++ text ≡ first ++ concat front) × Appends written holds said
 
 -- the answer to a line stands behind what was written
-abbrev pub Says : {E : Type 0} → Answering E → (E → ℕ) → E → List ℕ → E → (written holds : Option (List ℕ)) → Option Became → Type 0
+abbrev pub Says : {E : Type 0} → Answering E → (E → Option ℕ) → E → List ℕ → E → (written holds : Option (List ℕ)) → Option Became → Type 0
 Says answered waiting old line new written holds became =
     (said : List ℕ) × SaysTo answered waiting old line new said became × Appends written holds said
 
 -- a front of it does
-abbrev pub Breaks : {E : Type 0} → Answering E → (E → ℕ) → E → List ℕ → E → (written holds : Option (List ℕ)) → Type 0
+abbrev pub Breaks : {E : Type 0} → Answering E → (E → Option ℕ) → E → List ℕ → E → (written holds : Option (List ℕ)) → Type 0
 Breaks answered waiting old line new written holds =
     (became : Option Became) × (said : List ℕ) × SaysTo answered waiting old line new said became × WritesFront written holds said
 
 -- what a turn comes to
-abbrev pub Goes : {E : Type 0} → Answering E → (E → ℕ) → E → E → (unread left written holds : Option (List ℕ)) → Next → Type 0
+abbrev pub Goes : {E : Type 0} → Answering E → (E → Option ℕ) → E → E → (unread left written holds : Option (List ℕ)) → Next → Type 0
 Goes answered waiting old new unread left written holds Over = IsAtEnd unread × (new ≡ old) × Keeps written holds
 Goes answered waiting old new unread left written holds (Line became) =
     IfSome unread (λ rest. (0 < length rest) × (left ≡ Some (drop_through 10 rest))
     × Says answered waiting old (first_line rest) new written holds became)
 
 -- and where it fails
-abbrev pub Ends : {E : Type 0} → Answering E → (E → ℕ) → E → E → (unread written holds : Option (List ℕ)) → TalkFault → Type 0
+abbrev pub Ends : {E : Type 0} → Answering E → (E → Option ℕ) → E → E → (unread written holds : Option (List ℕ)) → TalkFault → Type 0
 Ends answered waiting old new unread written holds ReadFailed = (new ≡ old) × Keeps written holds
+Ends answered waiting old new unread written holds OutOfMemory = ⊥
 Ends answered waiting old new unread written holds WriteFailed =
     IfSome unread (λ rest. Breaks answered waiting old (first_line rest) new written holds)
 
 -- the lines up to what is left are answered, and the writer holds the answers
-abbrev pub HasTalked : {E : Type 0} → Answering E → (E → ℕ) → E → (unread written : Option (List ℕ)) → E → (left holds : Option (List ℕ)) → Bool → Type 0
+abbrev pub HasTalked : {E : Type 0} → Answering E → (E → Option ℕ) → E → (unread written : Option (List ℕ)) → E → (left holds : Option (List ℕ)) → Bool → Type 0
 HasTalked answered waiting old unread written now left holds bad = IfSome unread (λ input. (rest said : List ℕ) × (lines : List (Option Became))
-    × (left ≡ Some rest) × Appends written holds said × Talked answered waiting old input now rest said lines × (bad ≡ list_any is_bad lines))
+    × (left ≡ Some rest) × Appends written holds said × Talked answered waiting old input now rest said lines × (bad ≡ list_any is_bad lines) × IsUnbroken waiting lines)

@@ -6,7 +6,7 @@ use Rattle.clap.specs.Words.{App, Text, app_of, new_app, with_rule}
 use Rattle.dap_msg.specs.BothEnds.{greatest_message, least_buffer}
 use Rattle.nsp_link.specs.Limits.{largest_segment, largest_window}
 use Rattle.live_cli.specs.declared.words.Task.{Task}
-use Rattle.live_cli.specs.declared.words.Task.TheVariants.{End, Follow, Frames}
+use Rattle.live_cli.specs.declared.words.Task.TheVariants.{End, Follow, Frames, Watch}
 use Rattle.live_cli.specs.Words.{daplive, frames_line, greatest_waiting, least_waiting, number, option}
 
 -- the command is another with more words, none of them global
@@ -70,4 +70,5 @@ pub record IsCommandLine (command : Command) : Type 0 where
 abbrev pub HasRoom : Task → Type 0
 HasRoom (End options) = least_buffer ≤ options.buffer
 HasRoom Follow = Unit {0}
+HasRoom Watch = Unit {0}
 HasRoom (Frames ends) = Unit {0}

@@ -1,0 +1,37 @@
+//! Laws over the definitions alone. Each function does nothing: its contract is the law.
+
+ghost use Rattle.std.specs.Prelude.{◌≡◌, ◌<◌, ◌++◌, ◌∷◌, ℕ, List, [], true};
+ghost use Rattle.dap_listing.specs.Lines.{Capture};
+ghost use Rattle.dap_follow.specs.Following.{IsFollowed};
+ghost use Rattle.std.specs.List.{AllByRecursion};
+ghost use Rattle.dap_follow.specs.Streams.{Placed};
+ghost use Rattle.dap_follow.specs.Joined.{Piece, is_message, pieces};
+ghost use Rattle.dap_watch.specs.Watched.{IsWatched, whole_at};
+
+/// What is listed under a packet stays so whatever comes later: a segment of a later packet, put in its place among those of its
+/// stream, neither adds a message to those of an earlier packet nor takes one away. So a packet's lines can be written as it
+/// comes.
+pub fn listed_messages_stay()
+    ensures { (packet : ℕ) (s : Placed) (front back : List Placed) → packet < s.packet
+        → AllByRecursion (λ a. a.place < s.place) front
+        → AllByRecursion (λ b. s.place < b.place) back
+        → whole_at packet (front ++ s ∷ back) ≡ whole_at packet (front ++ back) }
+{}
+
+/// The segments of a message that is listed can be let go: what they cut stays cut, since their places stay taken. Whatever
+/// comes in front of a message or behind it, the pieces are those of the segments in front, the message, and those of the
+/// segments behind; and without the message's segments they are the same but for it.
+pub fn listed_messages_can_go()
+    ensures { (m : Piece) (front back : List Placed) → is_message m ≡ true
+        → pieces (m.head ∷ m.others) ≡ m ∷ []
+        → AllByRecursion (λ a. a.place < m.head.place) front
+        → AllByRecursion (λ b. m.head.place < b.place) back
+        → (pieces (front ++ ((m.head ∷ m.others) ++ back)) ≡ pieces front ++ m ∷ pieces back)
+        × (pieces (front ++ back) ≡ pieces front ++ pieces back) }
+{}
+
+/// What was written of a capture, and what is left of it, are together the listing of `follow`.
+pub fn watched_captures_are_followed()
+    ensures { (captured : List Capture) (written rest : List ℕ) → IsWatched captured written rest
+        → IsFollowed captured (written ++ rest) }
+{}

@@ -1,0 +1,10 @@
+//! The listing of a capture in which messages are reassembled, written as its lines come.
+#![tactic(auto)]
+
+mod laws;
+mod places;
+mod rest;
+mod watching;
+
+pub use laws::{listed_messages_can_go, listed_messages_stay, watched_captures_are_followed};
+pub use watching::watch;
