@@ -117,3 +117,18 @@ read_is item digits room at next known start spell within h starts reached decod
     ap (λ (k : ℕ). take k (drop (next - record_size item) (bytes_of digits))) (sym size)
     ∙ ap (λ (k : ℕ). take (next - start) (drop k (bytes_of digits))) (sym starts) ∙ sym p.1 in
     (p.0, rw body at is)
+
+-- ---- Bytes that are decoded to their end.
+
+pub all_decoded : (digits room : List ℕ) (at known : ℕ) → Spell digits (length room) → known ≡ length room → AreDecoded digits at known room
+    → drop at (bytes_of digits) ≡ drop at room
+all_decoded digits room at known spell all decoded =
+    let bytes : List ℕ = bytes_of digits in
+    let long : length bytes ≡ length room = count_of digits (length room) spell in
+    let rest : ℕ = length room - at in
+    let same = same_part bytes room at rest long (λ i low high. sym (decoded i low (omega (arith, low, high, all)))) in
+    sym (take_all rest (drop at bytes) (omega (arith, length-drop at bytes, long))) ∙ same ∙ take_all rest (drop at room) (omega (arith, length-drop at room))
+
+pub same_item : (item : Item) (a b : List ℕ) (at next : ℕ) → length a ≡ length b → drop at a ≡ drop at b → ItemAt a at item next → ItemAt b at item next
+same_item (Whole m) a b at next long same h = (h.0, rw same at h.1, h.2)
+same_item (Malformed fault) a b at next long same h = (h.0, rw same at h.1, h.2, rw same at h.3, h.4 ∙ long)

@@ -1,33 +1,67 @@
 -- The lines of an NSP message, from a place on.
-use Rattle.std.proofs.Common.{◌≡◌, ◌<◌, ◌++◌, ℕ, List, [], ◌∷◌, length, ap, ◌∙◌, sym, subst}
+use Rattle.std.proofs.Common.{◌≡◌, ◌<◌, ◌+◌, ◌-◌, ◌++◌, ℕ, Bool, true, List, [], ◌∷◌, length, take, length-append, ap, ◌∙◌, sym, subst, arith}
 use Rattle.std.specs.List.{flat_map}
 use Rattle.std.proofs.lemmas.List.{append_assoc, append-nil}
+use Rattle.std.proofs.Math.Seq.{take-append-add}
 use Rattle.dap_msg.specs.declared.items.Item.{Item}
 use Rattle.dap_msg.specs.Items.{ItemAt, ItemsFrom, Items}
-use Rattle.dap_listing.specs.Messages.{IsMessagesText, item_line}
+use Rattle.dap_listing.specs.Messages.{IsMessagesText, item_line, item_line_in}
+use Rattle.dap_text.specs.Text.{line_feed}
+use Rattle.dap_meanings.specs.Meanings.{item_words, told, with_words}
+use Rattle.dap_msg.specs.declared.items.Item.TheVariants.{Whole, Malformed}
+use Rattle.dap_msg.specs.declared.message.Message.TheVariants.{Config, Attrib, Access, Control, Contran, Ack, Accomp, Filedata, Status, Other}
 
 -- `done` is what stands before the lines of the items from the place on
-abbrev pub GoesOn : List ℕ → ℕ → List ℕ → Type 0
-GoesOn bytes at done =
+abbrev pub GoesOn : (in_words : Bool) → List ℕ → ℕ → List ℕ → Type 0
+GoesOn in_words bytes at done =
     (later : List Item) → ItemsFrom bytes at later
-    → (items : List Item) × Items bytes items × (flat_map item_line items ≡ done ++ flat_map item_line later)
+    → (items : List Item) × Items bytes items × (flat_map (item_line_in in_words) items ≡ done ++ flat_map (item_line_in in_words) later)
 
-pub goes_further : (bytes : List ℕ) (at next : ℕ) (item : Item) (done : List ℕ) → ItemAt bytes at item next → next < length bytes
-    → GoesOn bytes at done → GoesOn bytes next (done ++ item_line item)
-goes_further bytes at next item done here below goes_on [] rest = elim rest [ ]
-goes_further bytes at next item done here below goes_on (second ∷ more) rest =
+pub goes_further : (in_words : Bool) (bytes : List ℕ) (at next : ℕ) (item : Item) (done : List ℕ) → ItemAt bytes at item next → next < length bytes
+    → GoesOn in_words bytes at done → GoesOn in_words bytes next (done ++ item_line_in in_words item)
+goes_further in_words bytes at next item done here below goes_on [] rest = elim rest [ ]
+goes_further in_words bytes at next item done here below goes_on (second ∷ more) rest =
     let all = goes_on (item ∷ second ∷ more) (next, below, here, rest) in
-    (all.0, all.1, all.2 ∙ sym (append_assoc done (item_line item) (flat_map item_line (second ∷ more))))
+    (all.0, all.1, all.2 ∙ sym (append_assoc done (item_line_in in_words item) (flat_map (item_line_in in_words) (second ∷ more))))
 
-pub ends_here : (bytes : List ℕ) (at next : ℕ) (item : Item) (done old text new : List ℕ) → ItemAt bytes at item next → next ≡ length bytes
-    → GoesOn bytes at done → text ≡ old ++ done → new ≡ text ++ item_line item
-    → (x : List ℕ) × IsMessagesText bytes x × (new ≡ old ++ x)
-ends_here bytes at next item done old text new here end goes_on so_far appended =
+pub ends_here : (in_words : Bool) (bytes : List ℕ) (at next : ℕ) (item : Item) (done old text new : List ℕ) → ItemAt bytes at item next → next ≡ length bytes
+    → GoesOn in_words bytes at done → text ≡ old ++ done → new ≡ text ++ item_line_in in_words item
+    → (x : List ℕ) × IsMessagesText in_words bytes x × (new ≡ old ++ x)
+ends_here in_words bytes at next item done old text new here end goes_on so_far appended =
     let all = goes_on (item ∷ []) (subst (ItemAt bytes at item) end here) in (
-      done ++ item_line item,
-      (all.0, all.1, sym (all.2 ∙ ap (λ t. done ++ t) (append-nil (item_line item)))),
-      appended ∙ ap (λ t. t ++ item_line item) so_far ∙ append_assoc old done (item_line item),
+      done ++ item_line_in in_words item,
+      (all.0, all.1, sym (all.2 ∙ ap (λ t. done ++ t) (append-nil (item_line_in in_words item)))),
+      appended ∙ ap (λ t. t ++ item_line_in in_words item) so_far ∙ append_assoc old done (item_line_in in_words item),
     )
+
+-- ---- Words before the end of a line.
+
+-- a line has bytes
+some_in_line : (item : Item) → 0 < length (item_line item)
+some_in_line (Whole (Config c)) = omega arith
+some_in_line (Whole (Attrib a)) = omega arith
+some_in_line (Whole (Access a)) = omega arith
+some_in_line (Whole (Control c)) = omega arith
+some_in_line (Whole (Contran func)) = omega arith
+some_in_line (Whole Ack) = omega arith
+some_in_line (Whole (Accomp c)) = omega arith
+some_in_line (Whole (Filedata recnum payload)) = omega arith
+some_in_line (Whole (Status s)) = omega arith
+some_in_line (Whole (Other number body)) = omega arith
+some_in_line (Malformed fault) = omega arith
+
+-- words in the last line of a text
+pub words_appended : (words : List (List ℕ)) (old line : List ℕ) → 0 < length line → with_words words (old ++ line) ≡ old ++ with_words words line
+words_appended words old line some =
+    let count : length (old ++ line) - 1 ≡ length old + (length line - 1) = omega (arith, length-append old line, some) in
+    ap (λ (n : ℕ). take n (old ++ line) ++ (told words ++ line_feed)) count
+    ∙ ap (λ (t : List ℕ). t ++ (told words ++ line_feed)) (take-append-add old line (length line - 1))
+    ∙ append_assoc old (take (length line - 1) line) (told words ++ line_feed)
+
+-- the line of an item, with its words
+pub line_in_words : (item : Item) (old text new : List ℕ) → text ≡ old ++ item_line item → new ≡ with_words (item_words item) text → new ≡ old ++ item_line_in true item
+line_in_words item old text new line words =
+    words ∙ ap (with_words (item_words item)) line ∙ words_appended (item_words item) old (item_line item) (some_in_line item)
 
 pub joined : (old text new done lines : List ℕ) → text ≡ old ++ done → new ≡ text ++ lines → new ≡ old ++ (done ++ lines)
 joined old text new done lines so_far appended = appended ∙ ap (λ t. t ++ lines) so_far ∙ append_assoc old done lines

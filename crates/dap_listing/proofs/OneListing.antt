@@ -9,7 +9,7 @@ use Rattle.nsp_seg.specs.Packets.{Spells, marks, optional_ack}
 use Rattle.nsp_seg.specs.declared.packet.Packet.TheVariants.{Segment, DataAck}
 use Rattle.std.specs.Int.{w16, to_le_bytes}
 use Rattle.nsp_seg.proofs.ForCallers.{spells-one, spells-apart, fault-one}
-use Rattle.dap_listing.specs.Messages.{IsMessagesText, item_line}
+use Rattle.dap_listing.specs.Messages.{IsMessagesText, item_line_in}
 use Rattle.dap_listing.specs.Packets.{IsPacketText, IsSeen, Seen, SeenMessages, seen_line}
 use Rattle.dap_listing.specs.Inner.Messages.{SegmentMessages}
 use Rattle.dap_listing.specs.Listing.{CaptureLines, IsCapturedText, no_more, one_more as one_capture_more, captures, heading, limit_of}
@@ -22,10 +22,10 @@ use Rattle.dap_text.specs.Text.{line_feed}
 abbrev AreBytes : List ℕ → Type 0
 AreBytes bytes = (i : ℕ) → get_or bytes i 0 < 256
 
-one_text : (bytes a b : List ℕ) → AreBytes bytes → IsMessagesText bytes a → IsMessagesText bytes b → a ≡ b
+one_text : (bytes a b : List ℕ) → AreBytes bytes → IsMessagesText false bytes a → IsMessagesText false bytes b → a ≡ b
 one_text bytes a b are lines others =
     let all = have_items bytes are in
-    lines.2 ∙ ap (flat_map item_line) (all.only lines.0 lines.1 ∙ sym (all.only others.0 others.1)) ∙ sym others.2
+    lines.2 ∙ ap (flat_map (item_line_in false)) (all.only lines.0 lines.1 ∙ sym (all.only others.0 others.1)) ∙ sym others.2
 
 one_of_segment : (first last : Bool) (payload a b : List ℕ) → AreBytes payload → SegmentMessages first last payload a → SegmentMessages first last payload b → a ≡ b
 one_of_segment true true payload a b are lines lines' = one_text payload a b are lines lines'

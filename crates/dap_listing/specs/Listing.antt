@@ -1,5 +1,5 @@
 -- The listing of a capture: of packets, or of NSP messages.
-use Rattle.std.specs.Prelude.{◌≡◌, ℕ, ◌+◌, List, [], ◌∷◌, ◌++◌, length, codes, Option, None, option_map, Result, Ok}
+use Rattle.std.specs.Prelude.{◌≡◌, ℕ, ◌+◌, false, List, [], ◌∷◌, ◌++◌, length, codes, Option, None, option_map, Result, Ok}
 use Rattle.std.specs.List.{concat, filter_map, enumerate_from}
 use Rattle.std.specs.Fmt.{decimal}
 use Rattle.std.specs.Result.{result_err, result_unwrap_or}
@@ -40,7 +40,7 @@ heading number direction = concat (decimal number ∷ codes " " ∷ arrow_text d
 -- messages.
 abbrev pub IsCapturedText : Listed → List ℕ → List ℕ → Type 0
 IsCapturedText Packets bytes text = IsPacketText bytes text
-IsCapturedText Messages bytes text = (messages : List ℕ) × IsMessagesText bytes messages
+IsCapturedText Messages bytes text = (messages : List ℕ) × IsMessagesText false bytes messages
     × (text ≡ concat (codes "message len=" ∷ decimal (length bytes) ∷ line_feed ∷ []) ++ messages)
 
 -- how many bytes a packet has at most

@@ -48,7 +48,7 @@ seen_line (Err fault) = fault_line fault
 
 -- the lines of the messages in a segment that is a whole NSP message
 abbrev pub SeenMessages : Seen → List ℕ → Type 0
-SeenMessages (Ok (Segment s)) lines = MatchBool (s.first && s.last) (IsMessagesText s.payload lines) (lines ≡ [])
+SeenMessages (Ok (Segment s)) lines = MatchBool (s.first && s.last) (IsMessagesText false s.payload lines) (lines ≡ [])
 SeenMessages _ lines = lines ≡ []
 
 -- the line of what the bytes are, and the lines of its messages

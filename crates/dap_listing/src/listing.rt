@@ -96,7 +96,7 @@ fn push_message(text: &mut Vec<u8>, digits: &[u8], bytes: &mut [u8]) -> Result<(
 {
     push_number(text, "message len=", bytes.len())?;
     push_str(text, "\n")?;
-    push_messages(text, digits, bytes, 0)
+    push_messages(text, digits, bytes, 0, false)
 }
 
 /// Appends what the lines of the bytes that the digits spell say after their number and direction.

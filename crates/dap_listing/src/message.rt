@@ -1,6 +1,6 @@
 //! The lines of DAP messages.
 
-ghost use Rattle.std.specs.Prelude.{◌≡◌, ◌≤◌, ◌/◌, ◌++◌, ℕ, List, OnOk, codes, length};
+ghost use Rattle.std.specs.Prelude.{◌≡◌, ◌≤◌, ◌/◌, ◌++◌, ℕ, List, OnOk, codes, length, true};
 ghost use Rattle.std.specs.Option.{option_map_or};
 ghost use Rattle.std.specs.Fmt.{decimal};
 ghost use Rattle.dap_msg.specs.declared.items.Item.TheVariants.{Malformed};
@@ -9,11 +9,12 @@ ghost use Rattle.dap_text.specs.Adding.{Adds};
 ghost use Rattle.dap_text.specs.Adding.{AddsSome};
 ghost use Rattle.dap_listing.specs.Captured.{AreDecoded, Spell, bytes_of};
 ghost use Rattle.dap_listing.specs.Inner.Decoding.{item_with_record, record_size as size_of_record, with_record};
-ghost use Rattle.dap_listing.specs.Messages.{IsMessagesText, item_line, kind_text, message_line, version_text, wanted_text};
+ghost use Rattle.dap_listing.specs.Messages.{IsMessagesText, item_line, item_line_in, kind_text, message_line, version_text, wanted_text};
 
 use crate::decode::{FRONT, decode_to};
 use crate::field::{attributes_fields, control_fields, push_fields};
 use crate::text::push_spelled;
+use dap_meanings::add_item_words;
 use dap_msg::{
     AccessFields, Attributes, Configuration, ControlFields, FaultKind, Item, MessageValue,
     MsgFault, StatusFields, item_at,
@@ -231,22 +232,62 @@ fn push_item(text: &mut Vec<u8>, item: &Item<'_>, digits: &[u8]) -> Result<(), A
     }
 }
 
-/// Appends the lines of the NSP message that the digits spell, of which this many bytes in front are decoded. More
-/// are decoded as they are needed, but a record's are not: its line repeats its digits. Fails only if memory is
-/// refused.
+/// The same, with its words if they are wanted; then the item has its record.
+#[inline(always)]
+fn push_item_line(
+    text: &mut Vec<u8>,
+    item: &Item<'_>,
+    digits: &[u8],
+    in_words: bool,
+) -> Result<(), AllocError>
+    requires spelled { Spell digits.now (length digits.now / 2) }
+    requires record { in_words ≡ true → item_with_record item.now (bytes_of digits.now) ≡ item.now }
+    ensures { OnOk result (Adds text.old text.new
+        (item_line_in in_words (item_with_record item.now (bytes_of digits.now)))) }
+{
+    push_item(text, item, digits)?;
+    if in_words {
+        return add_item_words(text, item);
+    }
+    Ok(())
+}
+
+/// Decodes all bytes where words are wanted; how many are decoded then.
+fn decode_wanted(digits: &[u8], bytes: &mut [u8], known: usize, in_words: bool) -> usize
+    requires spelled { Spell digits.now (length bytes.old) }
+    requires within { known ≤ length bytes.old }
+    requires decoded { AreDecoded digits.now 0 known bytes.old }
+    ensures size { length bytes.new ≡ length bytes.old }
+    ensures within { result ≤ length bytes.old }
+    ensures all { in_words ≡ true → result ≡ length bytes.old }
+    ensures decoded { AreDecoded digits.now 0 result bytes.new }
+{
+    if in_words {
+        let end = bytes.len();
+        decode_to(digits, bytes, known, end)
+    } else {
+        known
+    }
+}
+
+/// Appends the lines of the NSP message that the digits spell, with their words if these are wanted. This many bytes in
+/// front are decoded. More are decoded as they are needed, but a record's are not where no words are wanted: its line
+/// repeats its digits. Fails only if memory is refused.
 pub fn push_messages(
     text: &mut Vec<u8>,
     digits: &[u8],
     nsp_message: &mut [u8],
     decoded: usize,
+    in_words: bool,
 ) -> Result<(), AllocError>
     requires spelled { Spell digits.now (length nsp_message.old) }
     requires within { decoded ≤ length nsp_message.old }
     requires decoded { AreDecoded digits.now 0 decoded nsp_message.old }
-    ensures { OnOk result (AddsSome text.old text.new (IsMessagesText (bytes_of digits.now))) }
+    ensures { OnOk result
+        (AddsSome text.old text.new (IsMessagesText in_words (bytes_of digits.now))) }
 {
     let mut at = 0;
-    let mut known = decoded;
+    let mut known = decode_wanted(digits, nsp_message, decoded, in_words);
     'items: loop {
         known = decode_to(digits, nsp_message, known.max(at), at + FRONT);
         let (item, next) = item_at(nsp_message, at);
@@ -255,7 +296,7 @@ pub fn push_messages(
             known = decode_to(digits, nsp_message, known, nsp_message.len());
             continue;
         }
-        push_item(text, &item, &digits[2 * start..2 * next])?;
+        push_item_line(text, &item, &digits[2 * start..2 * next], in_words)?;
         if next == nsp_message.len() {
             return Ok(());
         }

@@ -99,7 +99,7 @@ fn push_whole(
         (SegmentMessages first last (bytes_of digits.now))) }
 {
     match (first, last) {
-        (true, true) => push_messages(text, digits, payload, decoded),
+        (true, true) => push_messages(text, digits, payload, decoded, false),
         (true, false) | (false, _) => Ok(()),
     }
 }
