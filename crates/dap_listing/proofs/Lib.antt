@@ -1,4 +1,5 @@
 pub mod ForCallers
+pub mod FrameLemmas
 pub mod InputLemmas
 pub mod ProgressLemmas
 pub mod DecodeLemmas

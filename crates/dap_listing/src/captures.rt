@@ -5,8 +5,9 @@ ghost use Rattle.std.specs.Result.{result_err};
 ghost use Rattle.dap_listing.specs.Lines.{line_of};
 ghost use Rattle.dap_listing.specs.Captured.{Spell};
 ghost use Rattle.dap_listing.specs.declared.fault.CaptureFault.TheVariants.{NoMemory, ReadFailed, WriteFailed};
-ghost use Rattle.dap_listing.specs.Listing.{arrow_text, captures, faults_from, heading, packet_limit};
+ghost use Rattle.dap_listing.specs.Listing.{arrow_text, captures, faults_from, frames, heading, packet_limit};
 ghost use Rattle.dap_text.specs.Adding.{Adds};
+ghost use Rattle.dap_meanings.specs.Frames.{frame_words};
 
 use crate::CaptureFault;
 use crate::lines::{Direction, next_line};
@@ -17,12 +18,13 @@ use std::alloc::AllocError;
 /// The most bytes of a packet in a capture.
 pub const PACKET_LIMIT: usize = 4096;
 
-/// A captured packet among lines: the way that it went and the hex digits of its bytes; and the number of the line after
-/// it, and what is there.
+/// A captured packet among lines: the way that it went and the hex digits of its bytes; the line directly before it, which
+/// is empty where the packet is the first line; and the number of the line after it, and what is there.
 #[derive(Clone, Copy, PartialEq)]
 pub struct Found<'a> {
     pub way: Direction,
     pub digits: &'a [u8],
+    pub before: &'a [u8],
     pub at: usize,
     pub rest: &'a [u8],
 }
@@ -36,6 +38,10 @@ pub fn next_packet<'a>(at: usize, bytes: &'a [u8]) -> Result<Option<Found<'a>>, 
         (λ next. MatchOption next (captures packet_limit bytes.now ≡ [])
         (λ found. captures packet_limit bytes.now
         ≡ (found.way, found.digits.now) ∷ captures packet_limit found.rest.now)) }
+    ensures before { IfOk result
+        (λ next. MatchOption next (frames packet_limit bytes.now ≡ [])
+        (λ found. frames packet_limit bytes.now
+        ≡ frame_words found.before.now ∷ frames packet_limit found.rest.now)) }
     ensures clean { IfOk result
         (λ next. MatchOption next (faults_from packet_limit at bytes.now ≡ [])
         (λ found. faults_from packet_limit at bytes.now
@@ -54,6 +60,7 @@ pub fn next_packet<'a>(at: usize, bytes: &'a [u8]) -> Result<Option<Found<'a>>, 
         (λ fault. (fault ≢ NoMemory) × (fault ≢ ReadFailed) × (fault ≢ WriteFailed)) }
 {
     let mut at = at;
+    let mut before: &[u8] = &[];
     let mut rest = bytes;
     while let Some((line, after)) = next_line(rest) {
         let read = read_line(at, line, Listed::Packets.limit())?;
@@ -63,10 +70,12 @@ pub fn next_packet<'a>(at: usize, bytes: &'a [u8]) -> Result<Option<Found<'a>>, 
             return Ok(Some(Found {
                 way,
                 digits,
+                before,
                 at,
                 rest,
             }));
         }
+        before = line;
     }
     Ok(None)
 }
