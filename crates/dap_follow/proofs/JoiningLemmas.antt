@@ -154,29 +154,29 @@ appended_twice start middle end p q one two = two ∙ ap (λ (l : List ℕ). l +
 
 -- ---- a message under its packet
 
-pub lines_append : (ms ns : List Message) (a b : List ℕ) → AreMessageLines ms a → AreMessageLines ns b → AreMessageLines (ms ++ ns) (a ++ b)
-lines_append [] ns a b no_more more = more
-lines_append (m ∷ ms) ns a b (one_more first rest of_first others) more =
-    subst (AreMessageLines ((m ∷ ms) ++ ns)) (sym (append_assoc (message_heading m.piece ++ first) rest b))
-    (one_more first (rest ++ b) of_first (lines_append ms ns rest b others more))
+pub lines_append : (in_words : Bool) → (ms ns : List Message) (a b : List ℕ) → AreMessageLines in_words ms a → AreMessageLines in_words ns b → AreMessageLines in_words (ms ++ ns) (a ++ b)
+lines_append in_words [] ns a b no_more more = more
+lines_append in_words (m ∷ ms) ns a b (one_more first rest of_first others) more =
+    subst (AreMessageLines in_words ((m ∷ ms) ++ ns)) (sym (append_assoc (message_heading m.piece ++ first) rest b))
+    (one_more first (rest ++ b) of_first (lines_append in_words ms ns rest b others more))
 
 -- nothing is under any packet
-pub under_none : (n : ℕ) (vs : List (Vec ℕ)) → UnderAll [] n vs vs
-under_none n [] = tt
-under_none n (v ∷ vs) = (([], no_more, sym (append-nil v.items)), under_none (n + 1) vs)
+pub under_none : (in_words : Bool) → (n : ℕ) (vs : List (Vec ℕ)) → UnderAll in_words [] n vs vs
+under_none in_words n [] = tt
+under_none in_words n (v ∷ vs) = (([], no_more, sym (append-nil v.items)), under_none in_words (n + 1) vs)
 
 -- one list of messages, and then another
-pub under_both : (ms ns : List Message) (n : ℕ) (olds mids news : List (Vec ℕ)) → UnderAll ms n olds mids → UnderAll ns n mids news → UnderAll (ms ++ ns) n olds news
-under_both ms ns n [] [] [] one two = tt
-under_both ms ns n [] [] (v ∷ news) one two = two
-under_both ms ns n [] (m ∷ mids) news one two = absurd one
-under_both ms ns n (o ∷ olds) [] news one two = absurd one
-under_both ms ns n (o ∷ olds) (m ∷ mids) [] one two = two
-under_both ms ns n (o ∷ olds) (m ∷ mids) (v ∷ news) one two =
+pub under_both : (in_words : Bool) → (ms ns : List Message) (n : ℕ) (olds mids news : List (Vec ℕ)) → UnderAll in_words ms n olds mids → UnderAll in_words ns n mids news → UnderAll in_words (ms ++ ns) n olds news
+under_both in_words ms ns n [] [] [] one two = tt
+under_both in_words ms ns n [] [] (v ∷ news) one two = two
+under_both in_words ms ns n [] (m ∷ mids) news one two = absurd one
+under_both in_words ms ns n (o ∷ olds) [] news one two = absurd one
+under_both in_words ms ns n (o ∷ olds) (m ∷ mids) [] one two = two
+under_both in_words ms ns n (o ∷ olds) (m ∷ mids) (v ∷ news) one two =
     let a = one.0 in
     let b = two.0 in
-    let both = subst (λ (l : List Message). AreMessageLines l (a.0 ++ b.0)) (sym (filter-append (λ (k : Message). k.packet == n) ms ns)) (lines_append _ _ a.0 b.0 a.1 b.1) in
-    ((a.0 ++ b.0, both, appended_twice o.items m.items v.items a.0 b.0 a.2 b.2), under_both ms ns (n + 1) olds mids news one.1 two.1)
+    let both = subst (λ (l : List Message). AreMessageLines in_words l (a.0 ++ b.0)) (sym (filter-append (λ (k : Message). k.packet == n) ms ns)) (lines_append in_words _ _ a.0 b.0 a.1 b.1) in
+    ((a.0 ++ b.0, both, appended_twice o.items m.items v.items a.0 b.0 a.2 b.2), under_both in_words ms ns (n + 1) olds mids news one.1 two.1)
 
 apart_number : (a b : ℕ) → (a ≡ b → ⊥) → (a == b) ≡ false
 apart_number a b apart = grind (arith, nat_tests)
@@ -185,26 +185,26 @@ same_number : (a b : ℕ) → a ≡ b → (a == b) ≡ true
 same_number a b same = grind (arith, nat_tests)
 
 -- none of the messages is under later packets
-under_later : (m : Message) (n : ℕ) (vs : List (Vec ℕ)) → m.packet < n → UnderAll (m ∷ []) n vs vs
-under_later m n [] below = tt
-under_later m n (v ∷ vs) below =
+under_later : (in_words : Bool) → (m : Message) (n : ℕ) (vs : List (Vec ℕ)) → m.packet < n → UnderAll in_words (m ∷ []) n vs vs
+under_later in_words m n [] below = tt
+under_later in_words m n (v ∷ vs) below =
     let none : filter (λ (k : Message). k.packet == n) (m ∷ []) ≡ [] = rw (apart_number m.packet n (λ e. omega (arith, e, below))) refl in
-    (([], subst (λ (l : List Message). AreMessageLines l []) (sym none) no_more, sym (append-nil v.items)), under_later m (n + 1) vs (omega (arith, below)))
+    (([], subst (λ (l : List Message). AreMessageLines in_words l []) (sym none) no_more, sym (append-nil v.items)), under_later in_words m (n + 1) vs (omega (arith, below)))
 
 -- one message, under its packet
-pub under_one : (m : Message) (n i : ℕ) (vs : List (Vec ℕ)) (new : Vec ℕ) (d : Vec ℕ) (lines : List ℕ) → m.packet ≡ n + i → i < length vs → IsMessagesText (payload m.piece) lines
-    → new.items ≡ (get_or vs i d).items ++ (message_heading m.piece ++ lines) → UnderAll (m ∷ []) n vs (slice_set vs i new)
-under_one m n i [] new d lines at within is added = absurd (omega arith)
-under_one m n zero (v ∷ vs) new d lines at within is added =
+pub under_one : (in_words : Bool) → (m : Message) (n i : ℕ) (vs : List (Vec ℕ)) (new : Vec ℕ) (d : Vec ℕ) (lines : List ℕ) → m.packet ≡ n + i → i < length vs → IsMessagesText in_words (payload m.piece) lines
+    → new.items ≡ (get_or vs i d).items ++ (message_heading m.piece ++ lines) → UnderAll in_words (m ∷ []) n vs (slice_set vs i new)
+under_one in_words m n i [] new d lines at within is added = absurd (omega arith)
+under_one in_words m n zero (v ∷ vs) new d lines at within is added =
     let here : filter (λ (k : Message). k.packet == n) (m ∷ []) ≡ m ∷ [] = rw (same_number m.packet n (omega (arith, at))) refl in
-    let lines_are = subst (AreMessageLines (m ∷ [])) (append-nil (message_heading m.piece ++ lines)) (one_more lines [] is no_more) in (
-      (message_heading m.piece ++ lines, subst (λ (l : List Message). AreMessageLines l (message_heading m.piece ++ lines)) (sym here) lines_are, added),
-      under_later m (n + 1) vs (omega (arith, at)),
+    let lines_are = subst (AreMessageLines in_words (m ∷ [])) (append-nil (message_heading m.piece ++ lines)) (one_more lines [] is no_more) in (
+      (message_heading m.piece ++ lines, subst (λ (l : List Message). AreMessageLines in_words l (message_heading m.piece ++ lines)) (sym here) lines_are, added),
+      under_later in_words m (n + 1) vs (omega (arith, at)),
     )
-under_one m n (suc i) (v ∷ vs) new d lines at within is added =
+under_one in_words m n (suc i) (v ∷ vs) new d lines at within is added =
     let none : filter (λ (k : Message). k.packet == n) (m ∷ []) ≡ [] = rw (apart_number m.packet n (λ e. omega (arith, e, at))) refl in (
-      ([], subst (λ (l : List Message). AreMessageLines l []) (sym none) no_more, sym (append-nil v.items)),
-      under_one m (n + 1) i vs new d lines (omega (arith, at)) (omega (arith, within)) is added,
+      ([], subst (λ (l : List Message). AreMessageLines in_words l []) (sym none) no_more, sym (append-nil v.items)),
+      under_one in_words m (n + 1) i vs new d lines (omega (arith, at)) (omega (arith, within)) is added,
     )
 
 -- ---- what is listed of a piece
@@ -212,27 +212,27 @@ under_one m n (suc i) (v ∷ vs) new d lines at within is added =
 pub marks : (p : Piece) (first last : Bool) → p.head.first ≡ first → (tail p).last ≡ last → is_message p ≡ (first && last)
 marks p first last one two = ap (λ (b : Bool). b && (tail p).last) one ∙ ap (λ (b : Bool). first && b) two
 
-pub lists_message : (stream : Stream) (packet : ℕ) (p : Piece) (lines : List (Vec ℕ)) (rest new d : Vec ℕ) → is_message p ≡ true → 0 < packet → packet ≤ length lines
-    → AddsSome (get_or lines (packet - 1) d) new (IsMessageText p) → ListsPiece stream packet p lines (slice_set lines (packet - 1) new) rest rest
-lists_message stream packet p lines rest new d message some within added =
+pub lists_message : (in_words : Bool) → (stream : Stream) (packet : ℕ) (p : Piece) (lines : List (Vec ℕ)) (rest new d : Vec ℕ) → is_message p ≡ true → 0 < packet → packet ≤ length lines
+    → AddsSome (get_or lines (packet - 1) d) new (IsMessageText in_words p) → ListsPiece in_words stream packet p lines (slice_set lines (packet - 1) new) rest rest
+lists_message in_words stream packet p lines rest new d message some within added =
     let m : Message = record { packet = packet; piece = p } in
     let one : message_at packet p ≡ m ∷ [] = rw message refl in
     let none : part_line stream p ≡ [] = rw message refl in
     let text = added.1 in
     let items : new.items ≡ (get_or lines (packet - 1) d).items ++ (message_heading p ++ text.0) = added.2 ∙ ap (λ (l : List ℕ). (get_or lines (packet - 1) d).items ++ l) text.2 in
     record {
-      under = subst (λ (ms : List Message). UnderAll ms 1 lines (slice_set lines (packet - 1) new)) (sym one)
-          (under_one m 1 (packet - 1) lines new d text.0 (omega (arith, some)) (omega (arith, some, within)) text.1 items);
+      under = subst (λ (ms : List Message). UnderAll in_words ms 1 lines (slice_set lines (packet - 1) new)) (sym one)
+          (under_one in_words m 1 (packet - 1) lines new d text.0 (omega (arith, some)) (omega (arith, some, within)) text.1 items);
       rest = sym (append-nil rest.items) ∙ ap (λ (l : List ℕ). rest.items ++ l) (sym none);
     }
 
-pub lists_part : (stream : Stream) (packet : ℕ) (p : Piece) (lines : List (Vec ℕ)) (rest new : Vec ℕ) → is_message p ≡ false
-    → Adds rest new (part_text stream p) → ListsPiece stream packet p lines lines rest new
-lists_part stream packet p lines rest new other added =
+pub lists_part : (in_words : Bool) → (stream : Stream) (packet : ℕ) (p : Piece) (lines : List (Vec ℕ)) (rest new : Vec ℕ) → is_message p ≡ false
+    → Adds rest new (part_text stream p) → ListsPiece in_words stream packet p lines lines rest new
+lists_part in_words stream packet p lines rest new other added =
     let none : message_at packet p ≡ [] = rw other refl in
     let part : part_line stream p ≡ part_text stream p = rw other refl in
     record {
-      under = subst (λ (ms : List Message). UnderAll ms 1 lines lines) (sym none) (under_none 1 lines);
+      under = subst (λ (ms : List Message). UnderAll in_words ms 1 lines lines) (sym none) (under_none in_words 1 lines);
       rest = added ∙ ap (λ (l : List ℕ). rest.items ++ l) (sym part);
     }
 

@@ -1,52 +1,57 @@
 -- What was read of a capture, packet after packet.
-use Rattle.std.proofs.Common.{◌≡◌, ◌≢◌, ◌+◌, ◌++◌, ℕ, List, [], ◌∷◌, length, suc, map, None, Ok, refl, sym, ap, ◌∙◌, add-zero, arith}
+use Rattle.std.proofs.Common.{◌≡◌, ◌≢◌, ◌+◌, ◌++◌, ℕ, Bool, List, [], ◌∷◌, length, suc, map, get_or, ◌-◌, None, Ok, refl, sym, ap, ◌∙◌, add-zero, arith}
 use Rattle.std.specs.Prelude.{Result, Err, IfErr, IsErrAnd, Some, slice_get}
 use Rattle.std.specs.Global.{Vec}
 use Rattle.std.specs.List.{AllZip}
-use Rattle.std.proofs.lemmas.List.{map-append, length-map}
+use Rattle.std.proofs.lemmas.List.{map-append, length-map, get_or-append_right}
 use Rattle.hex.specs.Hex.{decode_of}
-use Rattle.dap_listing.specs.Listing.{heading}
 use Rattle.dap_listing.specs.declared.fault.CaptureFault.{CaptureFault}
 use Rattle.dap_listing.specs.declared.fault.CaptureFault.TheVariants.{BadLine, TooLarge, ReadFailed, WriteFailed, NoMemory}
 use Rattle.dap_listing.specs.Firsts.{IsFirst}
 use Rattle.dap_listing.specs.Lines.{Capture}
-use Rattle.dap_listing.specs.Packets.{IsSeen, Seen, seen_line}
+use Rattle.dap_listing.specs.Packets.{IsSeen, Seen}
 use Rattle.dap_listing.specs.declared.lines.Direction.{Direction}
 use Rattle.dap_follow.specs.Streams.{Captured, came_as}
-use Rattle.dap_follow.specs.Following.{IsCaptured}
+use Rattle.dap_follow.specs.Following.{IsCaptured, frame_of, packet_line}
 use Rattle.dap_follow.specs.Inner.Keeping.{stream_of, KeepsAll}
 use Rattle.dap_follow.specs.Inner.Reading.{Reads, line_texts}
 use Rattle.dap_follow.specs.declared.reading.Reading.{Reading}
 use Rattle.dap_follow.proofs.KeepingLemmas.{keeps_aside}
 
-line_texts-snoc : (n : ℕ) (packets : List Captured) (x : Captured) → line_texts n (packets ++ x ∷ []) ≡ line_texts n packets ++ (heading (n + length packets) x.0 ++ seen_line x.1) ∷ []
-line_texts-snoc n [] x = ap (λ (k : ℕ). (heading k x.0 ++ seen_line x.1) ∷ []) (sym (add-zero n))
-line_texts-snoc n (p ∷ packets) x =
+line_texts-snoc : (in_words : Bool) (told : List (List (List ℕ))) (n : ℕ) (packets : List Captured) (x : Captured)
+    → line_texts in_words told n (packets ++ x ∷ []) ≡ line_texts in_words told n packets ++ packet_line in_words (frame_of told (n + length packets)) (n + length packets) x ∷ []
+line_texts-snoc in_words told n [] x = ap (λ (k : ℕ). packet_line in_words (frame_of told k) k x ∷ []) (sym (add-zero n))
+line_texts-snoc in_words told n (p ∷ packets) x =
     let same : n + 1 + length packets ≡ n + length (p ∷ packets) = omega arith in
-    ap (λ l. (heading n p.0 ++ seen_line p.1) ∷ l) (line_texts-snoc (n + 1) packets x ∙ ap (λ (k : ℕ). line_texts (n + 1) packets ++ (heading k x.0 ++ seen_line x.1) ∷ []) same)
+    ap (λ l. packet_line in_words (frame_of told n) n p ∷ l)
+    (line_texts-snoc in_words told (n + 1) packets x ∙ ap (λ (k : ℕ). line_texts in_words told (n + 1) packets ++ packet_line in_words (frame_of told k) k x ∷ []) same)
 
-length-line_texts : (n : ℕ) (packets : List Captured) → length (line_texts n packets) ≡ length packets
-length-line_texts n [] = refl
-length-line_texts n (p ∷ packets) = ap suc (length-line_texts (n + 1) packets)
+length-line_texts : (in_words : Bool) (told : List (List (List ℕ))) (n : ℕ) (packets : List Captured) → length (line_texts in_words told n packets) ≡ length packets
+length-line_texts in_words told n [] = refl
+length-line_texts in_words told n (p ∷ packets) = ap suc (length-line_texts in_words told (n + 1) packets)
 
-pub count_is : (packets : List Captured) (r : Reading) → Reads packets r → length r.lines.items ≡ length packets
-count_is packets r reads = sym (length-map r.lines.items (λ (line : Vec ℕ). line.items)) ∙ ap length reads.lines ∙ length-line_texts 1 packets
+pub count_is : (in_words : Bool) (told : List (List (List ℕ))) (packets : List Captured) (r : Reading) → Reads in_words told packets r → length r.lines.items ≡ length packets
+count_is in_words told packets r reads = sym (length-map r.lines.items (λ (line : Vec ℕ). line.items)) ∙ ap length reads.lines ∙ length-line_texts in_words told 1 packets
 
-pub reads_more : (packets : List Captured) (way : Direction) (seen : Seen) (old new : Reading) (line : Vec ℕ) (number : ℕ) → Reads packets old
-    → KeepsAll (packets ++ (way, seen) ∷ []) new.streams → new.lines.items ≡ old.lines.items ++ line ∷ [] → line.items ≡ heading number way ++ seen_line seen
-    → number ≡ length old.lines.items + 1 → Reads (packets ++ (way, seen) ∷ []) new
-reads_more packets way seen old new line number reads streams pushed is at =
-    let count : number ≡ 1 + length packets = omega (arith, at, count_is packets old reads) in
-    let text : line.items ≡ heading (1 + length packets) way ++ seen_line seen = is ∙ ap (λ (n : ℕ). heading n way ++ seen_line seen) count in
+pub reads_more : (in_words : Bool) (told : List (List (List ℕ))) (frame : List (List ℕ)) (packets : List Captured) (way : Direction) (seen : Seen) (old new : Reading) (line : Vec ℕ) (number : ℕ)
+    → frame_of told (length packets + 1) ≡ frame → Reads in_words told packets old
+    → KeepsAll (packets ++ (way, seen) ∷ []) new.streams → new.lines.items ≡ old.lines.items ++ line ∷ [] → line.items ≡ packet_line in_words frame number (way, seen)
+    → number ≡ length old.lines.items + 1 → Reads in_words told (packets ++ (way, seen) ∷ []) new
+reads_more in_words told frame packets way seen old new line number framed reads streams pushed is at =
+    let count : number ≡ 1 + length packets = omega (arith, at, count_is in_words told packets old reads) in
+    let here : length packets + 1 ≡ 1 + length packets = omega arith in
+    let text : line.items ≡ packet_line in_words (frame_of told (1 + length packets)) (1 + length packets) (way, seen) =
+    is ∙ ap (λ (n : ℕ). packet_line in_words frame n (way, seen)) count
+    ∙ ap (λ (f : List (List ℕ)). packet_line in_words f (1 + length packets) (way, seen)) (sym framed ∙ ap (frame_of told) here) in
     record {
       lines = ap (map (λ (l : Vec ℕ). l.items)) pushed ∙ map-append (λ (l : Vec ℕ). l.items) old.lines.items (line ∷ [])
-          ∙ ap (λ l. l ++ line.items ∷ []) reads.lines ∙ ap (λ (t : List ℕ). line_texts 1 packets ++ t ∷ []) text ∙ sym (line_texts-snoc 1 packets (way, seen));
+          ∙ ap (λ l. l ++ line.items ∷ []) reads.lines ∙ ap (λ (t : List ℕ). line_texts in_words told 1 packets ++ t ∷ []) text ∙ sym (line_texts-snoc in_words told 1 packets (way, seen));
       streams = streams;
     }
 
-pub aside_fault : (packets : List Captured) (way : Direction) (seen : Seen) (old new : Reading) → Reads packets old → (stream_of (way, seen) ≡ None)
+pub aside_fault : (packets : List Captured) (way : Direction) (seen : Seen) (old new : Reading) (kept : KeepsAll packets old.streams) → (stream_of (way, seen) ≡ None)
     → ((s : _) → came_as s (1 + length packets) (way, seen) ≡ None) → new.streams ≡ old.streams → KeepsAll (packets ++ (way, seen) ∷ []) new.streams
-aside_fault packets way seen old new reads of_none none same = rw same (keeps_aside packets (way, seen) old.streams of_none none reads.streams)
+aside_fault packets way seen old new kept of_none none same = rw same (keeps_aside packets (way, seen) old.streams of_none none kept)
 
 -- ---- the packets of captures
 
@@ -70,3 +75,11 @@ is_first faults NoMemory e o = absurd (o.0 refl)
 pub if_err_and : {A : Type 0} (r : Result A CaptureFault) (P Q : CaptureFault → Type 0) → IsErrAnd r P → ((f : CaptureFault) → P f → Q f) → IfErr r Q
 if_err_and (Ok a) P Q h g = tt
 if_err_and (Err f) P Q h g = g f h
+
+-- what is at the place after some of a list
+pub frame_here : (told before rest : List (List (List ℕ))) (frame : List (List ℕ)) (n : ℕ) → told ≡ before ++ frame ∷ rest → length before ≡ n → frame_of told (n + 1) ≡ frame
+frame_here told before rest frame n is count =
+    let at : n + 1 - 1 ≡ length before = omega (arith, count) in
+    let none : length before - length before ≡ 0 = omega arith in
+    ap (λ (t : List (List (List ℕ))). frame_of t (n + 1)) is ∙ ap (λ (k : ℕ). get_or (before ++ frame ∷ rest) k []) at
+    ∙ get_or-append_right before (frame ∷ rest) (length before) (length before) [] refl (omega arith) ∙ ap (λ (k : ℕ). get_or (frame ∷ rest) k []) none

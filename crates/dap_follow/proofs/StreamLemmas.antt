@@ -1,5 +1,5 @@
 -- A stream that is listed piece after piece.
-use Rattle.std.proofs.Common.{◌≡◌, ◌<◌, ◌≤◌, ◌+◌, ◌++◌, ℕ, true, false, List, [], ◌∷◌, length, length-drop, take, drop, map, refl, sym, ap, ◌∙◌, subst, arith, ⊎_elim}
+use Rattle.std.proofs.Common.{◌≡◌, ◌<◌, ◌≤◌, ◌+◌, ◌++◌, ℕ, true, false, List, [], ◌∷◌, length, length-drop, take, drop, map, refl, sym, ap, ◌∙◌, subst, arith, ⊎_elim, Bool}
 use Rattle.std.specs.Global.{Vec}
 use Rattle.std.specs.List.{AllByRecursion, filter}
 use Rattle.std.proofs.lemmas.Bool.{cases_Bool}
@@ -57,9 +57,9 @@ one_message done p packet is =
 -- ---- one piece more
 
 -- how far a stream was listed
-pub record Listed (stream : Stream) (o : List Counted) (olds news : List (Vec ℕ)) (old new : Vec ℕ) (a : ℕ) : Type 0 where
+pub record Listed (in_words : Bool) (stream : Stream) (o : List Counted) (olds news : List (Vec ℕ)) (old new : Vec ℕ) (a : ℕ) : Type 0 where
   pub within : a ≤ length o
-  pub cut : (done : List Piece) × (pieces (values o) ≡ done ++ pieces (values (drop a o))) × UnderAll (map message_of (filter is_message done)) 1 olds news
+  pub cut : (done : List Piece) × (pieces (values o) ≡ done ++ pieces (values (drop a o))) × UnderAll in_words (map message_of (filter is_message done)) 1 olds news
   pub rest : new.items ++ rest_lines stream (pieces (values (drop a o))) ≡ old.items ++ rest_lines stream (pieces (values o))
 
 -- the segments of a piece are some of those of its stream
@@ -76,13 +76,13 @@ packet_low o a n limit good some = latest_low limit (take n (drop a o)) (all_bet
 pub packet_high : (o : List Counted) (a n limit : ℕ) → AllByRecursion (IsGood limit) o → latest (values (take n (drop a o))) ≤ limit
 packet_high o a n limit good = latest_high limit (take n (drop a o)) (all_between (IsGood limit) o a n good)
 
-pub listed_more : (stream : Stream) (o : List Counted) (olds mids news : List (Vec ℕ)) (old mid part new : Vec ℕ) (packet a n : ℕ)
-    → Listed stream o olds mids old mid a → n ≤ length (drop a o) → IsCutOff (drop a o) (take n (drop a o)) (drop n (drop a o))
+pub listed_more : (in_words : Bool) → (stream : Stream) (o : List Counted) (olds mids news : List (Vec ℕ)) (old mid part new : Vec ℕ) (packet a n : ℕ)
+    → Listed in_words stream o olds mids old mid a → n ≤ length (drop a o) → IsCutOff (drop a o) (take n (drop a o)) (drop n (drop a o))
     → packet ≡ latest (values (take n (drop a o)))
-    → ((p : Piece) → IsPiece p (take n (drop a o)) → ListsPiece stream packet p mids news mid part)
+    → ((p : Piece) → IsPiece p (take n (drop a o)) → ListsPiece in_words stream packet p mids news mid part)
     → ((p : Piece) → IsPiece p (take n (drop a o)) → Adds part new (gap_line stream p (pieces (values (drop (a + n) o)))))
-    → Listed stream o olds news old new (a + n)
-listed_more stream o olds mids news old mid part new packet a n before within off latest_is lists gaps =
+    → Listed in_words stream o olds news old new (a + n)
+listed_more in_words stream o olds mids news old mid part new packet a n before within off latest_is lists gaps =
     let p = off.first in
     let one = lists p off.is in
     let gap = gaps p off.is in
@@ -97,7 +97,7 @@ listed_more stream o olds mids news old mid part new packet a n before within of
       cut = (
         done ++ p ∷ [],
         before.cut.1 ∙ ap (λ (l : List Piece). done ++ l) next ∙ sym (append_assoc done (p ∷ []) ps),
-        subst (λ (ms : List Message). UnderAll ms 1 olds news) (sym (one_message done p packet packet_of)) (under_both _ (message_at packet p) 1 olds mids news before.cut.2 one.under),
+        subst (λ (ms : List Message). UnderAll in_words ms 1 olds news) (sym (one_message done p packet packet_of)) (under_both in_words _ (message_at packet p) 1 olds mids news before.cut.2 one.under),
       );
       rest =
           ap (λ (l : List ℕ). l ++ r) (gap ∙ ap (λ (l : List ℕ). l ++ gap_line stream p ps) one.rest)

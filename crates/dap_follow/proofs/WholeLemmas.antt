@@ -1,5 +1,5 @@
 -- All streams, and all lines.
-use Rattle.std.proofs.Common.{◌≡◌, ◌<◌, ◌≤◌, ◌+◌, ◌++◌, ℕ, zero, suc, List, [], ◌∷◌, length, take, drop, get_or, map, Some, None, add-one, refl, sym, ap, ◌∙◌, subst, arith}
+use Rattle.std.proofs.Common.{◌≡◌, ◌<◌, ◌≤◌, ◌+◌, ◌++◌, ℕ, zero, suc, List, [], ◌∷◌, length, take, drop, get_or, map, Some, None, add-one, refl, sym, ap, ◌∙◌, subst, arith, Bool}
 use Rattle.std.specs.Global.{Vec}
 use Rattle.std.specs.Prelude.{◌==◌, slice_get}
 use Rattle.std.specs.List.{AllByRecursion, AllZip, concat, enumerate_from, filter, flat_map}
@@ -12,11 +12,9 @@ use Rattle.std.proofs.lemmas.Bool.Decides.{nat_tests}
 use Rattle.std.proofs.lemmas.Grind.{flat_map-append}
 use Rattle.std.proofs.lemmas.List.{append_assoc, append-nil, map-append, take_all}
 use Rattle.std.proofs.lemmas.Map.Keys.{IsStrictlyIncreasing-from_sorted}
-use Rattle.dap_listing.specs.Listing.{heading}
-use Rattle.dap_listing.specs.Packets.{seen_line}
 use Rattle.dap_follow.specs.Streams.{ArePlaced, IsOrdered, Captured, came_in, first_place}
 use Rattle.dap_follow.specs.Joined.{Message, messages, pieces}
-use Rattle.dap_follow.specs.Following.{IsMessageText, IsPacketText, rest_lines}
+use Rattle.dap_follow.specs.Following.{IsMessageText, IsPacketText, frame_of, packet_line, rest_lines}
 use Rattle.dap_follow.specs.Inner.Keeping.{Came, KeepsEach, KeepsStream}
 use Rattle.dap_follow.specs.Inner.Listing.{AreMessageLines, UnderAll, all_rest_lines, message_heading, no_more, one_more, values}
 use Rattle.dap_follow.specs.Inner.Placing.{Rises}
@@ -47,9 +45,9 @@ drop_key (k ∷ keys) (suc i) s is = rw add-one (rw add-one at (drop_key keys i 
 
 -- ---- one stream more
 
-pub under_more : (places : List Places) (i : ℕ) (d : Places) (olds mids news : List (Vec ℕ)) → i < length places → UnderAll (flat_map messages (ordered_of (take i places))) 1 olds mids
-    → UnderAll (messages (values (get_or places i d).ordered.items)) 1 mids news → UnderAll (flat_map messages (ordered_of (take (i + 1) places))) 1 olds news
-under_more places i d olds mids news below before one =
+pub under_more : (in_words : Bool) → (places : List Places) (i : ℕ) (d : Places) (olds mids news : List (Vec ℕ)) → i < length places → UnderAll in_words (flat_map messages (ordered_of (take i places))) 1 olds mids
+    → UnderAll in_words (messages (values (get_or places i d).ordered.items)) 1 mids news → UnderAll in_words (flat_map messages (ordered_of (take (i + 1) places))) 1 olds news
+under_more in_words places i d olds mids news below before one =
     let p = get_or places i d in
     let more : take (i + 1) places ≡ take i places ++ p ∷ [] = rw add-one (take-suc places i d below) in
     let all : flat_map messages (ordered_of (take (i + 1) places)) ≡ flat_map messages (ordered_of (take i places)) ++ messages (values p.ordered.items) =
@@ -57,7 +55,7 @@ under_more places i d olds mids news below before one =
     ∙ ap (flat_map messages) (map-append (λ (q : Places). values q.ordered.items) (take i places) (p ∷ []))
     ∙ flat_map-append messages (ordered_of (take i places)) (values p.ordered.items ∷ [])
     ∙ ap (λ (l : List Message). flat_map messages (ordered_of (take i places)) ++ l) (append-nil (messages (values p.ordered.items))) in
-    subst (λ (ms : List Message). UnderAll ms 1 olds news) (sym all) (under_both _ _ 1 olds mids news before one)
+    subst (λ (ms : List Message). UnderAll in_words ms 1 olds news) (sym all) (under_both in_words _ _ 1 olds mids news before one)
 
 pub left_more : (keys : List Stream) (places : List Places) (i : ℕ) (d : Places) (s : Stream) (old new whole : List ℕ) → i < length places → slice_get keys i ≡ Some s
     → new ≡ old ++ rest_lines s (pieces (values (get_or places i d).ordered.items))
@@ -111,26 +109,28 @@ same_parts : (a b : List ℕ) (xs ys : List (List ℕ)) → a ∷ xs ≡ b ∷ y
 same_parts a b xs ys e = ((let first : a ≡ b = cc in first), (let rest : xs ≡ ys = cc in rest))
 
 -- each message has its text
-message_texts : (ms : List Message) (lines : List ℕ) → AreMessageLines ms lines → (texts : List (List ℕ)) × AllZip (λ m. IsMessageText m.piece) ms texts × (lines ≡ concat texts)
-message_texts [] _ no_more = ([], tt, refl)
-message_texts (m ∷ ms) _ (one_more lines rest is others) =
-    let each = message_texts ms rest others in
+message_texts : (in_words : Bool) → (ms : List Message) (lines : List ℕ) → AreMessageLines in_words ms lines → (texts : List (List ℕ)) × AllZip (λ m. IsMessageText in_words m.piece) ms texts × (lines ≡ concat texts)
+message_texts in_words [] _ no_more = ([], tt, refl)
+message_texts in_words (m ∷ ms) _ (one_more lines rest is others) =
+    let each = message_texts in_words ms rest others in
     let head = message_heading m.piece in
     ((head ++ lines) ∷ each.0, ((lines, is, refl), each.1), ap (λ (l : List ℕ). (head ++ lines) ++ l) each.2)
 
-pub packet_texts : (all : List Message) (n : ℕ) (packets : List Captured) (olds news : List (Vec ℕ)) → map (λ (v : Vec ℕ). v.items) olds ≡ line_texts n packets → UnderAll all n olds news
-    → AllZip (IsPacketText all) (enumerate_from n packets) (map (λ (v : Vec ℕ). v.items) news)
-packet_texts all n [] [] [] are under = tt
-packet_texts all n [] [] (v ∷ news) are under = absurd under
-packet_texts all n [] (o ∷ olds) news are under = absurd (cons_nil _ _ are)
-packet_texts all n (p ∷ packets) [] news are under = absurd (nil_cons _ _ are)
-packet_texts all n (p ∷ packets) (o ∷ olds) [] are under = absurd under
-packet_texts all n (p ∷ packets) (o ∷ olds) (v ∷ news) are under =
-    let parts = same_parts o.items (heading n p.0 ++ seen_line p.1) (map (λ (w : Vec ℕ). w.items) olds) (line_texts (n + 1) packets) are in
+pub packet_texts : (in_words : Bool) (told : List (List (List ℕ))) (all : List Message) (n : ℕ) (packets : List Captured) (olds news : List (Vec ℕ))
+    → map (λ (v : Vec ℕ). v.items) olds ≡ line_texts in_words told n packets → UnderAll in_words all n olds news
+    → AllZip (IsPacketText in_words told all) (enumerate_from n packets) (map (λ (v : Vec ℕ). v.items) news)
+packet_texts in_words told all n [] [] [] are under = tt
+packet_texts in_words told all n [] [] (v ∷ news) are under = absurd under
+packet_texts in_words told all n [] (o ∷ olds) news are under = absurd (cons_nil _ _ are)
+packet_texts in_words told all n (p ∷ packets) [] news are under = absurd (nil_cons _ _ are)
+packet_texts in_words told all n (p ∷ packets) (o ∷ olds) [] are under = absurd under
+packet_texts in_words told all n (p ∷ packets) (o ∷ olds) (v ∷ news) are under =
+    let line = packet_line in_words (frame_of told n) n p in
+    let parts = same_parts o.items line (map (λ (w : Vec ℕ). w.items) olds) (line_texts in_words told (n + 1) packets) are in
     let here = under.0 in
-    let each = message_texts (filter (λ m. m.packet == n) all) here.0 here.1 in
-    let text : v.items ≡ (heading n p.0 ++ seen_line p.1) ++ here.0 = here.2 ∙ ap (λ (l : List ℕ). l ++ here.0) parts.0 in
-    ((each.0, each.1, text ∙ ap (λ (l : List ℕ). (heading n p.0 ++ seen_line p.1) ++ l) each.2), packet_texts all (n + 1) packets olds news parts.1 under.1)
+    let each = message_texts in_words (filter (λ m. m.packet == n) all) here.0 here.1 in
+    let text : v.items ≡ line ++ here.0 = here.2 ∙ ap (λ (l : List ℕ). l ++ here.0) parts.0 in
+    ((each.0, each.1, text ∙ ap (λ (l : List ℕ). line ++ l) each.2), packet_texts in_words told all (n + 1) packets olds news parts.1 under.1)
 
 pub texts_joined : (vs : List (Vec ℕ)) → texts_of vs ≡ concat (map (λ (v : Vec ℕ). v.items) vs)
 texts_joined [] = refl
@@ -153,6 +153,6 @@ left_all keys places i rest whole end is =
     let none : drop i places ≡ [] = drop_of_length-le places end in
     sym (append-nil rest) ∙ ap (λ (l : List ℕ). rest ++ l) (sym (ap (λ (l : List Places). all_rest_lines (drop i keys) (ordered_of l)) none ∙ no_rest (drop i keys))) ∙ is
 
-pub under_whole : (places : List Places) (i : ℕ) (olds news : List (Vec ℕ)) → length places ≤ i → UnderAll (flat_map messages (ordered_of (take i places))) 1 olds news
-    → UnderAll (flat_map messages (ordered_of places)) 1 olds news
-under_whole places i olds news end under = subst (λ (l : List Places). UnderAll (flat_map messages (ordered_of l)) 1 olds news) (take_all i places end) under
+pub under_whole : (in_words : Bool) → (places : List Places) (i : ℕ) (olds news : List (Vec ℕ)) → length places ≤ i → UnderAll in_words (flat_map messages (ordered_of (take i places))) 1 olds news
+    → UnderAll in_words (flat_map messages (ordered_of places)) 1 olds news
+under_whole in_words places i olds news end under = subst (λ (l : List Places). UnderAll in_words (flat_map messages (ordered_of l)) 1 olds news) (take_all i places end) under

@@ -1,11 +1,12 @@
 -- The listing of a capture in which messages are reassembled.
-use Rattle.std.specs.Prelude.{◌≡◌, ℕ, ◌+◌, ◌-◌, ◌%◌, ◌==◌, nat_lt, List, [], ◌∷◌, ◌++◌, length, codes, if◌then◌else◌, Option, Result, Ok}
+use Rattle.std.specs.Prelude.{◌≡◌, ℕ, ◌+◌, ◌-◌, ◌%◌, ◌==◌, nat_lt, Bool, get_or, List, [], ◌∷◌, ◌++◌, length, codes, if◌then◌else◌, Option, Result, Ok}
 use Rattle.std.specs.List.{AllZip, concat, enumerate_from, filter, flat_map, zip}
 use Rattle.std.specs.Fmt.{decimal}
 use Rattle.hex.specs.Hex.{decode_of}
 use Rattle.dap_text.specs.Text.{line_feed, word_text}
+use Rattle.dap_meanings.specs.Meanings.{packet_words, with_words}
 use Rattle.dap_listing.specs.Gives.{Gives}
-use Rattle.dap_listing.specs.Listing.{arrow_text, captures, heading, packet_limit, faults_from}
+use Rattle.dap_listing.specs.Listing.{arrow_text, captures, frames, heading, packet_limit, faults_from}
 use Rattle.dap_listing.specs.Lines.{Capture}
 use Rattle.dap_listing.specs.Messages.{IsMessagesText}
 use Rattle.dap_listing.specs.Packets.{IsSeen, seen_line}
@@ -34,14 +35,27 @@ abbrev pub piece_text : List ℕ → Piece → List ℕ
 piece_text word p = word ++ (range_text p.head.place (tail p).place ++ length_text (payload p))
 
 -- the lines of a message: its heading, and those of the DAP messages in it
-abbrev pub IsMessageText : Piece → List ℕ → Type 0
-IsMessageText p text = (lines : List ℕ) × IsMessagesText (payload p) lines × (text ≡ piece_text (codes "  message") p ++ lines)
+abbrev pub IsMessageText : (in_words : Bool) → Piece → List ℕ → Type 0
+IsMessageText in_words p text = (lines : List ℕ) × IsMessagesText in_words (payload p) lines × (text ≡ piece_text (codes "  message") p ++ lines)
+
+-- the line of a packet without words
+abbrev pub plain_line : ℕ → Captured → List ℕ
+plain_line number packet = heading number packet.0 ++ seen_line packet.1
+
+-- the line of a packet; where words are wanted, with those of the line directly before it, and of what is no segment
+abbrev pub packet_line : (in_words : Bool) → (frame : List (List ℕ)) → ℕ → Captured → List ℕ
+packet_line in_words frame number packet =
+    if in_words then with_words (frame ++ packet_words packet.1) (plain_line number packet) else plain_line number packet
+
+-- the words of the line directly before a packet, by its number
+abbrev pub frame_of : List (List (List ℕ)) → ℕ → List (List ℕ)
+frame_of frames number = get_or frames (number - 1) []
 
 -- the lines of a packet: its own, and those of the messages that it completes
-abbrev pub IsPacketText : (all : List Message) → ℕ × Captured → List ℕ → Type 0
-IsPacketText all (number, packet) text =
-    (texts : List (List ℕ)) × AllZip (λ m. IsMessageText m.piece) (filter (λ m. m.packet == number) all) texts
-    × (text ≡ heading number packet.0 ++ seen_line packet.1 ++ concat texts)
+abbrev pub IsPacketText : (in_words : Bool) → (frames : List (List (List ℕ))) → (all : List Message) → ℕ × Captured → List ℕ → Type 0
+IsPacketText in_words frames all (number, packet) text =
+    (texts : List (List ℕ)) × AllZip (λ m. IsMessageText in_words m.piece) (filter (λ m. m.packet == number) all) texts
+    × (text ≡ packet_line in_words (frame_of frames number) number packet ++ concat texts)
 
 -- ` > dst=X src=X`
 abbrev pub stream_text : Stream → List ℕ
@@ -64,16 +78,16 @@ rest_lines stream [] = []
 rest_lines stream (p ∷ others) = part_line stream p ++ gap_line stream p others ++ rest_lines stream others
 
 -- the lines of the packets, and after them the parts and gaps of each stream
-pub record IsFollowed (captured : List Capture) (text : List ℕ) : Type 0 where
+pub record IsFollowed (in_words : Bool) (captured : List Capture) (frames : List (List (List ℕ))) (text : List ℕ) : Type 0 where
   pub packets : List Captured
   pub ordered : List (List Placed)
   pub texts : List (List ℕ)
   pub are_seen : AllZip IsCaptured captured packets
   pub are_ordered : AllZip (λ stream. IsOrdered (came_in stream packets)) (streams packets) ordered
-  pub are_texts : AllZip (IsPacketText (flat_map messages ordered)) (enumerate_from 1 packets) texts
+  pub are_texts : AllZip (IsPacketText in_words frames (flat_map messages ordered)) (enumerate_from 1 packets) texts
   pub joined : text ≡ concat texts ++ flat_map (λ (stream, segments). rest_lines stream (pieces segments)) (zip (streams packets) ordered)
 
 -- what `follow` does with an input
-abbrev pub FollowGives : List ℕ → Option (List ℕ) → Option (List ℕ) → Result Outcome CaptureFault → Type 0
-FollowGives input =
-    Gives (faults_from packet_limit 1 input) (λ outcome text. (outcome ≡ Good) × IsFollowed (captures packet_limit input) text) input
+abbrev pub FollowGives : (in_words : Bool) → List ℕ → Option (List ℕ) → Option (List ℕ) → Result Outcome CaptureFault → Type 0
+FollowGives in_words input =
+    Gives (faults_from packet_limit 1 input) (λ outcome text. (outcome ≡ Good) × IsFollowed in_words (captures packet_limit input) (frames packet_limit input) text) input

@@ -4,7 +4,7 @@ ghost use Rattle.std.specs.Prelude.{◌≡◌, ◌≤◌, ◌++◌, [], IfErr, I
 ghost use Rattle.dap_listing.specs.declared.fault.CaptureFault.TheVariants.{TooLarge};
 ghost use Rattle.dap_listing.specs.Gives.{KeepsUnwritten, TakesAnInput, TakesWithinLimit};
 ghost use Rattle.dap_listing.specs.Firsts.{IsFirst};
-ghost use Rattle.dap_listing.specs.Listing.{captures, packet_limit, faults_from};
+ghost use Rattle.dap_listing.specs.Listing.{captures, frames, packet_limit, faults_from};
 ghost use Rattle.dap_follow.specs.Following.{FollowGives, IsFollowed};
 ghost use Rattle.dap_follow.specs.Inner.Reading.{FirstThenWants, WantsOrFirst};
 ghost use Rattle.dap_follow.specs.Inner.Whole.{KeepsFew, ListsAll, texts_of};
@@ -21,9 +21,10 @@ fn list_streams(
     alloc: Global,
     streams: &Streams<'_>,
     lines: &mut [Vec<u8>],
+    in_words: bool,
 ) -> Result<Vec<u8>, AllocError>
     requires { KeepsFew (length lines.old) streams.now }
-    ensures { IfOk result (λ rest. ListsAll streams.now lines.old lines.new rest) }
+    ensures { IfOk result (λ rest. ListsAll in_words streams.now lines.old lines.new rest) }
 {
     let mut rest = Vec::new(alloc);
     let mut room = Room::new(alloc);
@@ -38,6 +39,7 @@ fn list_streams(
             lines,
             &mut rest,
             &mut room,
+            in_words,
         )?;
         at += 1;
     }
@@ -57,14 +59,15 @@ fn join(alloc: Global, lines: &[Vec<u8>], rest: &[u8]) -> Result<Vec<u8>, AllocE
 }
 
 /// The listing of an input up to its first line at fault.
-fn follow_lines(alloc: Global, input: &[u8]) -> Result<Vec<u8>, CaptureFault>
+fn follow_lines(alloc: Global, input: &[u8], in_words: bool) -> Result<Vec<u8>, CaptureFault>
     requires { length input.now ≤ INPUT_LIMIT }
-    ensures whole { IfOk result (λ text. IsFollowed (captures packet_limit input.now) text.items) }
+    ensures whole { IfOk result (λ text. IsFollowed in_words (captures packet_limit input.now)
+        (frames packet_limit input.now) text.items) }
     ensures clean { OnOk result (faults_from packet_limit 1 input.now ≡ []) }
     ensures fault { IfErr result (WantsOrFirst input.now) }
 {
-    let Reading { mut lines, streams } = read_packets(alloc, input)?;
-    let rest = list_streams(alloc, &streams, &mut lines)?;
+    let Reading { mut lines, streams } = read_packets(alloc, input, in_words)?;
+    let rest = list_streams(alloc, &streams, &mut lines, in_words)?;
     Ok(join(alloc, &lines, &rest)?)
 }
 
@@ -84,13 +87,14 @@ fn check_lines(input: &[u8]) -> Result<(), CaptureFault>
 }
 
 /// The listing of an input. A line at fault is reported also where memory was refused before it.
-fn follow_input(alloc: Global, input: &[u8]) -> Result<Vec<u8>, CaptureFault>
+fn follow_input(alloc: Global, input: &[u8], in_words: bool) -> Result<Vec<u8>, CaptureFault>
     requires { length input.now ≤ INPUT_LIMIT }
-    ensures whole { IfOk result (λ text. IsFollowed (captures packet_limit input.now) text.items) }
+    ensures whole { IfOk result (λ text. IsFollowed in_words (captures packet_limit input.now)
+        (frames packet_limit input.now) text.items) }
     ensures clean { OnOk result (faults_from packet_limit 1 input.now ≡ []) }
     ensures fault { IfErr result (FirstThenWants input.now) }
 {
-    match follow_lines(alloc, input) {
+    match follow_lines(alloc, input, in_words) {
         Err(CaptureFault::NoMemory) => {
             check_lines(input)?;
             Err(CaptureFault::NoMemory)
@@ -100,7 +104,8 @@ fn follow_input(alloc: Global, input: &[u8]) -> Result<Vec<u8>, CaptureFault>
 }
 
 /// Reads a capture of NSP packets, of at most 4,096 bytes each, to its end and writes its listing, in which the DAP
-/// messages are under the packet with which their NSP message is whole.
+/// messages are under the packet with which their NSP message is whole; and with what the lines say in words, if these are
+/// wanted.
 ///
 /// The whole input is read, and all lines are checked, before anything is written. `TooLarge`: the input has more
 /// than 16,777,216 bytes, of which no more than one is read, or the first line at fault a packet that is too long.
@@ -110,16 +115,17 @@ pub fn follow<R: Read, W: Write>(
     alloc: Global,
     reader: &mut R,
     writer: &mut W,
+    in_words: bool,
 ) -> Result<Outcome, CaptureFault>
     ensures followed { IfSome (R.remaining reader.old)
-        (λ input. FollowGives input (W.contents writer.old) (W.contents writer.new) result) }
+        (λ input. FollowGives in_words input (W.contents writer.old) (W.contents writer.new) result) }
     ensures unwritten { KeepsUnwritten result (W.contents writer.old) (W.contents writer.new) }
     ensures taken { TakesWithinLimit (R.remaining reader.old) (R.remaining reader.new) }
     ensures within { (IsErrOf result TooLarge → ⊥)
         → TakesAnInput (R.remaining reader.old) (R.remaining reader.new) }
 {
     let input = read_input(alloc, reader)?;
-    let text = follow_input(alloc, &input)?;
+    let text = follow_input(alloc, &input, in_words)?;
     write_text(text.as_slice(), writer)?;
     Ok(Outcome::Good)
 }

@@ -116,11 +116,12 @@ fn push_message(
     text: &mut Vec<u8>,
     piece: &[Counted<'_>],
     room: &mut Room,
+    in_words: bool,
 ) -> Result<(), AllocError>
     requires some { 0 < length piece.now }
     requires spelled { AreSpelled piece.now }
     ensures { OnOk result ((p : Piece) → IsPiece p piece.now
-        → AddsSome text.old text.new (IsMessageText p)) }
+        → AddsSome text.old text.new (IsMessageText in_words p)) }
 {
     gather(piece, &mut room.digits)?;
     let count = room.digits.len() / 2;
@@ -129,7 +130,7 @@ fn push_message(
     push_range(text, first.place, last.place)?;
     push_length(text, count)?;
     room.bytes.resize(count, 0)?;
-    push_messages(text, &room.digits, &mut room.bytes, 0)
+    push_messages(text, &room.digits, &mut room.bytes, 0, in_words)
 }
 
 /// Appends the line of a part.
@@ -161,17 +162,18 @@ fn list_piece(
     lines: &mut [Vec<u8>],
     rest: &mut Vec<u8>,
     room: &mut Room,
+    in_words: bool,
 ) -> Result<(), AllocError>
     requires some { 0 < length piece.now }
     requires spelled { AreSpelled piece.now }
     requires first { 0 < packet }
     requires last { packet ≤ length lines.old }
     ensures { OnOk result ((p : Piece) → IsPiece p piece.now
-        → ListsPiece stream.now packet p lines.old lines.new rest.old rest.new) }
+        → ListsPiece in_words stream.now packet p lines.old lines.new rest.old rest.new) }
 {
     let (first, last) = ends(piece);
     if first.first && last.last {
-        push_message(&mut lines[packet - 1], piece, room)
+        push_message(&mut lines[packet - 1], piece, room, in_words)
     } else {
         push_part(rest, stream, piece, room)
     }
@@ -208,16 +210,19 @@ pub(crate) fn list_stream(
     lines: &mut [Vec<u8>],
     rest: &mut Vec<u8>,
     room: &mut Room,
+    in_words: bool,
 ) -> Result<(), AllocError>
     requires { AllByRecursion (IsGood (length lines.old)) ordered.now }
     ensures { OnOk result
-        (ListsStream stream.now (values ordered.now) lines.old lines.new rest.old rest.new) }
+        (ListsStream in_words stream.now (values ordered.now) lines.old lines.new
+        rest.old rest.new) }
 {
     let mut at = 0;
     while at < ordered.len() {
         let end = at + piece_len(&ordered[at..]);
         let piece = &ordered[at..end];
-        list_piece(stream, latest_packet(piece), piece, lines, rest, room)?;
+        let packet = latest_packet(piece);
+        list_piece(stream, packet, piece, lines, rest, room, in_words)?;
         push_gap(rest, stream, piece, &ordered[end..])?;
         at = end;
     }

@@ -1,14 +1,19 @@
 //! The captured packets of an input: their lines, and their segments stream by stream.
 
-ghost use Rattle.std.specs.Prelude.{◌≡◌, ◌≤◌, ◌<◌, ◌*◌, ◌/◌, ◌^◌, [], IfErr, IfOk, OnOk, length};
-ghost use Rattle.dap_listing.specs.Captured.{Spell};
+ghost use Rattle.std.specs.Prelude.{◌≡◌, ◌≤◌, ◌<◌, ◌*◌, ◌/◌, ◌^◌, Bool, List, ℕ, [], IfErr, IfOk, OnOk, length};
+ghost use Rattle.dap_listing.specs.Captured.{HasDigits, Spell, seen_value};
+ghost use Rattle.dap_meanings.specs.Frames.{frame_words};
+ghost use Rattle.dap_meanings.specs.Meanings.{fault_words, if_there, packet_words};
+ghost use Rattle.dap_follow.specs.Following.{packet_line};
 ghost use Rattle.dap_follow.specs.Inner.Reading.{Reads, ReadsAll, ReadsFew, ReadsMore, WantsOrFirst};
 
 use crate::streams::Streams;
 use dap_listing::{
-    CaptureFault, CapturedPacket, Direction, INPUT_LIMIT, PACKET_LIMIT, next_packet, push_heading,
-    push_seen, read_packet,
+    CaptureFault, CapturedPacket, Direction, Found, INPUT_LIMIT, PACKET_LIMIT, next_packet,
+    push_heading, push_seen, read_packet,
 };
+use dap_meanings::add_packet_words;
+use nsp_seg::SegFault;
 use std::alloc::{AllocError, Global};
 
 /// What was read of a capture: the lines of each packet, and the streams.
@@ -18,10 +23,42 @@ pub(crate) struct Reading<'a> {
     pub(crate) streams: Streams<'a>,
 }
 
+/// Why bytes are no packet, if they are none.
+fn fault_of(seen: &Result<CapturedPacket<'_>, SegFault>) -> Option<SegFault>
+    ensures { if_there fault_words result ≡ packet_words (seen_value seen.now) }
+{
+    match seen {
+        Ok(_) => None,
+        Err(fault) => Some(*fault),
+    }
+}
+
+/// Appends the line of a packet; with its words, if these are wanted.
+fn push_line(
+    text: &mut Vec<u8>,
+    number: usize,
+    way: Direction,
+    before: &[u8],
+    seen: &Result<CapturedPacket<'_>, SegFault>,
+    in_words: bool,
+) -> Result<(), AllocError>
+    requires payload { HasDigits seen.now }
+    requires new { text.old.items ≡ [] }
+    ensures { OnOk result (text.new.items
+        ≡ packet_line in_words (frame_words before.now) number (way, seen_value seen.now)) }
+{
+    push_heading(text, number, way)?;
+    push_seen(text, seen)?;
+    if in_words {
+        return add_packet_words(text, before, fault_of(seen));
+    }
+    Ok(())
+}
+
 impl<'a> Reading<'a> {
     /// Nothing was read yet. It takes no memory.
     fn new(alloc: Global) -> Self
-        ensures { Reads [] result }
+        ensures { (in_words : Bool) (told : List (List (List ℕ))) → Reads in_words told [] result }
     {
         Reading {
             lines: Vec::new(alloc),
@@ -29,25 +66,31 @@ impl<'a> Reading<'a> {
         }
     }
 
-    /// Takes the packet that the digits spell. The room is for its bytes.
+    /// Takes a packet. The room is for its bytes.
     fn add(
         &mut self,
         alloc: Global,
-        way: Direction,
-        digits: &'a [u8],
+        found: Found<'a>,
         room: &mut [u8],
+        in_words: bool,
     ) -> Result<(), AllocError>
-        requires few { ReadsFew self.old }
-        requires spelled { Spell digits.now (length digits.now / 2) }
-        requires room { length digits.now ≤ 2 * length room.old }
+        requires few { ReadsFew in_words self.old }
+        requires spelled { Spell found.digits.now (length found.digits.now / 2) }
+        requires room { length found.digits.now ≤ 2 * length room.old }
         ensures room { length room.new ≡ length room.old }
-        ensures more { OnOk result (ReadsMore way digits.now self.old self.new) }
+        ensures more { OnOk result (ReadsMore in_words found.entry.before.now found.entry.way
+            found.entry.digits.now self.old self.new) }
     {
+        let Found {
+            way,
+            digits,
+            before,
+            ..
+        } = found;
         let number = self.lines.len() + 1;
         let seen = read_packet(digits, &mut room[..digits.len() / 2]);
         let mut line = Vec::new(alloc);
-        push_heading(&mut line, number, way)?;
-        push_seen(&mut line, &seen)?;
+        push_line(&mut line, number, way, before, &seen, in_words)?;
         self.lines.push(line)?;
         match seen {
             Ok(CapturedPacket::Segment(segment)) => self.streams.add(number, way, &segment),
@@ -58,9 +101,13 @@ impl<'a> Reading<'a> {
 }
 
 /// Reads the captured packets of an input up to its first line at fault.
-pub(crate) fn read_packets<'a>(alloc: Global, input: &'a [u8]) -> Result<Reading<'a>, CaptureFault>
+pub(crate) fn read_packets<'a>(
+    alloc: Global,
+    input: &'a [u8],
+    in_words: bool,
+) -> Result<Reading<'a>, CaptureFault>
     requires { length input.now ≤ INPUT_LIMIT }
-    ensures all { IfOk result (ReadsAll input.now) }
+    ensures all { IfOk result (ReadsAll in_words input.now) }
     ensures fault { IfErr result (WantsOrFirst input.now) }
 {
     let mut room = vec![in alloc; 0; PACKET_LIMIT]?;
@@ -68,9 +115,9 @@ pub(crate) fn read_packets<'a>(alloc: Global, input: &'a [u8]) -> Result<Reading
     let mut at = 1;
     let mut rest = input;
     while let Some(found) = next_packet(at, rest)? {
-        reading.add(alloc, found.way, found.digits, &mut room)?;
         at = found.at;
         rest = found.rest;
+        reading.add(alloc, found, &mut room, in_words)?;
     }
     Ok(reading)
 }

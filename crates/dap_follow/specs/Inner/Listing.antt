@@ -1,5 +1,5 @@
 -- What the program lists of a stream.
-use Rattle.std.specs.Prelude.{◌≡◌, ◌==◌, ◌+◌, ◌/◌, ⊤, ℕ, List, [], ◌∷◌, ◌++◌, length, map, codes, if◌then◌else◌}
+use Rattle.std.specs.Prelude.{◌≡◌, ◌==◌, ◌+◌, ◌/◌, ⊤, ℕ, Bool, List, [], ◌∷◌, ◌++◌, length, map, codes, if◌then◌else◌}
 use Rattle.std.specs.List.{AllByRecursion, filter, flat_map, zip}
 use Rattle.std.specs.Global.{Vec}
 use Rattle.dap_text.specs.Adding.{Adds}
@@ -40,19 +40,19 @@ pub record IsCutOff (all piece others : List Counted) : Type 0 where
   pub cut : pieces (values all) ≡ first ∷ pieces (values others)
 
 -- the lines of messages, end to end
-pub data AreMessageLines : List Message → List ℕ → Type 0 where
-  no_more : AreMessageLines [] []
+pub data AreMessageLines (in_words : Bool) : List Message → List ℕ → Type 0 where
+  no_more : AreMessageLines in_words [] []
   one_more : {m : Message} {others : List Message} (lines rest : List ℕ)
-      → IsMessagesText (payload m.piece) lines → AreMessageLines others rest
-      → AreMessageLines (m ∷ others) (message_heading m.piece ++ lines ++ rest)
+      → IsMessagesText in_words (payload m.piece) lines → AreMessageLines in_words others rest
+      → AreMessageLines in_words (m ∷ others) (message_heading m.piece ++ lines ++ rest)
 
 -- The lines of messages were added, to each text those of the messages of its number.
-abbrev pub UnderAll : List Message → ℕ → List (Vec ℕ) → List (Vec ℕ) → Type 0
-UnderAll all number [] [] = ⊤
-UnderAll all number (old ∷ olds) (new ∷ news) =
-    ((text : List ℕ) × AreMessageLines (filter (λ m. m.packet == number) all) text × (new.items ≡ old.items ++ text)) × UnderAll all (number + 1) olds news
-UnderAll all number [] (new ∷ news) = ⊥
-UnderAll all number (old ∷ olds) [] = ⊥
+abbrev pub UnderAll : (in_words : Bool) → List Message → ℕ → List (Vec ℕ) → List (Vec ℕ) → Type 0
+UnderAll in_words all number [] [] = ⊤
+UnderAll in_words all number (old ∷ olds) (new ∷ news) =
+    ((text : List ℕ) × AreMessageLines in_words (filter (λ m. m.packet == number) all) text × (new.items ≡ old.items ++ text)) × UnderAll in_words all (number + 1) olds news
+UnderAll in_words all number [] (new ∷ news) = ⊥
+UnderAll in_words all number (old ∷ olds) [] = ⊥
 
 -- each payload's digits are hex digits
 abbrev pub AreSpelled : List Counted → Type 0
@@ -63,13 +63,13 @@ abbrev pub message_at : ℕ → Piece → List Message
 message_at packet p = if is_message p then record { packet = packet; piece = p } ∷ [] else []
 
 -- what is listed of a piece was added: its message under a packet, or a part
-pub record ListsPiece (stream : Stream) (packet : ℕ) (p : Piece) (olds news : List (Vec ℕ)) (old new : Vec ℕ) : Type 0 where
-  pub under : UnderAll (message_at packet p) 1 olds news
+pub record ListsPiece (in_words : Bool) (stream : Stream) (packet : ℕ) (p : Piece) (olds news : List (Vec ℕ)) (old new : Vec ℕ) : Type 0 where
+  pub under : UnderAll in_words (message_at packet p) 1 olds news
   pub rest : Adds old new (part_line stream p)
 
 -- what is listed of a stream was added
-pub record ListsStream (stream : Stream) (ordered : List Placed) (olds news : List (Vec ℕ)) (old new : Vec ℕ) : Type 0 where
-  pub under : UnderAll (messages ordered) 1 olds news
+pub record ListsStream (in_words : Bool) (stream : Stream) (ordered : List Placed) (olds news : List (Vec ℕ)) (old new : Vec ℕ) : Type 0 where
+  pub under : UnderAll in_words (messages ordered) 1 olds news
   pub rest : Adds old new (rest_lines stream (pieces ordered))
 
 abbrev pub all_rest_lines : List Stream → List (List Placed) → List ℕ

@@ -1,5 +1,5 @@
 -- What the program lists of all streams.
-use Rattle.std.specs.Prelude.{◌≡◌, ℕ, List, length, map}
+use Rattle.std.specs.Prelude.{◌≡◌, ℕ, Bool, List, length, map}
 use Rattle.std.specs.List.{flat_map}
 use Rattle.std.specs.Global.{Vec}
 use Rattle.dap_follow.specs.Streams.{Captured, Placed}
@@ -18,8 +18,8 @@ abbrev pub ordered_of : List Places → List (List Placed)
 ordered_of = map (λ p. values p.ordered.items)
 
 -- what is listed of all streams
-pub record ListsAll (s : Streams) (olds news : List (Vec ℕ)) (rest : Vec ℕ) : Type 0 where
-  pub under : UnderAll (flat_map messages (ordered_of s.places.items)) 1 olds news
+pub record ListsAll (in_words : Bool) (s : Streams) (olds news : List (Vec ℕ)) (rest : Vec ℕ) : Type 0 where
+  pub under : UnderAll in_words (flat_map messages (ordered_of s.places.items)) 1 olds news
   pub left : rest.items ≡ all_rest_lines s.names.keys (ordered_of s.places.items)
 
 abbrev pub texts_of : List (Vec ℕ) → List ℕ

@@ -17,7 +17,7 @@ use Rattle.dap_follow.proofs.following.list_streams.Goals as goal
 pub loop-at-init : goal.loop-at-init
 loop-at-init c = record {
   within = omega arith;
-  under = under_none 1 c.args.lines.now;
+  under = under_none c.args.in_words 1 c.args.lines.now;
   left = ap (λ (l : List ℕ). l ++ all_rest_lines c.args.streams.now.names.keys (ordered_of c.args.streams.now.places.items)) c.new-rest.ensures.items;
 }
 
@@ -47,12 +47,12 @@ loop-at-preserved c =
     let below : at < length places = search rules in
     let same : c.deref.result.now ≡ (get_or places at d).ordered.items = c.deref.ensures.value ∙ ap (λ (p : Places). p.ordered.items) c.index.ensures in
     let lists = c.in_ok-list_stream.ensures in
-    let under = subst (λ (cs : List Counted). UnderAll (messages (values cs)) 1 c.loop-at.lines c.list_stream.new.lines) same lists.under in
+    let under = subst (λ (cs : List Counted). UnderAll c.args.in_words (messages (values cs)) 1 c.loop-at.lines c.list_stream.new.lines) same lists.under in
     let rest : c.list_stream.new.rest.items ≡ c.loop-at.rest.items ++ rest_lines c.in-Some.stream.now (pieces (values (get_or places at d).ordered.items)) =
     lists.rest ∙ ap (λ (cs : List Counted). c.loop-at.rest.items ++ rest_lines c.in-Some.stream.now (pieces (values cs))) same in
     record {
       within = omega (arith, below);
-      under = under_more places at d c.args.lines.now c.loop-at.lines c.list_stream.new.lines below c.loop-at.invariant.under under;
+      under = under_more c.args.in_words places at d c.args.lines.now c.loop-at.lines c.list_stream.new.lines below c.loop-at.invariant.under under;
       left = left_more keys places at d c.in-Some.stream.now c.loop-at.rest.items c.list_stream.new.rest.items _ below (sym c.in-Some.ensures.key) rest c.loop-at.invariant.left;
     }
 
@@ -60,6 +60,6 @@ pub returns : goal.returns
 returns c =
     let end : length c.args.streams.now.places.items ≤ c.loop-at.at = search rules in
     record {
-      under = under_whole c.args.streams.now.places.items c.loop-at.at c.args.lines.now c.loop-at.lines end c.loop-at.invariant.under;
+      under = under_whole c.args.in_words c.args.streams.now.places.items c.loop-at.at c.args.lines.now c.loop-at.lines end c.loop-at.invariant.under;
       left = left_all c.args.streams.now.names.keys c.args.streams.now.places.items c.loop-at.at c.loop-at.rest.items _ end c.loop-at.invariant.left;
     }

@@ -8,7 +8,7 @@ use Rattle.dap_follow.proofs.following.list_streams.Given as goal
 abbrev pub invariant-loop-at : goal.invariant-loop-at
 invariant-loop-at l = record {
   within : l.at ≤ length l.streams.places.items;
-  under : UnderAll (flat_map messages (ordered_of (take l.at l.streams.places.items))) 1 l.initial.lines l.lines;
+  under : UnderAll l.in_words (flat_map messages (ordered_of (take l.at l.streams.places.items))) 1 l.initial.lines l.lines;
   left : l.rest.items ++ all_rest_lines (drop l.at l.streams.names.keys) (ordered_of (drop l.at l.streams.places.items))
       ≡ all_rest_lines l.streams.names.keys (ordered_of l.streams.places.items);
 }

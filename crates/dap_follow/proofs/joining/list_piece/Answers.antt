@@ -13,7 +13,7 @@ returns-then-last c =
     let first = ap (λ (s : Placed). s.first) (c.ends.ensures.first p is) in
     let last = ap (λ (s : Placed). s.last) (c.ends.ensures.last p is) in
     let message : is_message p ≡ true = marks p true true (sym first ∙ c.if-first.true) (sym last ∙ c.if-last.true) in
-    lists_message c.args.stream.now c.args.packet p c.args.lines.now c.args.rest.now c.push_message.new.text c.index-lines-packet.result message c.requires.first c.requires.last (added p is))
+    lists_message c.args.in_words c.args.stream.now c.args.packet p c.args.lines.now c.args.rest.now c.push_message.new.text c.index-lines-packet.result message c.requires.first c.requires.last (added p is))
     c.push_message.ensures
 
 pub returns-else-first : goal.returns-else-first
@@ -26,5 +26,5 @@ returns-else-first c =
       | else-first-via-then-first+else-last w ↦ marks p true false (sym first ∙ w.if-first.true) (sym last ∙ w.if-last.false)
       | else-first-via-else-first w ↦ marks p false (tail p).last (sym first ∙ w.if-first.false) refl
     ] in
-    lists_part c.args.stream.now c.args.packet p c.args.lines.now c.args.rest.now c.push_part.new.text none (added p is))
+    lists_part c.args.in_words c.args.stream.now c.args.packet p c.args.lines.now c.args.rest.now c.push_part.new.text none (added p is))
     c.push_part.ensures

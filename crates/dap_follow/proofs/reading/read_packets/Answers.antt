@@ -1,19 +1,20 @@
-use Rattle.std.proofs.Common.{◌≡◌, subst, inr, arith, rules, ◌/◌, ◌++◌, ◌∷◌, [], List, length, length-append, refl, sym, ap, ◌∙◌}
+use Rattle.std.proofs.Common.{◌≡◌, subst, inr, arith, rules, ◌/◌, ◌++◌, ◌∷◌, [], ℕ, List, length, length-append, refl, sym, ap, ◌∙◌}
 use Rattle.std.specs.Prelude.{slice_get, Some}
 use Rattle.std.proofs.lemmas.List.{append_assoc}
 use Rattle.dap_listing.specs.Captured.{bytes_of}
-use Rattle.dap_listing.specs.Listing.{captures, packet_limit}
+use Rattle.dap_listing.specs.Listing.{captures, frames, packet_limit}
+use Rattle.dap_meanings.specs.Frames.{frame_words}
 use Rattle.dap_listing.specs.Lines.{Capture}
 use Rattle.dap_listing.proofs.ForCallers.{decoded}
 use Rattle.dap_listing.specs.declared.fault.CaptureFault.{CaptureFault}
-use Rattle.dap_follow.proofs.ReadingLemmas.{seen_more, is_first, if_err_and}
+use Rattle.dap_follow.proofs.ReadingLemmas.{frame_here, seen_more, is_first, if_err_and}
 use Rattle.dap_follow.proofs.reading.read_packets.Goals as goal
 
 pub loop-reading-init : goal.loop-reading-init
 loop-reading-init c = record {
   room = search rules;
   lines = omega arith;
-  so_far = ([], [], tt, refl, c.new-reading.ensures, omega arith);
+  so_far = ([], [], tt, refl, c.new-reading.ensures c.args.in_words (frames packet_limit c.args.input.now), omega arith, [], refl, refl);
   clean = refl;
 }
 
@@ -31,6 +32,11 @@ loop-reading-preserved c =
     let packets = before.0 in
     let done = before.1 in
     let longer = length-append packets ((way, more.0) ∷ []) in
+    let framed = rw c.in-Some.is at c.in_ok-found.ensures.before in
+    let frame = frame_words c.in-Some.found.before.now in
+    let told = before.6 in
+    let all = before.7 ∙ ap (λ (l : List (List (List ℕ))). told ++ l) framed in
+    let here = frame_here (frames packet_limit c.args.input.now) told (frames packet_limit c.in-Some.found.rest.now) frame (length packets) all before.8 in
     record {
       room = c.loop-reading.invariant.room;
       lines = omega (arith, counted, c.loop-reading.invariant.lines);
@@ -39,8 +45,11 @@ loop-reading-preserved c =
         done ++ (way, digits) ∷ [],
         seen_more done packets way digits (bytes_of digits) more.0 before.2 (decoded digits (length digits / 2) spelled) more.1,
         before.3 ∙ ap (λ (l : List Capture). done ++ l) captured ∙ sym (append_assoc done ((way, digits) ∷ []) (captures packet_limit c.in-Some.found.rest.now)),
-        more.2 packets before.4,
+        more.2 (frames packet_limit c.args.input.now) packets here before.4,
         omega (arith, longer, shorter, before.5),
+        told ++ frame ∷ [],
+        all ∙ sym (append_assoc told (frame ∷ []) (frames packet_limit c.in-Some.found.rest.now)),
+        omega (arith, longer, length-append told (frame ∷ []), before.8),
       );
       clean = c.loop-reading.invariant.clean ∙ clean;
     }

@@ -1,6 +1,6 @@
-use Rattle.std.proofs.Common.{◌≡◌, ◌≤◌, ◌+◌, ◌++◌, List, length, vec_len}
+use Rattle.std.proofs.Common.{◌≡◌, ◌≤◌, ◌+◌, ◌++◌, ℕ, List, length, vec_len}
 use Rattle.std.specs.List.{AllZip}
-use Rattle.dap_listing.specs.Listing.{captures, faults_from, packet_limit}
+use Rattle.dap_listing.specs.Listing.{captures, faults_from, frames, packet_limit}
 use Rattle.dap_listing.specs.Lines.{Capture}
 use Rattle.dap_follow.specs.Streams.{Captured}
 use Rattle.dap_follow.specs.Following.{IsCaptured}
@@ -12,7 +12,8 @@ invariant-loop-reading l = record {
   room : vec_len l.room ≡ 4096;
   lines : l.at + length l.rest ≤ 1 + length l.input;
   so_far : (packets : List Captured) × (done : List Capture) × AllZip IsCaptured done packets × (captures packet_limit l.input ≡ done ++ captures packet_limit l.rest)
-      × Reads packets l.reading × (length packets + length l.rest ≤ length l.input);
+      × Reads l.in_words (frames packet_limit l.input) packets l.reading × (length packets + length l.rest ≤ length l.input)
+      × (told : List (List (List ℕ))) × (frames packet_limit l.input ≡ told ++ frames packet_limit l.rest) × (length told ≡ length packets);
   clean : faults_from packet_limit 1 l.input ≡ faults_from packet_limit l.at l.rest;
 }
 
