@@ -3,8 +3,5 @@
 
 mod laws;
 mod places;
-mod rest;
-mod watching;
 
 pub use laws::{listed_messages_can_go, listed_messages_stay, watched_captures_are_followed};
-pub use watching::watch;
