@@ -186,14 +186,14 @@ all_has P place xs all (front, back, s, is, at) =
 
 row_within : (s : Placed) (others : List Placed) → Chain s others
     → (s.place ≤ (tail (record { head = s; others = others })).place) × AllByRecursion (IsWithin s.place (tail (record { head = s; others = others })).place) (s ∷ others)
-row_within s [] chain = (omega arith, (omega arith, omega arith), tt)
+row_within s [] chain = (omega arith, ((omega arith, omega arith), tt))
 row_within s (t ∷ others) chain =
     let next : t.place ≡ s.place + 1 = joined_place s t chain.0 in
     let rest = row_within t others chain.1 in
     let end : ℕ = (tail (record { head = t; others = others })).place in
     let far : t.place ≤ end = rest.0 in
-    (omega (arith, next, far), (omega arith, omega (arith, next, far)),
-      all_weaker (IsWithin t.place end) (IsWithin s.place end) (t ∷ others) (λ u both. (let low : t.place ≤ u.place = both.0 in omega (arith, next, low), both.1)) rest.1)
+    let more = all_weaker (IsWithin t.place end) (IsWithin s.place end) (t ∷ others) (λ u both. (let low : t.place ≤ u.place = both.0 in omega (arith, next, low), both.1)) rest.1 in
+    (omega (arith, next, far), ((omega arith, omega (arith, next, far)), more))
 
 pub within : (p : Piece) → Chain p.head p.others → (p.head.place ≤ (tail p).place) × AllByRecursion (IsWithin p.head.place (tail p).place) (p.head ∷ p.others)
 within p chain = row_within p.head p.others chain

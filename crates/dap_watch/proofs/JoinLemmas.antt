@@ -1,5 +1,5 @@
 -- One between others joins those that it is in a row with.
-use Rattle.std.proofs.Common.{◌≡◌, ◌⊎◌, inl, inr, ℕ, ◌+◌, ◌<◌, ◌≤◌, Bool, true, false, List, [], ◌∷◌, ◌++◌, length, take, drop, insert, arith, refl, ap, sym, subst, ◌∙◌, append-nil, append_assoc, length-append, length-take, take-append-drop, Option, Some, None}
+use Rattle.std.proofs.Common.{◌≡◌, ◌⊎◌, inl, inr, ℕ, ◌+◌, ◌<◌, ◌≤◌, Bool, true, false, List, [], ◌∷◌, ◌++◌, length, take, drop, insert, arith, refl, ap, sym, subst, ◌∙◌, append-nil, append_assoc, length-append, length-take, take-append-drop, Option, Some, None, zero, suc, ◌-◌, get_or, add-one, Result, Ok, Err, IfOk}
 use Rattle.std.specs.List.{AllByRecursion, filter}
 use Rattle.std.proofs.lemmas.Bool.{false≢true}
 use Rattle.std.proofs.lemmas.List.Elements.{filter-append}
@@ -74,7 +74,7 @@ after_step index old piece mid middle ys zs within (inl (same, is, apart)) holds
   keeps = subst (λ (l : List Kept). Keeps zs (drop index l)) (sym same) keeps;
   all = apart_all piece ys zs (drop index old) holds keeps apart;
   kind = ap (λ (k : Kept). k.listed) is;
-  messages = λ open. refl;
+  messages = λ is_open. refl;
   later = omega arith;
 }
 after_step index old piece mid middle ys zs within (inr (next, others, is, same, join, absorbed)) holds keeps =
@@ -94,7 +94,7 @@ after_step index old piece mid middle ys zs within (inr (next, others, is, same,
       keeps = subst (λ (l : List Kept). Keeps rest l) (sym (ap (λ (l : List Kept). drop index l) same ∙ cut.1)) first.4;
       all = ap (λ (l : List Piece). glue ys l) whole ∙ glue_front ys some.0 some.1 rest ∙ ap (λ (l : List Piece). glue ys l ++ rest) (sym some.2);
       kind = absorbed.listed;
-      messages = λ open. fewer held rest zs first.2 (no_messages held (stays.1 (open_too piece next join open)));
+      messages = λ is_open. fewer held rest zs first.2 (no_messages held (stays.1 (open_too piece next join is_open)));
       later = (longer_latest ys held).0;
     }
 
@@ -162,7 +162,7 @@ before_step index mid middle now new joined xs these behind within (inl (same, a
   keeps = subst (λ n. Keeps xs (take n new)) (sym at) (subst (λ (l : List Kept). Keeps xs (take index l)) (sym same) keeps);
   all = behind_apart (take index mid) middle xs these behind keeps holds apart (snoc_cases (take index mid));
   kind = ap (λ (k : Kept). k.listed) is;
-  messages = λ open. refl;
+  messages = λ is_open. refl;
   later = omega arith;
 }
 before_step index mid middle now new joined xs these behind within (inr (last, others, is, same, at, join, absorbed)) keeps holds =
@@ -179,8 +179,8 @@ before_step index mid middle now new joined xs these behind within (inr (last, o
       keeps = subst (λ (l : List Kept). Keeps start l) (sym (ap (λ n. take n new) at ∙ ap (λ (l : List Kept). take (length others) l) same ∙ take-append_seam others (drop index mid))) parts.3;
       all = ap (λ (l : List Piece). glue l (these ++ behind)) parts.2 ∙ glue_in_front start held these behind last middle stays.0 holds;
       kind = absorbed.listed ∙ both_kinds last middle join;
-      messages = λ open. sym (ap (λ (l : List Piece). filter is_message l) parts.2 ∙ filter-append is_message start held
-          ∙ ap (λ (l : List Piece). filter is_message start ++ l) (no_messages held (stays.1 (both_kinds last middle join ∙ open))) ∙ append-nil (filter is_message start));
+      messages = λ is_open. sym (ap (λ (l : List Piece). filter is_message l) parts.2 ∙ filter-append is_message start held
+          ∙ ap (λ (l : List Piece). filter is_message start ++ l) (no_messages held (stays.1 (both_kinds last middle join ∙ is_open))) ∙ append-nil (filter is_message start));
       later = (longer_latest held these).1;
     }
 
@@ -188,11 +188,11 @@ before_step index mid middle now new joined xs these behind within (inr (last, o
 
 within_then : (index : ℕ) (old : List Kept) (piece : Kept) (mid : List Kept) (middle : Kept) (now : ℕ) (new : List Kept) (joined : Kept) → index ≤ length old
     → AbsorbsAfter index old piece mid middle → AbsorbsBefore index mid middle now new joined → now ≤ length new
-within_then index old piece mid middle now new joined within (inl (same, is, apart)) (inl (as, at, joined_is, behind)) =
-    omega (arith, at, ap length as, ap length same, within)
-within_then index old piece mid middle now new joined within (inr (next, others, is, same, join, absorbed)) (inl (as, at, joined_is, behind)) =
+within_then index old piece mid middle now new joined within (inl (same, is, apart)) (inl (same_as, at, joined_is, behind)) =
+    omega (arith, at, ap length same_as, ap length same, within)
+within_then index old piece mid middle now new joined within (inr (next, others, is, same, join, absorbed)) (inl (same_as, at, joined_is, behind)) =
     let cut : index ≤ length (take index old ++ others) = (take_exact index old others within).2 in
-    omega (arith, at, ap length as, ap length same, cut)
+    omega (arith, at, ap length same_as, ap length same, cut)
 within_then index old piece mid middle now new joined within after (inr (last, others, is, same, at, join, absorbed)) =
     omega (arith, at, ap length same, length-append others (drop index mid))
 
@@ -214,7 +214,7 @@ joins_both index old piece mid middle now new joined within after before = recor
         back_keeps = subst (λ (l : List Kept). Keeps a.behind l) (sym b.back) a.keeps;
         all = ap (λ (l : List Piece). glue xs l) a.all ∙ b.all;
         kind = b.kind ∙ a.kind;
-        messages = λ open. (b.messages (a.kind ∙ open), a.messages open);
+        messages = λ is_open. (b.messages (a.kind ∙ is_open), a.messages is_open);
         later = omega (arith, low, high);
       };
 }
@@ -224,11 +224,57 @@ pub inserted : (xs ys zs : List Piece) (ks : List Kept) (index : ℕ) (k : Kept)
     → Keeps (xs ++ (ys ++ zs)) (insert ks index k)
 inserted xs ys zs ks index k front stays back = keeps_append xs (ys ++ zs) (take index ks) (k ∷ drop index ks) front (keeps_cons ys zs k (drop index ks) stays back)
 
--- a message between others is kept as listed
+-- a message between others is kept same_as listed
 pub lists_run : (index : ℕ) (old : List Kept) (run : Kept) (now : ℕ) (new : List Kept) (joined : Kept) → Joins index old run now new joined → run.listed ≡ true
     → (xs zs : List Piece) (m : Piece) → is_message m ≡ true → run.from ≡ m.head.place → run.to ≡ (tail m).place → Keeps xs (take index old) → Keeps zs (drop index old)
     → Keeps (xs ++ m ∷ zs) (insert new now joined)
 lists_run index old run now new joined joins listed xs zs m is from to front back =
     let r = joins.regroups xs (m ∷ []) zs front (inl (listed, (is, sym from, sym to))) back in
     subst (λ (l : List Piece). Keeps l (insert new now joined)) (sym r.all ∙ message_apart xs zs m is)
-    (inserted r.before r.these r.behind new now joined r.front_keeps (r.holds, λ open. absurd (false≢true (sym open ∙ (r.kind ∙ listed)))) r.back_keeps)
+    (inserted r.before r.these r.behind new now joined r.front_keeps (r.holds, λ is_open. absurd (false≢true (sym is_open ∙ (r.kind ∙ listed)))) r.back_keeps)
+
+-- ---- what the program does
+
+pub if_ok_weaker : {A E : Type 0} {P Q : A → Type 0} (r : Result A E) → ((a : A) → P a → Q a) → IfOk r P → IfOk r Q
+if_ok_weaker (Ok a) weaker holds = weaker a holds
+if_ok_weaker (Err e) weaker holds = tt
+
+-- one at an index, whatever stands for none
+same_at : (i : ℕ) (ks : List Kept) (d e : Kept) → i < length ks → get_or ks i d ≡ get_or ks i e
+same_at i [] d e below = absurd (omega arith)
+same_at zero (k ∷ ks) d e below = refl
+same_at (suc i) (k ∷ ks) d e below = same_at i ks d e (omega arith)
+
+drop_at : (i : ℕ) (ks : List Kept) (d : Kept) → i < length ks → drop i ks ≡ get_or ks i d ∷ drop (i + 1) ks
+drop_at i [] d below = absurd (omega arith)
+drop_at zero (k ∷ ks) d below = refl
+drop_at (suc i) (k ∷ ks) d below = rw add-one (rw add-one at (drop_at i ks d (omega arith)))
+
+take_at : (i : ℕ) (ks : List Kept) (d : Kept) → i < length ks → take (i + 1) ks ≡ take i ks ++ get_or ks i d ∷ []
+take_at i [] d below = absurd (omega arith)
+take_at zero (k ∷ ks) d below = refl
+take_at (suc i) (k ∷ ks) d below = rw add-one (ap (λ (l : List Kept). k ∷ l) (rw add-one at (take_at i ks d (omega arith))))
+
+pub absorbs_after : (index : ℕ) (old : List Kept) (piece next shown : Kept) (new : List Kept) (joined : Kept) → index < length old → next ≡ get_or old index next → shown ≡ get_or old index shown
+    → do_join piece shown ≡ true → new ≡ take index old ++ drop (index + 1) old → IsAbsorbed piece next joined → AbsorbsAfter index old piece new joined
+absorbs_after index old piece next shown new joined below is seen join items absorbed =
+    let same : shown ≡ next = seen ∙ same_at index old shown next below ∙ sym is in
+    inr (next, drop (index + 1) old, drop_at index old next below ∙ ap (λ (k : Kept). k ∷ drop (index + 1) old) (sym is), items, subst (λ (k : Kept). do_join piece k ≡ true) same join, absorbed)
+
+pub absorbs_before : (index : ℕ) (old : List Kept) (piece last shown : Kept) (new : List Kept) (joined : Kept) → 0 < index → index ≤ length old → last ≡ get_or old (index - 1) last
+    → shown ≡ get_or old (index - 1) shown → do_join shown piece ≡ true → new ≡ take (index - 1) old ++ drop (index - 1 + 1) old → IsAbsorbed last piece joined
+    → AbsorbsBefore index old piece (index - 1) new joined
+absorbs_before index old piece last shown new joined some within is seen join items absorbed =
+    let below : index - 1 < length old = omega (arith, some, within) in
+    let up : index - 1 + 1 ≡ index = omega (arith, some) in
+    let same : shown ≡ last = seen ∙ same_at (index - 1) old shown last below ∙ sym is in
+    let size : length (take (index - 1) old) ≡ index - 1 = omega (arith, length-take (index - 1) old, below) in
+    inr (
+      last,
+      take (index - 1) old,
+      ap (λ n. take n old) (sym up) ∙ take_at (index - 1) old last below ∙ ap (λ (k : Kept). take (index - 1) old ++ k ∷ []) (sym is),
+      items ∙ ap (λ n. take (index - 1) old ++ drop n old) up,
+      sym size,
+      subst (λ (k : Kept). do_join k piece ≡ true) same join,
+      absorbed,
+    )

@@ -16,15 +16,15 @@ use Rattle.dap_watch.proofs.GlueLemmas.{Chain, Has, IsWithin, Proper, all_append
 
 -- ---- lists of them
 
-pub keeps_append : (xs ys : List Piece) (as bs : List Kept) → Keeps xs as → Keeps ys bs → Keeps (xs ++ ys) (as ++ bs)
+pub keeps_append : (xs ys : List Piece) (ks bs : List Kept) → Keeps xs ks → Keeps ys bs → Keeps (xs ++ ys) (ks ++ bs)
 keeps_append xs ys [] bs one two = subst (λ (l : List Piece). Keeps (l ++ ys) bs) (sym one) two
-keeps_append xs ys (k ∷ as) bs (held, rest, is, stays, keeps) two =
-    (held, rest ++ ys, ap (λ l. l ++ ys) is ∙ append_assoc held rest ys, stays, keeps_append rest ys as bs keeps two)
+keeps_append xs ys (k ∷ ks) bs (held, rest, is, stays, keeps) two =
+    (held, rest ++ ys, ap (λ l. l ++ ys) is ∙ append_assoc held rest ys, stays, keeps_append rest ys ks bs keeps two)
 
-pub keeps_split : (ps : List Piece) (as bs : List Kept) → Keeps ps (as ++ bs) → (xs ys : List Piece) × (ps ≡ xs ++ ys) × Keeps xs as × Keeps ys bs
+pub keeps_split : (ps : List Piece) (ks bs : List Kept) → Keeps ps (ks ++ bs) → (xs ys : List Piece) × (ps ≡ xs ++ ys) × Keeps xs ks × Keeps ys bs
 keeps_split ps [] bs keeps = ([], ps, refl, refl, keeps)
-keeps_split ps (k ∷ as) bs (held, rest, is, stays, keeps) =
-    let parts = keeps_split rest as bs keeps in
+keeps_split ps (k ∷ ks) bs (held, rest, is, stays, keeps) =
+    let parts = keeps_split rest ks bs keeps in
     (held ++ parts.0, parts.1, is ∙ ap (λ l. held ++ l) parts.2 ∙ sym (append_assoc held parts.0 parts.1), (held, parts.0, refl, stays, parts.3), parts.4)
 
 -- one before others
@@ -41,25 +41,27 @@ keeps_only ps k (held, rest, is, stays, none) =
 pub holds_some : (k : Kept) (ps : List Piece) → Holds k ps → (p : Piece) × (rest : List Piece) × (ps ≡ p ∷ rest)
 holds_some k [] (inl (listed, none)) = absurd none
 holds_some k (p ∷ ps) (inl run) = (p, ps, refl)
-holds_some k ps (inr (p, is, open)) = (p, [], is)
+holds_some k ps (inr (p, is, is_open)) = (p, [], is)
 
 listed_within : (from to : ℕ) (ps : List Piece) → Proper ps → AreListed from to ps → (from ≤ to) × AllByRecursion (IsWithin from to) (all_segments ps)
 listed_within from to [] proper run = absurd run
 listed_within from to (m ∷ []) proper (is, begins, ends) =
     let row = within m proper.0 in
-    let low : m.head.place ≤ (tail m).place = row.0 in
-    (omega (arith, low, begins, ends),
+    let low : m.head.place ≤ (tail m).place = row.0 in (
+      omega (arith, low, begins, ends),
       subst (λ l. AllByRecursion (IsWithin from to) l) (sym (append-nil (m.head ∷ m.others)))
-      (all_weaker (IsWithin m.head.place (tail m).place) (IsWithin from to) (m.head ∷ m.others) (λ s both. (let a : m.head.place ≤ s.place = both.0 in omega (arith, a, begins), let b : s.place ≤ (tail m).place = both.1 in omega (arith, b, ends))) row.1))
+          (all_weaker (IsWithin m.head.place (tail m).place) (IsWithin from to) (m.head ∷ m.others) (λ s both. (let a : m.head.place ≤ s.place = both.0 in omega (arith, a, begins), let b : s.place ≤ (tail m).place = both.1 in omega (arith, b, ends))) row.1),
+    )
 listed_within from to (m ∷ n ∷ ms) proper (is, begins, run) =
     let row = within m proper.0 in
     let low : m.head.place ≤ (tail m).place = row.0 in
     let rest = listed_within ((tail m).place + 1) to (n ∷ ms) proper.2 run in
-    let up : (tail m).place + 1 ≤ to = rest.0 in
-    (omega (arith, low, begins, up),
+    let up : (tail m).place + 1 ≤ to = rest.0 in (
+      omega (arith, low, begins, up),
       all_append (IsWithin from to) (m.head ∷ m.others) (all_segments (n ∷ ms))
-      (all_weaker (IsWithin m.head.place (tail m).place) (IsWithin from to) (m.head ∷ m.others) (λ s both. (let a : m.head.place ≤ s.place = both.0 in omega (arith, a, begins), let b : s.place ≤ (tail m).place = both.1 in omega (arith, b, up))) row.1)
-      (all_weaker (IsWithin ((tail m).place + 1) to) (IsWithin from to) (all_segments (n ∷ ms)) (λ s both. (let a : (tail m).place + 1 ≤ s.place = both.0 in omega (arith, a, begins, low), both.1)) rest.1))
+          (all_weaker (IsWithin m.head.place (tail m).place) (IsWithin from to) (m.head ∷ m.others) (λ s both. (let a : m.head.place ≤ s.place = both.0 in omega (arith, a, begins), let b : s.place ≤ (tail m).place = both.1 in omega (arith, b, up))) row.1)
+          (all_weaker (IsWithin ((tail m).place + 1) to) (IsWithin from to) (all_segments (n ∷ ms)) (λ s both. (let a : (tail m).place + 1 ≤ s.place = both.0 in omega (arith, a, begins, low), both.1)) rest.1),
+    )
 
 beyond_of : (a b : ℕ) → leb a b ≡ false → b + 1 ≤ a
 beyond_of a b f = grind (arith, nat_tests)
@@ -79,23 +81,24 @@ listed_full place from to (m ∷ n ∷ ms) proper (is, begins, run) low high =
 
 pub holds_within : (k : Kept) (ps : List Piece) → Proper ps → Holds k ps → (k.from ≤ k.to) × AllByRecursion (IsWithin k.from k.to) (all_segments ps)
 holds_within k ps proper (inl (listed, run)) = listed_within k.from k.to ps proper run
-holds_within k ps proper (inr (p, is, open)) =
+holds_within k ps proper (inr (p, is, is_open)) =
     let one : Proper (p ∷ []) = subst (λ (l : List Piece). Proper l) is proper in
     let row = within p one.0 in
     let low : p.head.place ≤ (tail p).place = row.0 in
-    let begins : k.from ≡ p.head.place = open.from in
-    let ends : k.to ≡ (tail p).place = open.to in
-    (omega (arith, low, begins, ends),
+    let begins : k.from ≡ p.head.place = is_open.from in
+    let ends : k.to ≡ (tail p).place = is_open.to in (
+      omega (arith, low, begins, ends),
       subst (λ (l : List Piece). AllByRecursion (IsWithin k.from k.to) (all_segments l)) (sym is)
-      (subst (λ l. AllByRecursion (IsWithin k.from k.to) l) (sym (append-nil (p.head ∷ p.others)))
-      (all_weaker (IsWithin p.head.place (tail p).place) (IsWithin k.from k.to) (p.head ∷ p.others) (λ s both. (let a : p.head.place ≤ s.place = both.0 in omega (arith, a, begins), let b : s.place ≤ (tail p).place = both.1 in omega (arith, b, ends))) row.1)))
+          (subst (λ l. AllByRecursion (IsWithin k.from k.to) l) (sym (append-nil (p.head ∷ p.others)))
+          (all_weaker (IsWithin p.head.place (tail p).place) (IsWithin k.from k.to) (p.head ∷ p.others) (λ s both. (let a : p.head.place ≤ s.place = both.0 in omega (arith, a, begins), let b : s.place ≤ (tail p).place = both.1 in omega (arith, b, ends))) row.1)),
+    )
 
 pub holds_full : (place : ℕ) (k : Kept) (ps : List Piece) → Proper ps → Holds k ps → k.from ≤ place → place ≤ k.to → Has place (all_segments ps)
 holds_full place k ps proper (inl (listed, run)) low high = listed_full place k.from k.to ps proper run low high
-holds_full place k ps proper (inr (p, is, open)) low high =
+holds_full place k ps proper (inr (p, is, is_open)) low high =
     let one : Proper (p ∷ []) = subst (λ (l : List Piece). Proper l) is proper in
     subst (λ (l : List Piece). Has place (all_segments l)) (sym is)
-    (has_front place (p.head ∷ p.others) [] (full place p one.0 (let begins : k.from ≡ p.head.place = open.from in omega (arith, low, begins)) (let ends : k.to ≡ (tail p).place = open.to in omega (arith, high, ends))))
+    (has_front place (p.head ∷ p.others) [] (full place p one.0 (let begins : k.from ≡ p.head.place = is_open.from in omega (arith, low, begins)) (let ends : k.to ≡ (tail p).place = is_open.to in omega (arith, high, ends))))
 
 -- ---- two of them
 
@@ -200,7 +203,7 @@ before_message [] zs m is = refl
 before_message (x ∷ []) zs m is = unglued x m zs (not_before_first x m is)
 before_message (x ∷ y ∷ xs) zs m is = ap (λ l. x ∷ l) (before_message (y ∷ xs) zs m is)
 
--- a message stays as it is
+-- a message stays ks it is
 pub message_apart : (xs zs : List Piece) (m : Piece) → is_message m ≡ true → glue xs (glue (m ∷ []) zs) ≡ xs ++ m ∷ zs
 message_apart xs zs m is = ap (λ (l : List Piece). glue xs l) (glue_listed m.head.place (tail m).place (m ∷ []) zs (is, refl, refl)) ∙ before_message xs zs m is
 

@@ -1,7 +1,7 @@
 -- A segment in its place.
-use Rattle.std.proofs.Common.{◌≡◌, ◌⊎◌, inl, inr, ℕ, zero, suc, ◌+◌, ◌/◌, ◌<◌, ◌≤◌, Bool, true, false, List, [], ◌∷◌, ◌++◌, length, take, drop, get_or, insert, max, arith, refl, ap, sym, subst, ◌∙◌, append-nil, append_assoc, take-append-drop, Option, Some, None, nat_le, if◌then◌else◌}
+use Rattle.std.proofs.Common.{◌≡◌, ◌⊎◌, inl, inr, ℕ, zero, suc, ◌+◌, ◌/◌, ◌<◌, ◌≤◌, Bool, true, false, List, [], ◌∷◌, ◌++◌, length, take, drop, get_or, insert, max, arith, refl, ap, sym, subst, ◌∙◌, append-nil, append_assoc, take-append-drop, Option, Some, None, nat_le, nat_lt, if◌then◌else◌}
 use Rattle.std.specs.List.{AllByRecursion, filter}
-use Rattle.std.specs.List.Sorted.{IsNonDecreasingBy, IsPartitionPoint}
+use Rattle.std.specs.List.Sorted.{IsPartitionPoint, IsPartitionedBy}
 use Rattle.std.proofs.lemmas.List.Elements.{filter-append}
 use Rattle.std.proofs.lemmas.Bool.Decides.{nat_tests}
 use Rattle.dap_listing.specs.Captured.{Spell, bytes_of}
@@ -51,9 +51,10 @@ all_over n ps [] proper keeps over = tt
 all_over n ps (k ∷ ks) proper (held, rest, is, stays, keeps) over =
     let both : Proper (held ++ rest) = subst (λ (l : List Piece). Proper l) is proper in
     let split : AllByRecursion (λ s. n < s.place) (all_segments held ++ all_segments rest) = subst (λ l. AllByRecursion (λ s. n < s.place) l) (parts held rest ps is) over in
-    let row = holds_within k held (proper_front held rest both) stays.0 in
-    (all_has (λ m. n < m) k.to (all_segments held) (all_front (λ s. n < s.place) (all_segments held) (all_segments rest) split) (holds_full k.to k held (proper_front held rest both) stays.0 row.0 (omega arith)),
-      all_over n rest ks (proper_back held rest both) keeps (all_back (λ s. n < s.place) (all_segments held) (all_segments rest) split))
+    let row = holds_within k held (proper_front held rest both) stays.0 in (
+      all_has (λ m. n < m) k.to (all_segments held) (all_front (λ s. n < s.place) (all_segments held) (all_segments rest) split) (holds_full k.to k held (proper_front held rest both) stays.0 row.0 (omega arith)),
+      all_over n rest ks (proper_back held rest both) keeps (all_back (λ s. n < s.place) (all_segments held) (all_segments rest) split),
+    )
 
 pub keeps_ascends : (ps : List Piece) (ks : List Kept) → Proper ps → Keeps ps ks → Rises (all_segments ps) → Ascends ks
 keeps_ascends ps [] proper keeps rises = tt
@@ -61,9 +62,53 @@ keeps_ascends ps (k ∷ ks) proper (held, rest, is, stays, keeps) rises =
     let both : Proper (held ++ rest) = subst (λ (l : List Piece). Proper l) is proper in
     let split : Rises (all_segments held ++ all_segments rest) = subst (λ l. Rises l) (parts held rest ps is) rises in
     let row = holds_within k held (proper_front held rest both) stays.0 in
-    let end = holds_full k.to k held (proper_front held rest both) stays.0 row.0 (omega arith) in
-    (all_over k.to rest ks (proper_back held rest both) keeps (rises_over k.to (all_segments held) (all_segments rest) split end),
-      keeps_ascends rest ks (proper_back held rest both) keeps (rises_back (all_segments held) (all_segments rest) split))
+    let end = holds_full k.to k held (proper_front held rest both) stays.0 row.0 (omega arith) in (
+      all_over k.to rest ks (proper_back held rest both) keeps (rises_over k.to (all_segments held) (all_segments rest) split end),
+      keeps_ascends rest ks (proper_back held rest both) keeps (rises_back (all_segments held) (all_segments rest) split),
+    )
+
+to_at : (n i : ℕ) (ks : List Kept) (d : Kept) → i < length ks → AllByRecursion (λ k. n < k.to) ks → n < (get_or ks i d).to
+to_at n i [] d below all = absurd (omega arith)
+to_at n zero (k ∷ ks) d below all = all.0
+to_at n (suc i) (k ∷ ks) d below all = to_at n i ks d (omega arith) all.1
+
+ascends_at : (ks : List Kept) (i j : ℕ) (d : Kept) → Ascends ks → i ≤ j → j < length ks → (get_or ks i d).to ≤ (get_or ks j d).to
+ascends_at [] i j d up less below = absurd (omega arith)
+ascends_at (k ∷ ks) zero zero d up less below = omega arith
+ascends_at (k ∷ ks) zero (suc j) d up less below = let one : k.to < (get_or ks j d).to = to_at k.to j ks d (omega arith) up.0 in omega (arith, one)
+ascends_at (k ∷ ks) (suc i) zero d up less below = absurd (omega arith)
+ascends_at (k ∷ ks) (suc i) (suc j) d up less below = ascends_at ks i j d up.1 (omega arith) (omega arith)
+
+lower_too : (a b place : ℕ) → a ≤ b → nat_lt b place ≡ true → nat_lt a place ≡ true
+lower_too a b place less h = grind (arith, nat_tests)
+
+pub partitioned_at : (place : ℕ) (ks : List Kept) → Ascends ks → IsPartitionedBy (λ k. nat_lt k.to place) ks
+partitioned_at place ks up i j d less below h = lower_too (get_or ks i d).to (get_or ks j d).to place (ascends_at ks i j d up less below) h
+
+lower : (a place : ℕ) → nat_lt a place ≡ true → a < place
+lower a place h = grind (arith, nat_tests)
+
+not_lower : (a place : ℕ) → nat_lt a place ≡ false → place ≤ a
+not_lower a place h = grind (arith, nat_tests)
+
+each_below : (place i : ℕ) (ks : List Kept) → i ≤ length ks → ((k : ℕ) (d : Kept) → k < i → nat_lt (get_or ks k d).to place ≡ true) → AllByRecursion (λ k. k.to < place) (take i ks)
+each_below place zero ks within all = tt
+each_below place (suc i) [] within all = absurd (omega arith)
+each_below place (suc i) (k ∷ ks) within all = (lower k.to place (all zero k (omega arith)), each_below place i ks (omega arith) (λ j d less. all (suc j) d (omega arith)))
+
+each_above : (place i : ℕ) (ks : List Kept) → ((k : ℕ) (d : Kept) → i ≤ k → k < length ks → nat_lt (get_or ks k d).to place ≡ false) → AllByRecursion (λ k. place ≤ k.to) (drop i ks)
+each_above place zero [] all = tt
+each_above place (suc i) [] all = tt
+each_above place zero (k ∷ ks) all = (not_lower k.to place (all zero k (omega arith) (omega arith)), each_above place zero ks (λ j d low less. all (suc j) d (omega arith) (omega arith)))
+each_above place (suc i) (k ∷ ks) all = each_above place i ks (λ j d low less. all (suc j) d (omega arith) (omega arith))
+
+pub below_point : (place : ℕ) (ks : List Kept) (i : ℕ) → i ≤ length ks → IsPartitionPoint (λ k. nat_lt k.to place ≡ true) (λ k. nat_lt k.to place ≡ false) ks i
+    → AllByRecursion (λ k. k.to < place) (take i ks)
+below_point place ks i within point = each_below place i ks within (λ k d less. point.0 k d (omega arith) less)
+
+pub above_point : (place : ℕ) (ks : List Kept) (i : ℕ) → i ≤ length ks → IsPartitionPoint (λ k. nat_lt k.to place ≡ true) (λ k. nat_lt k.to place ≡ false) ks i
+    → AllByRecursion (λ k. place ≤ k.to) (drop i ks)
+above_point place ks i within point = each_above place i ks (λ k d low less. point.1 k d low less)
 
 -- ---- below a place and above it
 
@@ -134,15 +179,20 @@ cut_at place index ordered ks keeps rises below above free =
     let ys = halves.1 in
     let proper : Proper (xs ++ ys) = subst (λ (l : List Piece). Proper l) halves.2 (proper_pieces ordered) in
     let whole : ordered ≡ all_segments xs ++ all_segments ys = sym (segments_pieces ordered) ∙ ap (λ (l : List Piece). all_segments l) halves.2 ∙ segments_append xs ys in
-    let over : Rises (all_segments ys) = rises_back (all_segments xs) (all_segments ys) (subst (λ l. Rises l) whole rises) in
-    (xs, ys, halves.3, halves.4, record {
-      all = halves.2;
-      whole = whole;
-      front = pieces_flat xs (proper_front xs ys proper);
-      back = pieces_flat ys (proper_back xs ys proper);
-      below = keeps_below place xs (take index ks) (proper_front xs ys proper) halves.3 below;
-      above = keeps_above place ys (drop index ks) (proper_back xs ys proper) halves.4 over free above;
-    })
+    let over : Rises (all_segments ys) = rises_back (all_segments xs) (all_segments ys) (subst (λ l. Rises l) whole rises) in (
+      xs,
+      ys,
+      halves.3,
+      halves.4,
+      record {
+        all = halves.2;
+        whole = whole;
+        front = pieces_flat xs (proper_front xs ys proper);
+        back = pieces_flat ys (proper_back xs ys proper);
+        below = keeps_below place xs (take index ks) (proper_front xs ys proper) halves.3 below;
+        above = keeps_above place ys (drop index ks) (proper_back xs ys proper) halves.4 over free above;
+      },
+    )
 
 -- the pieces with one segment more
 pieces_with : (place : ℕ) (ordered : List Placed) (xs ys : List Piece) (s : Placed) → Cut place ordered xs ys
@@ -184,8 +234,8 @@ finds_put c old new digits found place index one ordered packet k spelled near h
     let xs = parts_of.0 in
     let ys = parts_of.1 in
     let cut = parts_of.4 in
-    let open = open_alone place packet c one is spelled in
-    let r = puts xs (alone s ∷ []) ys is.listed parts_of.2 (inr (alone s, refl, open)) parts_of.3 in
+    let is_open = open_alone place packet c one is spelled in
+    let r = puts xs (alone s ∷ []) ys is.listed parts_of.2 (inr (alone s, refl, is_open)) parts_of.3 in
     let later = all_segments xs ++ s ∷ all_segments ys in
     let all : pieces later ≡ r.before ++ r.piece ∷ r.behind = pieces_with place ordered xs ys s cut ∙ r.all in
     let flat : all_segments (r.before ++ r.piece ∷ r.behind) ≡ later = ap (λ (l : List Piece). all_segments l) (sym all) ∙ segments_pieces later in

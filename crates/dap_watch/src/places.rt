@@ -1,6 +1,6 @@
 //! What is kept of a stream: the segments of messages that aren't whole, and the places of those that are listed.
 
-ghost use Rattle.std.specs.Prelude.{◌≡◌, ◌≤◌, ◌<◌, ◌+◌, ◌/◌, ◌^◌, [], IfOk, OnOk, drop, length, take};
+ghost use Rattle.std.specs.Prelude.{◌≡◌, ◌&&◌, true, ◌≤◌, ◌<◌, ◌+◌, ◌/◌, ◌^◌, [], IfOk, OnOk, drop, length, take};
 ghost use Rattle.std.specs.List.{AllByRecursion};
 ghost use Rattle.dap_watch.specs.Inner.Kept.{AbsorbsAfter, AbsorbsBefore, Ascends, Finds, IsAbsorbed, IsNear, IsSegment, Joins, Lists, Puts, digits_of, do_join, is_taken as takes};
 
@@ -28,11 +28,7 @@ pub(crate) struct Kept {
 
 impl Kept {
     /// A segment in its place.
-    fn segment(
-        alloc: Global,
-        place: u64,
-        segment: &CapturedSegment<'_>,
-    ) -> Result<Self, AllocError>
+    fn segment(alloc: Global, place: u64, segment: &CapturedSegment<'_>) -> Result<Self, AllocError>
         ensures { IfOk result (IsSegment place segment.now) }
     {
         let payload = Vec::from_slice(alloc, segment.digits)?;
@@ -150,11 +146,7 @@ fn join_after(kept: &mut Vec<Kept>, index: usize, piece: &mut Kept) -> Result<()
 }
 
 /// Joins the one in front of an index, if they are in a row; returns the index then.
-fn join_before(
-    kept: &mut Vec<Kept>,
-    index: usize,
-    piece: Kept,
-) -> Result<(usize, Kept), AllocError>
+fn join_before(kept: &mut Vec<Kept>, index: usize, piece: Kept) -> Result<(usize, Kept), AllocError>
     requires { index ≤ length kept.old.items }
     ensures { IfOk result (λ joined.
         AbsorbsBefore index kept.old.items piece joined.0 kept.new.items joined.1) }
@@ -168,11 +160,7 @@ fn join_before(
 }
 
 /// Joins those on both sides of an index that are in a row with it; returns the index then.
-fn join(
-    kept: &mut Vec<Kept>,
-    index: usize,
-    mut piece: Kept,
-) -> Result<(usize, Kept), AllocError>
+fn join(kept: &mut Vec<Kept>, index: usize, mut piece: Kept) -> Result<(usize, Kept), AllocError>
     requires { index ≤ length kept.old.items }
     ensures { IfOk result (λ joined.
         Joins index kept.old.items piece joined.0 kept.new.items joined.1) }
