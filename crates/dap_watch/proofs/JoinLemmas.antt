@@ -1,5 +1,5 @@
 -- One between others joins those that it is in a row with.
-use Rattle.std.proofs.Common.{◌≡◌, ◌⊎◌, inl, inr, ℕ, ◌+◌, ◌<◌, ◌≤◌, Bool, true, false, List, [], ◌∷◌, ◌++◌, length, take, drop, insert, arith, refl, ap, sym, subst, ◌∙◌, append-nil, append_assoc, length-append, length-take, take-append-drop, Option, Some, None, zero, suc, ◌-◌, get_or, add-one, Result, Ok, Err, IfOk}
+use Rattle.std.proofs.Common.{◌≡◌, ◌&&◌, ◌/◌, ◌⊎◌, inl, inr, ℕ, ◌+◌, ◌<◌, ◌≤◌, Bool, true, false, List, [], ◌∷◌, ◌++◌, length, take, drop, insert, arith, refl, ap, sym, subst, ◌∙◌, append-nil, append_assoc, length-append, length-take, take-append-drop, Option, Some, None, zero, suc, ◌-◌, get_or, add-one, Result, Ok, Err, IfOk}
 use Rattle.std.specs.List.{AllByRecursion, filter}
 use Rattle.std.proofs.lemmas.Bool.{false≢true}
 use Rattle.std.proofs.lemmas.List.Elements.{filter-append}
@@ -232,6 +232,62 @@ lists_run index old run now new joined joins listed xs zs m is from to front bac
     let r = joins.regroups xs (m ∷ []) zs front (inl (listed, (is, sym from, sym to))) back in
     subst (λ (l : List Piece). Keeps l (insert new now joined)) (sym r.all ∙ message_apart xs zs m is)
     (inserted r.before r.these r.behind new now joined r.front_keeps (r.holds, λ is_open. absurd (false≢true (sym is_open ∙ (r.kind ∙ listed)))) r.back_keeps)
+
+-- ---- a segment between others
+
+open_piece : (k : Kept) (ps : List Piece) → Holds k ps → k.listed ≡ false → (p : Piece) × (ps ≡ p ∷ []) × IsOpen k p
+open_piece k ps (inl (listed, run)) kind = absurd (false≢true (sym kind ∙ listed))
+open_piece k ps (inr one) kind = one
+
+marks_of : (k : Kept) (p : Piece) → IsOpen k p → is_message p ≡ (k.first && k.last)
+marks_of k p one = ap (λ (b : Bool). b && (tail p).last) (sym one.first) ∙ ap (λ (b : Bool). k.first && b) (sym one.last)
+
+alone_later : (n : ℕ) (p : Piece) (ps : List Piece) → ps ≡ p ∷ [] → n ≤ latest (all_segments ps) → n ≤ latest (p.head ∷ p.others)
+alone_later n p ps is low = subst (λ l. n ≤ latest l) (ap (λ (l : List Piece). all_segments l) is ∙ append-nil (p.head ∷ p.others)) low
+
+pub settles_message : (xs ys zs : List Piece) (piece : Kept) (mid : List Kept) (now : ℕ) (joined : Kept) (new : List Kept) (digits : List ℕ) (whole : Whole)
+    → Regroups xs ys zs piece (take now mid) joined (drop now mid) → piece.listed ≡ false → (joined.first && joined.last) ≡ true → Lists now mid joined new digits whole
+    → Settles xs ys zs new digits (Some whole)
+settles_message xs ys zs piece mid now joined new digits whole r kind marks lists =
+    let one = open_piece joined r.these r.holds (r.kind ∙ kind) in
+    let p = one.0 in
+    let is_open = one.2 in
+    let message : is_message p ≡ true = marks_of joined p is_open ∙ marks in
+    record {
+      before = r.before;
+      piece = p;
+      behind = r.behind;
+      all = r.all ∙ ap (λ (l : List Piece). r.before ++ (l ++ r.behind)) one.1;
+      keeps = lists.keeps r.before r.behind p message is_open.from is_open.to r.front_keeps r.back_keeps;
+      told = record {
+        message = message;
+        from = lists.from ∙ is_open.from;
+        to = lists.to ∙ is_open.to;
+        bytes = ap (λ l. bytes_of l) lists.digits_are ∙ is_open.bytes;
+        spelled = subst (λ l. Spell l (length l / 2)) (sym lists.digits_are) is_open.spelled;
+      };
+      messages = r.messages kind;
+      later = alone_later (latest (all_segments ys)) p r.these one.1 r.later;
+    }
+
+pub settles_open : (xs ys zs : List Piece) (piece : Kept) (mid : List Kept) (now : ℕ) (joined : Kept) (digits : List ℕ)
+    → Regroups xs ys zs piece (take now mid) joined (drop now mid) → piece.listed ≡ false → (joined.first && joined.last) ≡ false
+    → Settles xs ys zs (insert mid now joined) digits None
+settles_open xs ys zs piece mid now joined digits r kind marks =
+    let one = open_piece joined r.these r.holds (r.kind ∙ kind) in
+    let p = one.0 in
+    let none : is_message p ≡ false = marks_of joined p one.2 ∙ marks in
+    let stays : Stays joined r.these = (r.holds, λ kind_is. subst (λ (l : List Piece). AllByRecursion (λ q. is_message q ≡ false) l) (sym one.1) (none, tt)) in
+    record {
+      before = r.before;
+      piece = p;
+      behind = r.behind;
+      all = r.all ∙ ap (λ (l : List Piece). r.before ++ (l ++ r.behind)) one.1;
+      keeps = subst (λ (l : List Piece). Keeps (r.before ++ (l ++ r.behind)) (insert mid now joined)) one.1 (inserted r.before r.these r.behind mid now joined r.front_keeps stays r.back_keeps);
+      told = none;
+      messages = r.messages kind;
+      later = alone_later (latest (all_segments ys)) p r.these one.1 r.later;
+    }
 
 -- ---- what the program does
 

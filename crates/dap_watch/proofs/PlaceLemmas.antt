@@ -283,3 +283,6 @@ finds_taken c old new digits place index ordered packet k near highest same abov
       added = (filter is_message (pieces ordered), [], sym (append-nil (filter is_message (pieces ordered))), sym (append-nil (filter is_message (pieces ordered))));
       told = refl;
     }
+
+pub kept_ascends : (packet : ℕ) (ordered : List Placed) (p : Places) → KeepsPlaces packet ordered p → Ascends p.kept.items
+kept_ascends packet ordered p k = keeps_ascends (pieces ordered) p.kept.items (proper_pieces ordered) k.keeps (subst (λ l. Rises l) (sym (segments_pieces ordered)) k.rises)

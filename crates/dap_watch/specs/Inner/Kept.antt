@@ -177,7 +177,6 @@ pub record KeepsPlaces (packet : ℕ) (ordered : List Placed) (p : Places) : Typ
   pub rises : Rises ordered
   pub numbered : AllByRecursion (λ s. s.packet < packet) ordered
   pub low : 4096 ≤ p.highest
-  pub high : p.highest < 2 ^ 62
 
 -- the messages that are whole with the packet: none, or the one that is told
 abbrev pub AreTold : ℕ → List ℕ → Option Whole → List Piece → Type 0
@@ -198,5 +197,5 @@ pub record Found (packet : ℕ) (c : CapturedSegment) (ordered : List Placed) (o
 
 abbrev pub Finds : CapturedSegment → Places → Places → List ℕ → Option Whole → Type 0
 Finds c old new digits found =
-    (ordered : List Placed) (packet : ℕ) → KeepsPlaces packet ordered old → Spell c.digits.now (length c.digits.now / 2)
+    (ordered : List Placed) (packet : ℕ) → KeepsPlaces packet ordered old → old.highest < 2 ^ 62 → Spell c.digits.now (length c.digits.now / 2)
     → Found packet c ordered old new digits found
