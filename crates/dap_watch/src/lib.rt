@@ -3,5 +3,6 @@
 
 mod laws;
 mod places;
+mod streams;
 
 pub use laws::{listed_messages_can_go, listed_messages_stay, watched_captures_are_followed};
