@@ -1,5 +1,5 @@
 -- What is kept of the streams, with one packet more.
-use Rattle.std.proofs.Common.{◌≡◌, ◌⊎◌, inl, inr, ⊎_elim, ℕ, zero, suc, ◌+◌, ◌*◌, ◌/◌, ◌<◌, ◌≤◌, ◌^◌, Bool, true, false, List, [], ◌∷◌, ◌++◌, length, length-append, map, max, get_or, Option, Some, None, arith, refl, ap, sym, subst, ◌∙◌, append-nil, append_assoc}
+use Rattle.std.proofs.Common.{◌≡◌, ◌⊎◌, inl, inr, ⊎_elim, ℕ, zero, suc, ◌+◌, ◌*◌, ◌/◌, ◌<◌, ◌≤◌, ◌^◌, Bool, true, false, List, [], ◌∷◌, ◌++◌, length, length-append, map, max, get_or, Option, Some, None, arith, refl, ap, sym, subst, ◌∙◌, append-nil, append_assoc, not}
 use Rattle.std.specs.Prelude.{slice_get, slice_set}
 use Rattle.std.specs.List.{AllByRecursion, AllZip, IsDistinct, filter, flat_map, list_any}
 use Rattle.std.proofs.lemmas.Bool.{cases_Bool, false≢true}
@@ -352,3 +352,30 @@ grows packets way c ordered old mid new index one shown digits found k i is name
       added = subst (λ (l : List Message). AreAdded (1 + length packets) digits found l (flat_map messages done.laters)) (no_messages_more ordered) done.added;
     })
     i.case
+
+-- ---- where a stream stands
+
+pub not_false : (b : Bool) → not b ≡ false → b ≡ true
+not_false true h = refl
+not_false false h = absurd cc
+
+last_at : (keys : List Stream) (s : Stream) → slice_get (keys ++ s ∷ []) (length keys) ≡ Some s
+last_at [] s = refl
+last_at (k ∷ keys) s = last_at keys s
+
+pub stands_last : (s : Stream) (keys : List Stream) (index : ℕ) → index ≡ length keys → HasAt s index (keys ++ s ∷ [])
+stands_last s keys index is = (s, ap (λ n. slice_get (keys ++ s ∷ []) n) is ∙ last_at keys s, is_same_self s)
+
+none_there : (s : Stream) → None ≡ Some s → ⊥
+none_there s e = cc
+
+pub in_range : (keys : List Stream) (index : ℕ) (s : Stream) → slice_get keys index ≡ Some s → index < length keys
+in_range [] index s is = absurd (none_there s is)
+in_range (k ∷ keys) zero s is = omega arith
+in_range (k ∷ keys) (suc index) s is = let rest = in_range keys index s is in omega (arith, rest)
+
+pub key_known : (s : Stream) (keys new : List Stream) → new ≡ insert_key is_same keys s → list_any (is_same s) keys ≡ true → new ≡ keys
+key_known s keys new is there = is ∙ inserted_known s keys there
+
+pub key_new : (s : Stream) (keys new : List Stream) → new ≡ insert_key is_same keys s → list_any (is_same s) keys ≡ false → new ≡ keys ++ s ∷ []
+key_new s keys new is none = is ∙ inserted_new s keys none

@@ -2,3 +2,5 @@
 pub mod Pieces
 pub mod Kept
 pub mod Streams
+pub mod Rest
+pub mod Watching

@@ -1,18 +1,59 @@
 //! What is kept of a stream: the segments of messages that aren't whole, and the places of those that are listed.
 
-ghost use Rattle.std.specs.Prelude.{◌≡◌, ◌&&◌, true, ◌≤◌, ◌<◌, ◌+◌, ◌/◌, ◌^◌, [], IfOk, OnOk, drop, length, take};
+ghost use Rattle.std.specs.Prelude.{◌≡◌, ◌&&◌, true, ◌≤◌, ◌<◌, ◌+◌, ◌/◌, ◌^◌, [], IfOk, IfSome, OnOk, drop, length, take};
 ghost use Rattle.std.specs.List.{AllByRecursion};
+ghost use Rattle.dap_listing.specs.Captured.{Spell};
 ghost use Rattle.dap_watch.specs.Inner.Kept.{AbsorbsAfter, AbsorbsBefore, Ascends, Finds, IsAbsorbed, IsNear, IsSegment, Joins, Lists, Puts, digits_of, do_join, is_taken as takes};
 
 use dap_listing::CapturedSegment;
 use nsp_seg::Seq12;
 use std::alloc::{AllocError, Global};
+use std::marker::Model;
 
 /// So many numbers of segments there are (NSP 4.0.0, segment numbers).
 const ROUND: u64 = 4096;
 
 /// How far below the highest place before it a segment may lie.
 const BELOW: u64 = 2047;
+
+/// The hex digits of a payload, two for each byte.
+#[derive(Drop)]
+pub(crate) struct Payload {
+    digits: Vec<u8>,
+}
+
+impl Model for Payload {
+    ghost use Rattle.std.specs.Prelude.{ℕ, ◌/◌, List, length};
+    ghost use Rattle.dap_listing.specs.Captured.{Spell};
+
+    ghost Value = { List ℕ };
+
+    ghost view = { λ p. p.digits.items };
+
+    ghost invariant = { λ p. Spell p.digits.items (length p.digits.items / 2) };
+}
+
+impl Payload {
+    ghost use Rattle.std.specs.Prelude.{◌≡◌, ◌++◌, ◌/◌, OnOk, IfOk, length};
+    ghost use Rattle.dap_listing.specs.Captured.{Spell};
+
+    /// The payload that the digits spell.
+    fn of(alloc: Global, digits: &[u8]) -> Result<Self, AllocError>
+        requires { Spell digits.now (length digits.now / 2) }
+        ensures { IfOk result (λ payload. payload ≡ digits.now) }
+    {
+        let digits = Vec::from_slice(alloc, digits)?;
+        Ok(Payload { digits })
+    }
+
+    /// Appends the digits.
+    fn push_to(&self, digits: &mut Vec<u8>) -> Result<(), AllocError>
+        ensures added { OnOk result (digits.new.items ≡ digits.old.items ++ self.now) }
+        ensures spelled { OnOk result (Spell self.now (length self.now / 2)) }
+    {
+        digits.extend_from_slice(&self.digits)
+    }
+}
 
 /// Places in a row. They are those of segments, with the marks at both ends and the hex digits of each payload; or those of
 /// messages that are listed, with no payloads.
@@ -23,15 +64,16 @@ pub(crate) struct Kept {
     pub(crate) first: bool,
     pub(crate) last: bool,
     pub(crate) listed: bool,
-    pub(crate) payloads: Vec<Vec<u8>>,
+    pub(crate) payloads: Vec<Payload>,
 }
 
 impl Kept {
     /// A segment in its place.
     fn segment(alloc: Global, place: u64, segment: &CapturedSegment<'_>) -> Result<Self, AllocError>
+        requires { Spell segment.now.digits.now (length segment.now.digits.now / 2) }
         ensures { IfOk result (IsSegment place segment.now) }
     {
-        let payload = Vec::from_slice(alloc, segment.digits)?;
+        let payload = Payload::of(alloc, segment.digits)?;
         let mut payloads = Vec::new(alloc);
         payloads.push(payload)?;
         Ok(Kept {
@@ -93,11 +135,13 @@ impl Kept {
 
     /// The digits of all payloads.
     pub(crate) fn gather(&self, digits: &mut Vec<u8>) -> Result<(), AllocError>
-        ensures { OnOk result (digits.new.items ≡ digits_of self.now) }
+        ensures gathered { OnOk result (digits.new.items ≡ digits_of self.now) }
+        ensures spelled { OnOk result
+            (Spell digits.new.items (length digits.new.items / 2)) }
     {
         digits.clear();
         for payload in &self.payloads {
-            digits.extend_from_slice(payload)?;
+            payload.push_to(digits)?;
         }
         Ok(())
     }
@@ -185,7 +229,9 @@ fn list_at(
     digits: &mut Vec<u8>,
 ) -> Result<Whole, AllocError>
     requires { index ≤ length kept.old.items }
-    ensures { IfOk result (Lists index kept.old.items message kept.new.items digits.new.items) }
+    ensures listed { IfOk result
+        (Lists index kept.old.items message kept.new.items digits.new.items) }
+    ensures spelled { OnOk result (Spell digits.new.items (length digits.new.items / 2)) }
 {
     message.gather(digits)?;
     let (from, to) = (message.from, message.to);
@@ -203,7 +249,10 @@ fn put_in(
     digits: &mut Vec<u8>,
 ) -> Result<Option<Whole>, AllocError>
     requires { index ≤ length kept.old.items }
-    ensures { IfOk result (Puts index kept.old.items segment kept.new.items digits.new.items) }
+    ensures put { IfOk result
+        (Puts index kept.old.items segment kept.new.items digits.new.items) }
+    ensures spelled { IfOk result (λ found. IfSome found
+        (λ whole. Spell digits.new.items (length digits.new.items / 2))) }
 {
     let (index, piece) = join(kept, index, segment)?;
     if piece.is_message() {
@@ -240,7 +289,10 @@ impl Places {
         segment: &CapturedSegment<'_>,
         digits: &mut Vec<u8>,
     ) -> Result<Option<Whole>, AllocError>
-        ensures { IfOk result (Finds segment.now self.old self.new digits.new.items) }
+        requires { Spell segment.now.digits.now (length segment.now.digits.now / 2) }
+        ensures found { IfOk result (Finds segment.now self.old self.new digits.new.items) }
+        ensures spelled { IfOk result (λ found. IfSome found
+            (λ whole. Spell digits.new.items (length digits.new.items / 2))) }
     {
         let place = place_near(self.highest, segment.number);
         self.highest = self.highest.max(place);

@@ -1,6 +1,6 @@
 //! What is kept of the streams of a capture.
 
-ghost use Rattle.std.specs.Prelude.{◌≡◌, ◌<◌, ◌/◌, ◌^◌, ◌∷◌, [], List, IfOk, length};
+ghost use Rattle.std.specs.Prelude.{◌≡◌, ◌<◌, ◌/◌, ◌^◌, ◌∷◌, [], List, IfOk, IfSome, length};
 ghost use Rattle.dap_listing.specs.Captured.{Spell};
 ghost use Rattle.dap_follow.specs.Inner.Keeping.{segment_packet};
 ghost use Rattle.dap_follow.specs.Streams.{Captured, Placed};
@@ -54,11 +54,14 @@ impl Streams {
         segment: &CapturedSegment<'_>,
         digits: &mut Vec<u8>,
     ) -> Result<Option<Whole>, AllocError>
-        ensures { IfOk result (λ found. (packets : List Captured) (ordered : List (List Placed))
+        requires { Spell segment.now.digits.now (length segment.now.digits.now / 2) }
+        ensures grows { IfOk result (λ found.
+            (packets : List Captured) (ordered : List (List Placed))
             → length packets < 2 ^ 50 → KeepsAll packets ordered self.old
-            → Spell segment.now.digits.now (length segment.now.digits.now / 2)
             → Grows packets (segment_packet way segment.now) ordered self.new digits.new.items
             found) }
+        ensures spelled { IfOk result (λ found. IfSome found
+            (λ whole. Spell digits.new.items (length digits.new.items / 2))) }
     {
         let stream = Stream {
             way,

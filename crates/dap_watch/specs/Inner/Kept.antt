@@ -16,7 +16,7 @@ use Rattle.dap_watch.specs.declared.places.Whole.{Whole}
 
 -- the digits of all payloads
 abbrev pub digits_of : Kept → List ℕ
-digits_of k = flat_map (λ payload. payload.items) k.payloads.items
+digits_of k = flat_map (λ payload. payload) k.payloads.items
 
 -- in a row, and of a message that isn't whole, or both listed
 abbrev pub do_join : Kept → Kept → Bool
@@ -197,5 +197,5 @@ pub record Found (packet : ℕ) (c : CapturedSegment) (ordered : List Placed) (o
 
 abbrev pub Finds : CapturedSegment → Places → Places → List ℕ → Option Whole → Type 0
 Finds c old new digits found =
-    (ordered : List Placed) (packet : ℕ) → KeepsPlaces packet ordered old → old.highest < 2 ^ 62 → Spell c.digits.now (length c.digits.now / 2)
+    (ordered : List Placed) (packet : ℕ) → KeepsPlaces packet ordered old → old.highest < 2 ^ 62
     → Found packet c ordered old new digits found

@@ -6,8 +6,8 @@ use Rattle.dap_watch.proofs.JoinLemmas.{if_ok_weaker}
 use Rattle.dap_watch.proofs.PlaceLemmas.{finds_put, finds_taken, kept_ascends}
 use Rattle.dap_watch.proofs.places.Places.add.Goals as goal
 
-pub returns-then-is_taken : goal.returns-then-is_taken
-returns-then-is_taken c = λ ordered packet k high spelled.
+pub returns-then-is_taken-clause-found : goal.returns-then-is_taken-clause-found
+returns-then-is_taken-clause-found c = λ ordered packet k high.
     let ks = c.args.self.now.kept.items in
     let place = c.place_near-place.result in
     let index = c.count_below-index.result in
@@ -18,10 +18,10 @@ returns-then-is_taken c = λ ordered packet k high spelled.
     ap (λ (l : List Kept). is_taken place (drop index l)) (sym c.deref-2.ensures.value) ∙ sym c.is_taken.ensures ∙ c.if-is_taken.true in
     finds_taken c.args.segment.now c.args.self.now _ c.args.digits.now.items place index ordered packet k (c.place_near-place.ensures k.low high) c.max-self.ensures refl above taken
 
-pub returns : goal.returns
-returns c =
+pub returns-clause-found : goal.returns-clause-found
+returns-clause-found c =
     if_ok_weaker c.put_in.result
-    (λ found puts ordered packet k high spelled.
+    (λ found puts ordered packet k high.
     let ks = c.args.self.now.kept.items in
     let place = c.place_near-place.result in
     let index = c.count_below-index.result in
@@ -31,6 +31,6 @@ returns c =
     let above = subst (λ (l : List Kept). AllByRecursion (λ o. place ≤ o.to) (drop index l)) is (c.count_below-index.ensures.above up) in
     let free : is_taken place (drop index ks) ≡ false =
     ap (λ (l : List Kept). is_taken place (drop index l)) (sym c.deref-2.ensures.value) ∙ sym c.is_taken.ensures ∙ c.if-is_taken.false in
-    finds_put c.args.segment.now c.args.self.now _ c.put_in.new.digits.items found place index c.in_ok-one.one ordered packet k spelled (c.place_near-place.ensures k.low high) c.max-self.ensures
+    finds_put c.args.segment.now c.args.self.now _ c.put_in.new.digits.items found place index c.in_ok-one.one ordered packet k c.requires (c.place_near-place.ensures k.low high) c.max-self.ensures
     below above free c.in_ok-one.ensures puts)
-    c.put_in.ensures
+    c.put_in.ensures.put
