@@ -12,9 +12,10 @@ use Rattle.dap_listing.specs.declared.lines.Direction.{Direction}
 use Rattle.dap_listing.specs.declared.captured.CapturedSegment.{CapturedSegment}
 use Rattle.dap_follow.specs.Streams.{ArePlaced, Captured, IsOrdered, Placed, at, came_as, came_in, first_place, is_same, no_more, streams}
 use Rattle.dap_follow.specs.Joined.{Message, Piece, is_message, latest, message_of, messages, pieces}
-use Rattle.dap_follow.specs.Inner.Keeping.{Came, HasAt, came, put_at, segment_packet, stream_of, top}
+use Rattle.dap_follow.specs.Inner.Keeping.{stream_of}
+use Rattle.dap_watch.specs.Inner.Segments.{Came, HasAt, came, put_at, segment_packet, top}
 use Rattle.dap_follow.specs.declared.streams.Stream.{Stream}
-use Rattle.dap_follow.proofs.ForCallers.{at-append, came_in-more, came_in-none, is_same_self, or_else, placed_more, same_is, same_sym, streams-more, streams-none, top-snoc, unseen}
+use Rattle.dap_follow.proofs.ForCallers.{at-append, came_in-more, came_in-none, is_same_self, or_else, same_is, same_sym, streams-more, streams-none, unseen}
 use Rattle.dap_watch.specs.Inner.Kept.{AreTold, Found, Keeps, KeepsPlaces}
 use Rattle.dap_watch.specs.Inner.Streams.{AreAdded, Grows, IsIndexed, KeepsAll, KeepsEach, KeepsStream}
 use Rattle.dap_watch.specs.declared.places.Kept.{Kept}
@@ -22,7 +23,7 @@ use Rattle.dap_watch.specs.declared.places.Places.{Places}
 use Rattle.dap_watch.specs.declared.places.Whole.{Whole}
 use Rattle.dap_watch.specs.declared.streams.Streams.{Streams}
 use Rattle.dap_watch.proofs.GlueLemmas.{all_weaker}
-use Rattle.dap_watch.proofs.OrderLemmas.{all_put, ascending, at_put, rises_put}
+use Rattle.dap_watch.proofs.OrderLemmas.{all_put, ascending, at_put, placed_more, rises_put, top_more}
 
 -- ---- packets of others
 
@@ -154,7 +155,7 @@ ready_done packets way c s ordered old new digits found same r f =
       placed = r.placed ++ here ∷ [];
       are_placed = subst (λ (l : List Came). ArePlaced start l (r.placed ++ here ∷ [])) r.begins (placed_more (came n c) place r.are_placed low high f.near.2);
       same = λ p. at_put p ordered here f.later f.put ∙ ap (λ (o : Option Placed). or_else o (at p (here ∷ []))) (r.same p) ∙ sym (at-append p r.placed (here ∷ []));
-      highest = f.highest ∙ ap (λ (h : ℕ). max h place) r.highest ∙ sym (top-snoc start r.placed here);
+      highest = f.highest ∙ ap (λ (h : ℕ). max h place) r.highest ∙ sym (top_more start r.placed here);
       keeps = record {
         keeps = f.keeps;
         rises = rises_put ordered here f.later f.put was.rises;

@@ -1,5 +1,5 @@
 -- What is kept of a stream stands for its pieces.
-use Rattle.std.proofs.Common.{◌≡◌, ◌⊎◌, inl, inr, ⊎_elim, ◌==◌, ◌&&◌, ℕ, ◌+◌, ◌/◌, ◌<◌, ◌≤◌, not, max, Bool, true, false, List, [], ◌∷◌, ◌++◌, length, take, drop, if◌then◌else◌, arith, refl, ap, sym, subst, ◌∙◌, eqb-true, append-nil, append_assoc, leb, leb-true}
+use Rattle.std.proofs.Common.{◌≡◌, ◌⊎◌, inl, inr, ⊎_elim, ◌==◌, ◌&&◌, ℕ, ◌+◌, ◌/◌, ◌<◌, ◌≤◌, not, max, Bool, true, false, List, [], ◌∷◌, ◌++◌, length, take, drop, if◌then◌else◌, arith, refl, ap, sym, subst, ◌∙◌, eqb-true, append-nil, append_assoc, leb, leb-true, get_or, zero, suc, add-one}
 use Rattle.std.specs.List.{AllByRecursion, filter, flat_map}
 use Rattle.std.proofs.lemmas.Bool.{false≢true}
 use Rattle.std.proofs.lemmas.Bool.Decides.{nat_tests}
@@ -211,3 +211,25 @@ message_apart xs zs m is = ap (λ (l : List Piece). glue xs l) (glue_listed m.he
 pub no_messages : (ps : List Piece) → AllByRecursion (λ p. is_message p ≡ false) ps → filter is_message ps ≡ []
 no_messages [] none = refl
 no_messages (p ∷ ps) none = ap (λ b. if b then p ∷ filter is_message ps else filter is_message ps) none.0 ∙ no_messages ps none.1
+
+-- hex digits one behind the other
+pub spelled_both : (a b : List ℕ) → Spell a (length a / 2) → Spell b (length b / 2) → Spell (a ++ b) (length (a ++ b) / 2)
+spelled_both a b one two =
+    let m : ℕ = length a / 2 in
+    let n : ℕ = length b / 2 in
+    let both : Spell (a ++ b) (m + n) = spell-append a b m n one two in
+    let half : m + n ≡ length (a ++ b) / 2 = omega (arith, both.1) in
+    subst (λ k. Spell (a ++ b) k) half both
+
+payload_at : (xs : List (List ℕ)) (i : ℕ) (d : List ℕ) → i < length xs → drop i xs ≡ get_or xs i d ∷ drop (i + 1) xs
+payload_at [] i d below = absurd (omega arith)
+payload_at (x ∷ xs) zero d below = refl
+payload_at (x ∷ xs) (suc i) d below = rw add-one (rw add-one at (payload_at xs i d (omega arith)))
+
+-- one payload more
+pub gathered : (xs : List (List ℕ)) (i : ℕ) (x digits new whole : List ℕ) → i < length xs → x ≡ get_or xs i x → new ≡ digits ++ x → digits ++ flat_map (λ p. p) (drop i xs) ≡ whole
+    → new ++ flat_map (λ p. p) (drop (i + 1) xs) ≡ whole
+gathered xs i x digits new whole below is added before =
+    let others : List ℕ = flat_map (λ p. p) (drop (i + 1) xs) in
+    ap (λ l. l ++ others) added ∙ append_assoc digits x others
+    ∙ ap (λ l. digits ++ l) (sym (ap (λ (l : List (List ℕ)). flat_map (λ p. p) l) (payload_at xs i x below) ∙ ap (λ y. y ++ others) (sym is))) ∙ before

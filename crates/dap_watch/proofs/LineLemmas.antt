@@ -97,10 +97,14 @@ stripped xs =
     let at : length (xs ++ 10 ∷ []) - 1 ≡ length xs = omega (arith, size) in
     ap (λ b. if b then take (length (xs ++ 10 ∷ []) - 1) (xs ++ 10 ∷ []) else xs ++ 10 ∷ []) (ends_so xs) ∙ ap (λ n. take n (xs ++ 10 ∷ [])) at ∙ take_all_but xs 10
 
+some_bytes : (x : ℕ) (xs : List ℕ) → nat_lt 0 (length (x ∷ xs)) ≡ true
+some_bytes x xs = grind (arith, nat_tests)
+
 -- a carriage return goes in the same way
 returns_same : (xs : List ℕ) → strip_last 13 xs ≡ strip_carriage_return xs
 returns_same [] = refl
-returns_same (x ∷ xs) = refl
+returns_same (x ∷ xs) =
+    ap (λ b. if b && (slice_index (x ∷ xs) (length (x ∷ xs) - 1) == 13) then take (length (x ∷ xs) - 1) (x ∷ xs) else x ∷ xs) (some_bytes x xs)
 
 parts_some : (xs : List ℕ) → 0 < length (slice_split is_feed xs)
 parts_some xs = let size = length-slice_split is_feed xs in omega (arith, size)
@@ -125,10 +129,11 @@ line_cut rest before after c =
 not_ended : (rest : List ℕ) → Lacks rest → ends_with_byte 10 rest ≡ false
 unfolding Lacks
 not_ended [] lacks = refl
-not_ended (x ∷ xs) lacks = lacks (length (x ∷ xs) - 1) 0 (omega arith)
+not_ended (x ∷ xs) lacks =
+    ap (λ b. b && (slice_index (x ∷ xs) (length (x ∷ xs) - 1) == 10)) (some_bytes x xs) ∙ lacks (length (x ∷ xs) - 1) 0 (omega arith)
 
 one_part : (x : ℕ) (xs : List ℕ) → lines_of_parts ((x ∷ xs) ∷ []) ≡ (x ∷ xs) ∷ []
-one_part x xs = refl
+one_part x xs = grind (arith, nat_tests)
 
 line_uncut : (rest : List ℕ) → 0 < length rest → Uncut rest → lines rest ≡ first_line rest ∷ lines (drop_through 10 rest)
 unfolding Lacks

@@ -24,7 +24,7 @@ pub appended_twice : (start middle end p q : List ℕ) → middle ≡ start ++ p
 appended_twice start middle end p q one two = two ∙ ap (λ (l : List ℕ). l ++ q) one ∙ append_assoc start p q
 
 -- so many bytes
-pub some_bytes : (n : ℕ) → length (replicate n 0) ≡ n
+pub some_bytes : (n : ℕ) → length {A = ℕ} (replicate n 0) ≡ n
 some_bytes n = length-replicate n 0
 
 pub count_is : (n : ℕ) → length_text (replicate n 0) ≡ count_text n

@@ -157,7 +157,7 @@ step input rest said were now new (Some Done) text w some want (inr (spoken, sho
 step input rest said were now new (Some Done) text w some want (inr (spoken, short, inr (capture, is, goes))) =
     subst (λ l. WatchedSo input (drop_through 10 rest) (said ++ l) (were ++ Some Done ∷ []) new) (sym (append-nil text))
     (listed input rest said were now new text capture w some short is goes)
-step input rest said were now new (Some BadLine) text w some want (inr (spoken, short, is, same, none)) =
+step input rest said were now new (Some BadLine) text w some want (inr (spoken, short, (is, same, none))) =
     aside input rest said were now new (Some BadLine) (text ++ []) w some same (append-nil text ∙ none) (no_packet_at (line_of packet_limit (first_line rest)) is)
     (sym (bad_line (first_line rest) is))
 step input rest said were now new (Some NoMemory) text w some want (inr (spoken, short, none)) = absurd (want refl)
@@ -170,7 +170,7 @@ sates_back : (xs ys : List (Option Became)) → AllByRecursion (λ became. becam
 sates_back [] ys all = all
 sates_back (x ∷ xs) ys all = sates_back xs ys all.1
 
-pub talked_so : (first now : Watching) (input rest said : List ℕ) (were : List (Option Became)) → Talked answered waiting first input now rest said were → Watches [] [] first
+talked_so : (first now : Watching) (input rest said : List ℕ) (were : List (Option Became)) → Talked answered waiting first input now rest said were → Watches [] [] first
     → AllByRecursion (λ became. became ≢ Some NoMemory) were → WatchedSo input rest said were now
 talked_so first now input rest said were Talked.begins start never = record { captured = []; watches = start; are = refl; bad = refl }
 talked_so first new input rest said were (Talked.goes now left before_said more before became talked some says) start never =
@@ -306,3 +306,13 @@ fails first now (Some input) held holds OutOfMemory start (rest, said, were, tal
 fails first new (Some input) held holds WriteFailed start (now, mid, rest, said, more, were, became, talked, held_so, says, front, unbroken) =
     let w = talked_so first now input rest said were talked start (unbroken (λ e. refl)) in
     breaks input rest said were now new became says.text held mid holds w held_so says.answers (subst (λ l. WritesFront mid holds l) says.says front)
+
+-- memory was refused before the first line
+pub nothing_listed : (input : List ℕ) (held holds : Option (List ℕ)) → Keeps held holds → WatchFails input held holds OutOfMemory
+nothing_listed input held holds keeps = (
+  captures packet_limit input,
+  [],
+  [],
+  ([], refl, record { packets = []; ordered = []; texts = []; are_seen = tt; are_ordered = tt; are_texts = tt; written_is = refl; rest_is = refl }),
+  Appends-kept held held holds [] (Appends-nil held) keeps,
+)

@@ -14,7 +14,7 @@ use Rattle.dap_listing.proofs.ForCallers.{decoded}
 use Rattle.dap_follow.specs.Streams.{Captured, IsOrdered, Placed, came_in, first_place, streams, ArePlaced}
 use Rattle.dap_follow.specs.Joined.{Message, Piece, is_message, latest, message_of, messages, pieces}
 use Rattle.dap_follow.specs.Following.{IsCaptured, IsMessageText, IsPacketText, rest_lines}
-use Rattle.dap_follow.specs.Inner.Keeping.{Came}
+use Rattle.dap_watch.specs.Inner.Segments.{Came}
 use Rattle.dap_follow.specs.declared.streams.Stream.{Stream}
 use Rattle.dap_follow.proofs.ForCallers.{enumerate_from-snoc, seen_more}
 use Rattle.dap_watch.specs.Watched.{IsWatched, whole_with}

@@ -2,7 +2,7 @@
 
 ghost use Rattle.std.specs.Prelude.{◌≡◌, ◌<◌, ◌/◌, ◌^◌, ◌∷◌, [], List, IfOk, IfSome, length};
 ghost use Rattle.dap_listing.specs.Captured.{Spell};
-ghost use Rattle.dap_follow.specs.Inner.Keeping.{segment_packet};
+ghost use Rattle.dap_watch.specs.Inner.Segments.{segment_packet};
 ghost use Rattle.dap_follow.specs.Streams.{Captured, Placed};
 ghost use Rattle.dap_watch.specs.Inner.Streams.{Grows, IsIndexed, KeepsAll};
 

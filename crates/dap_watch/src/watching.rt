@@ -9,7 +9,7 @@ ghost use Rattle.linewise.specs.declared.talking.Became.{Became as TheBecame};
 ghost use Rattle.dap_text.specs.Adding.{AddsSome};
 ghost use Rattle.dap_listing.specs.Captured.{Spell};
 ghost use Rattle.dap_follow.specs.Following.{IsMessageText};
-ghost use Rattle.dap_follow.specs.Inner.Keeping.{segment_packet};
+ghost use Rattle.dap_watch.specs.Inner.Segments.{segment_packet};
 ghost use Rattle.dap_follow.specs.Joined.{Piece};
 ghost use Rattle.dap_follow.specs.Streams.{Captured, Placed};
 ghost use Rattle.dap_watch.specs.Inner.Kept.{IsWhole};

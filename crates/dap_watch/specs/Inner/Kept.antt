@@ -5,7 +5,7 @@ use Rattle.dap_listing.specs.Captured.{Spell, bytes_of}
 use Rattle.dap_listing.specs.declared.captured.CapturedSegment.{CapturedSegment}
 use Rattle.dap_follow.specs.Streams.{Placed}
 use Rattle.dap_follow.specs.Joined.{Piece, is_message, latest, payload, pieces, tail}
-use Rattle.dap_follow.specs.Inner.Keeping.{came, put_at}
+use Rattle.dap_watch.specs.Inner.Segments.{came, put_at}
 use Rattle.dap_watch.specs.Watched.{whole_with}
 use Rattle.dap_watch.specs.Inner.Pieces.{IsPut, Rises, all_segments, glue}
 use Rattle.dap_watch.specs.declared.places.Kept.{Kept}

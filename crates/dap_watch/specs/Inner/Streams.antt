@@ -3,7 +3,7 @@ use Rattle.std.specs.Prelude.{◌≡◌, ◌⊎◌, ⊤, ℕ, ◌+◌, ◌*◌, 
 use Rattle.std.specs.List.{IsDistinct, flat_map, list_any}
 use Rattle.dap_follow.specs.Streams.{ArePlaced, Captured, Placed, at, came_in, is_same, streams}
 use Rattle.dap_follow.specs.Joined.{Message, Piece, message_of, messages}
-use Rattle.dap_follow.specs.Inner.Keeping.{Came, HasAt, top}
+use Rattle.dap_watch.specs.Inner.Segments.{Came, HasAt, top}
 use Rattle.dap_follow.specs.declared.streams.Stream.{Stream}
 use Rattle.dap_watch.specs.Inner.Kept.{AreTold, KeepsPlaces}
 use Rattle.dap_watch.specs.declared.places.Places.{Places}

@@ -2,7 +2,7 @@ use Rattle.std.proofs.Common.{rules, ◌≡◌, ◌≤◌, ◌<◌, ◌+◌, ◌
 use Rattle.std.specs.List.{IsDistinct, list_any}
 use Rattle.indexmap.specs.IndexSet.{insert_key}
 use Rattle.dap_follow.specs.Streams.{is_same}
-use Rattle.dap_follow.specs.Inner.Keeping.{HasAt}
+use Rattle.dap_watch.specs.Inner.Segments.{HasAt}
 use Rattle.dap_follow.specs.declared.streams.Stream.{Stream}
 use Rattle.dap_follow.proofs.ForCallers.{eq_is, same_at}
 use Rattle.dap_watch.proofs.StayLemmas.{not_true}

@@ -1,6 +1,6 @@
 use Rattle.std.proofs.Common.{List, ℕ, sym, subst, Option}
 use Rattle.std.proofs.lemmas.Result.{on_ok_weaker}
-use Rattle.dap_follow.specs.Inner.Keeping.{segment_packet}
+use Rattle.dap_watch.specs.Inner.Segments.{segment_packet}
 use Rattle.dap_watch.specs.Inner.Kept.{IsWhole}
 use Rattle.dap_watch.specs.Inner.Streams.{Grows}
 use Rattle.dap_watch.specs.declared.places.Whole.{Whole}
