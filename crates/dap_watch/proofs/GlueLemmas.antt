@@ -1,12 +1,12 @@
 -- Pieces end to end.
-use Rattle.std.proofs.Common.{◌≡◌, ◌==◌, ◌&&◌, ℕ, ◌+◌, ◌<◌, ◌≤◌, not, max, Bool, true, false, List, [], ◌∷◌, ◌++◌, length, if◌then◌else◌, arith, refl, ap, sym, subst, ◌∙◌, eqb-true, append-nil, append_assoc, fold}
-use Rattle.std.specs.List.{AllByRecursion, filter, flat_map}
+use Rattle.std.proofs.Common.{◌≡◌, ◌==◌, ◌&&◌, ℕ, ◌+◌, ◌≤◌, not, true, false, List, [], ◌∷◌, ◌++◌, if◌then◌else◌, arith, refl, ap, sym, subst, ◌∙◌, eqb-true, append-nil, append_assoc}
+use Rattle.std.specs.List.{AllByRecursion}
 use Rattle.std.proofs.lemmas.Bool.Decides.{nat_tests}
 use Rattle.std.proofs.lemmas.Grind.{flat_map-append}
 use Rattle.dap_follow.specs.Streams.{Placed}
-use Rattle.dap_follow.specs.Joined.{Piece, is_message, joins, latest, payload, pieces, tail, with_segment}
+use Rattle.dap_follow.specs.Joined.{Piece, joins, latest, payload, pieces, tail, with_segment}
 use Rattle.dap_watch.specs.Inner.Pieces.{all_segments, glue, merged}
-use Rattle.dap_watch.proofs.StayLemmas.{alone, and_false_one, and_false_two, and_one, apart, by_bool, joined, longer}
+use Rattle.dap_watch.proofs.StayLemmas.{alone, and_one, apart, by_bool, joined, longer}
 
 -- ---- glue
 

@@ -1,29 +1,28 @@
 -- What is kept of the streams, with one packet more.
-use Rattle.std.proofs.Common.{◌≡◌, ◌⊎◌, inl, inr, ⊎_elim, ℕ, zero, suc, ◌+◌, ◌*◌, ◌/◌, ◌<◌, ◌≤◌, ◌^◌, Bool, true, false, List, [], ◌∷◌, ◌++◌, length, length-append, map, max, get_or, Option, Some, None, arith, refl, ap, sym, subst, ◌∙◌, append-nil, append_assoc, not}
+use Rattle.std.proofs.Common.{◌≡◌, ◌⊎◌, inl, inr, ⊎_elim, ℕ, zero, suc, ◌+◌, ◌*◌, ◌<◌, ◌≤◌, Bool, true, false, List, [], ◌∷◌, ◌++◌, length, length-append, map, max, get_or, Option, Some, None, arith, refl, ap, sym, subst, ◌∙◌, append-nil, append_assoc, not}
 use Rattle.std.specs.Prelude.{slice_get, slice_set}
-use Rattle.std.specs.List.{AllByRecursion, AllZip, IsDistinct, filter, flat_map, list_any}
+use Rattle.std.specs.List.{AllByRecursion, IsDistinct, filter, flat_map, list_any}
 use Rattle.std.proofs.lemmas.Bool.{cases_Bool, false≢true}
 use Rattle.std.proofs.lemmas.Grind.{flat_map-append}
 use Rattle.std.proofs.lemmas.List.{map-append}
 use Rattle.std.proofs.lemmas.Map.Keys.{IsDistinct-head, IsDistinct-tail}
 use Rattle.indexmap.specs.IndexSet.{insert_key}
-use Rattle.dap_listing.specs.Captured.{Spell}
 use Rattle.dap_listing.specs.declared.lines.Direction.{Direction}
 use Rattle.dap_listing.specs.declared.captured.CapturedSegment.{CapturedSegment}
-use Rattle.dap_follow.specs.Streams.{ArePlaced, Captured, IsOrdered, Placed, at, came_as, came_in, first_place, is_same, no_more, streams}
-use Rattle.dap_follow.specs.Joined.{Message, Piece, is_message, latest, message_of, messages, pieces}
+use Rattle.dap_follow.specs.Streams.{ArePlaced, Captured, Placed, at, came_as, came_in, is_same, no_more, streams}
+use Rattle.dap_follow.specs.Joined.{Message, Piece, is_message, message_of, messages, pieces}
 use Rattle.dap_follow.specs.Inner.Keeping.{stream_of}
 use Rattle.dap_watch.specs.Inner.Segments.{Came, HasAt, came, put_at, segment_packet, top}
 use Rattle.dap_follow.specs.declared.streams.Stream.{Stream}
 use Rattle.dap_follow.proofs.ForCallers.{at-append, came_in-more, came_in-none, is_same_self, or_else, same_is, same_sym, streams-more, streams-none, unseen}
-use Rattle.dap_watch.specs.Inner.Kept.{AreTold, Found, Keeps, KeepsPlaces}
+use Rattle.dap_watch.specs.Inner.Kept.{Found, Keeps, KeepsPlaces}
 use Rattle.dap_watch.specs.Inner.Streams.{AreAdded, Grows, IsIndexed, KeepsAll, KeepsEach, KeepsStream}
 use Rattle.dap_watch.specs.declared.places.Kept.{Kept}
 use Rattle.dap_watch.specs.declared.places.Places.{Places}
 use Rattle.dap_watch.specs.declared.places.Whole.{Whole}
 use Rattle.dap_watch.specs.declared.streams.Streams.{Streams}
 use Rattle.dap_watch.proofs.GlueLemmas.{all_weaker}
-use Rattle.dap_watch.proofs.OrderLemmas.{all_put, ascending, at_put, placed_more, rises_put, top_more}
+use Rattle.dap_watch.proofs.OrderLemmas.{all_put, at_put, placed_more, rises_put, top_more}
 
 -- ---- packets of others
 

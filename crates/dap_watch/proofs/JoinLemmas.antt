@@ -1,12 +1,12 @@
 -- One between others joins those that it is in a row with.
-use Rattle.std.proofs.Common.{◌≡◌, ◌&&◌, ◌/◌, ◌⊎◌, inl, inr, ℕ, ◌+◌, ◌<◌, ◌≤◌, Bool, true, false, List, [], ◌∷◌, ◌++◌, length, take, drop, insert, arith, refl, ap, sym, subst, ◌∙◌, append-nil, append_assoc, length-append, length-take, take-append-drop, Option, Some, None, zero, suc, ◌-◌, get_or, add-one, Result, Ok, Err, IfOk}
+use Rattle.std.proofs.Common.{◌≡◌, ◌&&◌, ◌/◌, ◌⊎◌, inl, inr, ℕ, ◌+◌, ◌<◌, ◌≤◌, Bool, true, false, List, [], ◌∷◌, ◌++◌, length, take, drop, insert, arith, refl, ap, sym, subst, ◌∙◌, append-nil, append_assoc, length-append, length-take, Some, None, zero, suc, ◌-◌, get_or, add-one, Result, Ok, Err, IfOk}
 use Rattle.std.specs.List.{AllByRecursion, filter}
 use Rattle.std.proofs.lemmas.Bool.{false≢true}
 use Rattle.std.proofs.lemmas.List.Elements.{filter-append}
 use Rattle.dap_listing.specs.Captured.{Spell, bytes_of}
-use Rattle.dap_follow.specs.Joined.{Piece, is_message, latest, payload, tail}
+use Rattle.dap_follow.specs.Joined.{Piece, is_message, latest, tail}
 use Rattle.dap_watch.specs.Inner.Pieces.{all_segments, glue}
-use Rattle.dap_watch.specs.Inner.Kept.{AbsorbsAfter, AbsorbsBefore, Holds, IsAbsorbed, IsApart, IsBehindApart, IsOpen, IsTold, Joins, Keeps, Lists, Regroups, Settles, Stays, digits_of, do_join}
+use Rattle.dap_watch.specs.Inner.Kept.{AbsorbsAfter, AbsorbsBefore, Holds, IsAbsorbed, IsApart, IsBehindApart, IsOpen, Joins, Keeps, Lists, Regroups, Settles, Stays, do_join}
 use Rattle.dap_watch.specs.declared.places.Kept.{Kept}
 use Rattle.dap_watch.specs.declared.places.Whole.{Whole}
 use Rattle.dap_watch.proofs.GlueLemmas.{glue_back, glue_front, glue_nil, latest_back, latest_front, segments_glue}

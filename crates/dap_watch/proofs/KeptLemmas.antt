@@ -1,18 +1,16 @@
 -- What is kept of a stream stands for its pieces.
-use Rattle.std.proofs.Common.{◌≡◌, ◌⊎◌, inl, inr, ⊎_elim, ◌==◌, ◌&&◌, ℕ, ◌+◌, ◌/◌, ◌<◌, ◌≤◌, not, max, Bool, true, false, List, [], ◌∷◌, ◌++◌, length, take, drop, if◌then◌else◌, arith, refl, ap, sym, subst, ◌∙◌, eqb-true, append-nil, append_assoc, leb, leb-true, get_or, zero, suc, add-one}
+use Rattle.std.proofs.Common.{◌≡◌, ◌⊎◌, inl, inr, ⊎_elim, ◌==◌, ◌&&◌, ℕ, ◌+◌, ◌/◌, ◌<◌, ◌≤◌, not, Bool, true, false, List, [], ◌∷◌, ◌++◌, length, drop, if◌then◌else◌, arith, refl, ap, sym, subst, ◌∙◌, eqb-true, append-nil, append_assoc, leb, leb-true, get_or, zero, suc, add-one}
 use Rattle.std.specs.List.{AllByRecursion, filter, flat_map}
 use Rattle.std.proofs.lemmas.Bool.{false≢true}
 use Rattle.std.proofs.lemmas.Bool.Decides.{nat_tests}
-use Rattle.std.proofs.lemmas.List.Elements.{filter-append}
 use Rattle.dap_listing.specs.Captured.{Spell, bytes_of}
 use Rattle.dap_listing.proofs.ForCallers.{bytes-append, spell-append}
-use Rattle.dap_follow.specs.Streams.{Placed}
-use Rattle.dap_follow.specs.Joined.{Piece, is_message, joins, latest, payload, pieces, tail}
+use Rattle.dap_follow.specs.Joined.{Piece, is_message, joins, payload, tail}
 use Rattle.dap_watch.specs.Inner.Pieces.{all_segments, glue, merged}
 use Rattle.dap_watch.specs.Inner.Kept.{AreListed, Holds, IsAbsorbed, IsOpen, Keeps, Stays, digits_of, do_join}
 use Rattle.dap_watch.specs.declared.places.Kept.{Kept}
 use Rattle.dap_watch.proofs.StayLemmas.{and_false_one, and_false_two, and_one, and_two, by_bool, not_true}
-use Rattle.dap_watch.proofs.GlueLemmas.{Chain, Has, IsWithin, Proper, all_append, all_weaker, full, glue_nil, glued_two, has_back, has_front, payload_merged, proper_back, proper_front, segments_append, tail_merged, unglued, within}
+use Rattle.dap_watch.proofs.GlueLemmas.{Has, IsWithin, Proper, all_append, all_weaker, full, glued_two, has_back, has_front, payload_merged, tail_merged, unglued, within}
 
 -- ---- lists of them
 

@@ -1,8 +1,8 @@
 -- The lines of an input, one after another.
-use Rattle.std.proofs.Common.{◌≡◌, ◌⊎◌, inl, inr, ◌==◌, ◌&&◌, ℕ, zero, suc, ◌+◌, ◌-◌, ◌<◌, ◌≤◌, nat_lt, Bool, true, false, cond, List, [], ◌∷◌, ◌++◌, length, length-append, take, get_or, if◌then◌else◌, arith, refl, ap, sym, subst, ◌∙◌, eqb-true}
+use Rattle.std.proofs.Common.{◌≡◌, ◌⊎◌, inl, inr, ◌==◌, ◌&&◌, ℕ, zero, suc, ◌+◌, ◌-◌, ◌<◌, nat_lt, Bool, true, false, List, [], ◌∷◌, ◌++◌, length, length-append, take, if◌then◌else◌, arith, refl, ap, sym, ◌∙◌, eqb-true}
 use Rattle.std.specs.Prelude.{slice_index}
 use Rattle.std.specs.List.{All, slice_split}
-use Rattle.std.specs.Io.BufRead.{drop_through, ends_with_byte, first_line, first_piece, strip_last, take_through}
+use Rattle.std.specs.Io.BufRead.{drop_through, ends_with_byte, first_line, strip_last, take_through}
 use Rattle.std.specs.Str.Lines.{lines, lines_of_parts, strip_carriage_return}
 use Rattle.std.proofs.lemmas.Bool.Decides.{nat_tests}
 use Rattle.std.proofs.lemmas.List.Splits.{length-slice_split, slice_split_at, slice_split_none}

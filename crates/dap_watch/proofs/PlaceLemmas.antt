@@ -1,5 +1,5 @@
 -- A segment in its place.
-use Rattle.std.proofs.Common.{◌≡◌, ◌⊎◌, inl, inr, ℕ, zero, suc, ◌+◌, ◌/◌, ◌<◌, ◌≤◌, Bool, true, false, List, [], ◌∷◌, ◌++◌, length, take, drop, get_or, insert, max, arith, refl, ap, sym, subst, ◌∙◌, append-nil, append_assoc, take-append-drop, Option, Some, None, nat_le, nat_lt, if◌then◌else◌}
+use Rattle.std.proofs.Common.{◌≡◌, inl, inr, ℕ, zero, suc, ◌+◌, ◌/◌, ◌<◌, ◌≤◌, true, false, List, [], ◌∷◌, ◌++◌, length, take, drop, get_or, max, arith, refl, ap, sym, subst, ◌∙◌, append-nil, append_assoc, take-append-drop, Option, Some, None, nat_le, nat_lt, if◌then◌else◌}
 use Rattle.std.specs.List.{AllByRecursion, filter}
 use Rattle.std.specs.List.Sorted.{IsPartitionPoint, IsPartitionedBy}
 use Rattle.std.proofs.lemmas.List.Elements.{filter-append}
@@ -7,15 +7,15 @@ use Rattle.std.proofs.lemmas.Bool.Decides.{nat_tests}
 use Rattle.dap_listing.specs.Captured.{Spell, bytes_of}
 use Rattle.dap_listing.specs.declared.captured.CapturedSegment.{CapturedSegment}
 use Rattle.dap_follow.specs.Streams.{Placed}
-use Rattle.dap_follow.specs.Joined.{Piece, is_message, latest, payload, pieces, tail}
+use Rattle.dap_follow.specs.Joined.{Piece, is_message, latest, pieces}
 use Rattle.dap_watch.specs.Inner.Segments.{came, put_at}
-use Rattle.dap_watch.specs.Inner.Pieces.{IsPut, Rises, all_segments, glue}
-use Rattle.dap_watch.specs.Inner.Kept.{AreTold, Ascends, Found, Holds, IsNear, IsOpen, IsSegment, IsTold, IsWhole, Keeps, KeepsPlaces, Puts, Settles, Stays, digits_of, is_taken}
+use Rattle.dap_watch.specs.Inner.Pieces.{Rises, all_segments, glue}
+use Rattle.dap_watch.specs.Inner.Kept.{AreTold, Ascends, Found, IsNear, IsOpen, IsSegment, IsTold, Keeps, KeepsPlaces, Puts, is_taken}
 use Rattle.dap_watch.specs.declared.places.Kept.{Kept}
 use Rattle.dap_watch.specs.declared.places.Places.{Places}
 use Rattle.dap_watch.specs.declared.places.Whole.{Whole}
 use Rattle.dap_watch.proofs.StayLemmas.{alone}
-use Rattle.dap_watch.proofs.GlueLemmas.{Has, IsWithin, Proper, all_append, all_back, all_front, all_has, all_weaker, has_back, has_front, latest_back, latest_below, latest_front, pieces_flat, pieces_glue, proper_back, proper_front, proper_pieces, segments_append, segments_pieces}
+use Rattle.dap_watch.proofs.GlueLemmas.{Has, IsWithin, Proper, all_append, all_back, all_front, all_has, all_weaker, has_back, has_front, latest_below, pieces_flat, pieces_glue, proper_back, proper_front, proper_pieces, segments_append, segments_pieces}
 use Rattle.dap_watch.proofs.KeptLemmas.{holds_full, holds_within, keeps_split}
 
 -- ---- places that rise

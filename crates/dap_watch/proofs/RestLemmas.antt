@@ -1,19 +1,17 @@
 -- What is left of the streams.
-use Rattle.std.proofs.Common.{◌≡◌, ◌⊎◌, inl, inr, ℕ, ◌+◌, ◌-◌, ◌/◌, ◌<◌, ◌≤◌, nat_lt, Bool, true, false, List, [], ◌∷◌, ◌++◌, length, take, drop, replicate, codes, if◌then◌else◌, Some, None, arith, refl, ap, sym, subst, ◌∙◌, append-nil, append_assoc, zero, suc, get_or, add-one}
+use Rattle.std.proofs.Common.{◌≡◌, ◌⊎◌, inl, inr, ℕ, ◌+◌, ◌-◌, ◌/◌, ◌<◌, ◌≤◌, nat_lt, true, false, List, [], ◌∷◌, ◌++◌, length, drop, replicate, codes, if◌then◌else◌, Some, None, arith, refl, ap, sym, subst, ◌∙◌, append-nil, append_assoc, zero, suc, get_or, add-one}
 use Rattle.std.specs.Prelude.{slice_get}
-use Rattle.std.specs.List.{AllByRecursion, concat, flat_map, zip}
-use Rattle.std.specs.Fmt.{decimal}
+use Rattle.std.specs.List.{AllByRecursion, flat_map, zip}
 use Rattle.std.proofs.lemmas.Bool.Decides.{nat_tests}
 use Rattle.std.proofs.lemmas.List.{length-replicate}
 use Rattle.dap_text.specs.Text.{line_feed}
-use Rattle.dap_listing.specs.Captured.{Spell, bytes_of}
 use Rattle.dap_listing.proofs.ForCallers.{count_of}
 use Rattle.dap_follow.specs.Streams.{Captured, Placed}
 use Rattle.dap_follow.specs.Joined.{Piece, is_message, payload, pieces, tail}
 use Rattle.dap_follow.specs.Following.{gap_line, length_text, part_line, range_text, rest_lines, stream_text}
 use Rattle.dap_follow.specs.declared.streams.Stream.{Stream}
-use Rattle.dap_watch.specs.Inner.Kept.{AreListed, Holds, IsOpen, Keeps, KeepsPlaces, digits_of}
-use Rattle.dap_watch.specs.Inner.Streams.{KeepsEach, KeepsStream}
+use Rattle.dap_watch.specs.Inner.Kept.{AreListed, Holds, IsOpen, Keeps, digits_of}
+use Rattle.dap_watch.specs.Inner.Streams.{KeepsEach}
 use Rattle.dap_watch.specs.Inner.Rest.{all_kept_rest, count_text, kept_gap, kept_part, kept_rest}
 use Rattle.dap_watch.specs.declared.places.Kept.{Kept}
 use Rattle.dap_watch.specs.declared.places.Places.{Places}

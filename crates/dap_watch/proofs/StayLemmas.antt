@@ -1,8 +1,8 @@
 -- A segment more among those of a stream.
-use Rattle.std.proofs.Common.{◌≡◌, ℕ, ◌+◌, ◌<◌, ◌≤◌, ◌==◌, ◌&&◌, not, Bool, true, false, List, [], ◌∷◌, ◌++◌, max, if◌then◌else◌, arith, refl, ap, sym, subst, ◌∙◌, eqb-true}
+use Rattle.std.proofs.Common.{◌≡◌, ℕ, ◌+◌, ◌<◌, ◌≤◌, ◌==◌, ◌&&◌, not, Bool, true, false, List, [], ◌∷◌, ◌++◌, if◌then◌else◌, arith, refl, ap, sym, subst, ◌∙◌, eqb-true}
 use Rattle.std.specs.List.{AllByRecursion, filter}
 use Rattle.dap_follow.specs.Streams.{Placed}
-use Rattle.dap_follow.specs.Joined.{Piece, is_message, joins, latest, pieces, tail, with_segment}
+use Rattle.dap_follow.specs.Joined.{Piece, is_message, joins, pieces, tail, with_segment}
 use Rattle.dap_watch.specs.Watched.{is_whole_with, whole_at, whole_with}
 
 pub by_bool : {X : Type 0} (b : Bool) → (b ≡ true → X) → (b ≡ false → X) → X

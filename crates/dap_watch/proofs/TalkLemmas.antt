@@ -1,5 +1,5 @@
 -- What a talk over the lines of a capture comes to.
-use Rattle.std.proofs.Common.{◌≡◌, ◌≢◌, ◌⊎◌, inl, inr, ℕ, zero, suc, ◌+◌, ◌*◌, ◌<◌, ◌≤◌, ◌||◌, nat_lt, nat_le, is_err, Bool, true, false, List, [], ◌∷◌, ◌++◌, length, length-append, take, if◌then◌else◌, Option, Some, None, Result, Ok, Err, IfSome, arith, refl, ap, sym, subst, ◌∙◌, append-nil, append_assoc, ◌&&◌, ◌==◌}
+use Rattle.std.proofs.Common.{◌≡◌, ◌≢◌, ◌⊎◌, inl, inr, ℕ, ◌+◌, ◌<◌, ◌≤◌, ◌||◌, nat_lt, nat_le, is_err, Bool, true, false, List, [], ◌∷◌, ◌++◌, length, length-append, take, Option, Some, None, Ok, Err, IfSome, arith, refl, ap, sym, subst, ◌∙◌, append-nil, append_assoc, ◌&&◌, ◌==◌}
 use Rattle.std.specs.List.{AllByRecursion, cons_option, filter_map, list_any}
 use Rattle.std.specs.Result.{result_unwrap_or}
 use Rattle.std.specs.Io.KnownBytes.{Appends, Keeps}
@@ -11,7 +11,7 @@ use Rattle.std.proofs.lemmas.Bool.{false≢true}
 use Rattle.std.proofs.lemmas.Bool.Decides.{nat_tests}
 use Rattle.std.proofs.lemmas.List.Folds.{list_any-append}
 use Rattle.linewise.specs.Output.{WritesFront}
-use Rattle.linewise.specs.Talks.{AnswersLine, Fails, SaysTo, Talked, is_bad, is_skipped, longest, said_of}
+use Rattle.linewise.specs.Talks.{AnswersLine, Fails, Talked, is_bad, is_skipped, longest, said_of}
 use Rattle.linewise.specs.declared.talking.Became.{Became}
 use Rattle.linewise.specs.declared.talking.Became.TheVariants.{Done, BadLine, NoMemory}
 use Rattle.linewise.specs.declared.talking.TalkFault.{TalkFault}
@@ -19,7 +19,6 @@ use Rattle.linewise.specs.declared.talking.TalkFault.TheVariants.{ReadFailed, Wr
 use Rattle.dap_text.specs.Words.{is_hex_text}
 use Rattle.dap_listing.specs.Lines.{Capture, Line, capture_line, digits_line, line_of}
 use Rattle.dap_listing.specs.Listing.{captures, packet_limit}
-use Rattle.dap_listing.specs.declared.fault.CaptureFault.{CaptureFault}
 use Rattle.dap_listing.specs.declared.fault.CaptureFault.TheVariants as fault
 use Rattle.dap_listing.specs.declared.lines.Direction.{Direction}
 use Rattle.dap_listing.specs.declared.lines.Direction.TheVariants.{Right, Left}

@@ -1,9 +1,7 @@
 -- What the lines so far came to, with one packet more.
-use Rattle.std.proofs.Common.{◌≡◌, ◌≢◌, ◌⊎◌, inl, inr, ℕ, zero, suc, ◌+◌, ◌*◌, ◌/◌, ◌<◌, ◌≤◌, ◌^◌, ◌==◌, Bool, true, false, List, [], ◌∷◌, ◌++◌, length, length-append, map, max, if◌then◌else◌, Option, Some, None, Ok, Err, arith, refl, ap, sym, subst, ◌∙◌, append-nil, append_assoc, eqb-true}
+use Rattle.std.proofs.Common.{◌≡◌, ℕ, ◌+◌, ◌/◌, ◌<◌, ◌≤◌, ◌^◌, ◌==◌, Bool, true, false, List, [], ◌∷◌, ◌++◌, length, length-append, map, if◌then◌else◌, Some, None, arith, refl, ap, sym, subst, ◌∙◌, append-nil, append_assoc}
 use Rattle.std.specs.List.{AllByRecursion, AllZip, concat, enumerate_from, filter, flat_map, zip}
 use Rattle.std.proofs.lemmas.Bool.Decides.{nat_tests}
-use Rattle.std.proofs.lemmas.Grind.{flat_map-append}
-use Rattle.std.proofs.lemmas.List.{map-append}
 use Rattle.std.proofs.lemmas.List.Elements.{filter-append}
 use Rattle.dap_listing.specs.Captured.{Spell, bytes_of}
 use Rattle.dap_listing.specs.Listing.{heading}
@@ -13,14 +11,14 @@ use Rattle.dap_listing.specs.declared.lines.Direction.{Direction}
 use Rattle.dap_listing.proofs.ForCallers.{decoded}
 use Rattle.dap_follow.specs.Streams.{Captured, IsOrdered, Placed, came_in, first_place, streams, ArePlaced}
 use Rattle.dap_follow.specs.Joined.{Message, Piece, is_message, latest, message_of, messages, pieces}
-use Rattle.dap_follow.specs.Following.{IsCaptured, IsMessageText, IsPacketText, rest_lines}
+use Rattle.dap_follow.specs.Following.{IsMessageText, IsPacketText, rest_lines}
 use Rattle.dap_watch.specs.Inner.Segments.{Came}
 use Rattle.dap_follow.specs.declared.streams.Stream.{Stream}
 use Rattle.dap_follow.proofs.ForCallers.{enumerate_from-snoc, seen_more}
 use Rattle.dap_watch.specs.Watched.{IsWatched, whole_with}
 use Rattle.dap_watch.specs.Inner.Pieces.{all_segments}
-use Rattle.dap_watch.specs.Inner.Kept.{AreTold, IsWhole, KeepsPlaces}
-use Rattle.dap_watch.specs.Inner.Streams.{AreAdded, Grows, KeepsAll, KeepsEach, KeepsStream}
+use Rattle.dap_watch.specs.Inner.Kept.{AreTold, IsWhole}
+use Rattle.dap_watch.specs.Inner.Streams.{Grows, KeepsAll, KeepsEach, KeepsStream}
 use Rattle.dap_watch.specs.Inner.Rest.{all_kept_rest}
 use Rattle.dap_watch.specs.Inner.Watching.{Tells, Watches}
 use Rattle.dap_watch.specs.declared.places.Places.{Places}

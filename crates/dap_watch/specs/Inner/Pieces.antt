@@ -1,5 +1,5 @@
 -- Pieces of one stream, end to end.
-use Rattle.std.specs.Prelude.{◌≡◌, ◌⊎◌, ⊤, ◌<◌, ℕ, List, [], ◌∷◌, ◌++◌, if◌then◌else◌}
+use Rattle.std.specs.Prelude.{◌≡◌, ◌⊎◌, ⊤, ◌<◌, List, [], ◌∷◌, ◌++◌, if◌then◌else◌}
 use Rattle.std.specs.List.{AllByRecursion, flat_map}
 use Rattle.dap_follow.specs.Streams.{Placed}
 use Rattle.dap_follow.specs.Joined.{Piece, joins, tail}

@@ -1,5 +1,5 @@
 -- What the program keeps of a capture that isn't over.
-use Rattle.std.specs.Prelude.{◌≡◌, ◌⊎◌, ⊤, ℕ, ◌+◌, ◌^◌, ◌<◌, ◌≤◌, true, is_err, List, [], ◌∷◌, ◌++◌, length, map, Option, Some, None, Ok}
+use Rattle.std.specs.Prelude.{◌≡◌, ◌⊎◌, ⊤, ℕ, ◌+◌, ◌^◌, ◌≤◌, true, is_err, List, [], ◌∷◌, ◌++◌, length, map, Option, Some, None, Ok}
 use Rattle.std.specs.List.{AllByRecursion, AllZip, concat, enumerate_from, flat_map}
 use Rattle.dap_listing.specs.Lines.{Capture, line_of}
 use Rattle.dap_listing.specs.Listing.{packet_limit}

@@ -1,4 +1,4 @@
-use Rattle.std.proofs.Common.{rules, of_calls, nat_lt, ◌≡◌}
+use Rattle.std.proofs.Common.{rules, of_calls, nat_lt}
 use Rattle.std.proofs.lemmas.Fn.{always_returns_same}
 use Rattle.dap_watch.specs.declared.places.Kept.{Kept}
 use Rattle.dap_watch.proofs.PlaceLemmas.{above_point, below_point, partitioned_at}

@@ -1,6 +1,5 @@
-use Rattle.std.proofs.Common.{◌≡◌, ◌<◌, true, arith, length, rules, sym, ◌∙◌}
+use Rattle.std.proofs.Common.{◌<◌, length, rules, sym, ◌∙◌}
 use Rattle.std.proofs.lemmas.Result.{on_ok_weaker}
-use Rattle.dap_watch.specs.Inner.Kept.{do_join}
 use Rattle.dap_watch.proofs.JoinLemmas.{absorbs_after}
 use Rattle.dap_watch.proofs.places.join_after.Goals as goal
 

@@ -1,4 +1,4 @@
-use Rattle.std.proofs.Common.{◌≡◌, ◌<◌, ◌≤◌, true, arith, length, rules, sym, ◌∙◌}
+use Rattle.std.proofs.Common.{◌<◌, ◌≤◌, length, rules, sym, ◌∙◌}
 use Rattle.dap_watch.proofs.JoinLemmas.{absorbs_before}
 use Rattle.dap_watch.proofs.places.join_before.Goals as goal
 

@@ -1,5 +1,5 @@
 use Rattle.std.proofs.Common.{◌≡◌, ◌<◌, ◌≤◌, ◌++◌, List, length, get_or, rules, inr, sym, ap, ◌∙◌}
-use Rattle.dap_watch.specs.Inner.Rest.{all_kept_rest, kept_rest}
+use Rattle.dap_watch.specs.Inner.Rest.{kept_rest}
 use Rattle.dap_watch.specs.declared.places.Kept.{Kept}
 use Rattle.dap_watch.specs.declared.places.Places.{Places}
 use Rattle.dap_watch.proofs.RestLemmas.{rest_ends, rest_more}

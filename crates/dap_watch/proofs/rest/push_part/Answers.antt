@@ -1,8 +1,8 @@
-use Rattle.std.proofs.Common.{◌≡◌, ◌++◌, ◌/◌, ℕ, List, [], length, replicate, codes, rules, arith, refl, ap, sym, ◌∙◌, if◌then◌else◌}
+use Rattle.std.proofs.Common.{◌≡◌, ◌++◌, ◌/◌, ℕ, List, [], length, replicate, codes, rules, ap, sym, ◌∙◌, if◌then◌else◌}
 use Rattle.std.proofs.lemmas.Result.{on_ok_weaker}
 use Rattle.dap_follow.specs.Following.{range_text, stream_text}
 use Rattle.dap_watch.specs.Inner.Kept.{digits_of}
-use Rattle.dap_watch.specs.Inner.Rest.{count_text, kept_part}
+use Rattle.dap_watch.specs.Inner.Rest.{count_text}
 use Rattle.dap_watch.proofs.RestLemmas.{appended_twice, count_is, some_bytes}
 use Rattle.dap_watch.proofs.rest.push_part.Goals as goal
 
