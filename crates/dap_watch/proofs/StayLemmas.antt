@@ -1,30 +1,30 @@
 -- A segment more among those of a stream.
-use Rattle.std.proofs.Common.{◌≡◌, ℕ, ◌+◌, ◌<◌, ◌≤◌, ◌==◌, ◌&&◌, not, Bool, true, false, List, [], ◌∷◌, ◌++◌, max, if◌then◌else◌, arith, refl, ap, sym, subst, ◌∙◌, eqb-true}
+use Rattle.std.proofs.Common.{◌≡◌, ℕ, ◌+◌, ◌<◌, ◌≤◌, ◌==◌, ◌&&◌, not, Bool, true, false, List, [], ◌∷◌, ◌++◌, if◌then◌else◌, arith, refl, ap, sym, subst, ◌∙◌, eqb-true}
 use Rattle.std.specs.List.{AllByRecursion, filter}
 use Rattle.dap_follow.specs.Streams.{Placed}
-use Rattle.dap_follow.specs.Joined.{Piece, is_message, joins, latest, pieces, tail, with_segment}
+use Rattle.dap_follow.specs.Joined.{Piece, is_message, joins, pieces, tail, with_segment}
 use Rattle.dap_watch.specs.Watched.{is_whole_with, whole_at, whole_with}
 
-by_bool : {X : Type 0} (b : Bool) → (b ≡ true → X) → (b ≡ false → X) → X
+pub by_bool : {X : Type 0} (b : Bool) → (b ≡ true → X) → (b ≡ false → X) → X
 by_bool true f g = f refl
 by_bool false f g = g refl
 
-and_one : (a b : Bool) → (a && b) ≡ true → a ≡ true
+pub and_one : (a b : Bool) → (a && b) ≡ true → a ≡ true
 and_one true b h = refl
 and_one false b h = h
 
-and_two : (a b : Bool) → (a && b) ≡ true → b ≡ true
+pub and_two : (a b : Bool) → (a && b) ≡ true → b ≡ true
 and_two true b h = h
 and_two false b h = absurd (cc)
 
-not_true : (a : Bool) → not a ≡ true → a ≡ false
+pub not_true : (a : Bool) → not a ≡ true → a ≡ false
 not_true true h = absurd (cc)
 not_true false h = refl
 
-and_false_one : (a b : Bool) → a ≡ false → (a && b) ≡ false
+pub and_false_one : (a b : Bool) → a ≡ false → (a && b) ≡ false
 and_false_one a b h = ap (λ x. x && b) h
 
-and_false_two : (a b : Bool) → b ≡ false → (a && b) ≡ false
+pub and_false_two : (a b : Bool) → b ≡ false → (a && b) ≡ false
 and_false_two true b h = h
 and_false_two false b h = refl
 
@@ -33,22 +33,22 @@ only k ps = filter (is_whole_with k) ps
 
 -- ---- joining
 
-abbrev alone : Placed → Piece
+abbrev pub alone : Placed → Piece
 alone a = record { head = a; others = [] }
 
-abbrev longer : Placed → Piece → Piece
+abbrev pub longer : Placed → Piece → Piece
 longer a p = record { head = a; others = p.head ∷ p.others }
 
-joined : (a : Placed) (p : Piece) (ps : List Piece) → joins a p.head ≡ true → with_segment a (p ∷ ps) ≡ longer a p ∷ ps
+pub joined : (a : Placed) (p : Piece) (ps : List Piece) → joins a p.head ≡ true → with_segment a (p ∷ ps) ≡ longer a p ∷ ps
 joined a p ps h = ap (λ b. if b then longer a p ∷ ps else alone a ∷ p ∷ ps) h
 
-apart : (a : Placed) (p : Piece) (ps : List Piece) → joins a p.head ≡ false → with_segment a (p ∷ ps) ≡ alone a ∷ p ∷ ps
+pub apart : (a : Placed) (p : Piece) (ps : List Piece) → joins a p.head ≡ false → with_segment a (p ∷ ps) ≡ alone a ∷ p ∷ ps
 apart a p ps h = ap (λ b. if b then longer a p ∷ ps else alone a ∷ p ∷ ps) h
 
-not_last : (a b : Placed) → joins a b ≡ true → a.last ≡ false
+pub not_last : (a b : Placed) → joins a b ≡ true → a.last ≡ false
 not_last a b h = not_true a.last (and_two (b.place == a.place + 1) (not a.last) (and_one ((b.place == a.place + 1) && not a.last) (not b.first) h))
 
-not_first : (a b : Placed) → joins a b ≡ true → b.first ≡ false
+pub not_first : (a b : Placed) → joins a b ≡ true → b.first ≡ false
 not_first a b h = not_true b.first (and_two ((b.place == a.place + 1) && not a.last) (not b.first) h)
 
 far : (a b : Placed) → a.place + 1 < b.place → joins a b ≡ false
@@ -154,7 +154,7 @@ stays k s front back late below above = same_listed late (beside_all k s front b
 -- ---- seams
 
 -- the last of these doesn't join the first of those
-abbrev IsSeam : List Placed → List Placed → Type 0
+abbrev pub IsSeam : List Placed → List Placed → Type 0
 IsSeam [] back = Unit {0}
 IsSeam (x ∷ []) [] = Unit {0}
 IsSeam (x ∷ []) (b ∷ back) = joins x b ≡ false
@@ -170,7 +170,7 @@ in_front x p ps qs =
     (λ t. joined x p (ps ++ qs) t ∙ ap (λ xs. xs ++ qs) (sym (joined x p ps t)))
     (λ f. apart x p (ps ++ qs) f ∙ ap (λ xs. xs ++ qs) (sym (apart x p ps f)))
 
-seam : (xs back : List Placed) → IsSeam xs back → pieces (xs ++ back) ≡ pieces xs ++ pieces back
+pub seam : (xs back : List Placed) → IsSeam xs back → pieces (xs ++ back) ≡ pieces xs ++ pieces back
 seam [] back h = refl
 seam (x ∷ []) [] h = refl
 seam (x ∷ []) (b ∷ back) h =
@@ -191,7 +191,7 @@ seam_last x [] [] h = tt
 seam_last x [] (b ∷ back) h = and_false_one ((b.place == x.place + 1) && not x.last) (not b.first) (and_false_two (b.place == x.place + 1) (not x.last) (ap (λ t. not t) h))
 seam_last x (y ∷ xs) back h = seam_last y xs back h
 
-seam_hole : (place : ℕ) (front back : List Placed) → AllByRecursion (λ a. a.place < place) front → AllByRecursion (λ b. place < b.place) back → IsSeam front back
+pub seam_hole : (place : ℕ) (front back : List Placed) → AllByRecursion (λ a. a.place < place) front → AllByRecursion (λ b. place < b.place) back → IsSeam front back
 seam_hole place [] back below above = tt
 seam_hole place (x ∷ []) [] below above = tt
 seam_hole place (x ∷ []) (b ∷ back) below above = let one : x.place < place = below.0 in let other : place < b.place = above.0 in far x b (omega arith)

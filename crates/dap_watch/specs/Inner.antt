@@ -1,2 +1,7 @@
 -- What only the contracts of private functions cite, and proofs: nobody has to believe it.
-pub mod Keeping
+pub mod Segments
+pub mod Pieces
+pub mod Kept
+pub mod Streams
+pub mod Rest
+pub mod Watching

@@ -1,7 +1,13 @@
 -- A listing that is written packet by packet, and the one of `follow`.
-use Rattle.std.specs.Prelude.{◌≡◌, ℕ, ◌==◌, ◌&&◌, Bool, List, ◌∷◌, ◌++◌}
+use Rattle.std.specs.Prelude.{◌≡◌, ◌⊎◌, ℕ, ◌==◌, ◌&&◌, ◌||◌, nat_lt, is_err, Bool, List, [], ◌∷◌, ◌++◌, length, Option}
 use Rattle.std.specs.List.{AllZip, concat, enumerate_from, filter, flat_map, zip}
-use Rattle.dap_listing.specs.Lines.{Capture}
+use Rattle.std.specs.Io.KnownBytes.{Appends}
+use Rattle.linewise.specs.Output.{WritesFront}
+use Rattle.linewise.specs.Talks.{longest}
+use Rattle.linewise.specs.declared.talking.TalkFault.{TalkFault}
+use Rattle.linewise.specs.declared.talking.TalkFault.TheVariants.{WriteFailed}
+use Rattle.dap_listing.specs.Lines.{Capture, line_of}
+use Rattle.dap_listing.specs.Listing.{captures, packet_limit}
 use Rattle.dap_follow.specs.Streams.{IsOrdered, Captured, Placed, came_in, streams}
 use Rattle.dap_follow.specs.Joined.{Piece, is_message, latest, messages, pieces}
 use Rattle.dap_follow.specs.Following.{IsCaptured, IsPacketText, rest_lines}
@@ -29,3 +35,23 @@ pub record IsWatched (captured : List Capture) (written rest : List ℕ) : Type 
   pub are_texts : AllZip (IsPacketText (flat_map messages ordered)) (enumerate_from 1 packets) texts
   pub written_is : written ≡ concat texts
   pub rest_is : rest ≡ flat_map (λ (stream, segments). rest_lines stream (pieces segments)) (zip (streams packets) ordered)
+
+-- a line that is none of a capture, or that is too long: it is told, and has no packet
+abbrev pub is_refused : List ℕ → Bool
+is_refused line = nat_lt longest (length line) || is_err (line_of packet_limit line)
+
+-- the same of the packets of an input in front of these
+abbrev pub IsWatchedTo : (input : List ℕ) → (left : List Capture) → (written rest : List ℕ) → Type 0
+IsWatchedTo input left written rest = (captured : List Capture) × (captures packet_limit input ≡ captured ++ left) × IsWatched captured written rest
+
+-- The writer holds the listing of an input.
+abbrev pub WatchGives : (input : List ℕ) → (held holds : Option (List ℕ)) → Type 0
+WatchGives input held holds = (written rest : List ℕ) × IsWatched (captures packet_limit input) written rest × Appends held holds (written ++ rest)
+
+-- What the writer holds where that failed: the lines of the packets so far, or a prefix of them where it is the writer that failed.
+abbrev pub WatchFails : (input : List ℕ) → (held holds : Option (List ℕ)) → TalkFault → Type 0
+WatchFails input held holds WriteFailed =
+    (left : List Capture) × (written rest : List ℕ) × IsWatchedTo input left written rest
+    × (WritesFront held holds written ⊎ ((left ≡ []) × WritesFront held holds (written ++ rest)))
+WatchFails input held holds _ =
+    (left : List Capture) × (written rest : List ℕ) × IsWatchedTo input left written rest × Appends held holds written

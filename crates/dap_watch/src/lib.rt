@@ -4,6 +4,7 @@
 mod laws;
 mod places;
 mod rest;
+mod streams;
 mod watching;
 
 pub use laws::{listed_messages_can_go, listed_messages_stay, watched_captures_are_followed};

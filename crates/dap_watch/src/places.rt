@@ -1,150 +1,306 @@
-//! What is kept of a stream: the segments of messages that aren't whole, and the numbers of those that were listed.
+//! What is kept of a stream: the segments of messages that aren't whole, and the places of those that are listed.
+
+ghost use Rattle.std.specs.Prelude.{◌≡◌, ◌&&◌, true, ◌≤◌, ◌<◌, ◌+◌, ◌/◌, ◌^◌, [], IfOk, IfSome, OnOk, drop, length, take};
+ghost use Rattle.std.specs.List.{AllByRecursion};
+ghost use Rattle.dap_listing.specs.Captured.{Spell};
+ghost use Rattle.dap_watch.specs.Inner.Kept.{AbsorbsAfter, AbsorbsBefore, Ascends, Finds, IsAbsorbed, IsNear, IsSegment, Joins, Lists, Puts, digits_of, do_join, is_taken as takes};
 
 use dap_listing::CapturedSegment;
 use nsp_seg::Seq12;
 use std::alloc::{AllocError, Global};
+use std::marker::Model;
 
 /// So many numbers of segments there are (NSP 4.0.0, segment numbers).
-pub(crate) const ROUND: u64 = 4096;
+const ROUND: u64 = 4096;
 
 /// How far below the highest place before it a segment may lie.
 const BELOW: u64 = 2047;
 
-/// A segment of a message that isn't whole: its place, its marks, and the hex digits of its payload.
-#[derive(Debug, Drop)]
-pub(crate) struct Open {
-    pub(crate) place: u64,
+/// The hex digits of a payload, two for each byte.
+#[derive(Drop)]
+pub(crate) struct Payload {
+    digits: Vec<u8>,
+}
+
+impl Model for Payload {
+    ghost use Rattle.std.specs.Prelude.{ℕ, ◌/◌, List, length};
+    ghost use Rattle.dap_listing.specs.Captured.{Spell};
+
+    ghost Value = { List ℕ };
+
+    ghost view = { λ p. p.digits.items };
+
+    ghost invariant = { λ p. Spell p.digits.items (length p.digits.items / 2) };
+}
+
+impl Payload {
+    ghost use Rattle.std.specs.Prelude.{◌≡◌, ◌++◌, ◌/◌, OnOk, IfOk, length};
+    ghost use Rattle.dap_listing.specs.Captured.{Spell};
+
+    /// The payload that the digits spell.
+    fn of(alloc: Global, digits: &[u8]) -> Result<Self, AllocError>
+        requires { Spell digits.now (length digits.now / 2) }
+        ensures { IfOk result (λ payload. payload ≡ digits.now) }
+    {
+        let digits = Vec::from_slice(alloc, digits)?;
+        Ok(Payload { digits })
+    }
+
+    /// Appends the digits.
+    fn push_to(&self, digits: &mut Vec<u8>) -> Result<(), AllocError>
+        ensures added { OnOk result (digits.new.items ≡ digits.old.items ++ self.now) }
+        ensures spelled { OnOk result (Spell self.now (length self.now / 2)) }
+    {
+        digits.extend_from_slice(&self.digits)
+    }
+}
+
+/// Places in a row. They are those of segments, with the marks at both ends and the hex digits of each payload; or those of
+/// messages that are listed, with no payloads.
+#[derive(Drop)]
+pub(crate) struct Kept {
+    pub(crate) from: u64,
+    pub(crate) to: u64,
     pub(crate) first: bool,
     pub(crate) last: bool,
-    pub(crate) payload: Vec<u8>,
+    pub(crate) listed: bool,
+    pub(crate) payloads: Vec<Payload>,
 }
 
-/// Places without a gap, whose messages are listed.
-#[derive(Clone, Copy, Debug)]
-pub(crate) struct Run {
-    pub(crate) from: u64,
-    pub(crate) to: u64,
-}
+impl Kept {
+    /// A segment in its place.
+    fn segment(alloc: Global, place: u64, segment: &CapturedSegment<'_>) -> Result<Self, AllocError>
+        requires { Spell segment.now.digits.now (length segment.now.digits.now / 2) }
+        ensures { IfOk result (IsSegment place segment.now) }
+    {
+        let payload = Payload::of(alloc, segment.digits)?;
+        let mut payloads = Vec::new(alloc);
+        payloads.push(payload)?;
+        Ok(Kept {
+            from: place,
+            to: place,
+            first: segment.first,
+            last: segment.last,
+            listed: false,
+            payloads,
+        })
+    }
 
-/// A message that is whole: its first and last place, and the hex digits of its bytes.
-#[derive(Debug, Drop)]
-pub(crate) struct Whole {
-    pub(crate) from: u64,
-    pub(crate) to: u64,
-    pub(crate) digits: Vec<u8>,
-}
-
-/// The places of a stream, each kind in order.
-#[derive(Drop)]
-pub(crate) struct Places {
-    alloc: Global,
-    highest: u64,
-    pub(crate) open: Vec<Open>,
-    pub(crate) listed: Vec<Run>,
-}
-
-/// Whether two neighbours have neither a gap nor a mark between them.
-pub(crate) fn joins(one: &Open, other: &Open) -> bool {
-    other.place > one.place && other.place - one.place == 1 && !one.last && !other.first
-}
-
-impl Places {
-    /// Those of a stream whose first segment has the number, before it came.
-    pub(crate) fn new(alloc: Global, number: Seq12) -> Self {
-        Places {
-            alloc,
-            highest: u64::from(number.get()) + ROUND,
-            open: Vec::new(alloc),
-            listed: Vec::new(alloc),
+    /// The places of a message that is listed. It takes no memory.
+    fn listed(alloc: Global, from: u64, to: u64) -> Self
+        ensures from { result.from ≡ from }
+        ensures to { result.to ≡ to }
+        ensures listed { result.listed ≡ true }
+    {
+        Kept {
+            from,
+            to,
+            first: true,
+            last: true,
+            listed: true,
+            payloads: Vec::new(alloc),
         }
     }
 
-    /// The place of a number, from 2,047 below to 2,048 above the highest one before it.
-    fn place_near(&self, number: Seq12) -> u64 {
-        let lowest = self.highest - BELOW;
-        lowest + u64::from(number.ahead_of(Seq12::of(lowest)))
-    }
-
-    /// Whether a segment of a listed message has the place.
-    fn is_listed(&self, place: u64) -> bool {
-        self.listed
-            .iter()
-            .any(|run| run.from <= place && place <= run.to)
-    }
-
-    /// Keeps the places of a message that is listed.
-    fn list(&mut self, from: u64, to: u64) -> Result<(), AllocError> {
-        let mut index = 0;
-        while index < self.listed.len() && self.listed[index].to < from {
-            index += 1;
+    /// Whether others are in a row with these: of a message that isn't whole, or listed as these are.
+    fn joins(&self, other: &Kept) -> bool
+        ensures { result ≡ do_join self.now other.now }
+    {
+        if other.from <= self.to || other.from - self.to != 1 {
+            return false;
         }
-        let joins_below = index > 0 && self.listed[index - 1].to + 1 == from;
-        let joins_above = index < self.listed.len() && self.listed[index].from == to + 1;
-        if joins_below && joins_above {
-            let above = self.listed.remove(index);
-            self.listed[index - 1].to = above.to;
-        } else if joins_below {
-            self.listed[index - 1].to = to;
-        } else if joins_above {
-            self.listed[index].from = from;
+        if self.listed {
+            other.listed
         } else {
-            self.listed.insert(index, Run { from, to })?;
+            !other.listed && !self.last && !other.first
         }
+    }
+
+    /// Takes those that follow.
+    fn absorb(&mut self, mut other: Kept) -> Result<(), AllocError>
+        ensures { OnOk result (IsAbsorbed self.old other self.new) }
+    {
+        self.payloads.append(&mut other.payloads)?;
+        self.to = other.to;
+        self.last = other.last;
         Ok(())
     }
 
-    /// The first and the last index of the piece that has the open segment.
-    fn piece_at(&self, index: usize) -> (usize, usize) {
-        let mut first = index;
-        while first > 0 && joins(&self.open[first - 1], &self.open[first]) {
-            first -= 1;
-        }
-        let mut last = index;
-        while last + 1 < self.open.len() && joins(&self.open[last], &self.open[last + 1]) {
-            last += 1;
-        }
-        (first, last)
+    /// Whether these are all segments of a message.
+    fn is_message(&self) -> bool
+        ensures { result ≡ (self.now.first && self.now.last) }
+    {
+        self.first && self.last
     }
 
-    /// The message that is whole with the open segment, whose segments are no longer kept.
-    fn take_whole(&mut self, index: usize) -> Result<Option<Whole>, AllocError> {
-        let (first, last) = self.piece_at(index);
-        if !self.open[first].first || !self.open[last].last {
-            return Ok(None);
+    /// The digits of all payloads.
+    pub(crate) fn gather(&self, digits: &mut Vec<u8>) -> Result<(), AllocError>
+        ensures gathered { OnOk result (digits.new.items ≡ digits_of self.now) }
+        ensures spelled { OnOk result
+            (Spell digits.new.items (length digits.new.items / 2)) }
+    {
+        digits.clear();
+        for payload in &self.payloads {
+            payload.push_to(digits)?;
         }
-        let (from, to) = (self.open[first].place, self.open[last].place);
-        let mut digits = Vec::new(self.alloc);
-        for at in first..last + 1 {
-            digits.extend_from_slice(&self.open[at].payload)?;
+        Ok(())
+    }
+}
+
+/// The place of a number, from 2,047 below to 2,048 above the highest one before it.
+fn place_near(highest: u64, number: Seq12) -> u64
+    ensures { 4096 ≤ highest → highest < 2 ^ 62 → IsNear highest number result }
+{
+    let lowest = highest.saturating_sub(BELOW);
+    lowest.saturating_add(u64::from(number.ahead_of(Seq12::of(lowest))))
+}
+
+/// How many are below a place.
+fn count_below(kept: &[Kept], place: u64) -> usize
+    ensures within { result ≤ length kept.now }
+    ensures below { Ascends kept.now
+        → AllByRecursion (λ k. k.to < place) (take result kept.now) }
+    ensures above { Ascends kept.now
+        → AllByRecursion (λ k. place ≤ k.to) (drop result kept.now) }
+{
+    kept.partition_point(|one| one.to < place)
+}
+
+/// Whether a segment has the place, where so many are below it.
+fn is_taken(kept: &[Kept], below: usize, place: u64) -> bool
+    ensures { result ≡ takes place (drop below kept.now) }
+{
+    match kept.get(below) {
+        Some(next) => next.from <= place,
+        None => false,
+    }
+}
+
+/// Joins the one behind an index, if they are in a row.
+fn join_after(kept: &mut Vec<Kept>, index: usize, piece: &mut Kept) -> Result<(), AllocError>
+    requires { index ≤ length kept.old.items }
+    ensures { OnOk result
+        (AbsorbsAfter index kept.old.items piece.old kept.new.items piece.new) }
+{
+    if index == kept.len() || !piece.joins(&kept[index]) {
+        return Ok(());
+    }
+    let after = kept.remove(index);
+    piece.absorb(after)
+}
+
+/// Joins the one in front of an index, if they are in a row; returns the index then.
+fn join_before(kept: &mut Vec<Kept>, index: usize, piece: Kept) -> Result<(usize, Kept), AllocError>
+    requires { index ≤ length kept.old.items }
+    ensures { IfOk result (λ joined.
+        AbsorbsBefore index kept.old.items piece joined.0 kept.new.items joined.1) }
+{
+    if index == 0 || !kept[index - 1].joins(&piece) {
+        return Ok((index, piece));
+    }
+    let mut before = kept.remove(index - 1);
+    before.absorb(piece)?;
+    Ok((index - 1, before))
+}
+
+/// Joins those on both sides of an index that are in a row with it; returns the index then.
+fn join(kept: &mut Vec<Kept>, index: usize, mut piece: Kept) -> Result<(usize, Kept), AllocError>
+    requires { index ≤ length kept.old.items }
+    ensures { IfOk result (λ joined.
+        Joins index kept.old.items piece joined.0 kept.new.items joined.1) }
+{
+    join_after(kept, index, &mut piece)?;
+    join_before(kept, index, piece)
+}
+
+/// A message that is whole: its first and last place.
+#[derive(Clone, Copy)]
+pub(crate) struct Whole {
+    pub(crate) from: u64,
+    pub(crate) to: u64,
+}
+
+/// Keeps a message as listed; gives the digits of its bytes.
+fn list_at(
+    alloc: Global,
+    kept: &mut Vec<Kept>,
+    index: usize,
+    message: Kept,
+    digits: &mut Vec<u8>,
+) -> Result<Whole, AllocError>
+    requires { index ≤ length kept.old.items }
+    ensures listed { IfOk result
+        (Lists index kept.old.items message kept.new.items digits.new.items) }
+    ensures spelled { OnOk result (Spell digits.new.items (length digits.new.items / 2)) }
+{
+    message.gather(digits)?;
+    let (from, to) = (message.from, message.to);
+    let (index, run) = join(kept, index, Kept::listed(alloc, from, to))?;
+    kept.insert(index, run)?;
+    Ok(Whole { from, to })
+}
+
+/// Puts a segment between others; returns the message that is whole with it, whose segments aren't kept then.
+fn put_in(
+    alloc: Global,
+    kept: &mut Vec<Kept>,
+    index: usize,
+    segment: Kept,
+    digits: &mut Vec<u8>,
+) -> Result<Option<Whole>, AllocError>
+    requires { index ≤ length kept.old.items }
+    ensures put { IfOk result
+        (Puts index kept.old.items segment kept.new.items digits.new.items) }
+    ensures spelled { IfOk result (λ found. IfSome found
+        (λ whole. Spell digits.new.items (length digits.new.items / 2))) }
+{
+    let (index, piece) = join(kept, index, segment)?;
+    if piece.is_message() {
+        return Ok(Some(list_at(alloc, kept, index, piece, digits)?));
+    }
+    kept.insert(index, piece)?;
+    Ok(None)
+}
+
+/// What is kept of a stream, in the order of the places.
+#[derive(Drop)]
+pub(crate) struct Places {
+    pub(crate) alloc: Global,
+    pub(crate) highest: u64,
+    pub(crate) kept: Vec<Kept>,
+}
+
+impl Places {
+    /// Those of a stream whose first segment has the number, before it came. It takes no memory.
+    pub(crate) fn new(alloc: Global, number: Seq12) -> Self
+        ensures highest { result.highest ≡ number + 4096 }
+        ensures kept { result.kept.items ≡ [] }
+    {
+        Places {
+            alloc,
+            highest: u64::from(number.get()) + ROUND,
+            kept: Vec::new(alloc),
         }
-        self.list(from, to)?;
-        for _ in first..last + 1 {
-            let _listed = self.open.remove(first);
-        }
-        Ok(Some(Whole { from, to, digits }))
     }
 
-    /// Takes a segment, unless another has its place; returns the message that is whole with it.
+    /// Takes a segment, unless another has its place; returns the message that is whole with it, and its digits.
     pub(crate) fn add(
         &mut self,
         segment: &CapturedSegment<'_>,
-    ) -> Result<Option<Whole>, AllocError> {
-        let place = self.place_near(segment.number);
-        if self.is_listed(place) {
+        digits: &mut Vec<u8>,
+    ) -> Result<Option<Whole>, AllocError>
+        requires { Spell segment.now.digits.now (length segment.now.digits.now / 2) }
+        ensures found { IfOk result (Finds segment.now self.old self.new digits.new.items) }
+        ensures spelled { IfOk result (λ found. IfSome found
+            (λ whole. Spell digits.new.items (length digits.new.items / 2))) }
+    {
+        let place = place_near(self.highest, segment.number);
+        self.highest = self.highest.max(place);
+        let index = count_below(&self.kept, place);
+        if is_taken(&self.kept, index, place) {
             return Ok(None);
         }
-        let Err(index) = self.open.binary_search_by_key(&place, |other| other.place) else {
-            return Ok(None);
-        };
-        let payload = Vec::from_slice(self.alloc, segment.digits)?;
-        let open = Open {
-            place,
-            first: segment.first,
-            last: segment.last,
-            payload,
-        };
-        self.open.insert(index, open)?;
-        self.highest = self.highest.max(place);
-        self.take_whole(index)
+        let one = Kept::segment(self.alloc, place, segment)?;
+        put_in(self.alloc, &mut self.kept, index, one, digits)
     }
 }

@@ -1,100 +1,90 @@
-//! What is left of a stream at the end of a capture: parts, and gaps.
+//! What is left of the streams at the end of a capture: parts, and gaps.
 
-use crate::places::{Places, ROUND, joins};
-use dap_listing::{Direction, arrow};
-use dap_text::{push_number, push_str, push_word};
-use std::alloc::AllocError;
+ghost use Rattle.std.specs.Prelude.{◌≡◌, OnOk};
+ghost use Rattle.dap_text.specs.Adding.{Adds};
+ghost use Rattle.dap_watch.specs.Inner.Rest.{all_kept_rest, kept_gap, kept_part, kept_rest};
 
-/// The segments that go one way between two ends.
-#[derive(Clone, Copy, PartialEq, Eq, Hash)]
-pub(crate) struct Stream {
-    pub(crate) way: Direction,
-    pub(crate) dst: u16,
-    pub(crate) src: u16,
-}
+use crate::places::Kept;
+use crate::streams::Streams;
+use dap_follow::{Stream, push_length, push_range, push_stream};
+use dap_text::push_str;
+use std::alloc::{AllocError, Global};
 
-/// Appends the numbers of two places.
-pub(crate) fn push_range(text: &mut Vec<u8>, from: u64, to: u64) -> Result<(), AllocError> {
-    push_number(text, " seg=", from % ROUND)?;
-    push_number(text, "..", to % ROUND)
-}
-
-/// Appends a stream: its direction, its receiver and its sender.
-fn push_stream(text: &mut Vec<u8>, stream: &Stream) -> Result<(), AllocError> {
-    push_str(text, " ")?;
-    push_str(text, arrow(stream.way))?;
-    push_word(text, " dst=", stream.dst)?;
-    push_word(text, " src=", stream.src)
-}
-
-/// Appends the line of a part.
+/// Appends the line of a part, unless its messages are listed.
 fn push_part(
     text: &mut Vec<u8>,
     stream: &Stream,
-    from: u64,
-    to: u64,
-    count: usize,
-) -> Result<(), AllocError> {
+    kept: &Kept,
+    digits: &mut Vec<u8>,
+) -> Result<(), AllocError>
+    ensures { OnOk result (Adds text.old text.new (kept_part stream.now kept.now)) }
+{
+    if kept.listed {
+        return Ok(());
+    }
+    kept.gather(digits)?;
     push_str(text, "part")?;
     push_stream(text, stream)?;
-    push_range(text, from, to)?;
-    push_number(text, " len=", count)?;
-    push_str(text, "\n")
+    push_range(text, kept.from, kept.to)?;
+    push_length(text, digits.len() / 2)
 }
 
-/// Appends the places that are missing between two.
+/// Appends the places that are missing between some and those behind them.
 fn push_gap(
     text: &mut Vec<u8>,
     stream: &Stream,
-    before: Option<u64>,
-    next: u64,
-) -> Result<(), AllocError> {
-    let Some(before) = before else {
+    kept: &Kept,
+    others: &[Kept],
+) -> Result<(), AllocError>
+    ensures { OnOk result (Adds text.old text.new (kept_gap stream.now kept.now others.now)) }
+{
+    let Some(next) = others.first() else {
         return Ok(());
     };
-    if next <= before + 1 {
+    if next.from <= kept.to || next.from - kept.to == 1 {
         return Ok(());
     }
     push_str(text, "gap")?;
     push_stream(text, stream)?;
-    push_range(text, before + 1, next - 1)?;
+    push_range(text, kept.to + 1, next.from - 1)?;
     push_str(text, "\n")
 }
 
-/// How many segments the piece has that begins with the open segment at the index, and the digits of their payloads.
-fn measure(places: &Places, index: usize) -> (usize, usize) {
-    let mut end = index + 1;
-    let mut digits = places.open[index].payload.len();
-    while end < places.open.len() && joins(&places.open[end - 1], &places.open[end]) {
-        digits += places.open[end].payload.len();
-        end += 1;
-    }
-    (end - index, digits)
-}
-
 /// Appends the parts of a stream, and the gaps between parts and listed messages.
-pub(crate) fn push_rest(
+fn push_rest(
     text: &mut Vec<u8>,
     stream: &Stream,
-    places: &Places,
-) -> Result<(), AllocError> {
-    let mut before = None;
-    let (mut open, mut run) = (0, 0);
-    while open < places.open.len() || run < places.listed.len() {
-        let is_run = open == places.open.len()
-            || run < places.listed.len() && places.listed[run].from < places.open[open].place;
-        if is_run {
-            push_gap(text, stream, before, places.listed[run].from)?;
-            before = Some(places.listed[run].to);
-            run += 1;
-        } else {
-            let (count, digits) = measure(places, open);
-            let (from, to) = (places.open[open].place, places.open[open + count - 1].place);
-            push_gap(text, stream, before, from)?;
-            push_part(text, stream, from, to, digits / 2)?;
-            before = Some(to);
-            open += count;
-        }
+    kept: &[Kept],
+    digits: &mut Vec<u8>,
+) -> Result<(), AllocError>
+    ensures { OnOk result (Adds text.old text.new (kept_rest stream.now kept.now)) }
+{
+    let mut rest = kept;
+    while let [one, others @ ..] = rest {
+        push_part(text, stream, one, digits)?;
+        push_gap(text, stream, one, others)?;
+        rest = others;
+    }
+    Ok(())
+}
+
+/// Appends what is left of each stream.
+pub(crate) fn push_all(
+    alloc: Global,
+    text: &mut Vec<u8>,
+    streams: &Streams,
+) -> Result<(), AllocError>
+    ensures { OnOk result (Adds text.old text.new
+        (all_kept_rest streams.now.names.keys streams.now.places.items)) }
+{
+    let mut digits = Vec::new(alloc);
+    let mut at = 0;
+    while at < streams.places.len() {
+        let Some(stream) = streams.names.get_index(at) else {
+            return Ok(());
+        };
+        push_rest(text, stream, &streams.places[at].kept, &mut digits)?;
+        at += 1;
     }
     Ok(())
 }

@@ -1,105 +1,149 @@
 //! The listing, line by line.
 
-use crate::places::{Places, Whole};
-use crate::rest::{Stream, push_range, push_rest};
+ghost use Rattle.std.specs.Prelude.{◌≡◌, ◌≢◌, ◌⊎◌, ◌/◌, ◌*◌, ◌<◌, ◌≤◌, ◌^◌, ◌∷◌, ◌++◌, [], ℕ, List, OnOk, OnErr, IfOk, IfErr, IfSome, length};
+ghost use Rattle.std.specs.Io.KnownBytes.{Appends, Keeps};
+ghost use Rattle.std.specs.List.{list_any};
+ghost use Rattle.std.specs.Str.Lines.{lines};
+ghost use Rattle.linewise.specs.Output.{WritesFront};
+ghost use Rattle.linewise.specs.declared.talking.Became.{Became as TheBecame};
+ghost use Rattle.dap_text.specs.Adding.{AddsSome};
+ghost use Rattle.dap_listing.specs.Captured.{Spell};
+ghost use Rattle.dap_follow.specs.Following.{IsMessageText};
+ghost use Rattle.dap_watch.specs.Inner.Segments.{segment_packet};
+ghost use Rattle.dap_follow.specs.Joined.{Piece};
+ghost use Rattle.dap_follow.specs.Streams.{Captured, Placed};
+ghost use Rattle.dap_watch.specs.Inner.Kept.{IsWhole};
+ghost use Rattle.dap_watch.specs.Inner.Rest.{all_kept_rest};
+ghost use Rattle.dap_watch.specs.Inner.Streams.{KeepsAll};
+ghost use Rattle.dap_watch.specs.Inner.Watching.{GoesOn, Tells, Watches};
+ghost use Rattle.dap_watch.specs.Watched.{WatchFails, WatchGives, is_refused};
+
+use crate::places::Whole;
+use crate::rest::push_all;
+use crate::streams::Streams;
+use dap_follow::{push_length, push_range};
 use dap_listing::{
-    CapturedPacket, CapturedSegment, Direction, next_packet, push_heading, push_messages,
+    CapturedPacket, CapturedSegment, Direction, line_packet, push_heading, push_messages,
     push_seen, read_packet, write_text,
 };
-use dap_text::{push_number, push_str};
-use indexmap::IndexSet;
+use dap_text::push_str;
 use linewise::{Answer, Answers, Became, TalkFault, talk};
 use std::alloc::{AllocError, Global};
 use std::io::{BufRead, Write};
 
+/// The most packets of a capture.
+const MOST_PACKETS: usize = 1 << 50;
+
 /// A capture as far as its lines came: how many packets there were, and what is kept of each stream.
 #[derive(Drop)]
 pub(crate) struct Watching {
-    alloc: Global,
-    packets: usize,
-    names: IndexSet<Stream>,
-    places: Vec<Places>,
-    room: Vec<u8>,
+    pub(crate) packets: usize,
+    pub(crate) streams: Streams,
+    /// The digits of a message.
+    pub(crate) digits: Vec<u8>,
+    /// Room for the bytes of a packet or a message.
+    pub(crate) room: Vec<u8>,
+}
+
+/// Appends the lines of a message that is whole, of which these are the digits.
+fn push_whole(
+    text: &mut Vec<u8>,
+    whole: Whole,
+    digits: &[u8],
+    room: &mut Vec<u8>,
+) -> Result<(), AllocError>
+    requires { Spell digits.now (length digits.now / 2) }
+    ensures { OnOk result ((m : Piece) → IsWhole digits.now whole m
+        → AddsSome text.old text.new (IsMessageText m)) }
+{
+    let count = digits.len() / 2;
+    push_str(text, "  message")?;
+    push_range(text, whole.from, whole.to)?;
+    push_length(text, count)?;
+    room.resize(count, 0)?;
+    push_messages(text, digits, room, 0)
 }
 
 impl Watching {
     /// Nothing came yet. It takes no memory.
-    fn new(alloc: Global) -> Self {
+    fn new(alloc: Global) -> Self
+        ensures { Watches [] [] result }
+    {
         Watching {
-            alloc,
             packets: 0,
-            names: IndexSet::new(alloc),
-            places: Vec::new(alloc),
+            streams: Streams::new(alloc),
+            digits: Vec::new(alloc),
             room: Vec::new(alloc),
         }
     }
 
-    /// Takes a segment; returns the message that is whole with it.
-    fn add(
+    /// Takes a segment, and appends the lines of the message that is whole with it.
+    fn push_segment(
         &mut self,
+        text: &mut Vec<u8>,
         way: Direction,
         segment: &CapturedSegment<'_>,
-    ) -> Result<Option<Whole>, AllocError> {
-        let stream = Stream {
-            way,
-            dst: segment.dst,
-            src: segment.src,
+    ) -> Result<(), AllocError>
+        requires { Spell segment.now.digits.now (length segment.now.digits.now / 2) }
+        ensures packets { self.new.packets ≡ self.old.packets }
+        ensures told { OnOk result ((packets : List Captured) (ordered : List (List Placed))
+            → length packets < 2 ^ 50 → KeepsAll packets ordered self.old.streams
+            → Tells packets (segment_packet way segment.now) ordered self.new.streams
+            text.old.items text.new.items) }
+    {
+        let Some(whole) = self.streams.add(way, segment, &mut self.digits)? else {
+            return Ok(());
         };
-        let (index, is_new) = self.names.insert_full(stream)?;
-        if is_new {
-            self.places.push(Places::new(self.alloc, segment.number))?;
-        }
-        self.places[index].add(segment)
+        push_whole(text, whole, &self.digits, &mut self.room)
     }
 
-    /// Makes room for so many bytes, which are 0.
-    fn make_room(&mut self, count: usize) -> Result<(), AllocError> {
-        self.room.clear();
-        Ok(self.room.resize(count, 0)?)
-    }
-
-    /// Appends the lines of a message that is whole.
-    fn push_whole(&mut self, text: &mut Vec<u8>, whole: &Whole) -> Result<(), AllocError> {
-        let count = whole.digits.len() / 2;
-        push_str(text, "  message")?;
-        push_range(text, whole.from, whole.to)?;
-        push_number(text, " len=", count)?;
-        push_str(text, "\n")?;
-        self.make_room(count)?;
-        push_messages(text, &whole.digits, &mut self.room, 0)
-    }
-
-    /// Appends the lines of a captured packet.
+    /// Takes a captured packet, and appends its lines.
     fn push_packet(
         &mut self,
         text: &mut Vec<u8>,
         way: Direction,
         digits: &[u8],
-    ) -> Result<(), AllocError> {
+    ) -> Result<(), AllocError>
+        requires spelled { Spell digits.now (length digits.now / 2) }
+        requires empty { text.old.items ≡ [] }
+        ensures { OnOk result (GoesOn (way, digits.now) self.old self.new text.new.items) }
+    {
+        if self.packets >= MOST_PACKETS {
+            return Err(AllocError);
+        }
         self.packets += 1;
-        self.make_room(digits.len() / 2)?;
+        self.room.resize(digits.len() / 2, 0)?;
         let seen = read_packet(digits, &mut self.room);
         push_heading(text, self.packets, way)?;
         push_seen(text, &seen)?;
-        if let Ok(CapturedPacket::Segment(segment)) = seen {
-            if let Some(whole) = self.add(way, &segment)? {
-                self.push_whole(text, &whole)?;
-            }
+        match seen {
+            Ok(CapturedPacket::Segment(segment)) => self.push_segment(text, way, &segment),
+            Ok(CapturedPacket::DataAck(_)) => Ok(()),
+            Err(_) => Ok(()),
         }
-        Ok(())
     }
 
-    /// Appends what is left of each stream.
-    fn push_all(&self, text: &mut Vec<u8>) -> Result<(), AllocError> {
-        for (index, stream) in self.names.iter().enumerate() {
-            push_rest(text, stream, &self.places[index])?;
+    /// Lists a captured packet. Where memory is refused, nothing of it is said.
+    fn list_packet(&mut self, text: &mut Vec<u8>, way: Direction, digits: &[u8]) -> Became
+        requires spelled { Spell digits.now (length digits.now / 2) }
+        requires empty { text.old.items ≡ [] }
+        ensures done { result ≡ TheBecame.Done
+            → GoesOn (way, digits.now) self.old self.new text.new.items }
+        ensures refused { result ≢ TheBecame.Done
+            → (result ≡ TheBecame.NoMemory) × (text.new.items ≡ []) }
+    {
+        match self.push_packet(text, way, digits) {
+            Ok(()) => Became::Done,
+            Err(_) => {
+                text.clear();
+                Became::NoMemory
+            }
         }
-        Ok(())
     }
 }
 
 impl Answers for Watching {
-    ghost use Rattle.dap_watch.specs.Inner.Keeping.{answered, no_pieces, waiting};
+    ghost use Rattle.dap_watch.specs.Inner.Watching.{answered, no_pieces, waiting};
 
     type Place = ();
 
@@ -110,15 +154,9 @@ impl Answers for Watching {
     ghost pieces = { no_pieces };
 
     fn answer(&mut self, line: &[u8], text: &mut Vec<u8>) -> Answer<()> {
-        match next_packet(1, line) {
-            Ok(Some(found)) => match self.push_packet(text, found.way, found.digits) {
-                Ok(()) => Answer::Whole(Became::Done),
-                Err(_) => {
-                    text.clear();
-                    Answer::Whole(Became::NoMemory)
-                }
-            },
+        match line_packet(1, line) {
             Ok(None) => Answer::Whole(Became::Done),
+            Ok(Some((way, digits))) => Answer::Whole(self.list_packet(text, way, digits)),
             Err(_) => Answer::Whole(Became::BadLine),
         }
     }
@@ -132,28 +170,74 @@ impl Answers for Watching {
     }
 }
 
+/// Writes what is left of each stream.
+fn write_rest<W: Write>(alloc: Global, streams: &Streams, writer: &mut W) -> Result<(), TalkFault>
+    ensures whole { OnOk result (Appends (W.contents writer.old) (W.contents writer.new)
+        (all_kept_rest streams.now.names.keys streams.now.places.items)) }
+    ensures fault { IfErr result (λ fault.
+        ((fault ≡ TalkFault.NoMemory) × Keeps (W.contents writer.old) (W.contents writer.new))
+        ⊎ ((fault ≡ TalkFault.WriteFailed)
+        × WritesFront (W.contents writer.old) (W.contents writer.new)
+        (all_kept_rest streams.now.names.keys streams.now.places.items))) }
+{
+    let mut text = Vec::new(alloc);
+    if push_all(alloc, &mut text, streams).is_err() {
+        return Err(TalkFault::NoMemory);
+    }
+    match write_text(&text, writer) {
+        Ok(()) => Ok(()),
+        Err(_) => Err(TalkFault::WriteFailed),
+    }
+}
+
+/// Lists the lines of a capture, and what is left at their end.
+fn watch_all<R: BufRead, W: Write, F: Write>(
+    alloc: Global,
+    watching: &mut Watching,
+    reader: &mut R,
+    writer: &mut W,
+    error_writer: &mut F,
+) -> Result<bool, TalkFault>
+    requires { Watches [] [] watching.old }
+    ensures watched { OnOk result (IfSome (R.remaining reader.old) (λ input.
+        WatchGives input (W.contents writer.old) (W.contents writer.new))) }
+    ensures told { IfOk result (λ bad. IfSome (R.remaining reader.old) (λ input.
+        bad ≡ list_any is_refused (lines input))) }
+    ensures fault { IfErr result (λ fault. IfSome (R.remaining reader.old) (λ input.
+        WatchFails input (W.contents writer.old) (W.contents writer.new) fault)) }
+{
+    let bad = match talk(alloc, watching, reader, writer, error_writer) {
+        Ok(bad) => bad,
+        Err(fault) => return Err(fault),
+    };
+    match write_rest(alloc, &watching.streams, writer) {
+        Ok(()) => Ok(bad),
+        Err(fault) => Err(fault),
+    }
+}
+
 /// Lists the packets of a capture, each before the next line is read, and at the end of the input what is left of each stream;
 /// returns whether some line was bad.
 ///
 /// Messages are listed under the packet with which they are whole, as `follow` lists them. A bad line is reported to the error
-/// writer by its number, from 1, and has no packet. What is kept is the segments of messages that aren't whole, and 16 bytes for
-/// each gap.
+/// writer by its number, from 1, and has no packet. What is kept is the segments of messages that aren't whole, and 48 bytes for
+/// each gap. A capture has at most 2^50 packets; one more is refused as memory is.
 ///
-/// Faults: as `linewise::talk`.
+/// Faults: as `linewise::talk`. What was written then is the lines of the packets so far, or a prefix of them where the writer
+/// failed.
 pub fn watch<R: BufRead, W: Write, F: Write>(
     alloc: Global,
     reader: &mut R,
     writer: &mut W,
     error_writer: &mut F,
-) -> Result<bool, TalkFault> {
+) -> Result<bool, TalkFault>
+    ensures watched { OnOk result (IfSome (R.remaining reader.old) (λ input.
+        WatchGives input (W.contents writer.old) (W.contents writer.new))) }
+    ensures told { IfOk result (λ bad. IfSome (R.remaining reader.old) (λ input.
+        bad ≡ list_any is_refused (lines input))) }
+    ensures fault { IfErr result (λ fault. IfSome (R.remaining reader.old) (λ input.
+        WatchFails input (W.contents writer.old) (W.contents writer.new) fault)) }
+{
     let mut watching = Watching::new(alloc);
-    let bad = talk(alloc, &mut watching, reader, writer, error_writer)?;
-    let mut text = Vec::new(alloc);
-    if watching.push_all(&mut text).is_err() {
-        return Err(TalkFault::NoMemory);
-    }
-    match write_text(&text, writer) {
-        Ok(()) => Ok(bad),
-        Err(_) => Err(TalkFault::WriteFailed),
-    }
+    watch_all(alloc, &mut watching, reader, writer, error_writer)
 }

@@ -10,8 +10,10 @@ use Rattle.clap.proofs.OnLiterals.{clap_on_literals}
 use Rattle.live_cli.specs.declared.words.Role.{Role}
 use Rattle.live_cli.specs.declared.words.Role.TheVariants.{Serve, Ask}
 use Rattle.live_cli.specs.declared.words.Task.{Task}
-use Rattle.live_cli.specs.declared.words.Task.TheVariants.{End, Follow, Frames}
+use Rattle.live_cli.specs.declared.words.Task.TheVariants.{End, Follow, Frames, Watch}
 use Rattle.dap_listing.specs.declared.fault.CaptureFault.TheVariants.{NoMemory}
+use Rattle.dap_watch.proofs.ForCallers.{nothing_listed}
+use Rattle.linewise.specs.declared.talking.TalkFault.TheVariants.{NoMemory as OutOfMemory}
 use Rattle.decnet_frames.proofs.ForCallers.{nothing_written}
 use Rattle.decnet_frames.specs.declared.run.FramesFault.TheVariants.{NoMemory as Wants}
 use Rattle.live_cli.specs.Running.{TaskGives}
@@ -22,10 +24,14 @@ pub some_from : {X : Type 0} {P Q : X → Type 0} (o : Option X) → IfSome o P 
 some_from None holds next = tt
 some_from (Some x) holds next = next x holds
 
+pub some_both : {X : Type 0} {P Q R : X → Type 0} (o : Option X) → IfSome o P → IfSome o Q → ((x : X) → P x → Q x → R x) → IfSome o R
+some_both None one two next = tt
+some_both (Some x) one two next = next x one two
+
 -- the command line, with the digits of what is usual
 pub daplive_by : daplive ≡ fold with_subcommand (new_program (codes "daplive"))
     (serve_line_by.top ∷ (end_line_by (codes "ask") (codes "0101") (codes "0202")).top
-    ∷ (new_app (codes "follow")).top ∷ frames_line.top ∷ [])
+    ∷ (new_app (codes "follow")).top ∷ frames_line.top ∷ (new_app (codes "watch")).top ∷ [])
 unfolding digits
 daplive_by = refl
 
@@ -66,11 +72,21 @@ pub names_frames : (program : Text) → task_of (program ∷ codes "frames" ∷ 
 unfolding clap_on_literals digits
 names_frames program = refl
 
+-- and on that of the listing as lines come
+pub no_fault_watch : (program : Text) → fault_of daplive (program ∷ codes "watch" ∷ []) ≡ []
+unfolding clap_on_literals digits
+no_fault_watch program = refl
+
+pub names_watch : (program : Text) → task_of (program ∷ codes "watch" ∷ []) ≡ Some Watch
+unfolding clap_on_literals digits
+names_watch program = refl
+
 -- out of memory, of whatever input
 pub refused : (task : Task) (known old new : Option (List ℕ)) (status : ℕ) → (status ≡ 3) × Keeps old new → IfSome known (λ input. TaskGives task input old new status)
 refused task None old new status memory = tt
 refused (End options) (Some input) old new status memory = inr (memory.1, memory.0)
 refused Follow (Some input) old new status memory = (Err NoMemory, memory.1, memory.0)
+refused Watch (Some input) old new status memory = inr (OutOfMemory, nothing_listed input old new memory.1, memory.0)
 refused (Frames ends) (Some input) old new status memory = inr (Wants, nothing_written ends input old new memory.1, memory.0)
 
 -- two things that the words name are one

@@ -1,12 +1,12 @@
 -- What `daplive` does with an input, and its exit status.
-use Rattle.std.specs.Prelude.{◌≡◌, ◌⊎◌, ℕ, nat_lt, length, List, [], ◌++◌, if◌then◌else◌, Option}
+use Rattle.std.specs.Prelude.{◌≡◌, ◌⊎◌, ℕ, List, [], if◌then◌else◌, Option}
+use Rattle.std.specs.Str.Lines.{lines}
 use Rattle.std.specs.List.{list_any}
 use Rattle.std.specs.Io.KnownBytes.{Appends, Keeps}
 use Rattle.nsp_link.specs.declared.link.LinkSetup.{LinkSetup}
 use Rattle.dap_follow.specs.Following.{FollowGives}
 use Rattle.dap_listing.specs.Gives.{HasStatus}
-use Rattle.dap_listing.specs.Listing.{captures, faults_from, packet_limit}
-use Rattle.dap_watch.specs.Watched.{IsWatched}
+use Rattle.dap_watch.specs.Watched.{WatchFails, WatchGives, is_refused}
 use Rattle.decnet_frames.specs.Listed.{IsListed, IsListedTo}
 use Rattle.decnet_frames.specs.declared.run.FramesFault.{FramesFault}
 use Rattle.decnet_frames.specs.declared.run.FramesFault.TheVariants.{File}
@@ -51,11 +51,10 @@ GivesAs Ask o input written holds status =
 
 -- The listing of all packets is written, and the status is 1 where some line is bad and 0 otherwise; or the reader or the writer fails,
 -- or memory is refused, and it is 3.
-abbrev pub WatchGives : List ℕ → (written holds : Option (List ℕ)) → ℕ → Type 0
-WatchGives input written holds status =
-    ((text rest : List ℕ) × IsWatched (captures packet_limit input) text rest × Appends written holds (text ++ rest)
-    × (status ≡ (if nat_lt 0 (length (faults_from packet_limit 1 input)) then 1 else 0)))
-    ⊎ (status ≡ 3)
+abbrev pub ListsLines : List ℕ → (written holds : Option (List ℕ)) → ℕ → Type 0
+ListsLines input written holds status =
+    (WatchGives input written holds × (status ≡ (if list_any is_refused (lines input) then 1 else 0)))
+    ⊎ ((fault : TalkFault) × WatchFails input written holds fault × (status ≡ 3))
 
 -- The lines of a capture file's frames are written, and the status is 0; or those before a fault of the file, and it is 1; or the
 -- reader or the writer fails, or memory is refused, and it is 3.
@@ -69,5 +68,5 @@ FramesGive ends input written holds status =
 abbrev pub TaskGives : Task → List ℕ → (written holds : Option (List ℕ)) → ℕ → Type 0
 TaskGives (End o) input written holds status = GivesAs o.role o input written holds status ⊎ (Keeps written holds × (status ≡ 3))
 TaskGives Follow input written holds status = HasStatus (FollowGives input written holds) status
-TaskGives Watch input written holds status = WatchGives input written holds status
+TaskGives Watch input written holds status = ListsLines input written holds status
 TaskGives (Frames ends) input written holds status = FramesGive ends input written holds status

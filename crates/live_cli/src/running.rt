@@ -169,7 +169,7 @@ fn watch_lines<R: BufRead, W: Write, E: Write>(
         (W.contents writer.old) (W.contents writer.new) result) }
 {
     match watch(alloc, reader, writer, error_writer) {
-        Ok(bad) => status(bad),
+        Ok(any_bad) => status(any_bad),
         Err(fault) => tell(fault, error_writer),
     }
 }
@@ -289,6 +289,10 @@ pub fn run_words<R: BufRead, W: Write, E: Write>(
     ensures frames { (program : List ℕ)
         → map string_bytes words.now ≡ program ∷ codes "frames" ∷ []
         → IfSome (R.remaining reader.old) (λ input. TaskGives (Task.Frames None) input
+        (W.contents writer.old) (W.contents writer.new) result) }
+    ensures watch { (program : List ℕ)
+        → map string_bytes words.now ≡ program ∷ codes "watch" ∷ []
+        → IfSome (R.remaining reader.old) (λ input. TaskGives Task.Watch input
         (W.contents writer.old) (W.contents writer.new) result) }
     ensures digits { fault_of daplive (map string_bytes words.now) ≡ []
         → task_of (map string_bytes words.now) ≡ None

@@ -3,10 +3,10 @@ use Rattle.std.specs.Prelude.{IfSome, Some, None}
 use Rattle.clap.specs.Words.{fault_of}
 use Rattle.cli_faults.proofs.ForCallers.{memory_or_help, memory_or_mistake, only_memory}
 use Rattle.live_cli.specs.declared.words.Task.{Task}
-use Rattle.live_cli.specs.declared.words.Task.TheVariants.{End, Follow, Frames}
+use Rattle.live_cli.specs.declared.words.Task.TheVariants.{End, Follow, Frames, Watch}
 use Rattle.live_cli.specs.Running.{TaskGives}
 use Rattle.live_cli.specs.Words.{daplive, task_of, usual}
-use Rattle.live_cli.proofs.RunLemmas.{names_follow, names_frames, names_usual, no_fault, no_fault_follow, no_fault_frames, none_named, one_task, refused}
+use Rattle.live_cli.proofs.RunLemmas.{names_follow, names_frames, names_usual, names_watch, no_fault, no_fault_follow, no_fault_frames, no_fault_watch, none_named, one_task, refused}
 use Rattle.live_cli.proofs.running.run_words.Goals as goal
 
 pub returns-in-Err : goal.returns-in-Err
@@ -25,6 +25,8 @@ returns-in-Err g c =
           (c.refuse.ensures.memory (only_memory kinds e (ap (fault_of daplive) words ∙ no_fault_follow program) has));
       frames = λ program words. refused (Frames None) input old new c.refuse.result
           (c.refuse.ensures.memory (only_memory kinds e (ap (fault_of daplive) words ∙ no_fault_frames program) has));
+      watch = λ program words. refused Watch input old new c.refuse.result
+          (c.refuse.ensures.memory (only_memory kinds e (ap (fault_of daplive) words ∙ no_fault_watch program) has));
       digits = λ none unnamed. let kept = c.refuse.ensures.memory (only_memory kinds e none has) in (inr kept.0, kept.1);
       mistake = λ mistakes.
           elim (memory_or_mistake kinds e mistakes has) [
@@ -62,6 +64,13 @@ returns-in-Ok-Ok-clause-follow g c program named =
     let same = one_task words c.in-Ok-Ok.task Follow named_first (ap task_of named ∙ names_follow program) in
     subst (λ (task : Task). IfSome (g.R.Read.remaining c.args.reader.now) (λ input. TaskGives task input (g.W.Write.contents c.args.writer.now) (g.W.Write.contents c.run_task.new.writer) c.run_task.result)) same c.run_task.ensures
 
+pub returns-in-Ok-Ok-clause-watch : goal.returns-in-Ok-Ok-clause-watch
+returns-in-Ok-Ok-clause-watch g c program named =
+    let words = map string_bytes c.args.words.now in
+    let named_first : Some c.in-Ok-Ok.task ≡ task_of words = search rules in
+    let same = one_task words c.in-Ok-Ok.task Watch named_first (ap task_of named ∙ names_watch program) in
+    subst (λ (task : Task). IfSome (g.R.Read.remaining c.args.reader.now) (λ input. TaskGives task input (g.W.Write.contents c.args.writer.now) (g.W.Write.contents c.run_task.new.writer) c.run_task.result)) same c.run_task.ensures
+
 pub returns-in-Ok-Ok-clause-frames : goal.returns-in-Ok-Ok-clause-frames
 returns-in-Ok-Ok-clause-frames g c program named =
     let words = map string_bytes c.args.words.now in
@@ -80,6 +89,12 @@ returns-in-Ok-Err-clause-follow g c program named =
     let words = map string_bytes c.args.words.now in
     let none : None ≡ task_of words = search rules in
     absurd (none_named words Follow none (ap task_of named ∙ names_follow program))
+
+pub returns-in-Ok-Err-clause-watch : goal.returns-in-Ok-Err-clause-watch
+returns-in-Ok-Err-clause-watch g c program named =
+    let words = map string_bytes c.args.words.now in
+    let none : None ≡ task_of words = search rules in
+    absurd (none_named words Watch none (ap task_of named ∙ names_watch program))
 
 pub returns-in-Ok-Err-clause-frames : goal.returns-in-Ok-Err-clause-frames
 returns-in-Ok-Err-clause-frames g c program named =

@@ -1,0 +1,281 @@
+-- What the lines so far came to, with one packet more.
+use Rattle.std.proofs.Common.{◌≡◌, ℕ, ◌+◌, ◌/◌, ◌<◌, ◌≤◌, ◌^◌, ◌==◌, Bool, true, false, List, [], ◌∷◌, ◌++◌, length, length-append, map, if◌then◌else◌, Some, None, arith, refl, ap, sym, subst, ◌∙◌, append-nil, append_assoc}
+use Rattle.std.specs.List.{AllByRecursion, AllZip, concat, enumerate_from, filter, flat_map, zip}
+use Rattle.std.proofs.lemmas.Bool.Decides.{nat_tests}
+use Rattle.std.proofs.lemmas.List.Elements.{filter-append}
+use Rattle.dap_listing.specs.Captured.{Spell, bytes_of}
+use Rattle.dap_listing.specs.Listing.{heading}
+use Rattle.dap_listing.specs.Lines.{Capture}
+use Rattle.dap_listing.specs.Packets.{IsSeen, Seen, seen_line}
+use Rattle.dap_listing.specs.declared.lines.Direction.{Direction}
+use Rattle.dap_listing.proofs.ForCallers.{decoded}
+use Rattle.dap_follow.specs.Streams.{Captured, IsOrdered, Placed, came_in, first_place, streams, ArePlaced}
+use Rattle.dap_follow.specs.Joined.{Message, Piece, is_message, latest, message_of, messages, pieces}
+use Rattle.dap_follow.specs.Following.{IsMessageText, IsPacketText, rest_lines}
+use Rattle.dap_watch.specs.Inner.Segments.{Came}
+use Rattle.dap_follow.specs.declared.streams.Stream.{Stream}
+use Rattle.dap_follow.proofs.ForCallers.{enumerate_from-snoc, seen_more}
+use Rattle.dap_watch.specs.Watched.{IsWatched, whole_with}
+use Rattle.dap_watch.specs.Inner.Pieces.{all_segments}
+use Rattle.dap_watch.specs.Inner.Kept.{AreTold, IsWhole}
+use Rattle.dap_watch.specs.Inner.Streams.{Grows, KeepsAll, KeepsEach, KeepsStream}
+use Rattle.dap_watch.specs.Inner.Rest.{all_kept_rest}
+use Rattle.dap_watch.specs.Inner.Watching.{Tells, Watches}
+use Rattle.dap_watch.specs.declared.places.Places.{Places}
+use Rattle.dap_watch.specs.declared.places.Whole.{Whole}
+use Rattle.dap_watch.specs.declared.streams.Streams.{Streams}
+use Rattle.dap_watch.specs.declared.watching.Watching.{Watching}
+use Rattle.dap_watch.proofs.GlueLemmas.{all_back, all_front, all_weaker, latest_below, segments_pieces}
+use Rattle.dap_watch.proofs.OrderLemmas.{ascending}
+use Rattle.dap_watch.proofs.RestLemmas.{all_same}
+
+-- ---- messages of packets so far
+
+if_messages : (n : ℕ) (p : Piece) (ps : List Piece) (b : Bool) → latest (p.head ∷ p.others) ≤ n → AllByRecursion (λ m. m.packet ≤ n) (map message_of ps)
+    → AllByRecursion (λ m. m.packet ≤ n) (map message_of (if b then p ∷ ps else ps))
+if_messages n p ps true one rest = (one, rest)
+if_messages n p ps false one rest = rest
+
+pieces_upto : (n : ℕ) (ps : List Piece) → AllByRecursion (λ s. s.packet ≤ n) (all_segments ps) → AllByRecursion (λ m. m.packet ≤ n) (map message_of (filter is_message ps))
+pieces_upto n [] all = tt
+pieces_upto n (p ∷ ps) all =
+    let rest = pieces_upto n ps (all_back (λ s. s.packet ≤ n) (p.head ∷ p.others) (all_segments ps) all) in
+    let one : latest (p.head ∷ p.others) ≤ n = latest_below n (p.head ∷ p.others) (all_front (λ s. s.packet ≤ n) (p.head ∷ p.others) (all_segments ps) all) in
+    if_messages n p (filter is_message ps) (is_message p) one rest
+
+messages_append : (n : ℕ) (ms ns : List Message) → AllByRecursion (λ m. m.packet ≤ n) ms → AllByRecursion (λ m. m.packet ≤ n) ns → AllByRecursion (λ m. m.packet ≤ n) (ms ++ ns)
+messages_append n [] ns one two = two
+messages_append n (m ∷ ms) ns one two = (one.0, messages_append n ms ns one.1 two)
+
+upto : (packets : List Captured) (keys : List Stream) (orders : List (List Placed)) (places : List Places) → KeepsEach packets keys orders places
+    → AllByRecursion (λ m. m.packet ≤ length packets) (flat_map messages orders)
+upto packets [] [] [] each = tt
+upto packets [] [] (p ∷ places) each = absurd each
+upto packets [] (o ∷ orders) places each = absurd each
+upto packets (s ∷ keys) [] places each = absurd each
+upto packets (s ∷ keys) (o ∷ orders) [] each = absurd each
+upto packets (s ∷ keys) (o ∷ orders) (p ∷ places) each =
+    let numbered : AllByRecursion (λ t. t.packet < 1 + length packets) o = each.0.keeps.numbered in
+    let low : AllByRecursion (λ t. t.packet ≤ length packets) o = all_weaker (λ t. t.packet < 1 + length packets) (λ t. t.packet ≤ length packets) o (λ t less. omega (arith, less)) numbered in
+    messages_append (length packets) (messages o) (flat_map messages orders)
+    (pieces_upto (length packets) (pieces o) (subst (λ l. AllByRecursion (λ t. t.packet ≤ length packets) l) (sym (segments_pieces o)) low))
+    (upto packets keys orders places each.1)
+
+-- ---- messages under a packet
+
+other_number : (a n : ℕ) → (a ≡ n → ⊥) → (a == n) ≡ false
+other_number a n apart = grind (arith, nat_tests)
+
+same_number : (a n : ℕ) → a ≡ n → (a == n) ≡ true
+same_number a n same = grind (arith, nat_tests)
+
+messages_front : (n : ℕ) (ms ns : List Message) → AllByRecursion (λ m. m.packet ≤ n) (ms ++ ns) → AllByRecursion (λ m. m.packet ≤ n) ms
+messages_front n [] ns all = tt
+messages_front n (m ∷ ms) ns all = (all.0, messages_front n ms ns all.1)
+
+messages_back : (n : ℕ) (ms ns : List Message) → AllByRecursion (λ m. m.packet ≤ n) (ms ++ ns) → AllByRecursion (λ m. m.packet ≤ n) ns
+messages_back n [] ns all = all
+messages_back n (m ∷ ms) ns all = messages_back n ms ns all.1
+
+-- none is under a later packet
+none_under : (n : ℕ) (ms : List Message) → AllByRecursion (λ m. m.packet ≤ n) ms → filter (λ m. m.packet == 1 + n) ms ≡ []
+none_under n [] all = refl
+none_under n (m ∷ ms) all =
+    let low : m.packet ≤ n = all.0 in
+    ap (λ b. if b then m ∷ filter (λ k. k.packet == 1 + n) ms else filter (λ k. k.packet == 1 + n) ms) (other_number m.packet (1 + n) (λ e. omega (arith, e, low))) ∙ none_under n ms all.1
+
+-- those of one packet are under it alone
+all_under : (n : ℕ) (ps : List Piece) → AllByRecursion (λ p. whole_with p ≡ n) ps → filter (λ m. m.packet == n) (map message_of ps) ≡ map message_of ps
+all_under n [] all = refl
+all_under n (p ∷ ps) all =
+    ap (λ b. if b then message_of p ∷ filter (λ k. k.packet == n) (map message_of ps) else filter (λ k. k.packet == n) (map message_of ps)) (same_number (whole_with p) n all.0)
+    ∙ ap (λ (l : List Message). message_of p ∷ l) (all_under n ps all.1)
+
+not_under : (n k : ℕ) (ps : List Piece) → k < n → AllByRecursion (λ p. whole_with p ≡ n) ps → filter (λ m. m.packet == k) (map message_of ps) ≡ []
+not_under n k [] below all = refl
+not_under n k (p ∷ ps) below all =
+    let is : whole_with p ≡ n = all.0 in
+    ap (λ b. if b then message_of p ∷ filter (λ j. j.packet == k) (map message_of ps) else filter (λ j. j.packet == k) (map message_of ps)) (other_number (whole_with p) k (λ e. omega (arith, e, is, below)))
+    ∙ not_under n k ps below all.1
+
+-- an earlier packet keeps its messages
+earlier : (n k : ℕ) (old new front back : List Message) (ms : List Piece) → k < n → old ≡ front ++ back → new ≡ front ++ (map message_of ms ++ back) → AllByRecursion (λ p. whole_with p ≡ n) ms
+    → filter (λ m. m.packet == k) new ≡ filter (λ m. m.packet == k) old
+earlier n k old new front back ms below before after all =
+    let test : Message → Bool = λ m. m.packet == k in
+    ap (λ (l : List Message). filter test l) after ∙ filter-append test front (map message_of ms ++ back) ∙ ap (λ (l : List Message). filter test front ++ l) (filter-append test (map message_of ms) back)
+    ∙ ap (λ (l : List Message). filter test front ++ (l ++ filter test back)) (not_under n k ms below all) ∙ sym (filter-append test front back) ∙ ap (λ (l : List Message). filter test l) (sym before)
+
+-- the messages of the packet
+these_under : (n : ℕ) (old new front back : List Message) (ms : List Piece) → old ≡ front ++ back → new ≡ front ++ (map message_of ms ++ back) → AllByRecursion (λ p. whole_with p ≡ 1 + n) ms
+    → AllByRecursion (λ m. m.packet ≤ n) old → filter (λ m. m.packet == 1 + n) new ≡ map message_of ms
+these_under n old new front back ms before after all low =
+    let test : Message → Bool = λ m. m.packet == 1 + n in
+    let both = subst (λ (l : List Message). AllByRecursion (λ m. m.packet ≤ n) l) before low in
+    ap (λ (l : List Message). filter test l) after ∙ filter-append test front (map message_of ms ++ back) ∙ ap (λ (l : List Message). filter test front ++ l) (filter-append test (map message_of ms) back)
+    ∙ ap (λ (l : List Message). l ++ (filter test (map message_of ms) ++ filter test back)) (none_under n front (messages_front n front back both))
+    ∙ ap (λ (l : List Message). l ++ filter test back) (all_under (1 + n) ms all)
+    ∙ ap (λ (l : List Message). map message_of ms ++ l) (none_under n back (messages_back n front back both)) ∙ append-nil (map message_of ms)
+
+-- ---- texts
+
+one_text : (k : ℕ) (p : Captured) (text : List ℕ) (all later : List Message) → filter (λ m. m.packet == k) later ≡ filter (λ m. m.packet == k) all
+    → IsPacketText all (k, p) text → IsPacketText later (k, p) text
+one_text k p text all later same is = (is.0, subst (λ (l : List Message). AllZip (λ m. IsMessageText m.piece) l is.0) (sym same) is.1, is.2)
+
+-- the texts of earlier packets stay
+retext : (n : ℕ) (all later : List Message) → ((k : ℕ) → k < n → filter (λ m. m.packet == k) later ≡ filter (λ m. m.packet == k) all)
+    → (k : ℕ) (packets : List Captured) (texts : List (List ℕ)) → k + length packets ≤ n → AllZip (IsPacketText all) (enumerate_from k packets) texts → AllZip (IsPacketText later) (enumerate_from k packets) texts
+retext n all later same k [] [] within each = tt
+retext n all later same k [] (t ∷ texts) within each = absurd each
+retext n all later same k (p ∷ packets) [] within each = absurd each
+retext n all later same k (p ∷ packets) (t ∷ texts) within each =
+    (one_text k p t all later (same k (omega arith)) each.0, retext n all later same (k + 1) packets texts (omega arith) each.1)
+
+zip_snoc : (P : ℕ × Captured → List ℕ → Type 0) (xs : List (ℕ × Captured)) (ts : List (List ℕ)) (x : ℕ × Captured) (t : List ℕ) → AllZip P xs ts → P x t → AllZip P (xs ++ x ∷ []) (ts ++ t ∷ [])
+zip_snoc P [] [] x t all one = (one, tt)
+zip_snoc P [] (u ∷ ts) x t all one = absurd all
+zip_snoc P (y ∷ xs) [] x t all one = absurd all
+zip_snoc P (y ∷ xs) (u ∷ ts) x t all one = (all.0, zip_snoc P xs ts x t all.1 one)
+
+concat_snoc : (ts : List (List ℕ)) (t : List ℕ) → concat (ts ++ t ∷ []) ≡ concat ts ++ t
+concat_snoc [] t = append-nil t
+concat_snoc (u ∷ ts) t = ap (λ l. u ++ l) (concat_snoc ts t) ∙ sym (append_assoc u (concat ts) t)
+
+message_texts : (ms : List Piece) (texts : List (List ℕ)) → AllZip IsMessageText ms texts → AllZip (λ m. IsMessageText m.piece) (map message_of ms) texts
+message_texts [] [] all = tt
+message_texts [] (t ∷ texts) all = absurd all
+message_texts (m ∷ ms) [] all = absurd all
+message_texts (m ∷ ms) (t ∷ texts) all = (all.0, message_texts ms texts all.1)
+
+-- ---- one packet more
+
+pub watches_more : (captured : List Capture) (written : List ℕ) (old new : Watching) (way : Direction) (digits : List ℕ) (seen : Seen) (text first : List ℕ) (start : Streams)
+    → Watches captured written old → Spell digits (length digits / 2) → IsSeen seen (bytes_of digits) → new.packets ≡ old.packets + 1 → old.packets + 1 ≤ 2 ^ 50 → start ≡ old.streams
+    → first ≡ heading (old.packets + 1) way ++ seen_line seen
+    → ((packets : List Captured) (ordered : List (List Placed)) → length packets < 2 ^ 50 → KeepsAll packets ordered start → Tells packets (way, seen) ordered new.streams first text)
+    → Watches (captured ++ (way, digits) ∷ []) (written ++ text) new
+watches_more captured written old new way digits seen text first start w spelled is count most same line tells =
+    let n : ℕ = length w.packets in
+    let number : old.packets + 1 ≡ 1 + n = omega (arith, w.count) in
+    let few : n < 2 ^ 50 = omega (arith, number, most) in
+    let t = tells w.packets w.ordered few (subst (λ (s : Streams). KeepsAll w.packets w.ordered s) (sym same) w.keeps) in
+    let all = flat_map messages w.ordered in
+    let later = flat_map messages t.later in
+    let x : Captured = (way, seen) in
+    let packets = w.packets ++ x ∷ [] in
+    let low = upto w.packets old.streams.names.keys w.ordered old.streams.places.items w.keeps.each in
+    let here : filter (λ m. m.packet == 1 + n) later ≡ map message_of t.ms = these_under n all later t.front t.back t.ms t.before t.after t.whole low in
+    let own : IsPacketText later (1 + n, x) text = (
+      t.texts,
+      subst (λ (l : List Message). AllZip (λ m. IsMessageText m.piece) l t.texts) (sym here) (message_texts t.ms t.texts t.are),
+      t.added ∙ ap (λ l. l ++ concat t.texts) line ∙ ap (λ k. (heading k way ++ seen_line seen) ++ concat t.texts) number,
+    ) in
+    let longer : length packets ≡ n + 1 = length-append w.packets (x ∷ []) in
+    record {
+      packets = packets;
+      ordered = t.later;
+      texts = w.texts ++ text ∷ [];
+      are_seen = seen_more captured w.packets way digits (bytes_of digits) seen w.are_seen (decoded digits (length digits / 2) spelled) is;
+      are_texts = subst (λ (l : List (ℕ × Captured)). AllZip (IsPacketText later) l (w.texts ++ text ∷ [])) (sym (enumerate_from-snoc 1 w.packets x))
+          (zip_snoc (IsPacketText later) (enumerate_from 1 w.packets) w.texts (1 + n, x) text
+          (retext (1 + n) all later (λ k below. earlier (1 + n) k all later t.front t.back t.ms below t.before t.after t.whole) 1 w.packets w.texts (omega arith) w.are_texts) own);
+      written_is = ap (λ l. l ++ text) w.written_is ∙ sym (concat_snoc w.texts text);
+      count = omega (arith, count, number, longer);
+      most = omega (arith, number, longer, most);
+      keeps = t.keeps;
+    }
+
+-- ---- what a packet tells
+
+pub tells_message : (packets : List Captured) (x : Captured) (ordered : List (List Placed)) (new : Streams) (digits : List ℕ) (w : Whole) (old_text new_text : List ℕ)
+    → Grows packets x ordered new digits (Some w) → ((m : Piece) → IsWhole digits w m → (text : List ℕ) × IsMessageText m text × (new_text ≡ old_text ++ text))
+    → Tells packets x ordered new old_text new_text
+tells_message packets x ordered new digits w old_text new_text g said =
+    let a = g.added in
+    let told : AreTold (1 + length packets) digits (Some w) a.ms = a.told in
+    let m = told.0 in
+    let text = said m told.3 in
+    record {
+      later = g.later;
+      keeps = g.keeps;
+      front = a.front;
+      back = a.back;
+      ms = a.ms;
+      before = a.before;
+      after = a.after;
+      whole = subst (λ (l : List Piece). AllByRecursion (λ p. whole_with p ≡ 1 + length packets) l) (sym told.1) (told.2, tt);
+      texts = text.0 ∷ [];
+      are = subst (λ (l : List Piece). AllZip IsMessageText l (text.0 ∷ [])) (sym told.1) (text.1, tt);
+      added = text.2 ∙ ap (λ l. old_text ++ l) (sym (append-nil text.0));
+    }
+
+pub tells_none : (packets : List Captured) (x : Captured) (ordered : List (List Placed)) (new : Streams) (digits : List ℕ) (text : List ℕ)
+    → Grows packets x ordered new digits None → Tells packets x ordered new text text
+tells_none packets x ordered new digits text g =
+    let a = g.added in
+    let told : a.ms ≡ [] = a.told in
+    record {
+      later = g.later;
+      keeps = g.keeps;
+      front = a.front;
+      back = a.back;
+      ms = [];
+      before = a.before;
+      after = a.after ∙ ap (λ (l : List Piece). a.front ++ (map message_of l ++ a.back)) told;
+      whole = tt;
+      texts = [];
+      are = tt;
+      added = sym (append-nil text);
+    }
+
+pub tells_aside : (packets : List Captured) (x : Captured) (ordered : List (List Placed)) (new : Streams) (text : List ℕ) → KeepsAll (packets ++ x ∷ []) ordered new → Tells packets x ordered new text text
+tells_aside packets x ordered new text keeps = record {
+  later = ordered;
+  keeps = keeps;
+  front = flat_map messages ordered;
+  back = [];
+  ms = [];
+  before = sym (append-nil (flat_map messages ordered));
+  after = sym (append-nil (flat_map messages ordered));
+  whole = tt;
+  texts = [];
+  are = tt;
+  added = sym (append-nil text);
+}
+
+-- ---- at the end
+
+is_ordered : (packets : List Captured) (s : Stream) (o : List Placed) (p : Places) → KeepsStream packets s o p → IsOrdered (came_in s packets) o
+is_ordered packets s o p k = record {
+  placed = k.placed;
+  are_placed = subst (λ (l : List Came). ArePlaced (first_place l) l k.placed) (sym k.are) k.are_placed;
+  ascending = ascending o k.keeps.rises;
+  same = k.same;
+}
+
+are_ordered : (packets : List Captured) (keys : List Stream) (orders : List (List Placed)) (places : List Places) → KeepsEach packets keys orders places
+    → AllZip (λ stream. IsOrdered (came_in stream packets)) keys orders
+are_ordered packets [] [] [] each = tt
+are_ordered packets [] [] (p ∷ places) each = absurd each
+are_ordered packets [] (o ∷ orders) places each = absurd each
+are_ordered packets (s ∷ keys) [] places each = absurd each
+are_ordered packets (s ∷ keys) (o ∷ orders) [] each = absurd each
+are_ordered packets (s ∷ keys) (o ∷ orders) (p ∷ places) each = (is_ordered packets s o p each.0, are_ordered packets keys orders places each.1)
+
+pub is_watched : (captured : List Capture) (written : List ℕ) (w : Watching) → Watches captured written w
+    → IsWatched captured written (all_kept_rest w.streams.names.keys w.streams.places.items)
+is_watched captured written w k =
+    let keys = w.streams.names.keys in
+    let names : keys ≡ streams k.packets = k.keeps.names in
+    record {
+      packets = k.packets;
+      ordered = k.ordered;
+      texts = k.texts;
+      are_seen = k.are_seen;
+      are_ordered = subst (λ (l : List Stream). AllZip (λ stream. IsOrdered (came_in stream k.packets)) l k.ordered) names (are_ordered k.packets keys k.ordered w.streams.places.items k.keeps.each);
+      are_texts = k.are_texts;
+      written_is = k.written_is;
+      rest_is = sym (all_same k.packets keys k.ordered w.streams.places.items k.keeps.each)
+          ∙ ap (λ (l : List Stream). flat_map (λ (stream, segments). rest_lines stream (pieces segments)) (zip l k.ordered)) names;
+    }

@@ -1,0 +1,32 @@
+-- Pieces of one stream, end to end.
+use Rattle.std.specs.Prelude.{◌≡◌, ◌⊎◌, ⊤, ◌<◌, List, [], ◌∷◌, ◌++◌, if◌then◌else◌}
+use Rattle.std.specs.List.{AllByRecursion, flat_map}
+use Rattle.dap_follow.specs.Streams.{Placed}
+use Rattle.dap_follow.specs.Joined.{Piece, joins, tail}
+
+-- the segments of pieces, in order
+abbrev pub all_segments : List Piece → List Placed
+all_segments ps = flat_map (λ p. p.head ∷ p.others) ps
+
+-- a piece and the next one as one
+abbrev pub merged : Piece → Piece → Piece
+merged p q = record { head = p.head; others = p.others ++ q.head ∷ q.others }
+
+-- The pieces of segments, and those of the segments behind them: the last and the first are one, if they join.
+abbrev pub glue : List Piece → List Piece → List Piece
+glue [] ys = ys
+glue (p ∷ []) [] = p ∷ []
+glue (p ∷ []) (y ∷ ys) = if joins (tail p) y.head then merged p y ∷ ys else p ∷ y ∷ ys
+glue (p ∷ q ∷ ps) ys = p ∷ glue (q ∷ ps) ys
+
+-- each place is below those behind it
+abbrev pub Rises : List Placed → Type 0
+Rises [] = ⊤
+Rises (s ∷ others) = AllByRecursion (λ other. s.place < other.place) others × Rises others
+
+-- A segment stands in the place already, or it is put between those below and those above.
+abbrev pub IsPut : List Placed → Placed → List Placed → Type 0
+IsPut old s new =
+    ((new ≡ old) × (front back : List Placed) × (other : Placed) × (old ≡ front ++ other ∷ back) × (other.place ≡ s.place))
+    ⊎ ((front back : List Placed) × (old ≡ front ++ back) × (new ≡ front ++ s ∷ back)
+    × AllByRecursion (λ other. other.place < s.place) front × AllByRecursion (λ other. s.place < other.place) back)

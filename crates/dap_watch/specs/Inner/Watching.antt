@@ -1,0 +1,61 @@
+-- What the program keeps of a capture that isn't over.
+use Rattle.std.specs.Prelude.{◌≡◌, ◌⊎◌, ⊤, ℕ, ◌+◌, ◌^◌, ◌≤◌, true, is_err, List, [], ◌∷◌, ◌++◌, length, map, Option, Some, None, Ok}
+use Rattle.std.specs.List.{AllByRecursion, AllZip, concat, enumerate_from, flat_map}
+use Rattle.dap_listing.specs.Lines.{Capture, line_of}
+use Rattle.dap_listing.specs.Listing.{packet_limit}
+use Rattle.dap_follow.specs.Streams.{Captured, Placed}
+use Rattle.dap_follow.specs.Joined.{Message, Piece, message_of, messages}
+use Rattle.dap_follow.specs.Following.{IsCaptured, IsMessageText, IsPacketText}
+use Rattle.linewise.specs.declared.talking.Became.{Became}
+use Rattle.linewise.specs.declared.talking.Became.TheVariants.{Done, BadLine, NoMemory}
+use Rattle.dap_watch.specs.Watched.{whole_with}
+use Rattle.dap_watch.specs.Inner.Streams.{KeepsAll}
+use Rattle.dap_watch.specs.declared.streams.Streams.{Streams}
+use Rattle.dap_watch.specs.declared.watching.Watching.{Watching}
+
+-- a packet more, and the texts of the messages that are whole with it
+pub record Tells (packets : List Captured) (packet : Captured) (ordered : List (List Placed)) (new : Streams) (old_text new_text : List ℕ) : Type 0 where
+  pub later : List (List Placed)
+  pub keeps : KeepsAll (packets ++ packet ∷ []) later new
+  pub front : List Message
+  pub back : List Message
+  pub ms : List Piece
+  pub before : flat_map messages ordered ≡ front ++ back
+  pub after : flat_map messages later ≡ front ++ (map message_of ms ++ back)
+  pub whole : AllByRecursion (λ m. whole_with m ≡ 1 + length packets) ms
+  pub texts : List (List ℕ)
+  pub are : AllZip IsMessageText ms texts
+  pub added : new_text ≡ old_text ++ concat texts
+
+-- what the lines so far came to
+pub record Watches (captured : List Capture) (written : List ℕ) (w : Watching) : Type 0 where
+  pub packets : List Captured
+  pub ordered : List (List Placed)
+  pub texts : List (List ℕ)
+  pub are_seen : AllZip IsCaptured captured packets
+  pub are_texts : AllZip (IsPacketText (flat_map messages ordered)) (enumerate_from 1 packets) texts
+  pub written_is : written ≡ concat texts
+  pub count : w.packets ≡ length packets
+  pub most : length packets ≤ 2 ^ 50
+  pub keeps : KeepsAll packets ordered w.streams
+
+-- a captured packet more
+abbrev pub GoesOn : Capture → Watching → Watching → List ℕ → Type 0
+GoesOn capture old new text =
+    (captured : List Capture) (written : List ℕ) → Watches captured written old → Watches (captured ++ capture ∷ []) (written ++ text) new
+
+-- a line's packet is listed, and goes to those that are kept; a line at fault changes nothing
+abbrev pub answered : Watching → List ℕ → Watching → List ℕ → Became → Type 0
+answered old line new text Done =
+    ((line_of packet_limit line ≡ Ok None) × (new ≡ old) × (text ≡ []))
+    ⊎ ((capture : Capture) × (line_of packet_limit line ≡ Ok (Some capture)) × GoesOn capture old new text)
+answered old line new text BadLine = (is_err (line_of packet_limit line) ≡ true) × (new ≡ old) × (text ≡ [])
+answered old line new text NoMemory = text ≡ []
+
+-- its answers have no ending
+abbrev pub waiting : Watching → Option ℕ
+waiting w = None
+
+-- and come in one piece
+abbrev pub no_pieces : Watching → ⊤ → List (List ℕ)
+no_pieces w place = []

@@ -1,0 +1,74 @@
+//! What is kept of the streams of a capture.
+
+ghost use Rattle.std.specs.Prelude.{◌≡◌, ◌<◌, ◌/◌, ◌^◌, ◌∷◌, [], List, IfOk, IfSome, length};
+ghost use Rattle.dap_listing.specs.Captured.{Spell};
+ghost use Rattle.dap_watch.specs.Inner.Segments.{segment_packet};
+ghost use Rattle.dap_follow.specs.Streams.{Captured, Placed};
+ghost use Rattle.dap_watch.specs.Inner.Streams.{Grows, IsIndexed, KeepsAll};
+
+use crate::places::{Places, Whole};
+use dap_follow::Stream;
+use dap_listing::{CapturedSegment, Direction};
+use indexmap::IndexSet;
+use nsp_seg::Seq12;
+use std::alloc::{AllocError, Global};
+
+/// The streams in the order in which they appear, and what is kept of each.
+#[derive(Drop)]
+pub(crate) struct Streams {
+    pub(crate) alloc: Global,
+    pub(crate) names: IndexSet<Stream>,
+    pub(crate) places: Vec<Places>,
+}
+
+impl Streams {
+    /// No streams. It takes no memory.
+    pub(crate) fn new(alloc: Global) -> Self
+        ensures { KeepsAll [] [] result }
+    {
+        Streams {
+            alloc,
+            names: IndexSet::new(alloc),
+            places: Vec::new(alloc),
+        }
+    }
+
+    /// Where what is kept of a stream stands, which begins with the number where it is new.
+    fn place_of(&mut self, stream: Stream, number: Seq12) -> Result<usize, AllocError>
+        ensures within { IfOk result (λ index. index < length self.new.places.items) }
+        ensures indexed { length self.old.names.keys ≡ length self.old.places.items
+            → IfOk result (IsIndexed stream number self.old self.new) }
+    {
+        let (index, is_new) = self.names.insert_full(stream)?;
+        if !is_new && index < self.places.len() {
+            return Ok(index);
+        }
+        self.places.push(Places::new(self.alloc, number))?;
+        Ok(self.places.len() - 1)
+    }
+
+    /// Takes a segment; returns the message that is whole with it, and its digits.
+    pub(crate) fn add(
+        &mut self,
+        way: Direction,
+        segment: &CapturedSegment<'_>,
+        digits: &mut Vec<u8>,
+    ) -> Result<Option<Whole>, AllocError>
+        requires { Spell segment.now.digits.now (length segment.now.digits.now / 2) }
+        ensures grows { IfOk result (λ found.
+            (packets : List Captured) (ordered : List (List Placed))
+            → length packets < 2 ^ 50 → KeepsAll packets ordered self.old
+            → Grows packets (segment_packet way segment.now) ordered self.new digits.new.items
+            found) }
+        ensures spelled { IfOk result (λ found. IfSome found
+            (λ whole. Spell digits.new.items (length digits.new.items / 2))) }
+    {
+        let stream = Stream {
+            way,
+            dst: segment.dst,
+            src: segment.src,
+        };
+        let index = self.place_of(stream, segment.number)?;
+        self.places[index].add(segment, digits)
+    }
+}
