@@ -29,6 +29,7 @@ ODD = {
     "bench/ratios": ["x"],
     "bench/wire": ["/nowhere"],
     "bench/live": ["x", "--no-such"],
+    "bench/start": ["x", "--no-such", "--daplive /nowhere"],
     "bench/names": ["--no-such"],
     "bench/link": ["x"],
     "bench/world": ["x"],
