@@ -44,7 +44,7 @@ class Waiting:
         """`most` bytes may wait before no more is served; None for any number."""
         self.most, self.window = most, window
         self.newest = self.acknowledged = 0  # the highest segment that was written, and that the other end has
-        self.messages = collections.deque()  # whose last segment the other end hasn't
+        self.messages, self.size = collections.deque(), 0  # whose last segment the other end hasn't, and their bytes
         self.requests = 0  # that were taken since nothing waited
         self.known = 0  # bytes that waited at least when a segment was taken last
         self.is_sure = True  # whether all was served then that might be: there was memory
@@ -52,7 +52,7 @@ class Waiting:
     def took(self, packet):
         """The live end took a new segment: what is written from now on may be its answer."""
         self.requests += requests_in(packet)
-        self.known, self.is_sure = sum(message.size for message in self.messages), True
+        self.known, self.is_sure = self.size, True
 
     def wrote(self, packet):
         """The live end wrote a segment, for the first time or again."""
@@ -61,8 +61,9 @@ class Waiting:
         self.newest = packet.number
         if not self.messages or self.messages[-1].last is not None:
             self.messages.append(Message())
-        self.messages[-1].size += len(packet.body)
-        self.known += len(packet.body)
+        size = len(packet.body)
+        self.messages[-1].size += size
+        self.size, self.known = self.size + size, self.known + size
         if packet.kind in nsp.LASTS:
             self.messages[-1].last = packet.number
 
@@ -75,7 +76,7 @@ class Waiting:
         had_all = (self.newest - self.acknowledged) % nsp.NUMBERS < self.window
         self.acknowledged = number
         while self.messages and self.is_had(self.messages[0]):
-            self.messages.popleft()
+            self.size -= self.messages.popleft().size
         if had_all and not self.messages:
             self.requests = 0
 
