@@ -29,7 +29,8 @@ from decnet.kept import Keeper
 from decnet.locked import KeptFault
 from decnet.log import LogFault
 from decnet.parts import (
-    carry, keep_file, load_files, open_entry, open_node, open_signals, open_store, settings_of, start_end)
+    carry, keep_file, load_files, open_entry, open_node, open_signals, open_store, settings_of, settings_of_server,
+    start_end)
 from decnet.passwords import print_user
 from decnet.pcap import PcapFault
 from decnet.role import FAILED, FAULT, Stopped
@@ -55,7 +56,7 @@ def serve(words, opened):
     else:
         is_changed = load_files(words, kept, end, space, signals)
     keeper = opened(Keeper(kept, end, is_changed)) if kept else None
-    role = Server(node, end, settings_of(words, words.unused), keeper, words.links, store, space, entry)
+    role = Server(node, end, settings_of_server(words), keeper, words.links, store, space, entry)
     node.start()
     where = words.interface or node.wire.name
     log.say(str(entry))

@@ -38,10 +38,13 @@ WORDS = [
     ("ask --remote 1 --local 000g", f"--local 000g: {ADDRESS}"),
     ("serve --segment +512", f"--segment +512: {NUMBER}"),
 ]
-# lines whose listing or answers are more than a pipe holds
-PACKETS = "".join(f"> 60020201010{number % 8}80010001020a00040703050600000000\n" for number in range(2_000))
-MUCH = {("dapnsp", "show"): PACKETS, ("dapnsp", "msg"): "> 0600\n" * 20_000, ("daplive", "follow"): PACKETS,
-        ("daplive", "ask"): "ack\n" * 20_000, ("daplive", "serve"): "ack\n" * 20_000}
+# what has a listing or answers of more than a pipe holds
+PACKETS = b"".join(b"> 60020201010%d80010001020a00040703050600000000\n" % (number % 8) for number in range(2_000))
+HEADER = 24  # bytes before the records of a pcap file
+WIRE = (HERE / "wire.pcap").read_bytes()
+MUCH = {("dapnsp", "show"): PACKETS, ("dapnsp", "msg"): b"> 0600\n" * 20_000, ("daplive", "follow"): PACKETS,
+        ("daplive", "ask"): b"ack\n" * 20_000, ("daplive", "serve"): b"ack\n" * 20_000,
+        ("daplive", "frames"): WIRE + WIRE[HEADER:] * 2_000}
 
 
 class Suite:
@@ -79,7 +82,7 @@ class Suite:
         """A plain shell's pipe to a program that reads little or nothing, where SIGPIPE is looked at and where it isn't."""
         for before in ("", "trap '' PIPE; "):
             script = f'{before}"$@" | {reader}; exit "${{PIPESTATUS[0]}}"'
-            how = {"input": given.encode(), "capture_output": True, "timeout": SECONDS, "check": False}
+            how = {"input": given, "capture_output": True, "timeout": SECONDS, "check": False}
             done = subprocess.run(["bash", "-c", script, "bash", self.programs[name], *words], **how)
             is_right = (done.returncode, done.stderr) == (CLOSED_PIPE, b"")
             self.look(f"{before}{name} {' '.join(words)} | {reader}", is_right, done)
@@ -88,18 +91,24 @@ class Suite:
         """A standard output that isn't there, or is full: that is told."""
         for (name, command), given in MUCH.items():
             for output in (">&-", ">/dev/full"):
-                how = {"input": given.encode(), "capture_output": True, "timeout": SECONDS, "check": False}
+                how = {"input": given, "capture_output": True, "timeout": SECONDS, "check": False}
                 shell = ["bash", "-c", f'exec "$@" {output}', "bash"]
                 done = subprocess.run([*shell, self.programs[name], command], **how)
                 is_right = (done.returncode, done.stderr) == (3, b"write failed\n")
                 self.look(f"{name} {command} {output}", is_right, done)
+
+    def no_input(self):
+        """A standard input that isn't there."""
+        done = subprocess.run(["bash", "-c", 'exec "$@" <&-', "bash", self.programs["daplive"], "frames"], capture_output=True,
+                              timeout=SECONDS, check=False)
+        self.look("daplive frames <&-", (done.returncode, done.stdout, done.stderr) == (3, b"", b"read failed\n"), done)
 
     def unread(self, name, word, given):
         """A pipe that nobody reads from the start."""
         reader, writer = os.pipe()
         os.close(reader)
         with open(writer, "wb") as output:
-            how = {"input": given.encode(), "stdout": output, "stderr": subprocess.PIPE, "timeout": SECONDS, "check": False}
+            how = {"input": given, "stdout": output, "stderr": subprocess.PIPE, "timeout": SECONDS, "check": False}
             done = subprocess.run([self.programs[name], word], **how)
         self.look(f"{name} {word}, a pipe that nobody reads", (done.returncode, done.stderr) == (CLOSED_PIPE, b""), done)
 
@@ -108,8 +117,9 @@ class Suite:
             self.pipe(name, [command], given, "head -n 1")
             self.unread(name, command, given)
         for name in self.programs:
-            self.unread(name, "--help", "")
+            self.unread(name, "--help", b"")
         self.unwritten()
+        self.no_input()
 
 
 def main():

@@ -7,6 +7,7 @@ from decnet import dap, nsp
 from decnet.address import node_text
 from decnet.end import Answer
 from decnet.nsp import FlowControl, Kind, Modifier, Reason
+from decnet.waiting import WINDOW, Waiting
 
 CONFIRM_SECONDS = 60  # how long an announced link may take to be confirmed
 PROMPT_SECONDS = 5  # how long an answer may take that a node gives at once, where two --resend aren't longer
@@ -29,6 +30,8 @@ class Settings:
     tries: int  # how often that is done
     idle: float  # seconds in which nothing came before the other end is asked whether it is there
     unused: float = None  # seconds without a new data segment before the link is closed; None for never
+    waiting: int = None  # bytes of answers that may wait before the live end serves no more; None for any number
+    window: int = WINDOW  # segments that the live end has on their way
 
 
 class State(enum.Enum):
@@ -182,6 +185,7 @@ class Link:
         self.resend = Countdown(clock)
         self.other = OtherData(clock)
         self.flow = Flow(FlowControl.NONE)
+        self.waiting, self.is_told = Waiting(settings.waiting, settings.window), False
         self.segment = settings.segment
         self.acknowledged = 0  # the highest segment that the other end has
         self.pending = 0  # lines that the live end hasn't answered
@@ -240,6 +244,7 @@ class Link:
         """Goes on with a link that another bridge left, before the same live end. The other end may not have the connect
         confirm; where it has, it acknowledges it again."""
         self.remote, self.segment, self.acknowledged = left.remote, left.segment, left.acknowledged
+        self.waiting.newest = self.waiting.acknowledged = left.acknowledged
         self.other.resume(left.taken)
         self.flow.is_on = left.is_on
         self.confirm()
@@ -429,6 +434,7 @@ class Link:
         if 0 < count < nsp.AHEAD:
             self.carried(count * self.segment)
             self.acknowledged, self.moved_at = number, self.clock()
+            self.waiting.acknowledge(number)
             self.flow.forget(number)
             self.resend.stop()
 
@@ -454,17 +460,40 @@ class Link:
         for text in answer:
             word, _, rest = text.partition(" ")
             if word == "<":
-                self.send_or_hold(self.read_packet(rest))
+                self.write(self.read_packet(rest))
             elif word == "accepted":
-                self.used_at = self.moved_at = self.clock()
-                self.carried(len(packet.body) if packet else 0)
-            elif word == "report" or text == NO_MEMORY:
+                self.took(packet)
+            elif word == "report":
+                self.told(text)
+            elif text == NO_MEMORY:
+                self.waiting.lacked_memory()
                 self.told(text)
             elif word == "refused" and rest.split(" ")[0].rstrip(":") in LINK_FAILED:
                 failed = failed or rest
         if failed:
             why = self.explain(packet) if packet and failed == UNEXPECTED else ""
             self.disconnect(Reason.ABORTED, f"the live end refused: {failed}{why and ': '}{why}")
+        self.note_limit()
+
+    def took(self, packet):
+        """The live end took a new segment."""
+        self.used_at = self.moved_at = self.clock()
+        if packet:
+            self.carried(len(packet.body))
+            self.waiting.took(packet)
+
+    def write(self, packet):
+        """The live end wrote a packet."""
+        if packet.kind in nsp.SEGMENTS:
+            self.waiting.wrote(packet)
+        self.send_or_hold(packet)
+
+    def note_limit(self):
+        """Says once that so much waits that the live end serves no more."""
+        if self.waiting.is_met and not self.is_told:
+            self.is_told = True
+            self.noted(f"node {node_text(self.peer.node)} lets {self.waiting.known} bytes of answers wait, and "
+                       f"--waiting allows {self.waiting.most}: what else it asks is served as it acknowledges them")
 
     def read_packet(self, text):
         """A packet of the live end."""

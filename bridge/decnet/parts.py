@@ -1,4 +1,5 @@
 """The parts of a bridge, made by the words of the command line. What is `opened` is closed by who asks for it."""
+import dataclasses
 import os
 import re
 
@@ -16,6 +17,7 @@ from decnet.role import Signals, finish, run, wait_for
 from decnet.server import Entry, load, replay
 from decnet.stored import Store, StoredEnd, program_of
 from decnet.users import Guard, Users
+from decnet.waiting import MOST, WINDOW
 
 OF_LINES = re.compile(r"(daplive: line|bad line) \d+")  # the live end counts lines that the user never saw
 
@@ -25,9 +27,14 @@ def open_signals(words, opened, with_times=False):
     return opened(Signals(opened(log.start("bridge", words.log, with_times))))
 
 
-def settings_of(words, unused=None):
+def settings_of(words):
     """What holds for all links."""
-    return Settings(words.segment, words.resend, words.tries, words.idle, unused)
+    return Settings(words.segment, words.resend, words.tries, words.idle, window=words.window or WINDOW)
+
+
+def settings_of_server(words):
+    """The same where links are served."""
+    return dataclasses.replace(settings_of(words), unused=words.unused, waiting=words.waiting or MOST)
 
 
 def open_node(words, opened):

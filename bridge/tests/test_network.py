@@ -24,7 +24,7 @@ from tests.network import LIBC, Capture, Network, ip
 from tests.patterns import altered, good_frame, packets
 from tests.station import ASKING, CONFIGURATION, SERVING, SILENCE, Station, segment
 from tests.support import (
-    BRIDGE, EXAMPLES, PATIENCE, POLL, PROGRAM, PYTHON, SEED, Case, child_of, expect, expect_equal, file_lines, need_live_end,
+    BRIDGE, PATIENCE, POLL, PROGRAM, PYTHON, SEED, Case, child_of, expect, expect_equal, file_lines, need_live_end,
     until)
 
 SETTINGS = ["--resend", "0.2", "--tries", "10"]
@@ -189,8 +189,9 @@ class TransferTest(CapturedCase):
 
     def list_capture(self, transfers):
         """The listing of the capture has each record that was stored, once and in order."""
-        command = [sys.executable, EXAMPLES / "pcap_to_capture.py", self.capture.path, ASKING, SERVING]
-        lines = subprocess.run(command, capture_output=True, check=True, timeout=PATIENCE).stdout
+        with open(self.capture.path, "rb") as file:
+            command = [PROGRAM, "frames", ASKING, SERVING]
+            lines = subprocess.run(command, stdin=file, capture_output=True, check=True, timeout=PATIENCE).stdout
         run = subprocess.run(FOLLOW, input=lines, capture_output=True, check=False, timeout=2 * PATIENCE)
         expect_equal(run.returncode, 0, f"the exit status of {FOLLOW} ({run.stderr.decode()})")
         listing = run.stdout.decode().splitlines()

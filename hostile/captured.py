@@ -1,0 +1,243 @@
+"""Lists capture files with `daplive frames` where they are cut and altered, where they name any length, where growths are
+refused, and where standard input and output fail: a part of hostile/check.
+
+What is written and told is compared with what another program reads of the file (framed.py): the lines of all frames before
+a fault, the fault with its offset, and the counts.
+"""
+import random
+import struct
+import subprocess
+from concurrent.futures import ThreadPoolExecutor
+from os import cpu_count
+
+from framed import listing
+
+SECONDS = 60
+ALTERED = 20_000
+SEED = 1
+# Lines of 64 KiB of input, of a frame of 262,144 bytes, and what the C library takes; no length that a file names.
+MOST_MEMORY = 12_000  # KiB of addresses
+ENDLESS = 64 << 20  # bytes of a file that goes on
+LENGTHS = sorted({max(0, (1 << bits) + more) for bits in range(33) for more in (-4, -1, 0, 1, 4)} - {1 << 32})
+LENGTHS = [length for length in LENGTHS if length < 1 << 32]
+PACKET = bytes.fromhex("0402010103ff8f")
+
+
+# ---- files
+
+
+def ethernet(message, tags=b""):
+    return (bytes(12) + tags + b"\x60\x03" + len(message).to_bytes(2, "little") + message).ljust(60, b"\0")
+
+
+def short(sender, receiver, packet=PACKET, tags=b""):
+    ends = [(1 << 10 | node).to_bytes(2, "little") for node in (receiver, sender)]
+    return ethernet(b"\x02" + ends[0] + ends[1] + b"\0" + packet, tags)
+
+
+def long(sender, receiver, packet=PACKET, padding=b""):
+    ends = [b"\xaa\x00\x04\x00" + (1 << 10 | node).to_bytes(2, "little") for node in (receiver, sender)]
+    return ethernet(padding + b"\x26\0\0" + ends[0] + b"\0\0" + ends[1] + bytes(4) + packet)
+
+
+FRAMES = [short(1, 2), long(2, 1, padding=b"\x83\0\0"), short(2, 1, tags=b"\x81\0\0\5"), short(3, 1), bytes(60),
+          long(1, 2, PACKET + bytes(90)), short(1, 2, tags=b"\x88\xa8\0\5\x91\0\0\5")[:-20], short(1, 2)]
+
+
+def pcap(frames, order="<", magic=0xA1B2C3D4):
+    head = struct.pack(order + "IHHIIII", magic, 2, 4, 0, 0, 262_144, 1)
+    return head + b"".join(struct.pack(order + "IIII", at, 500_000 + at, len(one), len(one)) + one for at, one in enumerate(frames))
+
+
+def block(order, kind, body):
+    body += bytes(-len(body) % 4)
+    return struct.pack(order + "II", kind, len(body) + 12) + body + struct.pack(order + "I", len(body) + 12)
+
+
+def section(frames, order="<", options=b"", length=-1):
+    """A section with three interfaces, one of which isn't of Ethernet, other blocks, and frames in turn on all of them."""
+    parts = [block(order, 0x0A0D0D0A, struct.pack(order + "IHHq", 0x1A2B3C4D, 1, 0, length))]
+    for link in (1, 113, 1):
+        parts.append(block(order, 1, struct.pack(order + "HHI", link, 0, 96) + (options if link == 1 else b"")))
+    parts.append(block(order, 5, bytes(12)))
+    for at, one in enumerate(frames):
+        if at % 4 == 3:
+            parts.append(block(order, 3, struct.pack(order + "I", len(one)) + one[:96]))
+        else:
+            parts.append(block(order, 6, struct.pack(order + "IIIII", at % 3, 0, at << 20, len(one), len(one)) + one))
+    return b"".join(parts)
+
+
+def finer(order, resolution):
+    """Options of an interface: the resolution of its times, seconds that are added to them, and the last."""
+    return struct.pack(order + "HHB3xHHqHH", 9, 1, resolution, 14, 8, 5, 0, 0)
+
+
+FILES = {
+    "pcap": pcap(FRAMES),
+    "pcap, highest byte first, nanoseconds": pcap(FRAMES, ">", 0xA1B23C4D),
+    "pcapng": section(FRAMES),
+    "pcapng, two sections": section(FRAMES, ">", finer(">", 9)) + section(FRAMES[:4], "<", finer("<", 0x8A)),
+}
+# of each file a part in which a number lies: its offset, and how it is written
+NUMBERS = {
+    "pcap": [(24 + 8, "<I"), (24 + 12, "<I"), (24 + 16 + 60 + 8, "<I")],
+    "pcapng": [(4, "<I"), (28 + 4, "<I"), (28 + 12, "<I"), (28 + 60 + 4, "<I"), (28 + 60 + 24 + 4, "<I"), (28 + 60 + 24 + 8, "<I"),
+               (28 + 60 + 24 + 20, "<I"), (28 + 60 + 24 + 24, "<I")],
+}
+
+
+def many(count):
+    """More lines than are written at once."""
+    return pcap(FRAMES * count)
+
+
+def interfaces(count):
+    """A section with so many interfaces and a frame on the last one, and a section with one interface."""
+    frame = struct.pack("<IIIII", count - 1, 0, 7, 60, 60) + short(1, 2)
+    parts = [block("<", 0x0A0D0D0A, struct.pack("<IHHq", 0x1A2B3C4D, 1, 0, -1)), block("<", 1, struct.pack("<HHI", 1, 0, 0)) * count]
+    return b"".join(parts) + block("<", 6, frame) + section(FRAMES[:3])
+
+
+# ---- altered files
+
+
+def with_number(choose, file):
+    """A number of four bytes is another one, often one near a power of two."""
+    at = choose.randrange(len(file) - 3)
+    number = choose.choice(LENGTHS) if choose.random() < 0.7 else choose.randrange(1 << 32)
+    return file[:at] + struct.pack(choose.choice("<>") + "I", number) + file[at + 4:]
+
+
+def with_bytes(choose, file):
+    file = bytearray(file)
+    for _ in range(choose.randint(1, 4)):
+        file[choose.randrange(len(file))] = choose.randrange(256)
+    return bytes(file)
+
+
+def with_bit(choose, file):
+    file, at = bytearray(file), choose.randrange(len(file))
+    file[at] ^= 1 << choose.randrange(8)
+    return bytes(file)
+
+
+def with_part(choose, file):
+    """A part is missing, stands twice, or is another one."""
+    start, end, to = sorted(choose.randrange(len(file) + 1) for _ in range(3))
+    return choose.choice((file[:start] + file[end:], file[:end] + file[start:], file[:end] + file[start:end] + file[to:]))
+
+
+def with_end(choose, file):
+    return file[:choose.randrange(len(file))]
+
+
+def altered(count):
+    choose, files = random.Random(SEED), list(FILES.values())
+    ways = (with_number, with_number, with_bytes, with_bit, with_part, with_end)
+    for _ in range(count):
+        file = choose.choice(files)
+        for _ in range(choose.choice((1, 1, 1, 2))):
+            file = choose.choice(ways)(choose, file) if len(file) > 4 else file
+        yield file
+
+
+# ---- the runs
+
+
+def without_help(told):
+    """What is told, without what may help besides."""
+    return b"".join(line for line in told.splitlines(keepends=True) if not line.startswith(b"daplive: "))
+
+
+class Captures:
+    """Runs of `daplive frames`; the suite counts and tells them."""
+
+    def __init__(self, suite, program):
+        self.suite, self.words = suite, [program, "frames"]
+
+    def all(self):
+        for name, file in FILES.items():
+            self.cut(name, file)
+        for name, numbers in NUMBERS.items():
+            self.lengths(name, FILES[name], numbers)
+        self.compare("daplive frames, up to 1,025 interfaces", map(interfaces, (1, 1023, 1024, 1025)))
+        self.compare(f"daplive frames, {ALTERED} altered files", altered(ALTERED))
+        for name, file in {**FILES, "many lines": many(200)}.items():
+            self.refuse(name, file)
+        for name in ("pcap", "pcapng, two sections"):
+            self.fail(name, FILES[name])
+        self.fail("many lines", many(200), small=False)
+        self.go_on()
+
+    # -- files
+
+    def run(self, file):
+        return subprocess.run(self.words, input=file, capture_output=True, timeout=SECONDS, check=False)
+
+    def run_bounded(self, file):
+        shell = ["bash", "-c", f'ulimit -v {MOST_MEMORY}; exec "$@"', "bash"]
+        return subprocess.run([*shell, *self.words], input=file, capture_output=True, timeout=SECONDS, check=False)
+
+    def compare(self, name, files, run=None):
+        """Each file is listed as the other program reads it."""
+        run, count, wrong = run or self.run, 0, []
+        with ThreadPoolExecutor(cpu_count()) as pool:
+            for file, ran in pool.map(lambda file: (file, run(file)), files):
+                lines, told, status = listing(file)
+                count += 1
+                if (ran.stdout, without_help(ran.stderr), ran.returncode) != (b"".join(lines), told, status):
+                    wrong.append((ran, told, file))
+        self.suite.passed += count - len(wrong)
+        self.suite.failed += len(wrong)
+        print(f"{name}: {count} files", f"{len(wrong)} WRONG" if wrong else "", flush=True)
+        for ran, told, file in wrong[:3]:
+            print(f"  status {ran.returncode}, wrote {len(ran.stdout)} bytes, told {ran.stderr[-200:]!r} in place of {told!r}: {file.hex()}")
+
+    def cut(self, name, file):
+        self.compare(f"daplive frames, {name}, cut at every byte", (file[:end] for end in range(len(file) + 1)))
+
+    def lengths(self, name, file, numbers):
+        """A number is each length, where the program has little memory."""
+        files = [file[:at] + struct.pack(form, length) + file[at + 4:] for at, form in numbers for length in LENGTHS]
+        self.compare(f"daplive frames, {name}, lengths up to 2^32", files, self.run_bounded)
+
+    def go_on(self):
+        """Files that go on, where the program has little memory: records, and another block than those that are read."""
+        for name, head, piece in [("records", FILES["pcap"], pcap(FRAMES * 100)[24:]),
+                                  ("a block", FILES["pcapng"] + struct.pack("<II", 5, (1 << 32) - 4), bytes(1 << 16))]:
+            file = head + piece * (ENDLESS // len(piece))
+            self.compare(f"daplive frames, {name} of {ENDLESS >> 20} MiB", [file], self.run_bounded)
+
+    # -- memory and devices
+
+    def refuse(self, name, file):
+        """The lines before a growth is refused are written, and no part of a line pair; then that is told."""
+        lines, told, status = listing(file)
+        fronts = {b"".join(lines[:count]) for count in range(len(lines) + 1)}
+
+        def is_right(ran, _at):
+            if (ran.status, ran.written, ran.told) == (status, b"".join(lines), told):
+                return True
+            return ran.was_met and ran.written in fronts and (ran.status, ran.told) == (3, b"no memory\n")
+
+        for manner, what in [("", "one growth refused"), ("..", "all growths refused from one on")]:
+            run = lambda at: self.suite.ran(self.words, file, REFUSE_GROWTH=f"{at}{manner}")
+            self.suite.until_none(f"daplive frames, {name}, {what}", run, is_right)
+
+    def fail(self, name, file, small=True):
+        """Each read fails, and each write fails or takes nothing."""
+        lines, told, status = listing(file)
+        text, whole = b"".join(lines), (status, b"".join(lines), told)
+        for size in (1, 65_536) if small else (1 << 12,):
+            run = lambda at: self.suite.ran(self.words, file, FAIL_READ=at, SHORT_READ=size)
+            unread = lambda at: (3, b"".join(listing(file[:size * (at - 1)])[0]), b"read failed\n")
+            is_right = lambda ran, at: (ran.status, ran.written, ran.told) == (unread(at) if ran.was_met else whole)
+            self.suite.until_none(f"daplive frames, {name}, a read of {size} fails", run, is_right)
+        for size in (1, 5, 65_536) if small else (1 << 12,):
+            for fault, what in [("FAIL_WRITE", "fails"), ("EMPTY_WRITE", "takes nothing")]:
+                run = lambda at: self.suite.ran(self.words, file, SHORT_WRITE=size, **{fault: at})
+                is_right = lambda ran, _at: text.startswith(ran.written) and (
+                    (ran.status, ran.told) == (3, b"write failed\n") if ran.was_met else
+                    (ran.status, ran.written, ran.told) == whole)
+                self.suite.until_none(f"daplive frames, {name}, a write of {size} {what}", run, is_right)
