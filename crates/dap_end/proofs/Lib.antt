@@ -14,6 +14,7 @@ pub mod Asked
 pub mod Hearing
 pub mod Writing
 pub mod Turning
+pub mod ByTurns
 pub mod Determined
 pub mod Bounding
 pub mod Alike

@@ -6,6 +6,7 @@ pub mod ServingInside
 pub mod AskingView
 pub mod AskingInside
 pub mod Stored
+pub mod NodeInside
 pub mod Answered
 pub mod Wanting
 pub mod Running
