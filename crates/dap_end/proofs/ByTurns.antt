@@ -5,7 +5,7 @@ use Rattle.nsp_link.specs.declared.fault.LinkFault.{LinkFault}
 use Rattle.nsp_link.specs.declared.fault.LinkFault.TheVariants as fault
 use Rattle.nsp_link.specs.declared.link.LinkSetup.{LinkSetup}
 use Rattle.nsp_link.specs.declared.link.Got.{Got}
-use Rattle.nsp_link.specs.Link.{LinkValue, IsLink, waiting_bytes}
+use Rattle.nsp_link.specs.Link.{LinkValue, IsLink, may_send, waiting_bytes}
 use Rattle.nsp_link.specs.Sending.{may_queue}
 use Rattle.nsp_link.proofs.ForCallers.{bytes_queued, may_queue_parts}
 use Rattle.dap_accessed.specs.Present.{Present}
@@ -17,11 +17,15 @@ use Rattle.dap_end.specs.declared.fault.TakeFault.TheVariants as take_fault
 use Rattle.dap_end.specs.Ports.{EndValue, HandsOver, PortValue, bytes_waiting}
 use Rattle.dap_end.specs.By.{ServesAt, ServedBy, TurnsBy, MayServeAt, begins, goes, serves_by, end_with}
 use Rattle.dap_end.specs.Moved.{posted}
+use Rattle.dap_end.specs.Inner.Answered.{ended_by}
 use Rattle.dap_end.specs.Done.{ServingValue}
 use Rattle.dap_end.specs.Serving.{ServedOne, MayServe}
 use Rattle.dap_end.specs.Taking.{HasRoom, ServedInTurn, serves}
 use Rattle.dap_end.specs.Taking as taking
-use Rattle.dap_end.specs.Turns.{Answered, DidAll, EndOf, Takes, WroteThen}
+use Rattle.dap_end.specs.Turns.{Answered, DidAll, EndOf, Takes, WentOn, WroteThen}
+use Rattle.dap_end.specs.Writing.{Behind, WroteMore}
+use Rattle.std.specs.Result.{result_map_both}
+use Rattle.dap_end.proofs.Turning.{went_by}
 use Rattle.dap_end.proofs.Proceeding.{work, item_left}
 use Rattle.dap_end.proofs.ServingOne.{served_one}
 
@@ -68,6 +72,12 @@ module _ {P : Type 0} where
   -- what waited was handed over
   pub hands : (p q : PortValue) (s : P) (n : ℕ) → IsTrue (may_queue p.link p.outbox) → (q ≡ posted p) × (n ≡ length p.outbox) → HandsOver (end_with p s) (end_with q s) n
   hands p q s n may is = (may, ap (λ (r : PortValue). end_with r s) is.0, is.1)
+
+  -- all was served, and then segments were written
+  pub gone_by : (e : EndOf P) (old served : EndValue P) (port : PortValue) (out all : List (List ℕ)) (r : Result (Unit {0}) LinkFault) → DidAll e old served (Ok tt) → Behind out all (WroteMore served.port port) → OnOk r (may_send port.link ≡ false)
+      → IfErr r (λ f. (f ≡ fault.NoMemory) × IsTrue (may_send port.link)) → WentOn e old (end_with port served.present) out all (result_map_both (λ done. done) end_fault.Link r)
+  gone_by e old served port out all (Ok u) d w full why = went_by e old served (end_with port served.present) out all (Ok u) d refl w full why
+  gone_by e old served port out all (Err f) d w full why = went_by e old served (end_with port served.present) out all (Err f) d refl w full why
 
   -- ---- One end as another.
 
@@ -124,3 +134,11 @@ one_link most =
       halts = halts most;
       quiet = λ h. h;
     }
+
+pub did_ok : (most : ℕ) (a b : ServingValue) (r : Result (Unit {0}) LinkFault) → DidAll (serves_by Serves most) a b (ended_by r) → OnOk r (DidAll (serves most) a b (Ok tt))
+did_ok most a b (Ok u) d = map_did (serves_by Serves most) (serves most) (one_link most) a b (Ok tt) d
+did_ok most a b (Err f) d = tt
+
+pub did_err : (most : ℕ) (a b : ServingValue) (r : Result (Unit {0}) LinkFault) → DidAll (serves_by Serves most) a b (ended_by r) → IfErr r (λ f. DidAll (serves most) a b (Err (end_fault.Link f)))
+did_err most a b (Ok u) d = tt
+did_err most a b (Err f) d = map_did (serves_by Serves most) (serves most) (one_link most) a b (Err (end_fault.Link f)) d

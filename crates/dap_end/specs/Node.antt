@@ -2,7 +2,9 @@
 use Rattle.std.specs.Prelude.{◌≡◌, ℕ, ◌<◌, List, [], set, slice_get, Option, Some, None}
 use Rattle.nsp_link.specs.declared.link.LinkSetup.{LinkSetup}
 use Rattle.dap_shared.specs.Shared.{SharedValue, SharedServed, SharedBegins}
-use Rattle.dap_end.specs.Ports.{EndValue, PortValue, new_port}
+use Rattle.dap_accessed.specs.declared.fault.AddFault.{AddFault}
+use Rattle.dap_accessed.specs.declared.fault.AddFault.TheVariants as fault
+use Rattle.dap_end.specs.Ports.{EndValue, HasCome, PortValue, new_port}
 use Rattle.dap_end.specs.Turns.{EndOf}
 use Rattle.dap_end.specs.By.{serves_by}
 
@@ -40,3 +42,18 @@ pub record BeganOn (link : ℕ) (setup : LinkSetup) (old new : NodeValue) : Type
 pub record EndedOn (link : ℕ) (old new : NodeValue) : Type 0 where
   pub shared : SharedBegins link old.shared new.shared
   pub ports : new.ports ≡ set old.ports link None
+
+-- ---- Files that a node is given.
+
+-- no segment came on any link
+abbrev pub NoneHasCome : List (Option PortValue) → Type 0
+NoneHasCome ports = (link : ℕ) (p : PortValue) → slice_get ports link ≡ Some (Some p) → HasCome p → ⊥
+
+-- a segment came on a link
+abbrev pub SomeHasCome : List (Option PortValue) → Type 0
+SomeHasCome ports = (link : ℕ) × (p : PortValue) × (slice_get ports link ≡ Some (Some p)) × HasCome p
+
+-- Why no file or record is added: a segment came, which counts as busy, or the table refuses it.
+abbrev pub NodeNotGiven : NodeValue → (Refused : AddFault → Type 0) → AddFault → Type 0
+NodeNotGiven v Refused fault.Busy = SomeHasCome v.ports
+NodeNotGiven v Refused f = NoneHasCome v.ports × Refused f

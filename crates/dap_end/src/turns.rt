@@ -4,6 +4,8 @@ ghost use Rattle.std.specs.Prelude.{◌≡◌, ◌<◌, [], Ok, Err, false, leng
 ghost use Rattle.dap_msg.specs.Blocked.{bodies};
 ghost use Rattle.dap_end.specs.By.{MayServeAt, PortRests, ServedBy, end_with, serves_by};
 ghost use Rattle.dap_end.specs.Turns.{Answered, DidAll, Takes, WentOn};
+ghost use Rattle.dap_end.specs.declared.fault.EndFault.TheVariants as end_fault;
+ghost use Rattle.std.specs.Result.{result_map_both};
 ghost use Rattle.dap_end.specs.Inner.Answered.{ended_by};
 ghost use Rattle.dap_end.specs.Inner.Kept.{IsPort};
 
@@ -96,7 +98,7 @@ pub(crate) fn go_on<S: Serving>(
     requires link { S.has_link server.old link }
     ensures went { WentOn (serves_by (S.serves link) most_waiting) (end_with port.old server.old)
         (end_with port.new server.new) (bodies out.old.items) (bodies out.new.items)
-        (ended_by result) }
+        (result_map_both (λ done. done) end_fault.Link result) }
     ensures rests { OnOk result (PortRests most_waiting port.new) }
     ensures idle { OnOk result (port.new.outbox ≡ []) }
     ensures kept { IsPort port.new }
