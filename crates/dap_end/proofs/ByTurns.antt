@@ -29,14 +29,18 @@ use Rattle.dap_end.proofs.Turning.{went_by}
 use Rattle.dap_end.proofs.Proceeding.{work, item_left}
 use Rattle.dap_end.proofs.ServingOne.{served_one}
 
+no_more : (p : PortValue) (inbox : List (List ℕ)) → p.link.coming.inbox ≡ inbox → p.outbox ≡ [] → (MayServeAt p → ⊥) → inbox ≡ []
+no_more p [] is idle none = refl
+no_more p (m ∷ inbox) is idle none = absurd (none (idle, (let long = ap length is in omega arith)))
+
+pub none_left : (p : PortValue) → p.outbox ≡ [] → (MayServeAt p → ⊥) → p.link.coming.inbox ≡ []
+none_left p idle none = no_more p p.link.coming.inbox refl idle none
+
+-- how much is left to serve
+abbrev pub left : PortValue → ℕ
+left p = work p.link.coming.inbox - p.place
+
 module _ {P : Type 0} where
-  no_more : (p : PortValue) (inbox : List (List ℕ)) → p.link.coming.inbox ≡ inbox → p.outbox ≡ [] → (MayServeAt p → ⊥) → inbox ≡ []
-  no_more p [] is idle none = refl
-  no_more p (m ∷ inbox) is idle none = absurd (none (idle, (let long = ap length is in omega arith)))
-
-  pub none_left : (p : PortValue) → p.outbox ≡ [] → (MayServeAt p → ⊥) → p.link.coming.inbox ≡ []
-  none_left p idle none = no_more p p.link.coming.inbox refl idle none
-
   -- what came stays
   pub inbox_posted : (v new : EndValue P) (n : ℕ) → HandsOver v new n → new.port.link.coming.inbox ≡ v.port.link.coming.inbox
   inbox_posted v new n p = ap (λ (x : EndValue P). x.port.link.coming.inbox) p.1
@@ -47,9 +51,6 @@ module _ {P : Type 0} where
   -- a link to which something was handed runs
   pub works_here : (old new : EndValue P) (n : ℕ) → HandsOver old new n → new.port.link.failed ≡ false
   works_here old new n p = ap (λ (v : EndValue P). v.port.link.failed) p.1 ∙ (may_queue_parts old.port.link old.port.outbox p.0).0
-
-  abbrev pub left : PortValue → ℕ
-  left p = work p.link.coming.inbox - p.place
 
   pub falls : (serves : ServesAt P) (old new : EndValue P) (n : ℕ) → ServedBy serves old new n → left new.port < left old.port
   falls serves old new n s =

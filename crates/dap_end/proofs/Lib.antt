@@ -15,6 +15,7 @@ pub mod Hearing
 pub mod Writing
 pub mod Turning
 pub mod ByTurns
+pub mod Did
 pub mod Ports
 pub mod Determined
 pub mod Bounding
