@@ -17,6 +17,8 @@ pub mod Turning
 pub mod ByTurns
 pub mod Did
 pub mod Ports
+pub mod Came
+pub mod Links
 pub mod Determined
 pub mod Bounding
 pub mod Alike

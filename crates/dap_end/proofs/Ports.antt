@@ -29,12 +29,6 @@ set-get (x ∷ xs) (suc i) (suc j) a p P n h e = set-get xs i j a p P n h e
 pub set-ports : (ports : List (Option PortValue)) (link : ℕ) (a : Option PortValue) → ((q : PortValue) → a ≡ Some q → IsPort q) → ArePorts ports → ArePorts (set ports link a)
 set-ports ports link a n h = λ j p e. set-get ports link j a p IsPort n (h j p) e
 
--- it is in the list
-pub there-within : {A : Type 0} (xs : List A) (i : ℕ) (a : A) → slice_get xs i ≡ Some a → i < length xs
-there-within [] i a e = absurd (let none : ⊥ = cc in none)
-there-within (x ∷ xs) zero a e = omega arith
-there-within (x ∷ xs) (suc i) a e = let h = there-within xs i a e in omega (arith, h)
-
 none-there : (links j : ℕ) (p : PortValue) → slice_get (replicate links None) j ≡ Some (Some p) → ⊥
 none-there zero j p e = cc
 none-there (suc links) zero p e = cc
@@ -42,3 +36,18 @@ none-there (suc links) (suc j) p e = none-there links j p e
 
 pub no-ports : (links : ℕ) → ArePorts (replicate links None)
 no-ports links = λ j p e. absurd (none-there links j p e)
+
+-- ---- A node.
+
+-- one port was set, or the link is no longer there
+pub node-set : (v : NodeValue) (link : ℕ) (shared : SharedValue) (o : Option PortValue) → IsNode v → length shared.sessions ≡ length v.shared.sessions → ((q : PortValue) → o ≡ Some q → IsPort q)
+    → IsNode (record { shared = shared; ports = set v.ports link o })
+node-set v link shared o h many new =
+    record { links = length-set v.ports link o ∙ h.links ∙ sym many; ports = set-ports v.ports link o new h.ports }
+
+-- a port was taken out, and another put back
+pub node-again : (v : NodeValue) (link : ℕ) (shared : SharedValue) (p : PortValue) → IsNode v → length shared.sessions ≡ length v.shared.sessions → IsPort p
+    → IsNode (record { shared = shared; ports = set (set v.ports link None) link (Some p) })
+node-again v link shared p h many new =
+    subst (λ (l : List (Option PortValue)). IsNode (record { shared = shared; ports = l })) (sym (set-again v.ports link None (Some p)))
+    (node-set v link shared (Some p) h many (λ q is. subst IsPort (let same : p ≡ q = cc in same) new))

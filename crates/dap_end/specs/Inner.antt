@@ -8,5 +8,7 @@ pub mod AskingInside
 pub mod Stored
 pub mod NodeInside
 pub mod Answered
+pub mod Turned
+pub mod Come
 pub mod Wanting
 pub mod Running

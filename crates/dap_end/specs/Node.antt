@@ -25,6 +25,10 @@ serves_on link most = serves_by (SharedServed link) most
 abbrev pub HasPort : (link : ℕ) → NodeValue → PortValue → Type 0
 HasPort link v port = slice_get v.ports link ≡ Some (Some port)
 
+-- the link is there, and of its port this is true
+abbrev pub AtPort : (link : ℕ) → NodeValue → (Says : PortValue → Type 0) → Type 0
+AtPort link v Says = (p : PortValue) × HasPort link v p × Says p
+
 -- The link moved so, and every other port stayed.
 pub record OnLink (link : ℕ) (Does : LinkValue → LinkValue → Type 0) (old new : NodeValue) : Type 0 where
   pub before : PortValue

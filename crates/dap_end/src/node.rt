@@ -1,15 +1,20 @@
 //! A node: several links, each with its port, before one table of files.
 
-ghost use Rattle.std.specs.Prelude.{◌≡◌, ◌≤◌, ◌<◌, ℕ, [], Some, None, length, replicate, IfOk, IfErr, IfSome, OnOk, OnErr, IsTrue, slice_get, set, false, true};
+ghost use Rattle.std.specs.Prelude.{◌≡◌, ◌≤◌, ◌<◌, ◌+◌, ◌-◌, ℕ, [], Some, None, length, replicate, IfOk, IfErr, IfSome, OnOk, OnErr, IsErrOf, IsTrue, slice_get, set, false, true};
 ghost use Rattle.dap_msg.specs.BothEnds.{least_buffer};
 ghost use Rattle.dap_msg.specs.Blocked.{bodies};
 ghost use Rattle.rec_file.specs.Shapes.{is_shape};
-ghost use Rattle.nsp_link.specs.Link.{IsSetup, SetupFault};
+ghost use Rattle.nsp_link.specs.Link.{IsSetup, IsSpelling, SetupFault};
+ghost use Rattle.nsp_link.specs.Sending.{WritesSent, ack_packet_of};
+ghost use Rattle.nsp_link.specs.declared.fault.LinkFault.TheVariants.{Failed, NoSuchSegment};
+ghost use Rattle.nsp_link.specs.declared.fault.LinkFault.TheVariants as fault;
 ghost use Rattle.dap_accessed.specs.Adding.{with_new_file, with_record};
 ghost use Rattle.dap_shared.specs.Nodes.{Gives, GivesRecord};
 ghost use Rattle.dap_shared.specs.Shared.{NotAdded, RecordNotAdded, SharedAfter, SharedGiven};
 ghost use Rattle.dap_end.specs.Ports.{PortValue};
-ghost use Rattle.dap_end.specs.Node.{BeganOn, EndedOn, HasPort, NodeNotGiven, NoneHasCome, OnLink, SomeHasCome, serves_on};
+ghost use Rattle.std.specs.List.{list_any};
+ghost use Rattle.dap_end.specs.Inner.Come.{come_on};
+ghost use Rattle.dap_end.specs.Node.{AtPort, BeganOn, EndedOn, HasPort, NodeNotGiven, NoneHasCome, OnLink, SomeHasCome, serves_on};
 ghost use Rattle.dap_end.specs.Turns.{Takes, WentOn};
 ghost use Rattle.dap_end.specs.declared.fault.EndFault.TheVariants as end_fault;
 ghost use Rattle.std.specs.Result.{result_map_both};
@@ -67,17 +72,32 @@ fn take_port(ports: &mut Vec<Option<Port>>, link: usize) -> Port
     }
 }
 
+/// The port of a link.
+fn port_of(ports: &[Option<Port>], link: usize) -> &Port
+    requires { (p : PortValue) × (slice_get ports.now link ≡ Some (Some p)) }
+    ensures { slice_get ports.now link ≡ Some (Some result.now) }
+{
+    match &ports[link] {
+        Some(port) => port,
+        None => unreachable!(),
+    }
+}
+
+/// Whether a link is there, and a segment came on it.
+fn has_come_on(port: &Option<Port>) -> bool
+    ensures { result ≡ come_on port.now }
+{
+    match port {
+        Some(port) => port.has_come(),
+        None => false,
+    }
+}
+
 /// Whether a segment came on a link.
 fn has_come(ports: &[Option<Port>]) -> bool
-    ensures yes { result ≡ true → SomeHasCome ports.now }
-    ensures no { result ≡ false → NoneHasCome ports.now }
+    ensures { result ≡ list_any come_on ports.now }
 {
-    for port in ports.iter().flatten() {
-        if port.has_come() {
-            return true;
-        }
-    }
-    false
+    ports.iter().any(has_come_on)
 }
 
 impl ServingNode {
@@ -157,14 +177,7 @@ impl ServingNode {
             packet.now (bodies out.old.items) (bodies out.new.items) result) self.old self.new }
     {
         let mut port = take_port(&mut self.ports, link);
-        let result = turns::take(
-            &mut port,
-            &mut self.shared,
-            link,
-            packet,
-            most_waiting,
-            out,
-        );
+        let result = turns::take(&mut port, &mut self.shared, link, packet, most_waiting, out);
         self.ports[link] = Some(port);
         result
     }
@@ -185,6 +198,47 @@ impl ServingNode {
         let result = turns::go_on(&mut port, &mut self.shared, link, most_waiting, out);
         self.ports[link] = Some(port);
         result
+    }
+
+    /// What [`crate::ServingEnd::resend`] writes, on one of the links: the packet of a segment that was sent and isn't
+    /// acknowledged, again. The oldest is at place 0.
+    pub fn resend(&self, link: usize, place: usize) -> Result<Vec<u8>, LinkFault>
+        requires { (p : PortValue) × HasPort link self.now p }
+        ensures wrote { AtPort link self.now (λ p. IfOk result
+            (λ v. WritesSent p.link (Some (p.link.acked + 1 + place)) v.items)) }
+        ensures failed { AtPort link self.now (λ p. IsTrue p.link.failed
+            → IsErrOf result Failed) }
+        ensures missing { AtPort link self.now (λ p. p.link.failed ≡ false
+            → p.link.sent - p.link.acked ≤ place → IsErrOf result NoSuchSegment) }
+        ensures memory { AtPort link self.now (λ p. p.link.failed ≡ false
+            → place < p.link.sent - p.link.acked → IfErr result (λ f. f ≡ fault.NoMemory)) }
+    {
+        port_of(&self.ports, link).link.resend(place)
+    }
+
+    /// What [`crate::ServingEnd::ack`] writes, on one of the links: a packet that only acknowledges all segments that
+    /// were taken.
+    pub fn ack(&self, link: usize) -> Result<Vec<u8>, LinkFault>
+        requires { (p : PortValue) × HasPort link self.now p }
+        ensures wrote { AtPort link self.now (λ p. IfOk result
+            (λ v. IsSpelling (ack_packet_of p.link) v.items)) }
+        ensures failed { AtPort link self.now (λ p. IsTrue p.link.failed
+            → IsErrOf result Failed) }
+        ensures memory { AtPort link self.now (λ p. p.link.failed ≡ false
+            → IfErr result (λ f. f ≡ fault.NoMemory)) }
+    {
+        port_of(&self.ports, link).link.ack_packet()
+    }
+
+    /// The NSP messages of a link that wait to be handed to it, the oldest first; none where it isn't there.
+    pub fn waiting(&self, link: usize) -> &[Vec<u8>]
+        ensures there { (p : PortValue) → HasPort link self.now p → bodies result.now ≡ p.outbox }
+        ensures none { ((p : PortValue) → HasPort link self.now p → ⊥) → bodies result.now ≡ [] }
+    {
+        match self.ports.get(link) {
+            Some(Some(port)) => &port.outbox,
+            _ => &[],
+        }
     }
 
     /// A file without records after the others, before a segment came on any link. Its shape is one that
@@ -229,15 +283,5 @@ impl ServingNode {
             return Err(AddFault::Busy);
         }
         self.shared.add_record(number, body)
-    }
-
-    /// The NSP messages of a link that wait to be handed to it, the oldest first; none where it isn't there.
-    pub fn waiting(&self, link: usize) -> &[Vec<u8>]
-        ensures { (p : PortValue) → HasPort link self.now p → bodies result.now ≡ p.outbox }
-    {
-        match self.ports.get(link) {
-            Some(Some(port)) => &port.outbox,
-            _ => &[],
-        }
     }
 }

@@ -251,13 +251,7 @@ impl ServingEnd {
         ensures rests { OnOk result (RestsAt most_waiting self.new) }
         ensures idle { OnOk result (self.new.port.outbox ≡ []) }
     {
-        turns::go_on(
-            &mut self.port,
-            &mut self.accessed,
-            LINK,
-            most_waiting,
-            out,
-        )
+        turns::go_on(&mut self.port, &mut self.accessed, LINK, most_waiting, out)
     }
 
     /// Takes a packet in, and returns what became of it; serves what came while fewer than `most_waiting` bytes

@@ -8,6 +8,7 @@ ghost use Rattle.dap_end.specs.declared.fault.EndFault.TheVariants as end_fault;
 ghost use Rattle.std.specs.Result.{result_map_both};
 ghost use Rattle.dap_end.specs.Inner.Answered.{ended_by};
 ghost use Rattle.dap_end.specs.Inner.Kept.{IsPort};
+ghost use Rattle.dap_end.specs.Inner.Turned.{Turned};
 
 use crate::fault::{EndFault, TakeFault};
 use crate::port::{Port, is_end};
@@ -52,6 +53,31 @@ pub(crate) fn serve_next<S: Serving>(
     Ok(Some(answered))
 }
 
+/// Hands over what waits, and serves the next item that came, unless as many bytes wait as this; whether it served
+/// one.
+fn turn<S: Serving>(
+    port: &mut Port,
+    server: &mut S,
+    link: usize,
+    most_waiting: u64,
+) -> Result<bool, LinkFault>
+    requires kept { IsPort port.old }
+    requires link { S.has_link server.old link }
+    ensures turned { Turned (S.serves link) most_waiting (end_with port.old server.old)
+        (end_with port.new server.new) result }
+    ensures kept { IsPort port.new }
+    ensures link { S.has_link server.new link }
+{
+    port.post()?;
+    if port.waiting_bytes() >= most_waiting {
+        return Ok(false);
+    }
+    match serve_next(port, server, link) {
+        Ok(served) => Ok(served.is_some()),
+        Err(_) => Err(LinkFault::NoMemory),
+    }
+}
+
 /// Serves what came while fewer bytes wait than this, and hands each group of answers to the link.
 pub(crate) fn serve_all<S: Serving>(
     port: &mut Port,
@@ -69,21 +95,8 @@ pub(crate) fn serve_all<S: Serving>(
     ensures kept { IsPort port.new }
     ensures link { S.has_link server.new link }
 {
-    'messages: loop {
-        match port.post() {
-            Ok(_) => {
-                if port.link.waiting_bytes() >= most_waiting {
-                    return Ok(());
-                }
-                match serve_next(port, server, link) {
-                    Ok(None) => return Ok(()),
-                    Ok(Some(_)) => {}
-                    Err(_) => return Err(LinkFault::NoMemory),
-                }
-            }
-            Err(fault) => return Err(fault),
-        }
-    }
+    while turn(port, server, link, most_waiting)? {}
+    Ok(())
 }
 
 /// The same, and then writes all segments that were never sent, as far as the window allows.

@@ -1,19 +1,31 @@
-use Rattle.std.proofs.Common.{ℕ, ◌<◌, ◌≤◌, arith, sym, subst, ap, ◌∙◌, inl, inr, refl}
+use Rattle.std.proofs.Common.{rules}
 use Rattle.dap_end.specs.By.{begins, end_with}
-use Rattle.dap_end.specs.Ports.{PortValue}
-use Rattle.dap_end.proofs.ByTurns.{falls, hands, left, on_more, waiting_here}
-use Rattle.dap_end.proofs.Did.{by_limit, by_none, by_refused, by_want}
+use Rattle.dap_end.proofs.Did.{turn_falls, turns_end, turns_fail, turns_more}
 use Rattle.dap_end.proofs.turns.serve_all.Goals as goal
 
-pub messages-init : goal.messages-init
-messages-init g c = record { turns = begins; kept = c.requires.kept; link = c.requires.link }
+pub loop-init : goal.loop-init
+loop-init g c = record { turns = begins; kept = c.requires.kept; link = c.requires.link }
 
-pub returns-in-Ok-None-clause-did : goal.returns-in-Ok-None-clause-did
-returns-in-Ok-None-clause-did g c =
-    let none = rw c.in-Ok-None.field-0-is at c.in-Ok-None.ensures.ok in
-    let given = hands c.messages.port c.post.new.self c.messages.server c.in-Ok.field-0 c.in-Ok.ensures.may c.in-Ok.ensures.ok in
-    (by_none (g.S.Serving.serves c.args.link) c.args.most_waiting (end_with c.args.port.now c.args.server.now) c.messages.port c.post.new.self c.messages.server c.in-Ok.field-0 c.messages.invariant.turns given c.serve_next.new.port c.serve_next.new.server none).did
+pub loop-preserved : goal.loop-preserved
+loop-preserved g c =
+    record {
+      turns = turns_more (g.S.Serving.serves c.args.link) c.args.most_waiting (end_with c.args.port.now c.args.server.now) (end_with c.loop.port c.loop.server) (end_with c.turn.new.port c.turn.new.server) c.in_ok-turn.field-0 c.if-branch.true
+          c.loop.invariant.turns c.in_ok-turn.ensures.turned;
+      kept = c.turn.ensures.kept;
+      link = c.turn.ensures.link;
+    }
 
-pub returns-in-Err-clause-did : goal.returns-in-Err-clause-did
-returns-in-Err-clause-did g c =
-    by_refused (g.S.Serving.serves c.args.link) c.args.most_waiting (end_with c.args.port.now c.args.server.now) c.messages.port c.post.new.self c.messages.server _ c.messages.invariant.turns c.in-Err.ensures.err
+pub loop-smaller : goal.loop-smaller
+loop-smaller g c =
+    turn_falls (g.S.Serving.serves c.args.link) c.args.most_waiting (end_with c.args.port.now c.args.server.now) (end_with c.loop.port c.loop.server) (end_with c.turn.new.port c.turn.new.server) c.in_ok-turn.field-0 c.if-branch.true
+    c.in_ok-turn.ensures.turned
+
+pub returns-clause-did : goal.returns-clause-did
+returns-clause-did g c =
+    turns_end (g.S.Serving.serves c.args.link) c.args.most_waiting (end_with c.args.port.now c.args.server.now) (end_with c.loop.port c.loop.server) (end_with c.turn.new.port c.turn.new.server) c.in_ok-turn.field-0 c.if-branch.false
+    c.loop.invariant.turns c.in_ok-turn.ensures.turned
+
+pub returns-in_err-turn-clause-did : goal.returns-in_err-turn-clause-did
+returns-in_err-turn-clause-did g c =
+    turns_fail (g.S.Serving.serves c.args.link) c.args.most_waiting (end_with c.args.port.now c.args.server.now) (end_with c.loop.port c.loop.server) (end_with c.turn.new.port c.turn.new.server) c.from_residual.result c.in_err-turn.field-0.0 (search rules)
+    c.loop.invariant.turns c.in_err-turn.ensures.turned
