@@ -22,15 +22,6 @@ came p e = yes_by p.link.coming.received (length p.link.held) _ _ refl refl e
 shows : (p : PortValue) → HasCome p → has_come p ≡ true
 shows p h = of_yes p.link.coming.received (length p.link.held) h
 
-agree : (H : Type 0) (b x : Bool) → (b ≡ true → H) → (b ≡ false → H → ⊥) → (x ≡ true → H) → (H → x ≡ true) → b ≡ x
-agree H true x yes no then back = sym (back (yes refl))
-agree H false true yes no then back = absurd (no refl (then refl))
-agree H false false yes no then back = refl
-
--- the test of a port
-pub come_is : (p : PortValue) (b : Bool) → (b ≡ true → HasCome p) → (b ≡ false → HasCome p → ⊥) → b ≡ come_on (Some p)
-come_is p b yes no = agree (HasCome p) b (has_come p) yes no (came p) (shows p)
-
 neither : (x y : Bool) → (x || y) ≡ false → (x ≡ false) × (y ≡ false)
 neither true y e = absurd (let none : ⊥ = cc in none)
 neither false y e = (refl, e)
@@ -48,9 +39,9 @@ some_come (None ∷ ports) e = later None ports (some_come ports e)
 some_come (Some p ∷ ports) e = first_or p ports (has_come p) refl (some_come ports) e
 
 not_first : (q p : PortValue) → has_come q ≡ false → Some (Some q) ≡ Some (Some p) → HasCome p → ⊥
-not_first q p no is come =
+not_first q p still is come =
     let same : q ≡ p = cc in
-    let yes = shows q (subst HasCome (sym same) come) in
+    let came_there = shows q (subst HasCome (sym same) come) in
     let none : ⊥ = cc in
     none
 

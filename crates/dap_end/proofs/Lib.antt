@@ -19,6 +19,7 @@ pub mod Did
 pub mod Ports
 pub mod Came
 pub mod Links
+pub mod Giving
 pub mod Determined
 pub mod Bounding
 pub mod Alike

@@ -4,7 +4,8 @@ use Rattle.std.specs.Prelude.{set, slice_get, replicate}
 use Rattle.std.proofs.lemmas.Bool.{cases_eq}
 use Rattle.std.proofs.lemmas.List.{length-set}
 use Rattle.dap_shared.specs.Shared.{SharedValue}
-use Rattle.dap_end.specs.Ports.{PortValue}
+use Rattle.nsp_link.specs.declared.link.LinkSetup.{LinkSetup}
+use Rattle.dap_end.specs.Ports.{PortValue, new_port}
 use Rattle.dap_end.specs.Node.{NodeValue}
 use Rattle.dap_end.specs.Inner.Kept.{IsPort}
 use Rattle.dap_end.specs.Inner.NodeInside.{IsNode}
@@ -51,3 +52,7 @@ pub node-again : (v : NodeValue) (link : ℕ) (shared : SharedValue) (p : PortVa
 node-again v link shared p h many new =
     subst (λ (l : List (Option PortValue)). IsNode (record { shared = shared; ports = l })) (sym (set-again v.ports link None (Some p)))
     (node-set v link shared (Some p) h many (λ q is. subst IsPort (let same : p ≡ q = cc in same) new))
+
+-- a new port
+pub port-new : (setup : LinkSetup) (p : PortValue) → p ≡ new_port setup → IsPort p
+port-new setup p is = subst IsPort (sym is) (record { place = inr (refl, refl); short = λ k d lt. absurd (let none : ⊥ = omega (arith, lt) in none) })
