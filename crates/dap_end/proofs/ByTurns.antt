@@ -1,6 +1,6 @@
 -- What ports and whatever serves do, one after another.
 use Rattle.std.proofs.Common.{◌≡◌, ℕ, ◌-◌, ◌<◌, arith, refl, sym, ◌∙◌, subst, ap, List, [], ◌∷◌, length, inl, inr, false, IsTrue}
-use Rattle.std.specs.Prelude.{Result, Ok, Err, OnOk, IfErr, IfOk, Option, Some, None, MatchOption}
+use Rattle.std.specs.Prelude.{Result, Ok, Err, OnOk, IfErr, Option, Some, None, MatchOption}
 use Rattle.nsp_link.specs.declared.fault.LinkFault.{LinkFault}
 use Rattle.nsp_link.specs.declared.fault.LinkFault.TheVariants as fault
 use Rattle.nsp_link.specs.declared.link.LinkSetup.{LinkSetup}
@@ -8,7 +8,6 @@ use Rattle.nsp_link.specs.declared.link.Got.{Got}
 use Rattle.nsp_link.specs.Link.{LinkValue, IsLink, may_send, waiting_bytes}
 use Rattle.nsp_link.specs.Sending.{may_queue}
 use Rattle.nsp_link.proofs.ForCallers.{bytes_queued, may_queue_parts}
-use Rattle.dap_accessed.specs.Present.{Present}
 use Rattle.dap_accessed.specs.Served.{Serves}
 use Rattle.dap_end.specs.declared.fault.EndFault.{EndFault}
 use Rattle.dap_end.specs.declared.fault.EndFault.TheVariants as end_fault

@@ -1,5 +1,5 @@
 -- How a turn of serving ends, by the step at which it ends, and what all of them come to.
-use Rattle.std.proofs.Common.{◌≡◌, ℕ, ◌+◌, ◌≤◌, ◌<◌, arith, refl, sym, ◌∙◌, subst, ap, List, [], inl, inr, false, true}
+use Rattle.std.proofs.Common.{◌≡◌, ℕ, ◌≤◌, ◌<◌, arith, refl, sym, ◌∙◌, subst, ap, [], inl, inr, false, true}
 use Rattle.std.specs.Prelude.{Bool, Ok, Err, Result, Option, Some, None, MatchOption, is_some}
 use Rattle.nsp_link.specs.declared.fault.LinkFault.{LinkFault}
 use Rattle.nsp_link.specs.declared.fault.LinkFault.TheVariants as fault
@@ -8,12 +8,11 @@ use Rattle.nsp_link.specs.Link.{IsLink, waiting_bytes}
 use Rattle.nsp_link.specs.Sending.{SendAllFault}
 use Rattle.dap_end.specs.declared.fault.EndFault.TheVariants as end_fault
 use Rattle.dap_end.specs.Ports.{EndValue, HandsOver, PortValue, bytes_waiting}
-use Rattle.dap_end.specs.By.{ServedBy, ServesAt, TurnsBy, MayServeAt, PortRests, HaltsBy, serves_by, end_with}
-use Rattle.dap_end.specs.Taking.{HasRoom}
+use Rattle.dap_end.specs.By.{ServedBy, ServesAt, TurnsBy, MayServeAt, HaltsBy, serves_by, end_with}
 use Rattle.dap_end.specs.Turns.{DidAll}
 use Rattle.dap_end.specs.Inner.Answered.{ended_by}
-use Rattle.dap_end.specs.Inner.Turned.{Paused, ServedOn, Turned}
-use Rattle.dap_end.proofs.ByTurns.{falls, inbox_posted, left, none_left, none_waits, on_more, waiting_here, works_here}
+use Rattle.dap_end.specs.Inner.Turned.{Paused, Turned}
+use Rattle.dap_end.proofs.ByTurns.{falls, inbox_posted, left, none_left, none_waits, on_more, waiting_here}
 
 -- what waits at a port at which no message waits
 no_outbox : (told : ℕ) (p : PortValue) → told ≡ waiting_bytes p.link → p.outbox ≡ [] → told ≡ bytes_waiting p

@@ -2,12 +2,12 @@
 use Rattle.std.proofs.Common.{◌≡◌, ℕ, List, length, ap, refl, ◌∙◌, inl, inr}
 use Rattle.std.specs.Prelude.{Ok, Err, Result}
 use Rattle.nsp_link.specs.declared.link.Got.{Got}
-use Rattle.dap_shared.specs.Shared.{SharedServed, SharedValue}
+use Rattle.dap_shared.specs.Shared.{SharedServed}
 use Rattle.dap_end.specs.declared.fault.EndFault.{EndFault}
 use Rattle.dap_end.specs.declared.fault.EndFault.TheVariants as end_fault
 use Rattle.dap_end.specs.declared.fault.TakeFault.{TakeFault}
 use Rattle.dap_end.specs.declared.fault.TakeFault.TheVariants as take_fault
-use Rattle.dap_end.specs.Ports.{EndValue, HandsOver, PortValue}
+use Rattle.dap_end.specs.Ports.{HandsOver, PortValue}
 use Rattle.dap_end.specs.By.{HaltsBy, TurnsBy, begins, goes}
 use Rattle.dap_end.specs.Node.{LinkValue, serves_on}
 use Rattle.dap_end.specs.Turns.{Answered, DidAll, Takes, WroteThen}

@@ -1,7 +1,6 @@
 -- The ports of a node.
-use Rattle.std.proofs.Common.{◌≡◌, ℕ, zero, suc, ◌<◌, List, [], ◌∷◌, length, Option, Some, None, refl, ap, sym, subst, ◌∙◌, inl, inr, arith}
+use Rattle.std.proofs.Common.{◌≡◌, ℕ, zero, suc, List, [], ◌∷◌, length, Option, Some, None, refl, ap, sym, subst, ◌∙◌, inr, arith}
 use Rattle.std.specs.Prelude.{set, slice_get, replicate}
-use Rattle.std.proofs.lemmas.Bool.{cases_eq}
 use Rattle.std.proofs.lemmas.List.{length-set}
 use Rattle.dap_shared.specs.Shared.{SharedValue}
 use Rattle.nsp_link.specs.declared.link.LinkSetup.{LinkSetup}

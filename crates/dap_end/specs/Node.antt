@@ -1,5 +1,5 @@
 -- A node: several links, each with its port, before one table of files.
-use Rattle.std.specs.Prelude.{◌≡◌, ℕ, ◌<◌, List, [], set, slice_get, Option, Some, None}
+use Rattle.std.specs.Prelude.{◌≡◌, ℕ, List, set, slice_get, Option, Some, None}
 use Rattle.nsp_link.specs.declared.link.LinkSetup.{LinkSetup}
 use Rattle.dap_shared.specs.Shared.{SharedValue, SharedServed, SharedBegins}
 use Rattle.dap_accessed.specs.declared.fault.AddFault.{AddFault}

@@ -1,5 +1,5 @@
 -- Whether a segment came on a link, as code tells.
-use Rattle.std.specs.Prelude.{ℕ, Bool, false, ◌||◌, nat_lt, length, Option, Some, None}
+use Rattle.std.specs.Prelude.{Bool, false, ◌||◌, nat_lt, length, Option, Some, None}
 use Rattle.dap_end.specs.Ports.{PortValue}
 
 -- a segment was taken or is held

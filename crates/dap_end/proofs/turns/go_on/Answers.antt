@@ -1,5 +1,3 @@
-use Rattle.std.proofs.Common.{false}
-use Rattle.std.specs.Prelude.{Ok}
 use Rattle.dap_msg.specs.Blocked.{bodies}
 use Rattle.dap_end.specs.By.{end_with, serves_by}
 use Rattle.dap_end.proofs.ByTurns.{gone_by}

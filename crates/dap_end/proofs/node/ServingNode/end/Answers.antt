@@ -1,4 +1,4 @@
-use Rattle.std.proofs.Common.{◌≡◌, None}
+use Rattle.std.proofs.Common.{None}
 use Rattle.dap_end.specs.Node.{NodeValue}
 use Rattle.dap_end.proofs.Ports.{node-set}
 use Rattle.dap_end.proofs.node.ServingNode.end.Goals as goal

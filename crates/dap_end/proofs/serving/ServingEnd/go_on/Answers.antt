@@ -1,4 +1,3 @@
-use Rattle.std.specs.Prelude.{Ok}
 use Rattle.std.specs.Result.{result_map_both}
 use Rattle.dap_msg.specs.Blocked.{bodies}
 use Rattle.nsp_link.specs.declared.link.Got.TheVariants.{AckOnly}
