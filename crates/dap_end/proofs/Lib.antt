@@ -14,6 +14,12 @@ pub mod Asked
 pub mod Hearing
 pub mod Writing
 pub mod Turning
+pub mod ByTurns
+pub mod Did
+pub mod Ports
+pub mod Came
+pub mod Links
+pub mod Giving
 pub mod Determined
 pub mod Bounding
 pub mod Alike

@@ -6,6 +6,9 @@ pub mod ServingInside
 pub mod AskingView
 pub mod AskingInside
 pub mod Stored
+pub mod NodeInside
 pub mod Answered
+pub mod Turned
+pub mod Come
 pub mod Wanting
 pub mod Running

@@ -5,6 +5,8 @@ pub mod Turns
 pub mod Done
 pub mod Serving
 pub mod Taking
+pub mod By
+pub mod Node
 pub mod Wanting
 pub mod Asking
 pub mod Hearing

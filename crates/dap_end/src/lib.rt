@@ -5,8 +5,10 @@
 mod asking;
 mod fault;
 mod laws;
+mod node;
 mod port;
 mod serving;
+mod turns;
 
 pub use asking::{AskingEnd, Heard};
 pub use fault::{EndFault, TakeFault};
@@ -17,4 +19,5 @@ pub use laws::{
     peers_are_taken_in, posting_is_determined, runs_of_two_ends, serving_ends_stand,
     serving_is_determined, taking_is_determined, two_ends_keep_the_headline,
 };
+pub use node::ServingNode;
 pub use serving::ServingEnd;

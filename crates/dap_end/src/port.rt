@@ -2,7 +2,7 @@
 
 ghost use Rattle.std.specs.Prelude.{◌≡◌, ◌≢◌, ◌+◌, ◌-◌, ◌<◌, ◌≤◌, ◌∷◌, ◌++◌, [], ℕ, List, Ok, Some, None, length, false, true, IfOk, IfErr, IfSome, OnOk, OnErr, IsErrOf, slice_get, IsTrue};
 ghost use Rattle.nsp_link.specs.Limits.{largest_limit};
-ghost use Rattle.nsp_link.specs.Link.{IsSetup, SetupFault, IsLink, may_send, with_inbox};
+ghost use Rattle.nsp_link.specs.Link.{IsSetup, SetupFault, IsLink, may_send, waiting_bytes, with_inbox};
 ghost use Rattle.nsp_link.specs.Sending.{NextFault, may_queue, SendAllFault};
 ghost use Rattle.nsp_link.specs.declared.fault.LinkFault.TheVariants.{Failed, MessageTooLong, NoMemory};
 ghost use Rattle.std.specs.Prelude.{◌==◌};
@@ -69,6 +69,14 @@ impl Port {
         ensures no { result ≡ false → HasCome self.now → ⊥ }
     {
         self.link.received_count() > 0 || self.link.held_count() > 0
+    }
+
+    /// How many bytes wait at the link.
+    pub(crate) fn waiting_bytes(&self) -> u64
+        ensures value { result ≡ waiting_bytes self.now.link }
+        ensures valid { IsLink self.now.link }
+    {
+        self.link.waiting_bytes()
     }
 
     /// The next DAP message of the oldest NSP message was handled; it was the last one where so said.

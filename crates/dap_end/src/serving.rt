@@ -25,10 +25,10 @@ ghost use Rattle.dap_end.specs.declared.fault.EndFault.TheVariants as end_fault;
 ghost use Rattle.dap_end.specs.Inner.Kept.{IsPort};
 ghost use Rattle.dap_end.specs.Inner.ServingView.{serving_of};
 
-use crate::fault::{EndFault, TakeFault};
-use crate::port::{Port, is_end};
+use crate::fault::TakeFault;
+use crate::port::Port;
+use crate::turns;
 use dap_accessed::{Accessed, AddFault, FileTable, NoMemory};
-use dap_msg::item_at;
 use nsp_link::{Got, LinkEnd, LinkFault, LinkSetup};
 use rec_file::Shape;
 use std::alloc::Global;
@@ -56,6 +56,9 @@ impl Model for ServingEnd {
 
     ghost invariant = { IsSound };
 }
+
+/// The one link of an end.
+const LINK: usize = 0;
 
 impl ServingEnd {
     /// An end with no files that waits for a packet of its peer, with a buffer of this many bytes, at least 64. A
@@ -168,7 +171,7 @@ impl ServingEnd {
             (λ n. ServedOne self.old self.new n)) }
         ensures no_memory { OnErr result ((self.new ≡ self.old) × MayServe self.old) }
     {
-        serve_next(&mut self.port, &mut self.accessed)
+        turns::serve_next(&mut self.port, &mut self.accessed, LINK)
     }
 
     /// Hands all answers that wait to the link, and returns how many NSP messages these are. Refused, with nothing
@@ -235,21 +238,7 @@ impl ServingEnd {
         ensures err { IfErr result
             (λ f. DidAll (serves most_waiting) self.old self.new (Err (end_fault.Link f))) }
     {
-        'messages: loop {
-            match self.post() {
-                Ok(_) => {
-                    if self.link().waiting_bytes() >= most_waiting {
-                        return Ok(());
-                    }
-                    match self.serve() {
-                        Ok(None) => return Ok(()),
-                        Ok(Some(_)) => {}
-                        Err(_) => return Err(LinkFault::NoMemory),
-                    }
-                }
-                Err(fault) => return Err(fault),
-            }
-        }
+        turns::serve_all(&mut self.port, &mut self.accessed, LINK, most_waiting)
     }
 
     /// Serves what came while fewer than `most_waiting` bytes wait, hands each group of answers to the link, and
@@ -262,8 +251,7 @@ impl ServingEnd {
         ensures rests { OnOk result (RestsAt most_waiting self.new) }
         ensures idle { OnOk result (self.new.port.outbox ≡ []) }
     {
-        self.serve_all(most_waiting)?;
-        self.port.emit_all(out)
+        turns::go_on(&mut self.port, &mut self.accessed, LINK, most_waiting, out)
     }
 
     /// Takes a packet in, and returns what became of it; serves what came while fewer than `most_waiting` bytes
@@ -282,27 +270,14 @@ impl ServingEnd {
         ensures { Takes (serves most_waiting) self.old self.new packet.now (bodies out.old.items)
             (bodies out.new.items) result }
     {
-        match self.receive(packet) {
-            Ok(got) => match self.answer(got, most_waiting, out) {
-                Ok(()) => Ok(got),
-                Err(fault) => Err(TakeFault::Unfinished(got, EndFault::Link(fault))),
-            },
-            Err(fault) => Err(TakeFault::Refused(fault)),
-        }
-    }
-
-    /// Serves what came while fewer bytes wait than may, and writes what answers it.
-    fn answer(
-        &mut self,
-        got: Got,
-        most_waiting: u64,
-        out: &mut Vec<Vec<u8>>,
-    ) -> Result<(), LinkFault>
-        ensures { Answered (serves most_waiting) self.old self.new got (bodies out.old.items)
-            (bodies out.new.items) (ended_by result) }
-    {
-        self.serve_all(most_waiting)?;
-        self.port.answer(got, out)
+        turns::take(
+            &mut self.port,
+            &mut self.accessed,
+            LINK,
+            packet,
+            most_waiting,
+            out,
+        )
     }
 
     /// The packet of a segment that was sent and isn't acknowledged, again: the oldest is at place 0, as
@@ -345,34 +320,4 @@ impl ServingEnd {
     {
         &self.port.outbox
     }
-}
-
-/// Serves the next DAP message of the oldest NSP message that came.
-fn serve_next(port: &mut Port, accessed: &mut Accessed) -> Result<Option<usize>, NoMemory>
-    requires { IsPort port.old }
-    ensures ok { IfOk result (λ o. MatchOption o
-        ((port.new ≡ port.old) × (accessed.new ≡ accessed.old)
-        × (MayServe (serving_of port.old accessed.old) → ⊥))
-        (λ n. ServedOne (serving_of port.old accessed.old) (serving_of port.new accessed.new) n)) }
-    ensures kept { IsPort port.new }
-    ensures err { OnErr result ((port.new ≡ port.old) × (accessed.new ≡ accessed.old)
-        × MayServe (serving_of port.old accessed.old)) }
-{
-    if !port.outbox.is_empty() {
-        return Ok(None);
-    }
-    let place = port.place;
-    let message = match port.link.peek_message() {
-        None => return Ok(None),
-        Some(message) => message,
-    };
-    let (item, next) = item_at(message, place);
-    let at_end = is_end(message, next);
-    let Ok(served) = accessed.serve_item(item, next) else {
-        return Err(NoMemory);
-    };
-    let answered = served.answers.len();
-    port.outbox = served.answers;
-    port.go_on(at_end, next);
-    Ok(Some(answered))
 }

@@ -2,4 +2,5 @@ pub mod Sharing
 pub mod Nodes
 pub mod Keeping
 pub mod Shared
+pub mod Stored
 pub mod Inner

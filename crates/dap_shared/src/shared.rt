@@ -35,7 +35,8 @@ pub struct SharedFiles {
 
 impl Model for SharedFiles {
     ghost use Rattle.dap_shared.specs.Shared.{SharedValue};
-    ghost use Rattle.dap_shared.specs.Inner.Held.{IsHeld, shared_code};
+    ghost use Rattle.dap_shared.specs.Inner.Held.{IsHeld};
+    ghost use Rattle.dap_shared.specs.Stored.{shared_code};
 
     ghost Value = { SharedValue };
 

@@ -18,6 +18,7 @@ mod listings;
 mod peers;
 mod reading;
 mod requests;
+mod sharing;
 mod texts;
 mod worlds;
 mod writers;
@@ -32,6 +33,7 @@ use growing::{Ending, Seen, Trouble, make_all};
 use links::Links;
 use listings::{ENGINES, Listing, Row, WORDS};
 use peers::Peers;
+use sharing::{SHARED, Sharing};
 use std::alloc::Global;
 use std::io::{Read, Stdout};
 use std::process::ExitCode;
@@ -122,7 +124,7 @@ fn grow_serving(alloc: Global, seen: &mut Seen) -> Result<(), Ending> {
     for (name, messages) in SERVED {
         make_all(name, Serving::new(alloc, messages), seen)?;
     }
-    Ok(())
+    make_all("sharing files", Sharing::new(alloc, SHARED)?, seen)
 }
 
 /// The calls on ends that ask.

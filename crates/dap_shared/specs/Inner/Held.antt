@@ -1,6 +1,5 @@
 -- What is true of all that a node keeps.
-use Rattle.std.specs.Prelude.{ℕ, ◌≡◌, ◌≤◌, List, get_or, set, refl}
-use Rattle.std.specs.Coded.{Coded, code_by, coded×, coded_ℕ, coded_list}
+use Rattle.std.specs.Prelude.{ℕ, ◌≡◌, ◌≤◌, List, get_or, set}
 use Rattle.std.specs.Global.{Vec}
 use Rattle.dap_msg.specs.BothEnds.{least_buffer}
 use Rattle.dap_msg.specs.declared.items.Item.{Item}
@@ -8,20 +7,10 @@ use Rattle.rec_file.specs.Limits.{greatest_number}
 use Rattle.dap_accessed.specs.declared.phase.Phase.{Phase}
 use Rattle.dap_accessed.specs.declared.phase.Phase.TheVariants as phases
 use Rattle.dap_accessed.specs.Standing.{Files}
-use Rattle.dap_accessed.specs.Tables.{files_code}
 use Rattle.dap_accessed.specs.Sessions.{SessionValue, new_session}
-use Rattle.dap_accessed.specs.Stored.{session_code}
 use Rattle.dap_shared.specs.Nodes.{Event}
 use Rattle.dap_shared.specs.Shared.{SharedValue, SharedAfter}
 use Rattle.dap_shared.specs.Inner.Beside.{MovesBeside}
-
--- the parts as one value
-abbrev pub shared_code : Coded SharedValue
-shared_code =
-    code_by (ℕ × (Files × List SessionValue)) (coded× coded_ℕ (coded× files_code (coded_list session_code)))
-    (λ v. (v.own, (v.files, v.sessions)))
-    (λ p. record { own = p.0; files = p.1.0; sessions = p.1.1 })
-    (λ _. refl)
 
 abbrev pub session_at : (own link : ℕ) → List SessionValue → SessionValue
 session_at own link sessions = get_or sessions link (new_session own)

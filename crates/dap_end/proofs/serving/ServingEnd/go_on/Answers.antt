@@ -1,14 +1,16 @@
-use Rattle.std.proofs.Common.{subst, sym}
-use Rattle.std.specs.Prelude.{Ok}
+use Rattle.std.specs.Result.{result_map_both}
 use Rattle.dap_msg.specs.Blocked.{bodies}
-use Rattle.dap_end.specs.Done.{ServingValue}
-use Rattle.dap_end.specs.Turns.{DidAll}
+use Rattle.nsp_link.specs.declared.link.Got.TheVariants.{AckOnly}
+use Rattle.dap_accessed.specs.Served.{Serves}
+use Rattle.dap_end.specs.declared.fault.EndFault.TheVariants as end_fault
+use Rattle.dap_end.specs.By.{serves_by}
 use Rattle.dap_end.specs.Taking.{serves}
-use Rattle.dap_end.specs.Inner.ServingInside.{serving_view}
-use Rattle.dap_end.proofs.Proceeding.{gone_by}
+use Rattle.dap_end.specs.Inner.ServingView.{serving_of}
+use Rattle.dap_end.proofs.ByTurns.{map_answered, one_link}
 use Rattle.dap_end.proofs.serving.ServingEnd.go_on.Goals as goal
 
 pub returns-clause-went : goal.returns-clause-went
 returns-clause-went c =
-    let done = subst (λ (v : ServingValue). DidAll (serves c.args.most_waiting) c.args.self.now v (Ok tt)) (sym c.self.view_is) c.in_ok-serve_all.ensures.ok in
-    gone_by c.args.most_waiting c.args.self.now (serving_view c.self.inside) c.emit_all.new.self (bodies c.args.out.now.items) (bodies c.emit_all.new.out.items) c.emit_all.result done c.emit_all.ensures.wrote c.emit_all.ensures.all c.emit_all.ensures.err
+    rw (← c.self.view_is)
+    (map_answered (serves_by Serves c.args.most_waiting) (serves c.args.most_waiting) (one_link c.args.most_waiting) (serving_of c.self.inside.port c.self.inside.accessed) (serving_of c.go_on.new.port c.go_on.new.server) AckOnly
+    (bodies c.args.out.now.items) (bodies c.go_on.new.out.items) (result_map_both (λ done. done) end_fault.Link c.go_on.result) c.go_on.ensures.went)

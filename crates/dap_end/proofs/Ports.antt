@@ -1,0 +1,57 @@
+-- The ports of a node.
+use Rattle.std.proofs.Common.{◌≡◌, ℕ, zero, suc, List, [], ◌∷◌, length, Option, Some, None, refl, ap, sym, subst, ◌∙◌, inr, arith}
+use Rattle.std.specs.Prelude.{set, slice_get, replicate}
+use Rattle.std.proofs.lemmas.List.{length-set}
+use Rattle.dap_shared.specs.Shared.{SharedValue}
+use Rattle.nsp_link.specs.declared.link.LinkSetup.{LinkSetup}
+use Rattle.dap_end.specs.Ports.{PortValue, new_port}
+use Rattle.dap_end.specs.Node.{NodeValue}
+use Rattle.dap_end.specs.Inner.Kept.{IsPort}
+use Rattle.dap_end.specs.Inner.NodeInside.{IsNode}
+
+abbrev pub ArePorts : List (Option PortValue) → Type 0
+ArePorts ports = (link : ℕ) (p : PortValue) → slice_get ports link ≡ Some (Some p) → IsPort p
+
+-- setting a place again
+pub set-again : {A : Type 0} (xs : List A) (i : ℕ) (a b : A) → set (set xs i a) i b ≡ set xs i b
+set-again [] i a b = refl
+set-again (x ∷ xs) zero a b = refl
+set-again (x ∷ xs) (suc i) a b = ap (λ (l : List _). x ∷ l) (set-again xs i a b)
+
+-- what is at a place of a list in which one was set
+set-get : (xs : List (Option PortValue)) (i j : ℕ) (a : Option PortValue) (p : PortValue) (P : PortValue → Type 0) → ((q : PortValue) → a ≡ Some q → P q) → (slice_get xs j ≡ Some (Some p) → P p) → slice_get (set xs i a) j ≡ Some (Some p) → P p
+set-get [] i j a p P n h e = h e
+set-get (x ∷ xs) zero zero a p P n h e = n p (let same : a ≡ Some p = cc in same)
+set-get (x ∷ xs) zero (suc j) a p P n h e = h e
+set-get (x ∷ xs) (suc i) zero a p P n h e = h e
+set-get (x ∷ xs) (suc i) (suc j) a p P n h e = set-get xs i j a p P n h e
+
+pub set-ports : (ports : List (Option PortValue)) (link : ℕ) (a : Option PortValue) → ((q : PortValue) → a ≡ Some q → IsPort q) → ArePorts ports → ArePorts (set ports link a)
+set-ports ports link a n h = λ j p e. set-get ports link j a p IsPort n (h j p) e
+
+none-there : (links j : ℕ) (p : PortValue) → slice_get (replicate links None) j ≡ Some (Some p) → ⊥
+none-there zero j p e = cc
+none-there (suc links) zero p e = cc
+none-there (suc links) (suc j) p e = none-there links j p e
+
+pub no-ports : (links : ℕ) → ArePorts (replicate links None)
+no-ports links = λ j p e. absurd (none-there links j p e)
+
+-- ---- A node.
+
+-- one port was set, or the link is no longer there
+pub node-set : (v : NodeValue) (link : ℕ) (shared : SharedValue) (o : Option PortValue) → IsNode v → length shared.sessions ≡ length v.shared.sessions → ((q : PortValue) → o ≡ Some q → IsPort q)
+    → IsNode (record { shared = shared; ports = set v.ports link o })
+node-set v link shared o h many new =
+    record { links = length-set v.ports link o ∙ h.links ∙ sym many; ports = set-ports v.ports link o new h.ports }
+
+-- a port was taken out, and another put back
+pub node-again : (v : NodeValue) (link : ℕ) (shared : SharedValue) (p : PortValue) → IsNode v → length shared.sessions ≡ length v.shared.sessions → IsPort p
+    → IsNode (record { shared = shared; ports = set (set v.ports link None) link (Some p) })
+node-again v link shared p h many new =
+    subst (λ (l : List (Option PortValue)). IsNode (record { shared = shared; ports = l })) (sym (set-again v.ports link None (Some p)))
+    (node-set v link shared (Some p) h many (λ q is. subst IsPort (let same : p ≡ q = cc in same) new))
+
+-- a new port
+pub port-new : (setup : LinkSetup) (p : PortValue) → p ≡ new_port setup → IsPort p
+port-new setup p is = subst IsPort (sym is) (record { place = inr (refl, refl); short = λ k d lt. absurd (let none : ⊥ = omega (arith, lt) in none) })

@@ -1,0 +1,44 @@
+use Rattle.std.proofs.Common.{arith, ap, sym, subst, ◌∙◌, List, Option, Some, None, length}
+use Rattle.std.specs.Prelude.{set}
+use Rattle.std.proofs.lemmas.Option.{slice_get_within}
+use Rattle.std.proofs.lemmas.List.{length-set}
+use Rattle.dap_end.specs.By.{end_with}
+use Rattle.dap_end.specs.Ports.{PortValue}
+use Rattle.dap_end.specs.Inner.NodeInside.{IsNode}
+use Rattle.dap_end.specs.Node.{NodeValue}
+use Rattle.dap_end.proofs.Links.{by-takes}
+use Rattle.dap_end.proofs.Ports.{node-again, set-again}
+use Rattle.dap_end.proofs.node.ServingNode.take.Goals as goal
+
+pub take-result-requires-clause-kept : goal.take-result-requires-clause-kept
+take-result-requires-clause-kept c = c.self.invariant.ports c.args.link c.take_port-port.result c.take_port-port.ensures.port
+
+pub take-result-requires-clause-link : goal.take-result-requires-clause-link
+take-result-requires-clause-link c =
+    let there = slice_get_within c.self.inside.ports.items c.args.link _ c.take_port-port.ensures.port in
+    omega (arith, there, c.self.invariant.links)
+
+pub index_mut-requires : goal.index_mut-requires
+index_mut-requires c =
+    let there = slice_get_within c.self.inside.ports.items c.args.link _ c.take_port-port.ensures.port in
+    let rest = ap (λ (l : List (Option PortValue)). length l) c.take_port-port.ensures.rest in
+    let same = length-set c.self.inside.ports.items c.args.link None in
+    omega (arith, there, rest, same)
+
+pub invariant_of-self : goal.invariant_of-self
+invariant_of-self c =
+    let v : NodeValue = record { shared = c.self.inside.shared; ports = c.self.inside.ports.items } in
+    let many = by-takes c.args.link c.args.most_waiting (end_with c.take_port-port.result v.shared) (end_with c.take-result.new.port c.take-result.new.server) c.args.packet.now _ _ _ c.take-result.ensures.takes in
+    subst (λ (l : List (Option PortValue)). IsNode (record { shared = c.take-result.new.server; ports = set l c.args.link (Some c.take-result.new.port) })) (sym c.take_port-port.ensures.rest)
+    (node-again v c.args.link c.take-result.new.server c.take-result.new.port c.self.invariant many c.take-result.ensures.kept)
+
+pub returns : goal.returns
+returns c =
+    rw (← c.self.view_is)
+    (record {
+      before = c.take_port-port.result;
+      after = c.take-result.new.port;
+      there = c.take_port-port.ensures.port;
+      does = c.take-result.ensures.takes;
+      ports = ap (λ (l : List (Option PortValue)). set l c.args.link (Some c.take-result.new.port)) c.take_port-port.ensures.rest ∙ set-again c.self.inside.ports.items c.args.link None (Some c.take-result.new.port);
+    })

@@ -1,0 +1,287 @@
+//! A node: several links, each with its port, before one table of files.
+
+ghost use Rattle.std.specs.Prelude.{◌≡◌, ◌≤◌, ◌<◌, ◌+◌, ◌-◌, ℕ, [], Some, None, length, replicate, IfOk, IfErr, IfSome, OnOk, OnErr, IsErrOf, IsTrue, slice_get, set, false, true};
+ghost use Rattle.dap_msg.specs.BothEnds.{least_buffer};
+ghost use Rattle.dap_msg.specs.Blocked.{bodies};
+ghost use Rattle.rec_file.specs.Shapes.{is_shape};
+ghost use Rattle.nsp_link.specs.Link.{IsSetup, IsSpelling, SetupFault};
+ghost use Rattle.nsp_link.specs.Sending.{WritesSent, ack_packet_of};
+ghost use Rattle.nsp_link.specs.declared.fault.LinkFault.TheVariants.{Failed, NoSuchSegment};
+ghost use Rattle.nsp_link.specs.declared.fault.LinkFault.TheVariants as fault;
+ghost use Rattle.dap_accessed.specs.Adding.{with_new_file, with_record};
+ghost use Rattle.dap_shared.specs.Nodes.{Gives, GivesRecord};
+ghost use Rattle.dap_shared.specs.Shared.{NotAdded, RecordNotAdded, SharedAfter, SharedGiven};
+ghost use Rattle.dap_end.specs.Ports.{PortValue};
+ghost use Rattle.std.specs.List.{list_any};
+ghost use Rattle.dap_end.specs.Inner.Come.{come_on};
+ghost use Rattle.dap_end.specs.Node.{AtPort, BeganOn, EndedOn, HasPort, NodeNotGiven, NoneHasCome, OnLink, SomeHasCome, serves_on};
+ghost use Rattle.dap_end.specs.Turns.{Takes, WentOn};
+ghost use Rattle.dap_end.specs.declared.fault.EndFault.TheVariants as end_fault;
+ghost use Rattle.std.specs.Result.{result_map_both};
+
+use crate::fault::TakeFault;
+use crate::port::Port;
+use crate::turns;
+use dap_accessed::{AddFault, FileTable, NoMemory};
+use dap_shared::SharedFiles;
+use nsp_link::{Got, LinkEnd, LinkFault, LinkSetup};
+use rec_file::Shape;
+use std::alloc::Global;
+use std::marker::Model;
+
+/// A server of several links. A link is a number from 0, and is there or not.
+#[derive(Drop)]
+pub struct ServingNode {
+    shared: SharedFiles,
+    ports: Vec<Option<Port>>,
+}
+
+impl Model for ServingNode {
+    ghost use Rattle.dap_end.specs.Node.{NodeValue};
+    ghost use Rattle.dap_end.specs.Inner.NodeInside.{IsNode, node_code};
+
+    ghost Value = { NodeValue };
+
+    ghost coded = { node_code };
+
+    ghost view = { λ a. record { shared = a.shared; ports = a.ports.items } };
+
+    ghost invariant = { λ a. IsNode (record { shared = a.shared; ports = a.ports.items }) };
+}
+
+/// So many links that aren't there.
+fn no_ports(alloc: Global, links: usize) -> Result<Vec<Option<Port>>, NoMemory>
+    ensures { IfOk result (λ ports. ports.items ≡ replicate links None) }
+{
+    let mut ports = Vec::with_capacity(alloc, links)?;
+    for _ in 0..links {
+        ports.push(None)?;
+    }
+    Ok(ports)
+}
+
+/// Takes the port of a link out.
+fn take_port(ports: &mut Vec<Option<Port>>, link: usize) -> Port
+    requires { (p : PortValue) × (slice_get ports.old.items link ≡ Some (Some p)) }
+    ensures port { slice_get ports.old.items link ≡ Some (Some result) }
+    ensures rest { ports.new.items ≡ set ports.old.items link None }
+{
+    match ports[link].take() {
+        Some(port) => port,
+        None => unreachable!(),
+    }
+}
+
+/// The port of a link.
+fn port_of(ports: &[Option<Port>], link: usize) -> &Port
+    requires { (p : PortValue) × (slice_get ports.now link ≡ Some (Some p)) }
+    ensures { slice_get ports.now link ≡ Some (Some result.now) }
+{
+    match &ports[link] {
+        Some(port) => port,
+        None => unreachable!(),
+    }
+}
+
+/// Whether a link is there, and a segment came on it.
+fn has_come_on(port: &Option<Port>) -> bool
+    ensures { result ≡ come_on port.now }
+{
+    match port {
+        Some(port) => port.has_come(),
+        None => false,
+    }
+}
+
+/// Whether a segment came on a link.
+fn has_come(ports: &[Option<Port>]) -> bool
+    ensures { result ≡ list_any come_on ports.now }
+{
+    ports.iter().any(has_come_on)
+}
+
+impl ServingNode {
+    /// A node with no files, with a buffer of this many bytes, at least 64, and room for so many links, of which none
+    /// is there.
+    pub fn new(alloc: Global, bufsiz: u16, links: usize) -> Result<ServingNode, NoMemory>
+        requires { least_buffer ≤ bufsiz }
+        ensures stands { IfOk result (λ node. SharedAfter [] [] node.shared) }
+        ensures own { IfOk result (λ node. node.shared.own ≡ bufsiz) }
+        ensures ports { IfOk result (λ node. node.ports ≡ replicate links None) }
+    {
+        let shared = SharedFiles::new(alloc, bufsiz, links)?;
+        let ports = no_ports(alloc, links)?;
+        Ok(ServingNode { shared, ports })
+    }
+
+    /// The files, in the order in which they were made: what all messages so far, of all links, have made of them.
+    pub fn files(&self) -> &FileTable
+        ensures { result.now ≡ self.now.shared.files }
+    {
+        self.shared.files()
+    }
+
+    /// How many links there is room for.
+    pub fn links(&self) -> usize
+        ensures { result ≡ length self.now.ports }
+    {
+        self.ports.len()
+    }
+
+    /// The link of a number, with its counts, where it is there.
+    pub fn link(&self, link: usize) -> Option<&LinkEnd>
+        ensures there { IfSome result (λ end. (p : PortValue) × HasPort link self.now p
+            × (end.now ≡ p.link)) }
+        ensures none { result ≡ None → (p : PortValue) → HasPort link self.now p → ⊥ }
+    {
+        match self.ports.get(link) {
+            Some(Some(port)) => Some(&port.link),
+            _ => None,
+        }
+    }
+
+    /// Begins a link, or begins it anew: what was open on it is closed, a PUT or an UPDATE that waits for its record
+    /// is dropped, and so is all that waits. Refused, with nothing changed: `BadSetup` where a limit of the setup
+    /// isn't in its range; `NoMemory`.
+    pub fn begin(&mut self, alloc: Global, link: usize, setup: LinkSetup) -> Result<(), LinkFault>
+        requires { link < length self.old.ports }
+        ensures ok { OnOk result (BeganOn link setup self.old self.new) }
+        ensures setup { OnOk result (IsSetup setup) }
+        ensures err { IfErr result (λ f. (self.new ≡ self.old) × SetupFault setup f) }
+    {
+        let port = Port::new(alloc, setup)?;
+        self.ports[link] = Some(port);
+        self.shared.begin(link);
+        Ok(())
+    }
+
+    /// Ends a link: what was open on it is closed, and all that waits on it is dropped.
+    pub fn end(&mut self, link: usize)
+        requires { link < length self.old.ports }
+        ensures { EndedOn link self.old self.new }
+    {
+        self.ports[link] = None;
+        self.shared.begin(link);
+    }
+
+    /// What [`crate::ServingEnd::take`] does, on one of the links: no other link moves.
+    pub fn take(
+        &mut self,
+        link: usize,
+        packet: &[u8],
+        most_waiting: u64,
+        out: &mut Vec<Vec<u8>>,
+    ) -> Result<Got, TakeFault>
+        requires { (p : PortValue) × HasPort link self.old p }
+        ensures { OnLink link (λ before after. Takes (serves_on link most_waiting) before after
+            packet.now (bodies out.old.items) (bodies out.new.items) result) self.old self.new }
+    {
+        let mut port = take_port(&mut self.ports, link);
+        let result = turns::take(&mut port, &mut self.shared, link, packet, most_waiting, out);
+        self.ports[link] = Some(port);
+        result
+    }
+
+    /// What [`crate::ServingEnd::go_on`] does, on one of the links: no other link moves.
+    pub fn go_on(
+        &mut self,
+        link: usize,
+        most_waiting: u64,
+        out: &mut Vec<Vec<u8>>,
+    ) -> Result<(), LinkFault>
+        requires { (p : PortValue) × HasPort link self.old p }
+        ensures { OnLink link (λ before after. WentOn (serves_on link most_waiting) before after
+            (bodies out.old.items) (bodies out.new.items)
+            (result_map_both (λ done. done) end_fault.Link result)) self.old self.new }
+    {
+        let mut port = take_port(&mut self.ports, link);
+        let result = turns::go_on(&mut port, &mut self.shared, link, most_waiting, out);
+        self.ports[link] = Some(port);
+        result
+    }
+
+    /// What [`crate::ServingEnd::resend`] writes, on one of the links: the packet of a segment that was sent and isn't
+    /// acknowledged, again. The oldest is at place 0.
+    pub fn resend(&self, link: usize, place: usize) -> Result<Vec<u8>, LinkFault>
+        requires { (p : PortValue) × HasPort link self.now p }
+        ensures wrote { AtPort link self.now (λ p. IfOk result
+            (λ v. WritesSent p.link (Some (p.link.acked + 1 + place)) v.items)) }
+        ensures failed { AtPort link self.now (λ p. IsTrue p.link.failed
+            → IsErrOf result Failed) }
+        ensures missing { AtPort link self.now (λ p. p.link.failed ≡ false
+            → p.link.sent - p.link.acked ≤ place → IsErrOf result NoSuchSegment) }
+        ensures memory { AtPort link self.now (λ p. p.link.failed ≡ false
+            → place < p.link.sent - p.link.acked → IfErr result (λ f. f ≡ fault.NoMemory)) }
+    {
+        port_of(&self.ports, link).link.resend(place)
+    }
+
+    /// What [`crate::ServingEnd::ack`] writes, on one of the links: a packet that only acknowledges all segments that
+    /// were taken.
+    pub fn ack(&self, link: usize) -> Result<Vec<u8>, LinkFault>
+        requires { (p : PortValue) × HasPort link self.now p }
+        ensures wrote { AtPort link self.now (λ p. IfOk result
+            (λ v. IsSpelling (ack_packet_of p.link) v.items)) }
+        ensures failed { AtPort link self.now (λ p. IsTrue p.link.failed
+            → IsErrOf result Failed) }
+        ensures memory { AtPort link self.now (λ p. p.link.failed ≡ false
+            → IfErr result (λ f. f ≡ fault.NoMemory)) }
+    {
+        port_of(&self.ports, link).link.ack_packet()
+    }
+
+    /// The NSP messages of a link that wait to be handed to it, the oldest first; none where it isn't there.
+    pub fn waiting(&self, link: usize) -> &[Vec<u8>]
+        ensures there { (p : PortValue) → HasPort link self.now p → bodies result.now ≡ p.outbox }
+        ensures none { ((p : PortValue) → HasPort link self.now p → ⊥) → bodies result.now ≡ [] }
+    {
+        match self.ports.get(link) {
+            Some(Some(port)) => &port.outbox,
+            _ => &[],
+        }
+    }
+
+    /// A file without records after the others, before a segment came on any link. Its shape is one that
+    /// [`Shape::check`] gives.
+    ///
+    /// Refusals in order: Busy, FileExists, NoMemory; each leaves the node unchanged.
+    pub fn add(&mut self, name: &[u8], shape: Shape) -> Result<(), AddFault>
+        requires { IsTrue (is_shape shape) }
+        ensures idle { OnOk result (NoneHasCome self.old.ports) }
+        ensures given { OnOk result
+            (SharedGiven (Gives name.now shape) self.old.shared self.new.shared) }
+        ensures files { OnOk result (self.new.shared.files
+            ≡ with_new_file name.now shape self.old.shared.files) }
+        ensures ports { self.new.ports ≡ self.old.ports }
+        ensures refused { IfErr result
+            (NodeNotGiven self.old (NotAdded self.old.shared.files name.now)) }
+        ensures unchanged { OnErr result (self.new ≡ self.old) }
+    {
+        if has_come(&self.ports) {
+            return Err(AddFault::Busy);
+        }
+        self.shared.add(name, shape)
+    }
+
+    /// A record more in the newest file, under its number, before a segment came on any link. In a sequential file
+    /// the number is the next one.
+    ///
+    /// Refusals in order: Busy, NoFile; as of a PUT with this number BadLength, NumberOutOfRange, RecordExists;
+    /// NoMemory. Each leaves the node unchanged.
+    pub fn add_record(&mut self, number: u32, body: &[u8]) -> Result<(), AddFault>
+        ensures idle { OnOk result (NoneHasCome self.old.ports) }
+        ensures given { OnOk result
+            (SharedGiven (GivesRecord number body.now) self.old.shared self.new.shared) }
+        ensures files { OnOk result
+            (self.new.shared.files ≡ with_record number body.now self.old.shared.files) }
+        ensures ports { self.new.ports ≡ self.old.ports }
+        ensures refused { IfErr result
+            (NodeNotGiven self.old (RecordNotAdded self.old.shared.files number body.now)) }
+        ensures unchanged { OnErr result (self.new ≡ self.old) }
+    {
+        if has_come(&self.ports) {
+            return Err(AddFault::Busy);
+        }
+        self.shared.add_record(number, body)
+    }
+}

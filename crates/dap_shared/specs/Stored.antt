@@ -1,0 +1,16 @@
+-- What a node keeps is stored as its parts.
+use Rattle.std.specs.Prelude.{ℕ, List, refl}
+use Rattle.std.specs.Coded.{Coded, code_by, coded×, coded_ℕ, coded_list}
+use Rattle.dap_accessed.specs.Standing.{Files}
+use Rattle.dap_accessed.specs.Tables.{files_code}
+use Rattle.dap_accessed.specs.Sessions.{SessionValue}
+use Rattle.dap_accessed.specs.Stored.{session_code}
+use Rattle.dap_shared.specs.Shared.{SharedValue}
+
+-- the parts as one value
+abbrev pub shared_code : Coded SharedValue
+shared_code =
+    code_by (ℕ × (Files × List SessionValue)) (coded× coded_ℕ (coded× files_code (coded_list session_code)))
+    (λ v. (v.own, (v.files, v.sessions)))
+    (λ p. record { own = p.0; files = p.1.0; sessions = p.1.1 })
+    (λ _. refl)
