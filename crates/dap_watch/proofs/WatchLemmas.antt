@@ -120,12 +120,12 @@ these_under n old new front back ms before after all low =
 -- ---- texts
 
 one_text : (k : ℕ) (p : Captured) (text : List ℕ) (all later : List Message) → filter (λ m. m.packet == k) later ≡ filter (λ m. m.packet == k) all
-    → IsPacketText all (k, p) text → IsPacketText later (k, p) text
-one_text k p text all later same is = (is.0, subst (λ (l : List Message). AllZip (λ m. IsMessageText m.piece) l is.0) (sym same) is.1, is.2)
+    → IsPacketText false [] all (k, p) text → IsPacketText false [] later (k, p) text
+one_text k p text all later same is = (is.0, subst (λ (l : List Message). AllZip (λ m. IsMessageText false m.piece) l is.0) (sym same) is.1, is.2)
 
 -- the texts of earlier packets stay
 retext : (n : ℕ) (all later : List Message) → ((k : ℕ) → k < n → filter (λ m. m.packet == k) later ≡ filter (λ m. m.packet == k) all)
-    → (k : ℕ) (packets : List Captured) (texts : List (List ℕ)) → k + length packets ≤ n → AllZip (IsPacketText all) (enumerate_from k packets) texts → AllZip (IsPacketText later) (enumerate_from k packets) texts
+    → (k : ℕ) (packets : List Captured) (texts : List (List ℕ)) → k + length packets ≤ n → AllZip (IsPacketText false [] all) (enumerate_from k packets) texts → AllZip (IsPacketText false [] later) (enumerate_from k packets) texts
 retext n all later same k [] [] within each = tt
 retext n all later same k [] (t ∷ texts) within each = absurd each
 retext n all later same k (p ∷ packets) [] within each = absurd each
@@ -142,7 +142,7 @@ concat_snoc : (ts : List (List ℕ)) (t : List ℕ) → concat (ts ++ t ∷ []) 
 concat_snoc [] t = append-nil t
 concat_snoc (u ∷ ts) t = ap (λ l. u ++ l) (concat_snoc ts t) ∙ sym (append_assoc u (concat ts) t)
 
-message_texts : (ms : List Piece) (texts : List (List ℕ)) → AllZip IsMessageText ms texts → AllZip (λ m. IsMessageText m.piece) (map message_of ms) texts
+message_texts : (ms : List Piece) (texts : List (List ℕ)) → AllZip (IsMessageText false) ms texts → AllZip (λ m. IsMessageText false m.piece) (map message_of ms) texts
 message_texts [] [] all = tt
 message_texts [] (t ∷ texts) all = absurd all
 message_texts (m ∷ ms) [] all = absurd all
@@ -166,9 +166,9 @@ watches_more captured written old new way digits seen text first start w spelled
     let packets = w.packets ++ x ∷ [] in
     let low = upto w.packets old.streams.names.keys w.ordered old.streams.places.items w.keeps.each in
     let here : filter (λ m. m.packet == 1 + n) later ≡ map message_of t.ms = these_under n all later t.front t.back t.ms t.before t.after t.whole low in
-    let own : IsPacketText later (1 + n, x) text = (
+    let own : IsPacketText false [] later (1 + n, x) text = (
       t.texts,
-      subst (λ (l : List Message). AllZip (λ m. IsMessageText m.piece) l t.texts) (sym here) (message_texts t.ms t.texts t.are),
+      subst (λ (l : List Message). AllZip (λ m. IsMessageText false m.piece) l t.texts) (sym here) (message_texts t.ms t.texts t.are),
       t.added ∙ ap (λ l. l ++ concat t.texts) line ∙ ap (λ k. (heading k way ++ seen_line seen) ++ concat t.texts) number,
     ) in
     let longer : length packets ≡ n + 1 = length-append w.packets (x ∷ []) in
@@ -177,8 +177,8 @@ watches_more captured written old new way digits seen text first start w spelled
       ordered = t.later;
       texts = w.texts ++ text ∷ [];
       are_seen = seen_more captured w.packets way digits (bytes_of digits) seen w.are_seen (decoded digits (length digits / 2) spelled) is;
-      are_texts = subst (λ (l : List (ℕ × Captured)). AllZip (IsPacketText later) l (w.texts ++ text ∷ [])) (sym (enumerate_from-snoc 1 w.packets x))
-          (zip_snoc (IsPacketText later) (enumerate_from 1 w.packets) w.texts (1 + n, x) text
+      are_texts = subst (λ (l : List (ℕ × Captured)). AllZip (IsPacketText false [] later) l (w.texts ++ text ∷ [])) (sym (enumerate_from-snoc 1 w.packets x))
+          (zip_snoc (IsPacketText false [] later) (enumerate_from 1 w.packets) w.texts (1 + n, x) text
           (retext (1 + n) all later (λ k below. earlier (1 + n) k all later t.front t.back t.ms below t.before t.after t.whole) 1 w.packets w.texts (omega arith) w.are_texts) own);
       written_is = ap (λ l. l ++ text) w.written_is ∙ sym (concat_snoc w.texts text);
       count = omega (arith, count, number, longer);
@@ -189,7 +189,7 @@ watches_more captured written old new way digits seen text first start w spelled
 -- ---- what a packet tells
 
 pub tells_message : (packets : List Captured) (x : Captured) (ordered : List (List Placed)) (new : Streams) (digits : List ℕ) (w : Whole) (old_text new_text : List ℕ)
-    → Grows packets x ordered new digits (Some w) → ((m : Piece) → IsWhole digits w m → (text : List ℕ) × IsMessageText m text × (new_text ≡ old_text ++ text))
+    → Grows packets x ordered new digits (Some w) → ((m : Piece) → IsWhole digits w m → (text : List ℕ) × IsMessageText false m text × (new_text ≡ old_text ++ text))
     → Tells packets x ordered new old_text new_text
 tells_message packets x ordered new digits w old_text new_text g said =
     let a = g.added in
@@ -206,7 +206,7 @@ tells_message packets x ordered new digits w old_text new_text g said =
       after = a.after;
       whole = subst (λ (l : List Piece). AllByRecursion (λ p. whole_with p ≡ 1 + length packets) l) (sym told.1) (told.2, tt);
       texts = text.0 ∷ [];
-      are = subst (λ (l : List Piece). AllZip IsMessageText l (text.0 ∷ [])) (sym told.1) (text.1, tt);
+      are = subst (λ (l : List Piece). AllZip (IsMessageText false) l (text.0 ∷ [])) (sym told.1) (text.1, tt);
       added = text.2 ∙ ap (λ l. old_text ++ l) (sym (append-nil text.0));
     }
 

@@ -1,5 +1,5 @@
 -- A listing that is written packet by packet, and the one of `follow`.
-use Rattle.std.specs.Prelude.{◌≡◌, ◌⊎◌, ℕ, ◌==◌, ◌&&◌, ◌||◌, nat_lt, is_err, Bool, List, [], ◌∷◌, ◌++◌, length, Option}
+use Rattle.std.specs.Prelude.{◌≡◌, ◌⊎◌, ℕ, ◌==◌, ◌&&◌, ◌||◌, nat_lt, is_err, Bool, List, [], ◌∷◌, ◌++◌, length, Option, false}
 use Rattle.std.specs.List.{AllZip, concat, enumerate_from, filter, flat_map, zip}
 use Rattle.std.specs.Io.KnownBytes.{Appends}
 use Rattle.linewise.specs.Output.{WritesFront}
@@ -32,7 +32,7 @@ pub record IsWatched (captured : List Capture) (written rest : List ℕ) : Type 
   pub texts : List (List ℕ)
   pub are_seen : AllZip IsCaptured captured packets
   pub are_ordered : AllZip (λ stream. IsOrdered (came_in stream packets)) (streams packets) ordered
-  pub are_texts : AllZip (IsPacketText (flat_map messages ordered)) (enumerate_from 1 packets) texts
+  pub are_texts : AllZip (IsPacketText false [] (flat_map messages ordered)) (enumerate_from 1 packets) texts
   pub written_is : written ≡ concat texts
   pub rest_is : rest ≡ flat_map (λ (stream, segments). rest_lines stream (pieces segments)) (zip (streams packets) ordered)
 

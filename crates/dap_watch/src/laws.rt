@@ -1,6 +1,6 @@
 //! Laws over the definitions alone. Each function does nothing: its contract is the law.
 
-ghost use Rattle.std.specs.Prelude.{◌≡◌, ◌<◌, ◌++◌, ◌∷◌, ℕ, List, [], true};
+ghost use Rattle.std.specs.Prelude.{◌≡◌, ◌<◌, ◌++◌, ◌∷◌, ℕ, List, [], true, false};
 ghost use Rattle.dap_listing.specs.Lines.{Capture};
 ghost use Rattle.dap_follow.specs.Following.{IsFollowed};
 ghost use Rattle.std.specs.List.{AllByRecursion};
@@ -33,5 +33,5 @@ pub fn listed_messages_can_go()
 /// What was written of a capture, and what is left of it, are together the listing of `follow`.
 pub fn watched_captures_are_followed()
     ensures { (captured : List Capture) (written rest : List ℕ) → IsWatched captured written rest
-        → IsFollowed captured (written ++ rest) }
+        → (frames : List (List (List ℕ))) → IsFollowed false captured frames (written ++ rest) }
 {}

@@ -1,6 +1,6 @@
 //! The listing, line by line.
 
-ghost use Rattle.std.specs.Prelude.{◌≡◌, ◌≢◌, ◌⊎◌, ◌/◌, ◌*◌, ◌<◌, ◌≤◌, ◌^◌, ◌∷◌, ◌++◌, [], ℕ, List, OnOk, OnErr, IfOk, IfErr, IfSome, length};
+ghost use Rattle.std.specs.Prelude.{◌≡◌, ◌≢◌, ◌⊎◌, ◌/◌, ◌*◌, ◌<◌, ◌≤◌, ◌^◌, ◌∷◌, ◌++◌, [], ℕ, List, OnOk, OnErr, IfOk, IfErr, IfSome, length, false};
 ghost use Rattle.std.specs.Io.KnownBytes.{Appends, Keeps};
 ghost use Rattle.std.specs.List.{list_any};
 ghost use Rattle.std.specs.Str.Lines.{lines};
@@ -54,14 +54,14 @@ fn push_whole(
 ) -> Result<(), AllocError>
     requires { Spell digits.now (length digits.now / 2) }
     ensures { OnOk result ((m : Piece) → IsWhole digits.now whole m
-        → AddsSome text.old text.new (IsMessageText m)) }
+        → AddsSome text.old text.new (IsMessageText false m)) }
 {
     let count = digits.len() / 2;
     push_str(text, "  message")?;
     push_range(text, whole.from, whole.to)?;
     push_length(text, count)?;
     room.resize(count, 0)?;
-    push_messages(text, digits, room, 0)
+    push_messages(text, digits, room, 0, false)
 }
 
 impl Watching {

@@ -1,5 +1,5 @@
 -- What the program's command line makes of words, and what holds where a reader's bytes are known.
-use Rattle.std.proofs.Common.{◌≡◌, ◌∙◌, refl, inr, ℕ, List, [], ◌∷◌, true, codes, Err}
+use Rattle.std.proofs.Common.{◌≡◌, ◌∙◌, refl, inr, ℕ, List, [], ◌∷◌, true, false, codes, Err}
 use Rattle.std.specs.Prelude.{Option, Some, None, IfSome, fold}
 use Rattle.std.specs.Fmt.{digits}
 use Rattle.std.specs.Io.KnownBytes.{Keeps}
@@ -17,7 +17,7 @@ use Rattle.linewise.specs.declared.talking.TalkFault.TheVariants.{NoMemory as Ou
 use Rattle.decnet_frames.proofs.ForCallers.{nothing_written}
 use Rattle.decnet_frames.specs.declared.run.FramesFault.TheVariants.{NoMemory as Wants}
 use Rattle.live_cli.specs.Running.{TaskGives}
-use Rattle.live_cli.specs.Words.{daplive, frames_line, task_of, usual}
+use Rattle.live_cli.specs.Words.{daplive, follow_line, frames_line, task_of, usual}
 use Rattle.live_cli.specs.Inner.CommandLine.{end_line_by, serve_line_by}
 
 pub some_from : {X : Type 0} {P Q : X → Type 0} (o : Option X) → IfSome o P → ((x : X) → P x → Q x) → IfSome o Q
@@ -31,7 +31,7 @@ some_both (Some x) one two next = next x one two
 -- the command line, with the digits of what is usual
 pub daplive_by : daplive ≡ fold with_subcommand (new_program (codes "daplive"))
     (serve_line_by.top ∷ (end_line_by (codes "ask") (codes "0101") (codes "0202")).top
-    ∷ (new_app (codes "follow")).top ∷ frames_line.top ∷ (new_app (codes "watch")).top ∷ [])
+    ∷ follow_line.top ∷ frames_line.top ∷ (new_app (codes "watch")).top ∷ [])
 unfolding digits
 daplive_by = refl
 
@@ -59,9 +59,18 @@ pub no_fault_follow : (program : Text) → fault_of daplive (program ∷ codes "
 unfolding clap_on_literals digits
 no_fault_follow program = refl
 
-pub names_follow : (program : Text) → task_of (program ∷ codes "follow" ∷ []) ≡ Some Follow
+pub names_follow : (program : Text) → task_of (program ∷ codes "follow" ∷ []) ≡ Some (Follow false)
 unfolding clap_on_literals digits
 names_follow program = refl
+
+-- with its flag
+pub no_fault_in_words : (program : Text) → fault_of daplive (program ∷ codes "follow" ∷ codes "--words" ∷ []) ≡ []
+unfolding clap_on_literals digits
+no_fault_in_words program = refl
+
+pub names_in_words : (program : Text) → task_of (program ∷ codes "follow" ∷ codes "--words" ∷ []) ≡ Some (Follow true)
+unfolding clap_on_literals digits
+names_in_words program = refl
 
 -- and on that of the frames
 pub no_fault_frames : (program : Text) → fault_of daplive (program ∷ codes "frames" ∷ []) ≡ []
@@ -85,7 +94,7 @@ names_watch program = refl
 pub refused : (task : Task) (known old new : Option (List ℕ)) (status : ℕ) → (status ≡ 3) × Keeps old new → IfSome known (λ input. TaskGives task input old new status)
 refused task None old new status memory = tt
 refused (End options) (Some input) old new status memory = inr (memory.1, memory.0)
-refused Follow (Some input) old new status memory = (Err NoMemory, memory.1, memory.0)
+refused (Follow in_words) (Some input) old new status memory = (Err NoMemory, memory.1, memory.0)
 refused Watch (Some input) old new status memory = inr (OutOfMemory, nothing_listed input old new memory.1, memory.0)
 refused (Frames ends) (Some input) old new status memory = inr (Wants, nothing_written ends input old new memory.1, memory.0)
 

@@ -67,6 +67,6 @@ FramesGive ends input written holds status =
 -- listed; or the frames of a capture file are.
 abbrev pub TaskGives : Task → List ℕ → (written holds : Option (List ℕ)) → ℕ → Type 0
 TaskGives (End o) input written holds status = GivesAs o.role o input written holds status ⊎ (Keeps written holds × (status ≡ 3))
-TaskGives Follow input written holds status = HasStatus (FollowGives input written holds) status
+TaskGives (Follow in_words) input written holds status = HasStatus (FollowGives in_words input written holds) status
 TaskGives Watch input written holds status = ListsLines input written holds status
 TaskGives (Frames ends) input written holds status = FramesGive ends input written holds status

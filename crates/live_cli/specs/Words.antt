@@ -1,6 +1,8 @@
 -- The command line of `daplive`.
-use Rattle.std.specs.Prelude.{ℕ, List, [], ◌∷◌, codes, bytes_eq, fold, if◌then◌else◌, pos, max, Option, Some, None, option_map, option_and_then}
+use Rattle.std.specs.Prelude.{ℕ, Bool, false, List, [], ◌∷◌, codes, bytes_eq, fold, if◌then◌else◌, pos, max, Option, Some, None, option_map, option_and_then}
 use Rattle.std.specs.Fmt.{decimal}
+use Rattle.std.specs.Option.{option_map_or}
+use Rattle.clap.specs.declared.builder.action.ArgAction.TheVariants.{SetTrue}
 use Rattle.clap.specs.Words.{App, Row, Rule, Text, all_of, first_of, new_app, new_rule, subcommand_of, with_rule, with_subcommand}
 use Rattle.cli_faults.specs.Programs.{new_program}
 use Rattle.clap.specs.declared.builder.value_parser.ValueParser.TheVariants as parser
@@ -59,10 +61,14 @@ serve_line = with_rule (end_line (usual Serve)) (number (codes "waiting") (decim
 abbrev pub frames_line : App
 frames_line = with_rule (new_app (codes "frames")) (record (new_rule (codes "nodes")) { value_names = 2 })
 
+-- the subcommand `follow`, which has a flag
+abbrev pub follow_line : App
+follow_line = with_rule (new_app (codes "follow")) (record (new_rule (codes "words")) { long = Some (codes "words"); action = Some SetTrue })
+
 -- all words: one of five subcommands
 abbrev pub daplive : App
 daplive = fold with_subcommand (new_program (codes "daplive"))
-    (serve_line.top ∷ (end_line (usual Ask)).top ∷ (new_app (codes "follow")).top ∷ frames_line.top ∷ (new_app (codes "watch")).top ∷ [])
+    (serve_line.top ∷ (end_line (usual Ask)).top ∷ follow_line.top ∷ frames_line.top ∷ (new_app (codes "watch")).top ∷ [])
 
 -- ---- What they say.
 
@@ -104,6 +110,10 @@ abbrev pub ends_of : Option (List Text) → Option (Option Ends)
 ends_of (Some (first ∷ other ∷ [])) = option_map Some (ends_by (node_of first) (node_of other))
 ends_of words = Some None
 
+-- whether the flag is given
+abbrev pub has_words : List Row → Bool
+has_words rows = option_map_or (λ word. bytes_eq word (codes "true")) (first_of (codes "words") rows) false
+
 -- what a subcommand and its options name
 abbrev pub task_in : Text × List Row → Option Task
 task_in p =
@@ -111,7 +121,7 @@ task_in p =
     else if bytes_eq p.0 (codes "ask") then option_map End (options_of Ask p.1)
     else if bytes_eq p.0 (codes "frames") then option_map Frames (ends_of (all_of (codes "nodes") p.1))
     else if bytes_eq p.0 (codes "watch") then Some Watch
-    else Some Follow
+    else Some (Follow (has_words p.1))
 
 -- what the words name, the program's name first, where nothing is at fault in them
 abbrev pub task_of : List Text → Option Task

@@ -1,6 +1,6 @@
 //! The program over any reader and writers.
 
-ghost use Rattle.std.specs.Prelude.{◌≡◌, ◌≢◌, ◌≤◌, ◌⊎◌, ◌∷◌, ℕ, List, [], IfSome, None, Some, codes, if◌then◌else◌, map, string_bytes};
+ghost use Rattle.std.specs.Prelude.{◌≡◌, ◌≢◌, ◌≤◌, ◌⊎◌, ◌∷◌, ℕ, List, [], false, true, IfSome, None, Some, codes, if◌then◌else◌, map, string_bytes};
 ghost use Rattle.std.specs.Io.KnownBytes.{Keeps};
 ghost use Rattle.clap.specs.Words.{fault_of};
 ghost use Rattle.cli_faults.specs.Mistakes.{AreMistakes};
@@ -146,15 +146,16 @@ const FOLLOWING: Reading = Reading {
 /// Lists a capture, and answers the exit status.
 fn list<R: BufRead, W: Write, E: Write>(
     alloc: Global,
+    in_words: bool,
     reader: &mut R,
     writer: &mut W,
     error_writer: &mut E,
 ) -> u8
-    ensures { IfSome (R.remaining reader.old) (λ input. TaskGives Task.Follow input
+    ensures { IfSome (R.remaining reader.old) (λ input. TaskGives (Task.Follow in_words) input
         (W.contents writer.old) (W.contents writer.new) result) }
 {
     let mut lines = Fronted::new(reader);
-    let outcome = follow(alloc, &mut lines, writer);
+    let outcome = follow(alloc, &mut lines, writer, in_words);
     finish_reading(FOLLOWING, lines.front(), outcome, error_writer)
 }
 
@@ -244,7 +245,7 @@ fn run_task<R: BufRead, W: Write, E: Write>(
 {
     match task {
         Task::End(options) => run_options(alloc, options, reader, writer, error_writer),
-        Task::Follow => list(alloc, reader, writer, error_writer),
+        Task::Follow { in_words } => list(alloc, in_words, reader, writer, error_writer),
         Task::Watch => watch_lines(alloc, reader, writer, error_writer),
         Task::Frames(ends) => write_frames(alloc, ends, reader, writer, error_writer),
     }
@@ -284,7 +285,11 @@ pub fn run_words<R: BufRead, W: Write, E: Write>(
         (W.contents writer.old) (W.contents writer.new) result) }
     ensures follow { (program : List ℕ)
         → map string_bytes words.now ≡ program ∷ codes "follow" ∷ []
-        → IfSome (R.remaining reader.old) (λ input. TaskGives Task.Follow input
+        → IfSome (R.remaining reader.old) (λ input. TaskGives (Task.Follow false) input
+        (W.contents writer.old) (W.contents writer.new) result) }
+    ensures in_words { (program : List ℕ)
+        → map string_bytes words.now ≡ program ∷ codes "follow" ∷ codes "--words" ∷ []
+        → IfSome (R.remaining reader.old) (λ input. TaskGives (Task.Follow true) input
         (W.contents writer.old) (W.contents writer.new) result) }
     ensures frames { (program : List ℕ)
         → map string_bytes words.now ≡ program ∷ codes "frames" ∷ []

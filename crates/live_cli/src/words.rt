@@ -10,13 +10,13 @@ ghost use Rattle.clap.specs.declared.builder.command.Command.TheViews.{out-Comma
 ghost use Rattle.dap_text.specs.Words.{short};
 ghost use Rattle.dap_live.specs.Orders.{address_of};
 ghost use Rattle.decnet_frames.specs.Nodes.{node_of};
-ghost use Rattle.live_cli.specs.Words.{daplive, ends_of, greatest_waiting, least_waiting, option as option_rule, options_of, task_in as task_of_rows, task_of, waiting_of};
-ghost use Rattle.live_cli.specs.Inner.CommandLine.{HasAddresses, HasLimits, HasRoom, HasWaiting, IsCommandLine, IsEndLine, IsFramesLine, IsServeLine};
+ghost use Rattle.live_cli.specs.Words.{daplive, ends_of, greatest_waiting, least_waiting, option as option_rule, options_of, task_in as task_of_rows, task_of, has_words as words_wanted, waiting_of};
+ghost use Rattle.live_cli.specs.Inner.CommandLine.{HasAddresses, HasLimits, HasRoom, HasWaiting, IsCommandLine, IsEndLine, IsFollowLine, IsFramesLine, IsServeLine};
 ghost use Rattle.live_cli.specs.Inner.Spelling.{IsMisspelt};
 
 use clap::builder::ValueParser;
 use clap::error::ErrorKind;
-use clap::{Arg, ArgMatches, Command, Error, value_parser};
+use clap::{Arg, ArgAction, ArgMatches, Command, Error, value_parser};
 use dap_live::read_address;
 use dap_msg::{GREATEST_MESSAGE, LEAST_BUFFER};
 use dap_text::{is, read_number};
@@ -268,13 +268,19 @@ fn serve_command<'a>(alloc: Global) -> Result<Command<'a>, Error>
 }
 
 /// The command line of the listing.
-fn follow_command<'a>(alloc: Global) -> Command<'a>
-    ensures app { app_of result ≡ new_app (codes "follow") }
-    ensures local { (out-Command result).has_globals ≡ false }
+fn follow_command<'a>(alloc: Global) -> Result<Command<'a>, Error>
+    ensures line { IfOk result IsFollowLine }
+    ensures memory { IfErr result (λ error. kind_of error ≡ ErrorKind.OutOfMemory) }
 {
-    Command::new(alloc, "follow")
+    let words = Arg::new(alloc, "words")
+        .long("words")
+        .action(ArgAction::SetTrue)
+        .help("Also what the lines say in words");
+    let command = Command::new(alloc, "follow")
         .about("Lists captured NSP packets, with DAP messages reassembled")
         .after_help(FOLLOW)
+        .arg(words)?;
+    Ok(command)
 }
 
 /// The command line of the listing that is written as lines come.
@@ -313,7 +319,7 @@ fn command_line<'a>(alloc: Global) -> Result<Command<'a>, Error>
         .disable_help_subcommand(true);
     let command = command.subcommand(serve_command(alloc)?)?;
     let command = command.subcommand(end_command(alloc, &ASKING)?)?;
-    let command = command.subcommand(follow_command(alloc))?;
+    let command = command.subcommand(follow_command(alloc)?)?;
     let command = command.subcommand(frames_command(alloc)?)?;
     let command = command.subcommand(watch_command(alloc))?;
     Ok(command)
@@ -345,8 +351,8 @@ pub struct Options {
 pub enum Task {
     /// Answers lines as an end.
     End(Options),
-    /// Lists a capture.
-    Follow,
+    /// Lists a capture; also in words.
+    Follow { in_words: bool },
     /// Lists a capture as its lines come.
     Watch,
     /// Writes the packets in a capture file, between these nodes or those of the first packet.
@@ -533,6 +539,16 @@ fn ends_in<'a>(matches: &ArgMatches<'a>) -> Result<Option<Ends>, Misspelt<'a>>
     }
 }
 
+/// Whether the lines of a listing are wanted in words, too.
+fn has_words(matches: &ArgMatches<'_>) -> bool
+    ensures { result ≡ words_wanted (rows_of (found_of matches.now)) }
+{
+    match text_in(matches, "words") {
+        Some(value) => is(value.as_bytes(), "true"),
+        None => false,
+    }
+}
+
 /// What a word and those after it name.
 fn task_in<'a>(name: &str, matches: &ArgMatches<'a>) -> Result<Task, Misspelt<'a>>
     ensures task { result_ok result ≡ task_of_rows (name.now, rows_of (found_of matches.now)) }
@@ -548,7 +564,9 @@ fn task_in<'a>(name: &str, matches: &ArgMatches<'a>) -> Result<Task, Misspelt<'a
     } else if is(name.as_bytes(), "watch") {
         Ok(Task::Watch)
     } else {
-        Ok(Task::Follow)
+        Ok(Task::Follow {
+            in_words: has_words(matches),
+        })
     }
 }
 

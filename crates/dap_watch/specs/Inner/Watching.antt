@@ -1,5 +1,5 @@
 -- What the program keeps of a capture that isn't over.
-use Rattle.std.specs.Prelude.{◌≡◌, ◌⊎◌, ⊤, ℕ, ◌+◌, ◌^◌, ◌≤◌, true, is_err, List, [], ◌∷◌, ◌++◌, length, map, Option, Some, None, Ok}
+use Rattle.std.specs.Prelude.{◌≡◌, ◌⊎◌, ⊤, ℕ, ◌+◌, ◌^◌, ◌≤◌, true, is_err, List, [], ◌∷◌, ◌++◌, length, map, Option, Some, None, Ok, false}
 use Rattle.std.specs.List.{AllByRecursion, AllZip, concat, enumerate_from, flat_map}
 use Rattle.dap_listing.specs.Lines.{Capture, line_of}
 use Rattle.dap_listing.specs.Listing.{packet_limit}
@@ -24,7 +24,7 @@ pub record Tells (packets : List Captured) (packet : Captured) (ordered : List (
   pub after : flat_map messages later ≡ front ++ (map message_of ms ++ back)
   pub whole : AllByRecursion (λ m. whole_with m ≡ 1 + length packets) ms
   pub texts : List (List ℕ)
-  pub are : AllZip IsMessageText ms texts
+  pub are : AllZip (IsMessageText false) ms texts
   pub added : new_text ≡ old_text ++ concat texts
 
 -- what the lines so far came to
@@ -33,7 +33,7 @@ pub record Watches (captured : List Capture) (written : List ℕ) (w : Watching)
   pub ordered : List (List Placed)
   pub texts : List (List ℕ)
   pub are_seen : AllZip IsCaptured captured packets
-  pub are_texts : AllZip (IsPacketText (flat_map messages ordered)) (enumerate_from 1 packets) texts
+  pub are_texts : AllZip (IsPacketText false [] (flat_map messages ordered)) (enumerate_from 1 packets) texts
   pub written_is : written ≡ concat texts
   pub count : w.packets ≡ length packets
   pub most : length packets ≤ 2 ^ 50

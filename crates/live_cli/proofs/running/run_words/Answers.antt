@@ -1,4 +1,4 @@
-use Rattle.std.proofs.Common.{arith, ◌≡◌, rules, map, string_bytes, ap, subst, ◌∙◌, inl, inr, refl}
+use Rattle.std.proofs.Common.{arith, ◌≡◌, rules, map, string_bytes, ap, subst, ◌∙◌, inl, inr, refl, true, false}
 use Rattle.std.specs.Prelude.{IfSome, Some, None}
 use Rattle.clap.specs.Words.{fault_of}
 use Rattle.cli_faults.proofs.ForCallers.{memory_or_help, memory_or_mistake, only_memory}
@@ -6,7 +6,7 @@ use Rattle.live_cli.specs.declared.words.Task.{Task}
 use Rattle.live_cli.specs.declared.words.Task.TheVariants.{End, Follow, Frames, Watch}
 use Rattle.live_cli.specs.Running.{TaskGives}
 use Rattle.live_cli.specs.Words.{daplive, task_of, usual}
-use Rattle.live_cli.proofs.RunLemmas.{names_follow, names_frames, names_usual, names_watch, no_fault, no_fault_follow, no_fault_frames, no_fault_watch, none_named, one_task, refused}
+use Rattle.live_cli.proofs.RunLemmas.{names_follow, names_in_words, no_fault_in_words, names_frames, names_usual, names_watch, no_fault, no_fault_follow, no_fault_frames, no_fault_watch, none_named, one_task, refused}
 use Rattle.live_cli.proofs.running.run_words.Goals as goal
 
 pub returns-in-Err : goal.returns-in-Err
@@ -21,8 +21,10 @@ returns-in-Err g c =
       named = λ task none named. refused task input old new c.refuse.result (c.refuse.ensures.memory (only_memory kinds e none has));
       usual = λ program role words. refused (End (usual role).1) input old new c.refuse.result
           (c.refuse.ensures.memory (only_memory kinds e (ap (fault_of daplive) words ∙ no_fault program role) has));
-      follow = λ program words. refused Follow input old new c.refuse.result
+      follow = λ program words. refused (Follow false) input old new c.refuse.result
           (c.refuse.ensures.memory (only_memory kinds e (ap (fault_of daplive) words ∙ no_fault_follow program) has));
+      in_words = λ program words. refused (Follow true) input old new c.refuse.result
+          (c.refuse.ensures.memory (only_memory kinds e (ap (fault_of daplive) words ∙ no_fault_in_words program) has));
       frames = λ program words. refused (Frames None) input old new c.refuse.result
           (c.refuse.ensures.memory (only_memory kinds e (ap (fault_of daplive) words ∙ no_fault_frames program) has));
       watch = λ program words. refused Watch input old new c.refuse.result
@@ -61,7 +63,14 @@ pub returns-in-Ok-Ok-clause-follow : goal.returns-in-Ok-Ok-clause-follow
 returns-in-Ok-Ok-clause-follow g c program named =
     let words = map string_bytes c.args.words.now in
     let named_first : Some c.in-Ok-Ok.task ≡ task_of words = search rules in
-    let same = one_task words c.in-Ok-Ok.task Follow named_first (ap task_of named ∙ names_follow program) in
+    let same = one_task words c.in-Ok-Ok.task (Follow false) named_first (ap task_of named ∙ names_follow program) in
+    subst (λ (task : Task). IfSome (g.R.Read.remaining c.args.reader.now) (λ input. TaskGives task input (g.W.Write.contents c.args.writer.now) (g.W.Write.contents c.run_task.new.writer) c.run_task.result)) same c.run_task.ensures
+
+pub returns-in-Ok-Ok-clause-in_words : goal.returns-in-Ok-Ok-clause-in_words
+returns-in-Ok-Ok-clause-in_words g c program named =
+    let words = map string_bytes c.args.words.now in
+    let named_first : Some c.in-Ok-Ok.task ≡ task_of words = search rules in
+    let same = one_task words c.in-Ok-Ok.task (Follow true) named_first (ap task_of named ∙ names_in_words program) in
     subst (λ (task : Task). IfSome (g.R.Read.remaining c.args.reader.now) (λ input. TaskGives task input (g.W.Write.contents c.args.writer.now) (g.W.Write.contents c.run_task.new.writer) c.run_task.result)) same c.run_task.ensures
 
 pub returns-in-Ok-Ok-clause-watch : goal.returns-in-Ok-Ok-clause-watch
@@ -88,7 +97,13 @@ pub returns-in-Ok-Err-clause-follow : goal.returns-in-Ok-Err-clause-follow
 returns-in-Ok-Err-clause-follow g c program named =
     let words = map string_bytes c.args.words.now in
     let none : None ≡ task_of words = search rules in
-    absurd (none_named words Follow none (ap task_of named ∙ names_follow program))
+    absurd (none_named words (Follow false) none (ap task_of named ∙ names_follow program))
+
+pub returns-in-Ok-Err-clause-in_words : goal.returns-in-Ok-Err-clause-in_words
+returns-in-Ok-Err-clause-in_words g c program named =
+    let words = map string_bytes c.args.words.now in
+    let none : None ≡ task_of words = search rules in
+    absurd (none_named words (Follow true) none (ap task_of named ∙ names_in_words program))
 
 pub returns-in-Ok-Err-clause-watch : goal.returns-in-Ok-Err-clause-watch
 returns-in-Ok-Err-clause-watch g c program named =
