@@ -3,7 +3,7 @@ use Rattle.std.proofs.Common.{◌≡◌, ℕ, ◌<◌, Bool, true, false, List, 
 use Rattle.std.specs.Prelude.{◌+◌, IfSome, if◌then◌else◌, ◌==◌, ◌||◌, not, take_while, drop, option_map}
 use Rattle.std.specs.List.{prefix_len, remove}
 use Rattle.dap_msg.specs.Codes as codes
-use Rattle.dap_msg.specs.BothEnds.{config_of, limit_of, is_too_small}
+use Rattle.dap_msg.specs.BothEnds.{is_too_small}
 use Rattle.dap_msg.specs.declared.message.Message.{Message}
 use Rattle.dap_msg.specs.declared.message.AccessFields.{AccessFields}
 use Rattle.dap_msg.specs.declared.message.ControlFields.{ControlFields}
@@ -20,7 +20,6 @@ use Rattle.rec_file.specs.Acts.{Operation, StreamVal, outcome_of, act, get_recor
 use Rattle.dap_accessed.specs.declared.phase.OpenFile.{OpenFile}
 use Rattle.dap_accessed.specs.declared.verbs.Verb.{Verb}
 use Rattle.dap_accessed.specs.declared.verbs.Verb.TheVariants as verbs
-use Rattle.dap_accessed.specs.Replies.{bare_status}
 use Rattle.dap_accessed.specs.Standing.{Files, place_of, with_file, the_file, new_file, Place, Fresh, Ready, Opened, Connected, Store, Stopped, Group, Standing, Scene, Effect, enters}
 use Rattle.dap_accessed.specs.Past.{asked_shape, kept_attributes, is_dropping, ordinal_so_far}
 use Rattle.dap_accessed.specs.Accesses.{open_file, create_file, access_file, end_stream, complete, rights_of, fac_or}

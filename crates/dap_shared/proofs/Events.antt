@@ -1,7 +1,7 @@
 -- Every event leaves the links so that none has open what another may change.
 use Rattle.std.proofs.Common.{◌≡◌, ◌≢◌, ℕ, zero, suc, ◌<◌, ◌≤◌, Bool, true, false, List, [], ◌∷◌, length, map, Option, Some, None, refl, ap, sym, subst, ◌∙◌, inl, inr, arith, eq-eqb}
 use Rattle.std.specs.Prelude.{IfSome, if◌then◌else◌, ◌==◌, ◌||◌, ◌&&◌, get_or, set, replicate, option_map}
-use Rattle.std.specs.List.{list_any, AllByRecursion}
+use Rattle.std.specs.List.{list_any}
 use Rattle.std.proofs.lemmas.Bool.{cases_eq, ne_eqb}
 use Rattle.std.proofs.lemmas.List.{get_or-set_same, get_or-set_other, length-append, length-map, length-set, length-replicate}
 use Rattle.std.proofs.Math.ListN.{get_or-map}
@@ -16,12 +16,11 @@ use Rattle.dap_accessed.specs.Accesses.{refuse_access}
 use Rattle.dap_accessed.specs.Effects.{Begun, Does}
 use Rattle.dap_accessed.specs.Groups.{Grouped}
 use Rattle.dap_accessed.specs.Groups.{one_more, next_group}
-use Rattle.dap_accessed.specs.Sessions.{moved_up}
 use Rattle.dap_shared.specs.Sharing.{open_in, has_alone, are_apart, bars, is_locked, asks_to_open, file_locked, place_moved_up}
-use Rattle.dap_shared.specs.Nodes.{Exchange, Node, new_exchange, new_node, exchange_at, exchange_of, end_at, before_files, open_on, open_beside, more_beside, begun_moved_up, exchange_moved_up, removed_by, after_more, after_event, after_all, node_after, Event, Serves, Begins, Gives, GivesRecord}
-use Rattle.dap_shared.proofs.Changes.{Moved, closes, HasRights, IsSteady, Goes, one-goes}
-use Rattle.dap_shared.specs.Keeping.{AreOf, AreApart, entry_at, HoldsStill}
-use Rattle.dap_shared.proofs.Shares.{shifted, gone, Aside, aside, two-options, own-within}
+use Rattle.dap_shared.specs.Nodes.{Exchange, Node, new_exchange, new_node, exchange_at, exchange_of, end_at, before_files, open_on, open_beside, more_beside, begun_moved_up, exchange_moved_up, removed_by, after_event, after_all, node_after, Event, Serves, Begins, Gives, GivesRecord}
+use Rattle.dap_shared.proofs.Changes.{closes, HasRights, IsSteady, Goes, one-goes}
+use Rattle.dap_shared.specs.Keeping.{AreOf, AreApart, HoldsStill}
+use Rattle.dap_shared.proofs.Shares.{shifted, Aside, aside, two-options, own-within}
 
 -- the link's stream has the rights of its Access
 abbrev pub IsSteadyExchange : Exchange → Type 0

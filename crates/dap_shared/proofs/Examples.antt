@@ -1,15 +1,14 @@
 -- Rows that compute: what the definitions say of small histories.
-use Rattle.std.proofs.Common.{◌≡◌, ℕ, List, [], ◌∷◌, ◌++◌, Option, Some, None, refl}
+use Rattle.std.proofs.Common.{◌≡◌, ℕ, List, [], ◌∷◌, ◌++◌, Some, refl}
 use Rattle.std.specs.Prelude.{option_map, length}
 use Rattle.dap_msg.specs.BothEnds.{config_of, complete_with}
-use Rattle.dap_msg.specs.declared.message.Message.{Message}
 use Rattle.dap_msg.specs.declared.message.Message.TheVariants.{Access}
 use Rattle.dap_msg.specs.declared.items.Item.{Item}
 use Rattle.dap_msg.specs.declared.items.Item.TheVariants.{Whole}
 use Rattle.dap_accessed.specs.declared.phase.OpenFile.{OpenFile}
 use Rattle.dap_accessed.specs.Standing.{plain_shape}
 use Rattle.dap_accessed.specs.Replies.{bare_status, refused_access, opened_with, completed}
-use Rattle.dap_shared.specs.Nodes.{Node, Event, Serves, Begins, AnswersOn, FilesAfter, node_after, exchange_at, open_on}
+use Rattle.dap_shared.specs.Nodes.{Event, Serves, Begins, AnswersOn, FilesAfter, node_after, exchange_at, open_on}
 
 abbrev hello : Item
 hello = Whole (config_of 1024)

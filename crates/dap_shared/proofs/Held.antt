@@ -9,7 +9,6 @@ use Rattle.dap_msg.specs.BothEnds.{least_buffer}
 use Rattle.dap_msg.specs.declared.items.Item.{Item}
 use Rattle.rec_file.specs.declared.shapes.Shape.{Shape}
 use Rattle.rec_file.specs.Files.{FileVal, stored}
-use Rattle.rec_file.specs.Acts.{StreamVal}
 use Rattle.dap_accessed.specs.declared.fault.AddFault.{AddFault}
 use Rattle.dap_accessed.specs.declared.fault.NoMemory.{NoMemory}
 use Rattle.dap_accessed.specs.declared.served.Served.{Served}
@@ -21,7 +20,7 @@ use Rattle.dap_accessed.specs.Adding.{newest, with_new_file, with_record}
 use Rattle.dap_accessed.specs.Storing.{Stores}
 use Rattle.dap_accessed.specs.Sessions.{SessionValue, IsOpenIn, new_session, open_at, phase_moved_up}
 use Rattle.dap_shared.specs.Nodes.{Event, Serves, Begins, Gives, GivesRecord, new_exchange, exchange_at, open_on, node_after}
-use Rattle.dap_shared.specs.Shared.{SharedValue, SharedGiven, SharedServes, kept_of, shared_of}
+use Rattle.dap_shared.specs.Shared.{SharedValue, SharedGiven, SharedServes, kept_of}
 use Rattle.dap_shared.specs.Inner.Beside.{gone_by, session_moved_up}
 use Rattle.dap_shared.specs.Inner.Held.{HasNumber, IsHeld, MovesOn, session_at}
 use Rattle.dap_shared.proofs.Events.{history-shares}

@@ -6,4 +6,5 @@ pub mod PutBack
 pub mod Stepping
 pub mod Growing
 pub mod Held
+pub mod Holders
 pub mod Examples

@@ -12,7 +12,7 @@ use Rattle.dap_accessed.specs.Groups.{Grouped, stands_after}
 use Rattle.dap_accessed.specs.Groups.{one_more, next_group}
 use Rattle.dap_accessed.proofs.ForCallers.{cut-more}
 use Rattle.dap_shared.specs.Sharing.{is_locked, asks_to_open, file_locked}
-use Rattle.dap_shared.specs.Nodes.{Node, Event, Serves, exchange_of, after_all, after_event, after_more, more_beside, node_after, new_node, end_at}
+use Rattle.dap_shared.specs.Nodes.{Node, Serves, exchange_of, after_all, after_event, after_more, more_beside, node_after}
 
 abbrev pub node_of : Grouped → Node
 node_of c = record { files = c.standing.scene.files; exchanges = exchange_of c ∷ [] }

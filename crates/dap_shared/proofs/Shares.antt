@@ -1,27 +1,17 @@
 -- No two links share a file that one of them may change, and what a link has open stays as it is while others are served.
-use Rattle.std.proofs.Common.{◌≡◌, ◌≢◌, ℕ, zero, suc, ◌+◌, ◌-◌, ◌<◌, ◌≤◌, Bool, true, false, List, [], ◌∷◌, ◌++◌, length, map, Option, Some, None, refl, ap, sym, subst, ◌∙◌, inl, inr, arith, eq-eqb}
-use Rattle.std.specs.Prelude.{IfSome, if◌then◌else◌, ◌==◌, ◌||◌, ◌&&◌, nat_lt, get_or, set, option_map}
-use Rattle.std.specs.List.{remove, list_any}
+use Rattle.std.proofs.Common.{◌≡◌, ◌≢◌, ℕ, ◌+◌, ◌-◌, ◌<◌, ◌≤◌, Bool, true, false, [], ◌∷◌, ◌++◌, length, Option, Some, None, refl, ap, sym, subst, ◌∙◌, inl, inr, arith, eq-eqb}
+use Rattle.std.specs.Prelude.{IfSome, if◌then◌else◌, ◌==◌, ◌||◌, ◌&&◌, nat_lt, option_map}
+use Rattle.std.specs.List.{remove}
 use Rattle.std.proofs.lemmas.Bool.{cases_lt, cases_eq, lt-ltb, le-ltb, ne_eqb}
-use Rattle.std.proofs.lemmas.List.{get_or-set_same, get_or-set_other, get_or_append_left, length-append, length-map}
+use Rattle.std.proofs.lemmas.List.{get_or-set_other, get_or_append_left, length-append}
 use Rattle.std.proofs.lemmas.List.Edits.{length-remove, get_or-remove_below, get_or-remove_above}
-use Rattle.std.proofs.Math.ListN.{get_or-map}
-use Rattle.dap_msg.specs.declared.items.Item.{Item}
-use Rattle.rec_file.specs.declared.picks.Rights.{Rights}
-use Rattle.rec_file.specs.Files.{FileVal}
 use Rattle.dap_accessed.specs.declared.phase.OpenFile.{OpenFile}
-use Rattle.dap_accessed.specs.Replies.{bare_status}
-use Rattle.dap_accessed.specs.Standing.{Files, plain_shape, new_file, with_file, name_at, Place, Fresh, Ready, Opened, Connected, Store, Stopped}
-use Rattle.dap_accessed.specs.Accesses.{refuse_access}
-use Rattle.dap_accessed.specs.Effects.{Begun, Does}
-use Rattle.dap_accessed.specs.Groups.{Grouped}
-use Rattle.dap_accessed.specs.Groups.{one_more, next_group}
+use Rattle.dap_accessed.specs.Standing.{Files, plain_shape, new_file, with_file, name_at}
 use Rattle.dap_accessed.proofs.ForCallers.{length-with}
 use Rattle.dap_accessed.specs.Sessions.{moved_up}
-use Rattle.dap_shared.specs.Sharing.{open_in, has_alone, are_apart, bars, is_locked, asks_to_open, file_locked, place_moved_up}
-use Rattle.dap_shared.specs.Nodes.{Exchange, Node, new_exchange, exchange_at, exchange_of, end_at, before_files, open_on, open_beside, more_beside, begun_moved_up, exchange_moved_up, removed_by, after_more, after_event, Event, Serves, Begins}
+use Rattle.dap_shared.specs.Sharing.{has_alone, are_apart}
 use Rattle.dap_shared.specs.Keeping.{AreApart, entry_at}
-use Rattle.dap_shared.proofs.Changes.{may_write, Moved, keeps, closes, writes, opens, makes, removes, HasRights, IsSteady, Goes, one-goes}
+use Rattle.dap_shared.proofs.Changes.{may_write, Moved, keeps, closes, writes, opens, makes, removes}
 
 -- ---- Two that are open.
 

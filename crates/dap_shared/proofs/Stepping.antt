@@ -1,6 +1,6 @@
 -- What the code does to what it keeps is what the definitions say of one item more.
-use Rattle.std.proofs.Common.{◌≡◌, ℕ, zero, suc, ◌<◌, ◌≤◌, Bool, true, false, List, [], ◌∷◌, ◌++◌, length, map, Option, Some, None, refl, ap, sym, subst, ◌∙◌, arith}
-use Rattle.std.specs.Prelude.{IfSome, nat_lt, if◌then◌else◌, ◌||◌, get_or, set, option_map, replicate}
+use Rattle.std.proofs.Common.{ne_eqb, ◌≢◌, ◌≡◌, ℕ, zero, suc, ◌<◌, ◌≤◌, Bool, true, false, List, [], ◌∷◌, ◌++◌, length, map, Option, Some, None, refl, ap, sym, subst, ◌∙◌, arith}
+use Rattle.std.specs.Prelude.{IfSome, nat_lt, if◌then◌else◌, not, ◌==◌, ◌&&◌, ◌||◌, get_or, set, option_map, replicate}
 use Rattle.std.specs.List.{list_any}
 use Rattle.std.specs.Global.{Vec}
 use Rattle.std.proofs.lemmas.Bool.{le-ltb}
@@ -26,17 +26,17 @@ use Rattle.dap_accessed.specs.Effects.{Begun, Does}
 use Rattle.dap_accessed.specs.Groups.{Grouped, answers_of, next_group, one_more}
 use Rattle.dap_accessed.specs.Present.{Present, present_of, phase_of, phase_at, phase_within, looked_back}
 use Rattle.dap_accessed.specs.Served.{AllAtMost, Answered}
-use Rattle.dap_accessed.specs.Sessions.{SessionValue, ServesItem, IsOpenIn, asked_in, joined, moved_up, new_session, open_at, phase_moved_up, refused_session, session_of}
+use Rattle.dap_accessed.specs.Sessions.{SessionValue, asked_in, joined, moved_up, new_session, open_at, phase_moved_up, session_of}
 use Rattle.dap_accessed.proofs.ForCallers.{access-keeps}
-use Rattle.dap_shared.specs.Sharing.{bars, file_locked, open_in, place_moved_up, is_locked, asks_to_open}
-use Rattle.dap_shared.specs.Nodes.{Exchange, Node, Event, Serves, Begins, Gives, GivesRecord, new_exchange, new_node, exchange_at, exchange_of, end_at, before_files, open_on, open_beside, more_beside, answers_beside, begun_moved_up, exchange_moved_up, removed_by, after_event, after_more, after_all, node_after}
+use Rattle.dap_shared.specs.Sharing.{barred_by, bars, file_locked, open_in, place_moved_up, is_locked, asks_to_open}
+use Rattle.dap_shared.specs.Nodes.{Exchange, Node, Event, Serves, Begins, Gives, GivesRecord, new_exchange, new_node, exchange_at, exchange_of, end_at, before_files, open_on, open_beside, more_beside, answers_beside, begun_moved_up, exchange_moved_up, removed_by, after_event, after_all, asked_on, is_locked_out, locks_out, node_after}
 use Rattle.dap_shared.specs.Shared.{SharedValue, SharedAfter, SharedBegins, SharedGiven, SharedServes, kept_of, shared_of}
 use Rattle.dap_shared.specs.Keeping.{AreOf}
 use Rattle.dap_shared.specs.Inner.Beside.{is_barred, session_moved_up, gone_by, MovesBeside}
 use Rattle.dap_shared.specs.Inner.Beside as beside
 use Rattle.dap_shared.specs.Inner.Held.{session_at}
-use Rattle.dap_shared.proofs.Changes.{IsSteady}
 use Rattle.dap_shared.proofs.Events.{IsShared, IsSteadyExchange, history-shares, one-new}
+use Rattle.dap_shared.proofs.Holders.{locked-by-all}
 use Rattle.dap_shared.proofs.PutBack.{map-over}
 
 -- ---- A file was removed: the others move up.
@@ -138,6 +138,47 @@ phase-asks files s (Some b) item h = within-asks files b.change b.opened b.strea
 pub open-kept : (own : ℕ) (files : Files) (exchange : Exchange) → IsSteadyExchange exchange → open_at (kept_of own files exchange).phase ≡ open_on exchange
 open-kept own files exchange h = phase-open (before_files files exchange).standing exchange.begun h.begun
 
+-- what is asked for on a link
+asks-kept : (own : ℕ) (files : Files) (exchange : Exchange) (item : Item) → IsSteadyExchange exchange → asked_in files (kept_of own files exchange).phase item ≡ asks_to_open files exchange.place item
+asks-kept own files exchange item h = phase-asks files (before_files files exchange).standing exchange.begun item h.begun
+
+asked-kept : (v : SharedValue) (link : ℕ) (item : Item) (first : Files) (events : List Event) → SharedAfter first events v
+    → asked_in v.files (session_at v.own link v.sessions).phase item ≡ asked_on link (node_after v.own first (length v.sessions) events) item
+asked-kept v link item first events h =
+    let node = node_after v.own first (length v.sessions) events in
+    let shares = (history-shares v.own first (length v.sessions) events h.links).0 in
+    let one : session_at v.own link v.sessions ≡ kept_of v.own node.files (exchange_at link node) =
+    ap (λ (w : SharedValue). session_at v.own link w.sessions) h.stands ∙ get_or-map (kept_of v.own node.files) node.exchanges link new_exchange in
+    let files : v.files ≡ node.files = ap (λ (w : SharedValue). w.files) h.stands in
+    ap (λ (s : SessionValue). asked_in v.files s.phase item) one
+    ∙ ap (λ (f : Files). asked_in f (kept_of v.own node.files (exchange_at link node)).phase item) files
+    ∙ asks-kept v.own node.files (exchange_at link node) item (shares.steady link)
+
+-- whether another link locks it out
+pub locks-kept : (v : SharedValue) (other link : ℕ) (item : Item) (first : Files) (events : List Event) → SharedAfter first events v
+    → (not (other == link) && barred_by (asked_in v.files (session_at v.own link v.sessions).phase item) (open_at (session_at v.own other v.sessions).phase))
+    ≡ locks_out other link (node_after v.own first (length v.sessions) events) item
+locks-kept v other link item first events h =
+    let node = node_after v.own first (length v.sessions) events in
+    let shares = (history-shares v.own first (length v.sessions) events h.links).0 in
+    let two : session_at v.own other v.sessions ≡ kept_of v.own node.files (exchange_at other node) =
+    ap (λ (w : SharedValue). session_at v.own other w.sessions) h.stands ∙ get_or-map (kept_of v.own node.files) node.exchanges other new_exchange in
+    let asked = asked-kept v link item first events h in
+    let held : open_at (session_at v.own other v.sessions).phase ≡ open_on (exchange_at other node) =
+    ap (λ (s : SessionValue). open_at s.phase) two ∙ open-kept v.own node.files (exchange_at other node) (shares.steady other) in
+    ap (λ (a : Option OpenFile). not (other == link) && barred_by a (open_at (session_at v.own other v.sessions).phase)) asked
+    ∙ ap (λ (o : Option OpenFile). not (other == link) && barred_by (asks_to_open node.files (exchange_at link node).place item) o) held
+
+-- the same by two sessions that were read
+pub locks-told : (v : SharedValue) (other link : ℕ) (item : Item) (s t : SessionValue) (told : Bool) → other ≢ link → s ≡ session_at v.own link v.sessions → t ≡ session_at v.own other v.sessions
+    → told ≡ barred_by (asked_in v.files s.phase item) (open_at t.phase) → (first : Files) (events : List Event) → SharedAfter first events v → told ≡ locks_out other link (node_after v.own first (length v.sessions) events) item
+locks-told v other link item s t told apart one two is first events h =
+    is
+    ∙ ap (λ (x : SessionValue). barred_by (asked_in v.files x.phase item) (open_at t.phase)) one
+    ∙ ap (λ (x : SessionValue). barred_by (asked_in v.files (session_at v.own link v.sessions).phase item) (open_at x.phase)) two
+    ∙ ap (λ (b : Bool). not b && barred_by (asked_in v.files (session_at v.own link v.sessions).phase item) (open_at (session_at v.own other v.sessions).phase)) (sym (ne_eqb other link apart))
+    ∙ locks-kept v other link item first events h
+
 any-kept : (own : ℕ) (files : Files) (o : OpenFile) (exchanges : List Exchange) → ((i : ℕ) → IsSteadyExchange (get_or exchanges i new_exchange)) →
     list_any (λ (s : SessionValue). bars o (open_at s.phase)) (map (kept_of own files) exchanges) ≡ list_any (bars o) (map open_on exchanges)
 any-kept own files o [] h = refl
@@ -149,6 +190,18 @@ barred-is : (own : ℕ) (files : Files) (asked : Option OpenFile) (exchanges : L
     is_barred (map (kept_of own files) exchanges) asked ≡ is_locked (map open_on exchanges) asked
 barred-is own files None exchanges h = refl
 barred-is own files (Some o) exchanges h = any-kept own files o exchanges h
+
+-- whether any link locks it out
+pub locked-kept : (v : SharedValue) (link : ℕ) (item : Item) (first : Files) (events : List Event) → SharedAfter first events v
+    → is_barred v.sessions (asked_in v.files (session_at v.own link v.sessions).phase item) ≡ is_locked_out link (node_after v.own first (length v.sessions) events) item
+locked-kept v link item first events h =
+    let node = node_after v.own first (length v.sessions) events in
+    let shares = (history-shares v.own first (length v.sessions) events h.links).0 in
+    let sessions : v.sessions ≡ map (kept_of v.own node.files) node.exchanges = ap (λ (w : SharedValue). w.sessions) h.stands in
+    ap (is_barred v.sessions) (asked-kept v link item first events h)
+    ∙ ap (λ (l : List SessionValue). is_barred l (asked_on link node item)) sessions
+    ∙ barred-is v.own node.files (asked_on link node item) node.exchanges shares.steady
+    ∙ locked-by-all node link item
 
 -- ---- What is refused.
 

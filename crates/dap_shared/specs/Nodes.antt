@@ -1,7 +1,7 @@
 -- A node: one table of files, and links of which each has its own exchange. One item of one link is served after
 -- another. Each does what it would do at a server of one link that stands where its link stands, before the files as
 -- they then are; but an Access to a file that is locked is refused.
-use Rattle.std.specs.Prelude.{ℕ, ◌==◌, nat_lt, if◌then◌else◌, List, [], ◌∷◌, ◌++◌, length, map, replicate, get_or, set, Option, Some, None, option_map}
+use Rattle.std.specs.Prelude.{ℕ, Bool, not, ◌&&◌, ◌==◌, nat_lt, if◌then◌else◌, List, [], ◌∷◌, ◌++◌, length, map, replicate, get_or, set, Option, Some, None, option_map}
 use Rattle.dap_msg.specs.BothEnds.{least_buffer}
 use Rattle.dap_msg.specs.declared.message.Message.{Message}
 use Rattle.dap_msg.specs.declared.items.Item.{Item}
@@ -14,7 +14,7 @@ use Rattle.dap_accessed.specs.Accesses.{refuse_access}
 use Rattle.dap_accessed.specs.Effects.{Begun, Does}
 use Rattle.dap_accessed.specs.Groups.{Grouped, answers_in, answers_of, next_group, one_more}
 use Rattle.dap_accessed.specs.Adding.{with_new_file, with_record}
-use Rattle.dap_shared.specs.Sharing.{file_locked, open_in, asks_to_open, is_locked, place_moved_up}
+use Rattle.dap_shared.specs.Sharing.{file_locked, open_in, asks_to_open, barred_by, is_locked, place_moved_up}
 
 -- an exchange: where a server of one link stands, but for the files
 pub record Exchange : Type 0 where
@@ -92,6 +92,20 @@ exchange_moved_up (Some removed) exchange =
 abbrev pub removed_by : (before after : Grouped) → Option OpenFile
 removed_by before after =
     if nat_lt (length after.standing.scene.files) (length before.standing.scene.files) then open_in before.standing.place else None
+
+-- ---- Which link locks a file.
+
+-- what an item asks to open on a link
+abbrev pub asked_on : (link : ℕ) → Node → Item → Option OpenFile
+asked_on link node item = asks_to_open node.files (exchange_at link node).place item
+
+-- the item is an Access on a link, and what another link has open forbids it
+abbrev pub locks_out : (other link : ℕ) → Node → Item → Bool
+locks_out other link node item = not (other == link) && barred_by (asked_on link node item) (open_on (exchange_at other node))
+
+-- the item is an Access on a link that is refused, as the file is locked
+abbrev pub is_locked_out : (link : ℕ) → Node → Item → Bool
+is_locked_out link node item = is_locked (open_beside link node.exchanges) (asked_on link node item)
 
 -- ---- A history.
 

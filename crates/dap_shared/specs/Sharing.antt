@@ -45,6 +45,11 @@ abbrev pub is_locked : (others : List (Option OpenFile)) → Option OpenFile →
 is_locked others None = false
 is_locked others (Some asked) = list_any (bars asked) others
 
+-- the same of what is asked for, if anything is
+abbrev pub barred_by : (asked held : Option OpenFile) → Bool
+barred_by None held = false
+barred_by (Some asked) held = bars asked held
+
 -- ---- A file that is removed: those after it move up.
 
 -- the place of another link then

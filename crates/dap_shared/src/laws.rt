@@ -1,11 +1,11 @@
 //! Laws over the definitions alone, for the crates above. Each function does nothing: its contract is the law.
 
-ghost use Rattle.std.specs.Prelude.{◌≡◌, ◌≢◌, ◌<◌, ◌++◌, ◌∷◌, [], ℕ, List, map, Some};
+ghost use Rattle.std.specs.Prelude.{IsTrue, length, ◌≡◌, ◌≢◌, ◌<◌, ◌++◌, ◌∷◌, [], ℕ, List, map, Some};
 ghost use Rattle.dap_msg.specs.declared.items.Item.{Item as TheItem};
 ghost use Rattle.dap_accessed.specs.declared.phase.OpenFile.{OpenFile};
 ghost use Rattle.dap_accessed.specs.Standing.{Files};
 ghost use Rattle.dap_accessed.specs.Groups.{After, Answers, stands_after};
-ghost use Rattle.dap_shared.specs.Nodes.{added_on, AnswersOn, Event, FilesAfter, Serves, after_event, end_at, exchange_at, node_after, open_on};
+ghost use Rattle.dap_shared.specs.Nodes.{Node, is_locked_out, locks_out, added_on, AnswersOn, Event, FilesAfter, Serves, after_event, end_at, exchange_at, node_after, open_on};
 ghost use Rattle.dap_shared.specs.Keeping.{AreApart, AreOf, HoldsStill};
 
 /// A node of one link is a server of one link: it stands where that stands, its files are those after the items, and
@@ -25,6 +25,16 @@ pub fn writers_are_alone()
         → AreOf links events → one ≢ two
         → AreApart (open_on (exchange_at one (node_after own first links events)))
         (open_on (exchange_at two (node_after own first links events))) }
+{}
+
+/// An Access is refused as its file is locked exactly where another link locks it out.
+pub fn a_locked_file_has_a_holder()
+    ensures holder { (node : Node) (link : ℕ) (item : TheItem)
+        → IsTrue (is_locked_out link node item)
+        → (other : ℕ) × (other < length node.exchanges) × IsTrue (locks_out other link node item) }
+    ensures locked { (node : Node) (link other : ℕ) (item : TheItem)
+        → other < length node.exchanges → IsTrue (locks_out other link node item)
+        → IsTrue (is_locked_out link node item) }
 {}
 
 /// After any history what is served on one link leaves each other link's open file open, under its name and with its

@@ -7,7 +7,10 @@ mod locks;
 mod server;
 mod shared;
 
-pub use laws::{an_open_file_stays, answers_grow_on, one_link_is_as_before, writers_are_alone};
+pub use laws::{
+    a_locked_file_has_a_holder, an_open_file_stays, answers_grow_on, one_link_is_as_before,
+    writers_are_alone,
+};
 pub use locks::FILE_LOCKED;
 pub use server::Serving;
 pub use shared::SharedFiles;

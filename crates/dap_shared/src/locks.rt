@@ -3,7 +3,7 @@
 ghost use Rattle.std.specs.Prelude.{◌≡◌};
 ghost use Rattle.std.specs.List.{list_any};
 ghost use Rattle.dap_accessed.specs.Sessions.{open_at};
-ghost use Rattle.dap_shared.specs.Sharing.{bars, has_alone};
+ghost use Rattle.dap_shared.specs.Sharing.{barred_by, bars, has_alone};
 ghost use Rattle.dap_shared.specs.Inner.Beside.{is_barred};
 
 use dap_accessed::{OpenFile, Session};
@@ -26,6 +26,16 @@ fn bars(asked: OpenFile, held: Option<OpenFile>) -> bool
     match held {
         None => false,
         Some(other) => asked.at == other.at && (has_alone(asked) || has_alone(other)),
+    }
+}
+
+/// Whether this bars what is asked for, if anything is.
+pub(crate) fn is_barred_by_file(asked: Option<OpenFile>, held: Option<OpenFile>) -> bool
+    ensures { result ≡ barred_by asked held }
+{
+    match asked {
+        None => false,
+        Some(asked) => bars(asked, held),
     }
 }
 

@@ -9,12 +9,12 @@ ghost use Rattle.rec_file.specs.Shapes.{is_shape};
 ghost use Rattle.dap_accessed.specs.Standing.{Files};
 ghost use Rattle.dap_accessed.specs.Adding.{with_new_file, with_record};
 ghost use Rattle.dap_accessed.specs.Sessions.{IsOpenIn, new_session};
-ghost use Rattle.dap_shared.specs.Nodes.{Event, FilesAfter, Gives, GivesRecord};
+ghost use Rattle.dap_shared.specs.Nodes.{Event, FilesAfter, Gives, GivesRecord, is_locked_out, locks_out, node_after};
 ghost use Rattle.dap_shared.specs.Shared.{NotAdded, RecordNotAdded, SharedAfter, SharedBegins, SharedGiven, SharedServes};
 ghost use Rattle.dap_shared.specs.Inner.Beside.{MovesBeside, session_moved_up};
 ghost use Rattle.dap_shared.specs.Inner.Held.{MovesOn, session_at};
 
-use crate::locks::{FILE_LOCKED, is_barred};
+use crate::locks::{FILE_LOCKED, is_barred, is_barred_by_file};
 use dap_accessed::{AddFault, FileTable, NoMemory, OpenFile, Served, Session};
 use dap_msg::Item;
 use rec_file::Shape;
@@ -170,6 +170,28 @@ impl SharedFiles {
             → result.now ≡ FilesAfter self.now.own first (length self.now.sessions) events }
     {
         &self.files
+    }
+
+    /// Whether an item is an Access that is refused on one link because of the file that another has open.
+    pub fn locks_out(&self, other: usize, link: usize, item: &Item<'_>) -> bool
+        requires other { other < length self.now.sessions }
+        requires link { link < length self.now.sessions }
+        ensures { (first : Files) (events : List Event) → SharedAfter first events self.now
+            → result ≡ locks_out other link
+            (node_after self.now.own first (length self.now.sessions) events) item.now }
+    {
+        let asked = self.sessions[link].asked(&self.files, item);
+        other != link && is_barred_by_file(asked, self.sessions[other].open_file())
+    }
+
+    /// Whether an item is an Access that is refused on a link because of a file that another one has open.
+    pub fn is_locked_out(&self, link: usize, item: &Item<'_>) -> bool
+        requires { link < length self.now.sessions }
+        ensures { (first : Files) (events : List Event) → SharedAfter first events self.now
+            → result ≡ is_locked_out link
+            (node_after self.now.own first (length self.now.sessions) events) item.now }
+    {
+        is_barred(&self.sessions, self.sessions[link].asked(&self.files, item))
     }
 
     /// Serves what was read already of a link: the message or fault that `item_at` answered, and the place after it

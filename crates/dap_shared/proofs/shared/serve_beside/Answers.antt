@@ -1,5 +1,4 @@
-use Rattle.std.proofs.Common.{◌≡◌, Bool, List, Option, refl, ap, sym, subst, ◌∙◌, true}
-use Rattle.dap_accessed.specs.declared.phase.OpenFile.{OpenFile}
+use Rattle.std.proofs.Common.{◌≡◌, Bool, List, refl, ap, sym, subst, ◌∙◌, true}
 use Rattle.dap_accessed.specs.Sessions.{SessionValue, IsOpenIn, asked_in}
 use Rattle.dap_shared.specs.Inner.Beside.{Does, is_barred}
 use Rattle.dap_shared.proofs.Stepping.{unmoved}

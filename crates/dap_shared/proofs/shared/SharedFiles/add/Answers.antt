@@ -1,4 +1,4 @@
-use Rattle.std.proofs.Common.{subst, sym}
+use Rattle.std.proofs.Common.{subst}
 use Rattle.dap_shared.specs.Shared.{SharedValue, SharedGiven}
 use Rattle.dap_shared.proofs.Held.{given-held, gives-shared}
 use Rattle.dap_shared.specs.Nodes.{Gives}

@@ -1,4 +1,4 @@
-use Rattle.std.proofs.Common.{ℕ, ◌<◌, length, subst, sym}
+use Rattle.std.proofs.Common.{◌<◌, length, subst, sym}
 use Rattle.std.specs.Prelude.{set}
 use Rattle.dap_accessed.specs.Sessions.{SessionValue}
 use Rattle.dap_shared.specs.Shared.{SharedValue, SharedBegins}

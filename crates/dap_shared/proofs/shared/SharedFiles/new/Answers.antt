@@ -1,6 +1,6 @@
 use Rattle.std.proofs.Common.{[], subst, sym}
 use Rattle.dap_accessed.specs.Standing.{Files}
-use Rattle.dap_shared.specs.Shared.{SharedValue, SharedAfter}
+use Rattle.dap_shared.specs.Shared.{SharedAfter}
 use Rattle.dap_shared.specs.Inner.Held.{IsHeld}
 use Rattle.dap_shared.proofs.Held.{new-held}
 use Rattle.dap_shared.proofs.Stepping.{new-shared}
