@@ -124,7 +124,7 @@ fn grow_serving(alloc: Global, seen: &mut Seen) -> Result<(), Ending> {
     for (name, messages) in SERVED {
         make_all(name, Serving::new(alloc, messages), seen)?;
     }
-    make_all("sharing files", Sharing::new(alloc, SHARED)?, seen)
+    make_all("sharing files", Sharing::new(alloc, SHARED), seen)
 }
 
 /// The calls on ends that ask.

@@ -25,42 +25,47 @@ pub const SHARED: &[(usize, &[u8])] = &[
     (0, OPEN),
 ];
 
-/// A table of files with two links, which are sent messages.
+/// A table of files with two links, which are sent messages. The first call makes it.
 #[derive(Drop)]
 pub struct Sharing {
-    shared: SharedFiles,
+    alloc: Global,
+    shared: Option<SharedFiles>,
     messages: &'static [(usize, &'static [u8])],
     answers: Text,
 }
 
 impl Sharing {
-    pub fn new(
-        alloc: Global,
-        messages: &'static [(usize, &'static [u8])],
-    ) -> Result<Sharing, Trouble> {
-        Ok(Sharing {
-            shared: SharedFiles::new(alloc, BUFFER, 2)?,
+    pub fn new(alloc: Global, messages: &'static [(usize, &'static [u8])]) -> Sharing {
+        Sharing {
+            alloc,
+            shared: None,
             messages,
             answers: Text::new(alloc),
-        })
+        }
     }
 }
 
 impl Growing for Sharing {
     fn call(&mut self, place: usize) -> Result<(), Trouble> {
-        let (link, message) = at(self.messages, place)?;
-        if link >= self.shared.links() {
+        let Some(shared) = &mut self.shared else {
+            self.shared = Some(SharedFiles::new(self.alloc, BUFFER, 2)?);
+            return Ok(());
+        };
+        let (link, message) = at(self.messages, place.saturating_sub(1))?;
+        if link >= shared.links() {
             return Err(Trouble::Wrong);
         }
         self.answers.reserve()?;
         let (item, next) = item_at(message, 0);
-        let served = self.shared.serve_item(link, item, next)?;
+        let served = shared.serve_item(link, item, next)?;
         self.answers.note_all("answer", &served.answers);
         Ok(())
     }
 
     fn look(&self, seen: &mut Text) {
-        look_at_files(self.shared.files(), seen);
+        if let Some(shared) = &self.shared {
+            look_at_files(shared.files(), seen);
+        }
         seen.put(self.answers.as_slice());
     }
 }
