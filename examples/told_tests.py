@@ -43,6 +43,7 @@ PACKETS = b"".join(b"> 60020201010%d80010001020a00040703050600000000\n" % (numbe
 HEADER = 24  # bytes before the records of a pcap file
 WIRE = (HERE / "wire.pcap").read_bytes()
 MUCH = {("dapnsp", "show"): PACKETS, ("dapnsp", "msg"): b"> 0600\n" * 20_000, ("daplive", "follow"): PACKETS,
+        ("daplive", "watch"): PACKETS,
         ("daplive", "ask"): b"ack\n" * 20_000, ("daplive", "serve"): b"ack\n" * 20_000,
         ("daplive", "frames"): WIRE + WIRE[HEADER:] * 2_000}
 
