@@ -3,6 +3,7 @@
 ghost use Rattle.std.specs.Prelude.{◌≡◌, ◌⊎◌, ◌≤◌, ◌<◌, ℕ, List, [], length, IfOk, IfErr, IsTrue, OnOk, OnErr, Some, None, true, false, set, replicate, IfSome};
 ghost use Rattle.dap_msg.specs.BothEnds.{least_buffer};
 ghost use Rattle.rec_file.specs.Shapes.{is_shape};
+ghost use Rattle.dap_accessed.specs.Adding.{with_new_file, with_record};
 ghost use Rattle.dap_accessed.specs.Standing.{Files};
 ghost use Rattle.dap_shared.specs.Nodes.{Event, Gives, GivesRecord, node_after};
 ghost use Rattle.dap_shared.specs.Noted.{IsLowest, NotedServed};
@@ -168,6 +169,8 @@ impl NotedFiles {
         requires { IsTrue (is_shape shape) }
         ensures given { OnOk result
             (SharedGiven (Gives name.now shape) self.old.shared self.new.shared) }
+        ensures files { OnOk result (self.new.shared.files
+            ≡ with_new_file name.now shape self.old.shared.files) }
         ensures rest { self.new ≡ record self.old { shared = self.new.shared } }
         ensures refused { IfErr result (NotAdded self.old.shared.files name.now) }
         ensures unchanged { OnErr result (self.new ≡ self.old) }
@@ -179,6 +182,8 @@ impl NotedFiles {
     pub fn add_record(&mut self, number: u32, body: &[u8]) -> Result<(), AddFault>
         ensures given { OnOk result
             (SharedGiven (GivesRecord number body.now) self.old.shared self.new.shared) }
+        ensures files { OnOk result (self.new.shared.files
+            ≡ with_record number body.now self.old.shared.files) }
         ensures rest { self.new ≡ record self.old { shared = self.new.shared } }
         ensures refused { IfErr result (RecordNotAdded self.old.shared.files number body.now) }
         ensures unchanged { OnErr result (self.new ≡ self.old) }
