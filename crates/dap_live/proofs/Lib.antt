@@ -5,3 +5,5 @@ pub mod OneAsking
 mod ReachLemmas
 mod ResultLemmas
 pub mod ForCallers
+pub mod Places
+pub mod NodeRows
