@@ -7,3 +7,4 @@ mod ResultLemmas
 pub mod ForCallers
 pub mod Places
 pub mod NodeRows
+pub mod NodeLemmas

@@ -77,11 +77,12 @@ OnLocal local Does old new text became = MatchOption (position (has_local local)
 
 -- ---- A packet.
 
--- whom a packet is sent to, and whom it is from
+-- whom a packet is sent to
 abbrev pub receiver_of : Packet → ℕ
 receiver_of (Segment s) = s.dst
 receiver_of (DataAck a) = a.dst
 
+-- whom it is from
 abbrev pub sender_of : Packet → ℕ
 sender_of (Segment s) = s.src
 sender_of (DataAck a) = a.src
@@ -230,5 +231,6 @@ abbrev pub waits_on : (most : ℕ) → Option ℕ → NodeValue → ℕ
 waits_on most None v = 0
 waits_on most (Some link) v = port_waits most (slice_get v.ports link)
 
+-- what `waits` tells behind an answer
 abbrev pub waiting : Node → Option ℕ
 waiting node = Some (waits_on node.most_waiting node.last node.node)

@@ -458,17 +458,27 @@ fn act(
     ensures err { OnErr result (NodeReaches node.old order.entry node.new) }
 {
     let alloc = node.alloc;
-    let became = match order {
-        NodeOrder::Packet(digits) => take_packet(node, &digits, text)?,
-        NodeOrder::Resend(local) => resend(node, local, text)?,
-        NodeOrder::Ack(local) => ack(node, local, text)?,
-        NodeOrder::Close(local) => close(node, local, text)?,
-        NodeOrder::New(local, remote, segment) => renew(node, local, remote, segment, text)?,
-        NodeOrder::Files => return Ok(Answer::Begun(FilesPlace::File(0))),
-        NodeOrder::File(file) => add_file(alloc, &mut node.node, &file, text)?,
-        NodeOrder::Record(record) => add_record(alloc, &mut node.node, &record, text)?,
-    };
-    Ok(Answer::Whole(became))
+    match order {
+        NodeOrder::Packet(digits) => {
+            let became = take_packet(node, &digits, text)?;
+            Ok(Answer::Whole(became))
+        }
+        NodeOrder::Resend(local) => Ok(Answer::Whole(resend(node, local, text)?)),
+        NodeOrder::Ack(local) => Ok(Answer::Whole(ack(node, local, text)?)),
+        NodeOrder::Close(local) => Ok(Answer::Whole(close(node, local, text)?)),
+        NodeOrder::New(local, remote, segment) => {
+            Ok(Answer::Whole(renew(node, local, remote, segment, text)?))
+        }
+        NodeOrder::Files => Ok(Answer::Begun(FilesPlace::File(0))),
+        NodeOrder::File(file) => {
+            let became = add_file(alloc, &mut node.node, &file, text)?;
+            Ok(Answer::Whole(became))
+        }
+        NodeOrder::Record(record) => {
+            let became = add_record(alloc, &mut node.node, &record, text)?;
+            Ok(Answer::Whole(became))
+        }
+    }
 }
 
 /// Answers an order.

@@ -31,7 +31,7 @@ pub struct NotedFiles {
 impl Model for NotedFiles {
     ghost use Rattle.std.specs.Prelude.{◌≡◌, length};
     ghost use Rattle.dap_shared.specs.Noted.{NotedValue};
-    ghost use Rattle.dap_shared.specs.Inner.NotedInside.{noted_code};
+    ghost use Rattle.dap_shared.specs.Stored.{noted_code};
 
     ghost Value = { NotedValue };
 

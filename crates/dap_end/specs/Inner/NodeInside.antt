@@ -2,7 +2,7 @@
 use Rattle.std.specs.Prelude.{ℕ, ◌≡◌, List, length, Option, Some, slice_get, refl}
 use Rattle.std.specs.Coded.{Coded, code_by, coded×, coded_list, coded_option}
 use Rattle.dap_shared.specs.Noted.{NotedValue}
-use Rattle.dap_shared.specs.Inner.NotedInside.{noted_code}
+use Rattle.dap_shared.specs.Stored.{noted_code}
 use Rattle.dap_end.specs.contracts.port.Port as port_type
 use Rattle.dap_end.specs.Ports.{PortValue}
 use Rattle.dap_end.specs.Node.{NodeValue}
