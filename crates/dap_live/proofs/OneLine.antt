@@ -28,7 +28,7 @@ use Rattle.dap_text.specs.Requests.{request_of}
 use Rattle.linewise.specs.declared.talking.Became.{Became}
 use Rattle.linewise.specs.declared.talking.Became.TheVariants.{BadLine, NoMemory}
 use Rattle.linewise.proofs.ForCallers.{OneAnswer}
-use Rattle.linewise.specs.Talks.{Answering, AnswersLine, is_skipped, longest, said_of}
+use Rattle.linewise.specs.Talks.{Answering, AnswersLine, is_given, longest, said_of}
 use Rattle.dap_end.proofs.ForCallers.{segments_one}
 use Rattle.dap_live.specs.declared.orders.Anew.TheVariants.{Same, Between, Cut}
 use Rattle.dap_live.specs.declared.orders.Order.{Order}
@@ -217,14 +217,15 @@ module _ {E : Type 0} (answered : Answering E) (waiting : E → Option ℕ) (Are
   stay : (one other new end : E) → AreSame one other → new ≡ one → end ≡ other → AreSame new end
   stay one other new end same e f = subst (λ (x : E). AreSame x end) (sym e) (subst (λ (x : E). AreSame one x) (sym f) same)
 
-  -- a line is skipped, or it isn't
-  skipped_apart : (one other new end : E) (line text : List ℕ) (b : Became) → b ≢ NoMemory → is_skipped line ≡ true → length line ≤ longest
-      → AnswersLine answered one line new text (Some b) → ⊥
-  skipped_apart one other new end line text b want skipped short (inl a) = let bad = unread_bad line b want a.0 in omega (arith, bad.1, short)
-  skipped_apart one other new end line text b want skipped short (inr a) = true≢false (sym skipped ∙ a.0)
+  -- ends that wait for as many are given a line, or aren't
+  ungiven_apart : (one other new end : E) (line text : List ℕ) (b : Became) → waiting one ≡ waiting other → b ≢ NoMemory → is_given (waiting other) line ≡ false → length line ≤ longest
+      → AnswersLine answered waiting one line new text (Some b) → ⊥
+  ungiven_apart one other new end line text b same want ungiven short (inl a) = let bad = unread_bad line b want a.0 in omega (arith, bad.1, short)
+  ungiven_apart one other new end line text b same want ungiven short (inr a) =
+      true≢false (sym a.0 ∙ ap (λ (n : Option ℕ). is_given n line) same ∙ ungiven)
 
   some_line : (one other new end : E) (line text told : List ℕ) (b c : Became) → AreSame one other → b ≢ NoMemory → c ≢ NoMemory
-      → AnswersLine answered one line new text (Some b) → AnswersLine answered other line end told (Some c)
+      → AnswersLine answered waiting one line new text (Some b) → AnswersLine answered waiting other line end told (Some c)
       → AreSame new end × (text ≡ told) × (became_by b ≡ became_by c)
   some_line one other new end line text told b c same nb nc (inl x) (inl y) =
       (stay one other new end same x.1 y.1, x.2 ∙ sym y.2, ap became_by ((unread_bad line b nb x.0).0 ∙ sym (unread_bad line c nc y.0).0))
@@ -234,12 +235,12 @@ module _ {E : Type 0} (answered : Answering E) (waiting : E → Option ℕ) (Are
       let t = answers one other new end line text told b c same nb nc x.2 y.2 in (t.0, t.1, ap became_by t.2)
 
   any_line : (one other new end : E) (line text told : List ℕ) (b c : Option Became) → AreSame one other → b ≢ Some NoMemory → c ≢ Some NoMemory
-      → AnswersLine answered one line new text b → AnswersLine answered other line end told c → AreSame new end × (text ≡ told) × (b ≡ c)
+      → AnswersLine answered waiting one line new text b → AnswersLine answered waiting other line end told c → AreSame new end × (text ≡ told) × (b ≡ c)
   any_line one other new end line text told None None same nb nc x y = (stay one other new end same x.2 y.2, x.3 ∙ sym y.3, refl)
   any_line one other new end line text told None (Some c) same nb nc x y =
-      absurd (skipped_apart other one end new line told c (λ e. nc (ap became_by e)) x.0 x.1 y)
+      absurd (ungiven_apart other one end new line told c (sym (waits one other same)) (λ e. nc (ap became_by e)) x.0 x.1 y)
   any_line one other new end line text told (Some b) None same nb nc x y =
-      absurd (skipped_apart one other new end line text b (λ e. nb (ap became_by e)) y.0 y.1 x)
+      absurd (ungiven_apart one other new end line text b (waits one other same) (λ e. nb (ap became_by e)) y.0 y.1 x)
   any_line one other new end line text told (Some b) (Some c) same nb nc x y =
       some_line one other new end line text told b c same (λ e. nb (ap became_by e)) (λ e. nc (ap became_by e)) x y
 

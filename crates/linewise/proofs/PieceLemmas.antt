@@ -73,11 +73,11 @@ comes_one pieces text more NoMemory c nb nc x y = absurd (nb refl)
 comes_one pieces text more BadLine c nb nc x y = absurd x
 
 -- what an answer comes to that began so
-pub completed : {E P : Type 0} (answered : Answering E) (pieces : E → P → List (List ℕ)) (old new : E) (line text whole : List ℕ) (answer : Answer P) (came : Became)
-    → BeginsLine answered pieces old line new text (Some answer) → Completes (pieces new) text answer whole came
-    → AnswersLine answered old line new whole (Some came)
-completed answered pieces old new line text whole (Whole became) came begun (same, is) =
-    subst (λ l. AnswersLine answered old line new l (Some came)) (sym same)
-    (subst (λ b. AnswersLine answered old line new text (Some b)) (sym is) begun)
-completed answered pieces old new line text whole (Begun place) came begun (more, comes, is) =
-    subst (λ l. AnswersLine answered old line new l (Some came)) (sym is) (begun more came comes)
+pub completed : {E P : Type 0} (answered : Answering E) (waiting : E → Option ℕ) (pieces : E → P → List (List ℕ)) (old new : E) (line text whole : List ℕ) (answer : Answer P) (came : Became)
+    → BeginsLine answered waiting pieces old line new text (Some answer) → Completes (pieces new) text answer whole came
+    → AnswersLine answered waiting old line new whole (Some came)
+completed answered waiting pieces old new line text whole (Whole became) came begun (same, is) =
+    subst (λ l. AnswersLine answered waiting old line new l (Some came)) (sym same)
+    (subst (λ b. AnswersLine answered waiting old line new text (Some b)) (sym is) begun)
+completed answered waiting pieces old new line text whole (Begun place) came begun (more, comes, is) =
+    subst (λ l. AnswersLine answered waiting old line new l (Some came)) (sym is) (begun more came comes)

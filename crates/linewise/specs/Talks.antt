@@ -1,5 +1,5 @@
 -- A conversation: each line of an input has an answer.
-use Rattle.std.specs.Prelude.{◌≡◌, ◌≢◌, ◌⊎◌, ℕ, ◌<◌, ◌≤◌, ◌==◌, Bool, true, false, List, [], ◌∷◌, ◌++◌, length, codes, Some, None, Option}
+use Rattle.std.specs.Prelude.{◌≡◌, ◌≢◌, ◌⊎◌, ℕ, ◌<◌, ◌≤◌, ◌==◌, not, Bool, true, false, List, [], ◌∷◌, ◌++◌, length, codes, Some, None, Option}
 use Rattle.std.specs.Fmt.{decimal}
 use Rattle.std.specs.List.{AllByRecursion, concat}
 use Rattle.std.specs.Io.KnownBytes.{Appends}
@@ -18,10 +18,16 @@ use Rattle.linewise.specs.declared.talking.TalkFault.TheVariants.{ReadFailed, Wr
 abbrev pub longest : ℕ
 longest = 16777216
 
--- empty lines, and those that begin with `#`, have no answer
+-- empty lines, and those that begin with `#`, say nothing
 abbrev pub is_skipped : List ℕ → Bool
 is_skipped [] = true
 is_skipped (first ∷ others) = first == 35
+
+-- An end isn't given a line that says nothing, unless its answers have no ending: by these it learns what stands between
+-- other lines. (What an end waits for is a count, or it names none.)
+abbrev pub is_given : Option ℕ → List ℕ → Bool
+is_given (Some count) line = not (is_skipped line)
+is_given None line = true
 
 -- ---- An answer.
 
@@ -37,7 +43,7 @@ abbrev pub ending_of : Became → Option ℕ → List ℕ
 ending_of became None = []
 ending_of became (Some count) = refusal_of became ++ (codes "waits " ++ (decimal count ++ codes "\n"))
 
--- An answer is a text and its ending. A line that is skipped has none.
+-- An answer is a text and its ending. A line that the end isn't given has none.
 abbrev pub said_of : List ℕ → Option Became → Option ℕ → List ℕ
 said_of text None count = []
 said_of text (Some became) count = text ++ ending_of became count
@@ -67,17 +73,17 @@ GivesPiece pieces place text (Some next) = pieces place ≡ text ∷ pieces next
 
 -- What comes of a line. A line that is too long is a bad line. The end isn't given it, nor a line to which memory was
 -- refused.
-abbrev pub AnswersLine : {E : Type 0} → Answering E → E → List ℕ → E → List ℕ → Option Became → Type 0
-AnswersLine answered old line new text None =
-    (is_skipped line ≡ true) × (length line ≤ longest) × (new ≡ old) × (text ≡ [])
-AnswersLine answered old line new text (Some became) =
+abbrev pub AnswersLine : {E : Type 0} → Answering E → (E → Option ℕ) → E → List ℕ → E → List ℕ → Option Became → Type 0
+AnswersLine answered waiting old line new text None =
+    (is_given (waiting old) line ≡ false) × (length line ≤ longest) × (new ≡ old) × (text ≡ [])
+AnswersLine answered waiting old line new text (Some became) =
     ((((became ≡ BadLine) × (longest < length line)) ⊎ (became ≡ NoMemory)) × (new ≡ old) × (text ≡ []))
-    ⊎ ((is_skipped line ≡ false) × (length line ≤ longest) × answered old line new text became)
+    ⊎ ((is_given (waiting old) line ≡ true) × (length line ≤ longest) × answered old line new text became)
 
 -- what is answered to a line
 pub record SaysTo {E : Type 0} (answered : Answering E) (waiting : E → Option ℕ) (old : E) (line : List ℕ) (new : E) (said : List ℕ) (became : Option Became) : Type 0 where
   pub text : List ℕ
-  pub answers : AnswersLine answered old line new text became
+  pub answers : AnswersLine answered waiting old line new text became
   pub says : said ≡ said_of text became (waiting new)
 
 -- ---- A conversation.

@@ -5,7 +5,7 @@ ghost use Rattle.std.specs.List.{concat, list_any};
 ghost use Rattle.std.specs.Io.KnownBytes.{Appends, Keeps, IsAtEnd};
 ghost use Rattle.std.specs.Io.BufRead.{first_line, drop_through, strip_last};
 ghost use Rattle.linewise.specs.Output.{WritesFront};
-ghost use Rattle.linewise.specs.Talks.{ComesIn, Fails, IsUnbroken, Talked, is_bad as is_bad_line, is_skipped as says_nothing};
+ghost use Rattle.linewise.specs.Talks.{ComesIn, Fails, IsUnbroken, Talked, is_bad as is_bad_line, is_given as given_by, is_skipped as says_nothing};
 ghost use Rattle.linewise.specs.declared.talking.Became.{Became as TheBecame};
 ghost use Rattle.linewise.specs.Inner.Kept.{Holds, without_end as ended};
 ghost use Rattle.linewise.specs.Inner.Steps.{BeginsLine, Breaks, Completes, Ends, Goes, Says};
@@ -71,7 +71,7 @@ pub trait Answers {
         ensures refused { OnErr result (0 < length (pieces self.now place)) };
 
     /// How many packets it waits to be acknowledged, and one more where it has something left to do. `None`: its answers have
-    /// no ending.
+    /// no ending, and it is given all lines that aren't too long, also those that say nothing.
     fn waits(&self) -> Option<usize>
         ensures { result ≡ waiting self.now };
 }
@@ -117,7 +117,8 @@ fn without_end(line: &[u8]) -> &[u8]
     }
 }
 
-/// Whether a line says nothing: it is empty, or begins with `#`.
+/// Whether a line says nothing: it is empty, or begins with `#`. An end is given such a line only where its answers have no
+/// ending.
 pub fn is_skipped(line: &[u8]) -> bool
     ensures { result ≡ says_nothing line.now }
 {
@@ -127,19 +128,29 @@ pub fn is_skipped(line: &[u8]) -> bool
     }
 }
 
-/// Answers a line, of which nothing is left out, or begins to; nothing where it says nothing.
+/// Whether an end that waits for so many is given a line.
+fn is_given(waits: Option<usize>, line: &[u8]) -> bool
+    ensures { result ≡ given_by waits line.now }
+{
+    match waits {
+        Some(_) => !is_skipped(line),
+        None => true,
+    }
+}
+
+/// Answers a line, of which nothing is left out, or begins to; nothing where the end isn't given it.
 fn answer_whole<E: Answers>(
     end: &mut E,
     line: &[u8],
     text: &mut Vec<u8>,
 ) -> Option<Answer<E::Place>>
     requires { text.old.items ≡ [] }
-    ensures { BeginsLine E.answered E.pieces end.old line.now end.new text.new.items result }
+    ensures { BeginsLine E.answered E.waiting E.pieces end.old line.now end.new text.new.items result }
 {
     if line.len() > LONGEST {
         return Some(Answer::Whole(Became::BadLine));
     }
-    if is_skipped(line) {
+    if !is_given(end.waits(), line) {
         return None;
     }
     Some(end.answer(line, text))
@@ -149,7 +160,7 @@ fn answer_whole<E: Answers>(
 fn answer_read<E: Answers>(end: &mut E, line: &Line, text: &mut Vec<u8>) -> Option<Answer<E::Place>>
     requires { text.old.items ≡ [] }
     ensures { (raw : List ℕ) → Holds line.now raw
-        → BeginsLine E.answered E.pieces end.old (ended raw) end.new text.new.items result }
+        → BeginsLine E.answered E.waiting E.pieces end.old (ended raw) end.new text.new.items result }
 {
     match line.kept {
         Kept::All => answer_whole(end, without_end(&line.bytes), text),
@@ -252,7 +263,7 @@ fn say<E: Answers, W: Write, F: Write>(
 pub(crate) enum Next {
     /// There is no line more.
     Over,
-    /// A line was read, and this became of it, or nothing where it says nothing.
+    /// A line was read, and this became of it, or nothing where the end wasn't given it.
     Line(Option<Became>),
 }
 

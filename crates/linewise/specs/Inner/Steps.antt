@@ -14,10 +14,10 @@ use Rattle.linewise.specs.declared.talking.TalkFault.{TalkFault}
 use Rattle.linewise.specs.declared.talking.TalkFault.TheVariants.{ReadFailed, WriteFailed, NoMemory as OutOfMemory}
 
 -- what comes of a line, or how its answer begins
-abbrev pub BeginsLine : {E P : Type 0} → Answering E → (E → P → List (List ℕ)) → E → List ℕ → E → List ℕ → Option (Answer P) → Type 0
-BeginsLine answered pieces old line new text None = AnswersLine answered old line new text None
-BeginsLine answered pieces old line new text (Some answer) =
-    Begins (λ o l n t b. AnswersLine answered o l n t (Some b)) pieces old line new text answer
+abbrev pub BeginsLine : {E P : Type 0} → Answering E → (E → Option ℕ) → (E → P → List (List ℕ)) → E → List ℕ → E → List ℕ → Option (Answer P) → Type 0
+BeginsLine answered waiting pieces old line new text None = AnswersLine answered waiting old line new text None
+BeginsLine answered waiting pieces old line new text (Some answer) =
+    Begins (λ o l n t b. AnswersLine answered waiting o l n t (Some b)) pieces old line new text answer
 
 -- the text of an answer that began so, and what became of the line
 abbrev pub Completes : {P : Type 0} → (P → List (List ℕ)) → List ℕ → Answer P → List ℕ → Became → Type 0

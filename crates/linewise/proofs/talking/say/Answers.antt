@@ -17,7 +17,7 @@ returns-in-Ok-clause-said g c = λ raw holds.
       _,
       record {
         text = written ++ c.write_begun.new.text.items;
-        answers = completed g.E.Answers.answered g.E.Answers.pieces _ _ _ _ _ c.in-Some.answer _ (c.in-Some.ensures raw holds) whole;
+        answers = completed g.E.Answers.answered g.E.Answers.waiting g.E.Answers.pieces _ _ _ _ _ c.in-Some.answer _ (c.in-Some.ensures raw holds) whole;
         says = sym (append_assoc written c.write_begun.new.text.items _);
       },
       both _ _ _ written _ wrote (rw (c.deref.ensures.value, c.waits.ensures) at c.in-Ok.ensures.whole),
@@ -30,7 +30,7 @@ returns-in-Err-clause-broken g c = λ raw holds.
       _,
       record {
         text = written ++ c.write_begun.new.text.items;
-        answers = completed g.E.Answers.answered g.E.Answers.pieces _ _ _ _ _ c.in-Some.answer _ (c.in-Some.ensures raw holds) whole;
+        answers = completed g.E.Answers.answered g.E.Answers.waiting g.E.Answers.pieces _ _ _ _ _ c.in-Some.answer _ (c.in-Some.ensures raw holds) whole;
         says = sym (append_assoc written c.write_begun.new.text.items _);
       },
       front_behind _ _ _ written _ wrote (rw (c.deref.ensures.value, c.waits.ensures) at c.in-Err.ensures.front),
@@ -44,7 +44,7 @@ returns-in_err-became-clause-broken g c = err_always c.from_residual.result (λ 
       _,
       record {
         text = whole;
-        answers = completed g.E.Answers.answered g.E.Answers.pieces _ _ _ _ _ c.in-Some.answer _ (c.in-Some.ensures raw holds) completes;
+        answers = completed g.E.Answers.answered g.E.Answers.waiting g.E.Answers.pieces _ _ _ _ _ c.in-Some.answer _ (c.in-Some.ensures raw holds) completes;
         says = refl;
       },
       front_of_first _ _ whole _ front,
