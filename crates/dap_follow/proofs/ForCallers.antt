@@ -8,3 +8,5 @@ pub use Rattle.dap_follow.proofs.NameLemmas.{eq_is, is_same_self, same_at, same_
 pub use Rattle.dap_follow.proofs.PlacingLemmas.{at-append, at-here, at-other, or_else}
 -- one captured packet more
 pub use Rattle.dap_follow.proofs.ReadingLemmas.{seen_more}
+-- the words of the line before a packet, which has the next number
+pub use Rattle.dap_follow.proofs.ReadingLemmas.{frame_here}

@@ -11,4 +11,5 @@ mod streams;
 pub use following::follow;
 pub use joining::{push_length, push_range, push_stream};
 pub use laws::cut_messages_are_listed;
+pub use reading::push_packet_line;
 pub use streams::Stream;

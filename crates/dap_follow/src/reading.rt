@@ -33,8 +33,9 @@ fn fault_of(seen: &Result<CapturedPacket<'_>, SegFault>) -> Option<SegFault>
     }
 }
 
-/// Appends the line of a packet; with its words, if these are wanted.
-fn push_line(
+/// Appends the line of the packet that has the number, to a text that is empty; with its words, if these are wanted: those of
+/// the line directly before it, and of what is no segment. Fails only if memory is refused.
+pub fn push_packet_line(
     text: &mut Vec<u8>,
     number: usize,
     way: Direction,
@@ -90,7 +91,7 @@ impl<'a> Reading<'a> {
         let number = self.lines.len() + 1;
         let seen = read_packet(digits, &mut room[..digits.len() / 2]);
         let mut line = Vec::new(alloc);
-        push_line(&mut line, number, way, before, &seen, in_words)?;
+        push_packet_line(&mut line, number, way, before, &seen, in_words)?;
         self.lines.push(line)?;
         match seen {
             Ok(CapturedPacket::Segment(segment)) => self.streams.add(number, way, &segment),

@@ -4,3 +4,5 @@
 pub use Rattle.dap_listing.proofs.DigitLemmas.{decoded, count_of}
 -- digits one behind the other spell the bytes one behind the other
 pub use Rattle.dap_listing.proofs.DigitLemmas.{bytes-append, spell-append}
+-- which lines tell no frame, and the words of the lines before packets
+pub use Rattle.dap_listing.proofs.FrameLemmas.{none_told, frames_by, frames_found}

@@ -27,13 +27,13 @@ returns-in-Ok-Segment-clause-more c =
     let spell = subst HasDigits whole c.read_packet-seen.ensures.payload in
     let number : ℕ = c.len-number.result + 1 in
     let count : c.len-number.result ≡ length old.lines.items = search rules in
-    let line = c.in_ok-push_line.ensures in
+    let line = c.in_ok-push_packet_line.ensures in
     on_ok_weaker c.add.result
     (λ kept. (
       seen,
       c.read_packet-seen.ensures.seen,
       λ told packets framed reads.
-          reads_more words told frame packets way seen old _ c.push_line.new.text number framed reads
+          reads_more words told frame packets way seen old _ c.push_packet_line.new.text number framed reads
           (subst (λ (s : Seen). KeepsAll (packets ++ (way, s) ∷ []) c.add.new.self) (sym (ap seen_value whole)) (kept packets reads.streams (omega (arith, count, count_is words told packets old reads)) spell))
           c.in_ok-push.ensures.items line (omega (arith, count)),
     ))
@@ -50,12 +50,12 @@ returns-in-Ok-DataAck-clause-more c =
     let is = ap seen_value whole in
     let number : ℕ = c.len-number.result + 1 in
     let count : c.len-number.result ≡ length old.lines.items = search rules in
-    let line = c.in_ok-push_line.ensures in
+    let line = c.in_ok-push_packet_line.ensures in
     let no_stream : stream_of (way, seen) ≡ None = ap (λ (s : Seen). stream_of (way, s)) is in (
       seen,
       c.read_packet-seen.ensures.seen,
       λ told packets framed reads.
-          reads_more words told frame packets way seen old _ c.push_line.new.text number framed reads
+          reads_more words told frame packets way seen old _ c.push_packet_line.new.text number framed reads
           (keeps_aside packets (way, seen) old.streams no_stream (λ stream. ap (λ (s : Seen). came_as stream (1 + length packets) (way, s)) is) reads.streams)
           c.in_ok-push.ensures.items line (omega (arith, count)),
     )
@@ -70,12 +70,12 @@ returns-in-Err-clause-more c =
     let is = ap seen_value c.in-Err.is in
     let number : ℕ = c.len-number.result + 1 in
     let count : c.len-number.result ≡ length old.lines.items = search rules in
-    let line = c.in_ok-push_line.ensures in
+    let line = c.in_ok-push_packet_line.ensures in
     let no_stream : stream_of (way, seen) ≡ None = ap (λ (s : Seen). stream_of (way, s)) is in (
       seen,
       c.read_packet-seen.ensures.seen,
       λ told packets framed reads.
-          reads_more words told frame packets way seen old _ c.push_line.new.text number framed reads
+          reads_more words told frame packets way seen old _ c.push_packet_line.new.text number framed reads
           (keeps_aside packets (way, seen) old.streams no_stream (λ stream. ap (λ (s : Seen). came_as stream (1 + length packets) (way, s)) is) reads.streams)
           c.in_ok-push.ensures.items line (omega (arith, count)),
     )
