@@ -1,6 +1,7 @@
 -- What a talk over the lines of a capture comes to.
-use Rattle.std.proofs.Common.{◌≡◌, ◌≢◌, ◌⊎◌, inl, inr, ℕ, ◌+◌, ◌<◌, ◌≤◌, ◌||◌, nat_lt, nat_le, is_err, Bool, true, false, List, [], ◌∷◌, ◌++◌, length, length-append, take, Option, Some, None, Ok, Err, IfSome, arith, refl, ap, sym, subst, ◌∙◌, append-nil, append_assoc, ◌&&◌, ◌==◌}
-use Rattle.std.specs.List.{AllByRecursion, cons_option, filter_map, list_any}
+use Rattle.std.proofs.Common.{◌≡◌, ◌≢◌, ◌⊎◌, inl, inr, ℕ, ◌+◌, ◌<◌, ◌≤◌, ◌||◌, nat_lt, nat_le, if◌then◌else◌, is_err, Bool, true, false, List, [], ◌∷◌, ◌++◌, length, length-append, take, Option, Some, None, Ok, Err, IfSome, arith, refl, ap, sym, subst, ◌∙◌, append-nil, append_assoc, ◌&&◌, ◌==◌}
+use Rattle.std.specs.List.{AllByRecursion, cons_option, filter, filter_map, list_any}
+use Rattle.std.specs.Option.{option_map_or}
 use Rattle.std.specs.Result.{result_unwrap_or}
 use Rattle.std.specs.Io.KnownBytes.{Appends, Keeps}
 use Rattle.std.specs.Io.BufRead.{drop_through, first_line}
@@ -11,20 +12,26 @@ use Rattle.std.proofs.lemmas.Bool.{false≢true}
 use Rattle.std.proofs.lemmas.Bool.Decides.{nat_tests}
 use Rattle.std.proofs.lemmas.List.Folds.{list_any-append}
 use Rattle.linewise.specs.Output.{WritesFront}
-use Rattle.linewise.specs.Talks.{AnswersLine, Fails, Talked, is_bad, is_skipped, longest, said_of}
+use Rattle.linewise.specs.Talks.{AnswersLine, Fails, Talked, is_bad, is_given, is_skipped, longest, said_of}
 use Rattle.linewise.specs.declared.talking.Became.{Became}
 use Rattle.linewise.specs.declared.talking.Became.TheVariants.{Done, BadLine, NoMemory}
 use Rattle.linewise.specs.declared.talking.TalkFault.{TalkFault}
 use Rattle.linewise.specs.declared.talking.TalkFault.TheVariants.{ReadFailed, WriteFailed, NoMemory as OutOfMemory}
 use Rattle.dap_text.specs.Words.{is_hex_text}
 use Rattle.dap_listing.specs.Lines.{Capture, Line, capture_line, digits_line, line_of}
-use Rattle.dap_listing.specs.Listing.{captures, packet_limit}
+use Rattle.dap_listing.specs.Listing.{captures, frames_after, packet_limit}
+use Rattle.dap_listing.proofs.ForCallers.{none_told, frames_by, frames_found}
+use Rattle.dap_meanings.specs.Frames.{frame_words}
+use Rattle.dap_follow.specs.Following.{frame_of}
+use Rattle.dap_follow.proofs.ForCallers.{frame_here}
 use Rattle.dap_listing.specs.declared.fault.CaptureFault.TheVariants as fault
 use Rattle.dap_listing.specs.declared.lines.Direction.{Direction}
 use Rattle.dap_listing.specs.declared.lines.Direction.TheVariants.{Right, Left}
-use Rattle.dap_watch.specs.Watched.{IsWatched, IsWatchedTo, WatchFails, WatchGives, is_refused}
+use Rattle.dap_watch.specs.Watched.{IsWatched, IsWatchedTo, WatchFails, WatchGives, heard_frames, heard_lines, is_refused}
 use Rattle.dap_watch.specs.Inner.Rest.{all_kept_rest}
-use Rattle.dap_watch.specs.Inner.Watching.{Watches, answered, waiting}
+use Rattle.dap_watch.specs.Inner.Watching.{GoesOn, PassesBy, Starts, Watches, answered, waiting}
+use Rattle.dap_watch.specs.Inner.Streams.{KeepsAll}
+use Rattle.dap_watch.specs.declared.streams.Streams.{Streams}
 use Rattle.dap_watch.specs.declared.watching.Watching.{Watching}
 use Rattle.dap_watch.proofs.StayLemmas.{by_bool}
 use Rattle.dap_watch.proofs.LineLemmas.{line_more}
@@ -65,9 +72,6 @@ long_line line long =
     by_bool (is_skipped line)
     (λ t. rw t refl)
     (λ f. rw f (long_capture line long))
-
-skipped_line : (line : List ℕ) → is_skipped line ≡ true → line_of packet_limit line ≡ Ok None
-skipped_line line t = rw t refl
 
 not_long : (n : ℕ) → n ≤ longest → nat_lt longest n ≡ false
 not_long n short = grind (arith, nat_tests)
@@ -110,56 +114,137 @@ bad_step rest some were became same =
     ∙ ap (λ b. (list_any is_bad were || b) || others) (sym (or_none (is_bad became)))
     ∙ ap (λ b. b || others) (sym (list_any-append is_bad were (became ∷ [])))
 
+-- ---- the lines before packets
+
+abbrev Frames : Type 0
+Frames = List (List (List ℕ))
+
+fits_so : (n : ℕ) → n ≤ longest → nat_le n longest ≡ true
+fits_so n short = grind (arith, nat_tests)
+
+fits_not : (n : ℕ) → longest < n → nat_le n longest ≡ false
+fits_not n long = grind (arith, nat_tests)
+
+heard_more : (rest : List ℕ) → 0 < length rest → length (first_line rest) ≤ longest → heard_lines rest ≡ first_line rest ∷ heard_lines (drop_through 10 rest)
+heard_more rest some short =
+    ap (λ l. filter (λ line. nat_le (length line) longest) l) (line_more rest some)
+    ∙ ap (λ b. if b then first_line rest ∷ heard_lines (drop_through 10 rest) else heard_lines (drop_through 10 rest)) (fits_so (length (first_line rest)) short)
+
+heard_less : (rest : List ℕ) → 0 < length rest → longest < length (first_line rest) → heard_lines rest ≡ heard_lines (drop_through 10 rest)
+heard_less rest some long =
+    ap (λ l. filter (λ line. nat_le (length line) longest) l) (line_more rest some)
+    ∙ ap (λ b. if b then first_line rest ∷ heard_lines (drop_through 10 rest) else heard_lines (drop_through 10 rest)) (fits_not (length (first_line rest)) long)
+
+-- a line without a packet stands before the lines after it
+framed_by : (before after : List ℕ) (line : List ℕ) (others : List (List ℕ)) → packet_in line ≡ None → frame_words after ≡ frame_words line
+    → frames_after packet_limit before (line ∷ others) ≡ frames_after packet_limit after others
+framed_by before after line others none same =
+    ap (λ (o : Option Capture). option_map_or (λ capture. frame_words before ∷ []) o [] ++ frames_after packet_limit line others) none
+    ∙ frames_by packet_limit line after others (sym same)
+
+framed_aside : (before after rest : List ℕ) → 0 < length rest → length (first_line rest) ≤ longest → packet_in (first_line rest) ≡ None → frame_words after ≡ frame_words (first_line rest)
+    → frames_after packet_limit before (heard_lines rest) ≡ frames_after packet_limit after (heard_lines (drop_through 10 rest))
+framed_aside before after rest some short none same =
+    ap (λ l. frames_after packet_limit before l) (heard_more rest some short) ∙ framed_by before after (first_line rest) (heard_lines (drop_through 10 rest)) none same
+
+framed_long : (before rest : List ℕ) → 0 < length rest → longest < length (first_line rest)
+    → frames_after packet_limit before (heard_lines rest) ≡ frames_after packet_limit before (heard_lines (drop_through 10 rest))
+framed_long before rest some long = ap (λ l. frames_after packet_limit before l) (heard_less rest some long)
+
 -- ---- how far a talk has come
 
-record WatchedSo (input rest said : List ℕ) (lines_were : List (Option Became)) (now : Watching) : Type 0 where
+record WatchedSo (words : Bool) (input rest said : List ℕ) (lines_were : List (Option Became)) (now : Watching) : Type 0 where
   pub captured : List Capture
-  pub watches : Watches captured said now
+  pub watches : Watches words (heard_frames input) captured said now
   pub are : captures packet_limit input ≡ captured ++ captures packet_limit rest
+  pub told : Frames
+  pub framed : heard_frames input ≡ told ++ frames_after packet_limit now.before.items (heard_lines rest)
+  pub many : length told ≡ now.packets
   pub bad : list_any is_refused (lines input) ≡ (list_any is_bad lines_were || list_any is_refused (lines rest))
 
+passed : (words : Bool) (frames : Frames) (captured : List Capture) (said line : List ℕ) (now new : Watching) → PassesBy line now new → Watches words frames captured said now → Watches words frames captured said new
+passed words frames captured said line now new p w = record {
+  packets = w.packets;
+  ordered = w.ordered;
+  texts = w.texts;
+  are_seen = w.are_seen;
+  are_texts = w.are_texts;
+  written_is = w.written_is;
+  words = p.words ∙ w.words;
+  count = p.packets ∙ w.count;
+  most = w.most;
+  keeps = subst (λ (s : Streams). KeepsAll w.packets w.ordered s) (sym p.streams) w.keeps;
+}
+
 -- a line that has no packet
-aside : (input rest said : List ℕ) (were : List (Option Became)) (now new : Watching) (became : Option Became) (more : List ℕ) → WatchedSo input rest said were now → 0 < length rest
-    → new ≡ now → more ≡ [] → packet_in (first_line rest) ≡ None → is_bad became ≡ is_refused (first_line rest) → WatchedSo input (drop_through 10 rest) (said ++ more) (were ++ became ∷ []) new
-aside input rest said were now new became more w some same none no_packet bad = record {
+aside : (words : Bool) (input rest said : List ℕ) (were : List (Option Became)) (now new : Watching) (became : Option Became) (more : List ℕ) → (w : WatchedSo words input rest said were now) → 0 < length rest
+    → Watches words (heard_frames input) w.captured said new → new.packets ≡ now.packets
+    → frames_after packet_limit now.before.items (heard_lines rest) ≡ frames_after packet_limit new.before.items (heard_lines (drop_through 10 rest))
+    → more ≡ [] → packet_in (first_line rest) ≡ None → is_bad became ≡ is_refused (first_line rest) → WatchedSo words input (drop_through 10 rest) (said ++ more) (were ++ became ∷ []) new
+aside words input rest said were now new became more w some watches same framed none no_packet bad = record {
   captured = w.captured;
-  watches = subst (λ (v : Watching). Watches w.captured (said ++ more) v) (sym same) (subst (λ l. Watches w.captured l now) (sym (ap (λ l. said ++ l) none ∙ append-nil said)) w.watches);
+  watches = subst (λ l. Watches words (heard_frames input) w.captured l new) (sym (ap (λ l. said ++ l) none ∙ append-nil said)) watches;
   are = w.are ∙ ap (λ (l : List Capture). w.captured ++ l) (captures_more rest some ∙ ap (λ (o : Option Capture). cons_option o (captures packet_limit (drop_through 10 rest))) no_packet);
+  told = w.told;
+  framed = w.framed ∙ ap (λ (f : Frames). w.told ++ f) framed;
+  many = w.many ∙ sym same;
   bad = w.bad ∙ bad_step rest some were became bad;
 }
 
--- a line with a packet
-listed : (input rest said : List ℕ) (were : List (Option Became)) (now new : Watching) (more : List ℕ) (capture : Capture) → WatchedSo input rest said were now → 0 < length rest
-    → length (first_line rest) ≤ longest → line_of packet_limit (first_line rest) ≡ Ok (Some capture)
-    → ((captured : List Capture) (written : List ℕ) → Watches captured written now → Watches (captured ++ capture ∷ []) (written ++ more) new)
-    → WatchedSo input (drop_through 10 rest) (said ++ more) (were ++ Some Done ∷ []) new
-listed input rest said were now new more capture w some short is goes = record {
-  captured = w.captured ++ capture ∷ [];
-  watches = goes w.captured said w.watches;
-  are = w.are ∙ ap (λ (l : List Capture). w.captured ++ l) (captures_more rest some ∙ ap (λ (r : Line). cons_option (result_unwrap_or r None) (captures packet_limit (drop_through 10 rest))) is)
-      ∙ sym (append_assoc w.captured (capture ∷ []) (captures packet_limit (drop_through 10 rest)));
-  bad = w.bad ∙ bad_step rest some were (Some Done) (sym (good_line (first_line rest) short (ap (λ (r : Line). is_err r) is)));
-}
+passes : (words : Bool) (input rest said : List ℕ) (were : List (Option Became)) (now new : Watching) (became : Option Became) (more : List ℕ) → WatchedSo words input rest said were now → 0 < length rest → length (first_line rest) ≤ longest
+    → PassesBy (first_line rest) now new → more ≡ [] → packet_in (first_line rest) ≡ None → is_bad became ≡ is_refused (first_line rest)
+    → WatchedSo words input (drop_through 10 rest) (said ++ more) (were ++ became ∷ []) new
+passes words input rest said were now new became more w some short p none no_packet bad =
+    aside words input rest said were now new became more w some (passed words (heard_frames input) w.captured said (first_line rest) now new p w.watches) p.packets
+    (framed_aside now.before.items new.before.items rest some short no_packet p.before) none no_packet bad
 
-step : (input rest said : List ℕ) (were : List (Option Became)) (now new : Watching) (became : Option Became) (text : List ℕ) → WatchedSo input rest said were now → 0 < length rest
-    → became ≢ Some NoMemory → AnswersLine answered now (first_line rest) new text became → WatchedSo input (drop_through 10 rest) (said ++ said_of text became None) (were ++ became ∷ []) new
-step input rest said were now new None text w some want (skipped, short, same, none) =
-    let is : line_of packet_limit (first_line rest) ≡ Ok None = skipped_line (first_line rest) skipped in
-    aside input rest said were now new None [] w some same refl (ap (λ (r : Line). result_unwrap_or r None) is) (sym (good_line (first_line rest) short (ap (λ (r : Line). is_err r) is)))
-step input rest said were now new (Some became) text w some want (inl (inl (bad, long), same, none)) =
-    aside input rest said were now new (Some became) (text ++ []) w some same (append-nil text ∙ none) (long_line (first_line rest) long)
+-- a line that is too long
+unheard : (words : Bool) (input rest said : List ℕ) (were : List (Option Became)) (now new : Watching) (became : Option Became) (more : List ℕ) → WatchedSo words input rest said were now → 0 < length rest → longest < length (first_line rest)
+    → new ≡ now → more ≡ [] → is_bad became ≡ is_refused (first_line rest) → WatchedSo words input (drop_through 10 rest) (said ++ more) (were ++ became ∷ []) new
+unheard words input rest said were now new became more w some long same none bad =
+    subst (λ (v : Watching). WatchedSo words input (drop_through 10 rest) (said ++ more) (were ++ became ∷ []) v) (sym same)
+    (aside words input rest said were now now became more w some w.watches refl (framed_long now.before.items rest some long) none (long_line (first_line rest) long) bad)
+
+-- a line with a packet
+listed : (words : Bool) (input rest said : List ℕ) (were : List (Option Became)) (now new : Watching) (more : List ℕ) (capture : Capture) → WatchedSo words input rest said were now → 0 < length rest
+    → length (first_line rest) ≤ longest → line_of packet_limit (first_line rest) ≡ Ok (Some capture) → GoesOn capture now new more
+    → WatchedSo words input (drop_through 10 rest) (said ++ more) (were ++ Some Done ∷ []) new
+listed words input rest said were now new more capture w some short is (one, cleared, goes) =
+    let all = heard_frames input in
+    let frame = frame_words now.before.items in
+    let others = frames_after packet_limit [] (heard_lines (drop_through 10 rest)) in
+    let found : frames_after packet_limit now.before.items (heard_lines rest) ≡ frame ∷ others =
+    frames_found packet_limit now.before.items (heard_lines rest) (heard_lines (drop_through 10 rest)) (first_line rest) capture (heard_more rest some short) is in
+    let split : all ≡ w.told ++ frame ∷ others = w.framed ∙ ap (λ (f : Frames). w.told ++ f) found in
+    record {
+      captured = w.captured ++ capture ∷ [];
+      watches = goes words all w.captured said (frame_here all w.told others frame now.packets split w.many) w.watches;
+      are = w.are ∙ ap (λ (l : List Capture). w.captured ++ l) (captures_more rest some ∙ ap (λ (r : Line). cons_option (result_unwrap_or r None) (captures packet_limit (drop_through 10 rest))) is)
+          ∙ sym (append_assoc w.captured (capture ∷ []) (captures packet_limit (drop_through 10 rest)));
+      told = w.told ++ frame ∷ [];
+      framed = split ∙ sym (append_assoc w.told (frame ∷ []) others)
+          ∙ ap (λ (b : List ℕ). (w.told ++ frame ∷ []) ++ frames_after packet_limit b (heard_lines (drop_through 10 rest))) (sym cleared);
+      many = omega (arith, length-append w.told (frame ∷ []), w.many, one);
+      bad = w.bad ∙ bad_step rest some were (Some Done) (sym (good_line (first_line rest) short (ap (λ (r : Line). is_err r) is)));
+    }
+
+step : (words : Bool) (input rest said : List ℕ) (were : List (Option Became)) (now new : Watching) (became : Option Became) (text : List ℕ) → WatchedSo words input rest said were now → 0 < length rest
+    → became ≢ Some NoMemory → AnswersLine answered waiting now (first_line rest) new text became → WatchedSo words input (drop_through 10 rest) (said ++ said_of text became None) (were ++ became ∷ []) new
+step words input rest said were now new None text w some want (given, short, same, none) = absurd (false≢true (sym given))
+step words input rest said were now new (Some became) text w some want (inl (inl (bad, long), same, none)) =
+    unheard words input rest said were now new (Some became) (text ++ []) w some long same (append-nil text ∙ none)
     (ap (λ (b : Became). is_bad (Some b)) bad ∙ sym (long_refused (first_line rest) long))
-step input rest said were now new (Some became) text w some want (inl (inr memory, same, none)) = absurd (want (ap (λ (b : Became). Some b) memory))
-step input rest said were now new (Some Done) text w some want (inr (spoken, short, inl (is, same, none))) =
-    aside input rest said were now new (Some Done) (text ++ []) w some same (append-nil text ∙ none) (ap (λ (r : Line). result_unwrap_or r None) is)
+step words input rest said were now new (Some became) text w some want (inl (inr memory, same, none)) = absurd (want (ap (λ (b : Became). Some b) memory))
+step words input rest said were now new (Some Done) text w some want (inr (given, short, inl (is, passes_by, none))) =
+    passes words input rest said were now new (Some Done) (text ++ []) w some short passes_by (append-nil text ∙ none) (ap (λ (r : Line). result_unwrap_or r None) is)
     (sym (good_line (first_line rest) short (ap (λ (r : Line). is_err r) is)))
-step input rest said were now new (Some Done) text w some want (inr (spoken, short, inr (capture, is, goes))) =
-    subst (λ l. WatchedSo input (drop_through 10 rest) (said ++ l) (were ++ Some Done ∷ []) new) (sym (append-nil text))
-    (listed input rest said were now new text capture w some short is goes)
-step input rest said were now new (Some BadLine) text w some want (inr (spoken, short, (is, same, none))) =
-    aside input rest said were now new (Some BadLine) (text ++ []) w some same (append-nil text ∙ none) (no_packet_at (line_of packet_limit (first_line rest)) is)
+step words input rest said were now new (Some Done) text w some want (inr (given, short, inr (capture, is, goes))) =
+    subst (λ l. WatchedSo words input (drop_through 10 rest) (said ++ l) (were ++ Some Done ∷ []) new) (sym (append-nil text))
+    (listed words input rest said were now new text capture w some short is goes)
+step words input rest said were now new (Some BadLine) text w some want (inr (given, short, (is, passes_by, none))) =
+    passes words input rest said were now new (Some BadLine) (text ++ []) w some short passes_by (append-nil text ∙ none) (no_packet_at (line_of packet_limit (first_line rest)) is)
     (sym (bad_line (first_line rest) is))
-step input rest said were now new (Some NoMemory) text w some want (inr (spoken, short, none)) = absurd (want refl)
+step words input rest said were now new (Some NoMemory) text w some want (inr (given, short, none)) = absurd (want refl)
 
 sates_front : (xs ys : List (Option Became)) → AllByRecursion (λ became. became ≢ Some NoMemory) (xs ++ ys) → AllByRecursion (λ became. became ≢ Some NoMemory) xs
 sates_front [] ys all = tt
@@ -169,14 +254,22 @@ sates_back : (xs ys : List (Option Became)) → AllByRecursion (λ became. becam
 sates_back [] ys all = all
 sates_back (x ∷ xs) ys all = sates_back xs ys all.1
 
-talked_so : (first now : Watching) (input rest said : List ℕ) (were : List (Option Became)) → Talked answered waiting first input now rest said were → Watches [] [] first
-    → AllByRecursion (λ became. became ≢ Some NoMemory) were → WatchedSo input rest said were now
-talked_so first now input rest said were Talked.begins start never = record { captured = []; watches = start; are = refl; bad = refl }
+talked_so : (first now : Watching) (input rest said : List ℕ) (were : List (Option Became)) → Talked answered waiting first input now rest said were → Starts first
+    → AllByRecursion (λ became. became ≢ Some NoMemory) were → WatchedSo first.in_words input rest said were now
+talked_so first now input rest said were Talked.begins start never = record {
+  captured = [];
+  watches = start.watches (heard_frames input);
+  are = refl;
+  told = [];
+  framed = ap (λ (b : List ℕ). frames_after packet_limit b (heard_lines input)) (sym start.before);
+  many = sym start.packets;
+  bad = refl;
+}
 talked_so first new input rest said were (Talked.goes now left before_said more before became talked some says) start never =
     let w = talked_so first now input left before_said before talked start (sates_front before (became ∷ []) never) in
     let one = (sates_back before (became ∷ []) never).0 in
-    subst (λ l. WatchedSo input (drop_through 10 left) (before_said ++ l) (before ++ became ∷ []) new) (sym says.says)
-    (step input left before_said before now new became says.text w some one says.answers)
+    subst (λ l. WatchedSo first.in_words input (drop_through 10 left) (before_said ++ l) (before ++ became ∷ []) new) (sym says.says)
+    (step first.in_words input left before_said before now new became says.text w some one says.answers)
 
 -- ---- where a talk ends
 
@@ -188,29 +281,29 @@ front_behind old mid new first second before front = (
 )
 
 -- all lines were read
-all_read : (input said : List ℕ) (were : List (Option Became)) (now : Watching) → WatchedSo input [] said were now
-    → IsWatched (captures packet_limit input) said (all_kept_rest now.streams.names.keys now.streams.places.items)
-all_read input said were now w =
-    subst (λ (l : List Capture). IsWatched l said (all_kept_rest now.streams.names.keys now.streams.places.items)) (sym (w.are ∙ append-nil w.captured)) (is_watched w.captured said now w.watches)
+all_read : (words : Bool) (input said : List ℕ) (were : List (Option Became)) (now : Watching) → WatchedSo words input [] said were now
+    → IsWatched words (captures packet_limit input) (heard_frames input) said (all_kept_rest now.streams.names.keys now.streams.places.items)
+all_read words input said were now w =
+    subst (λ (l : List Capture). IsWatched words l (heard_frames input) said (all_kept_rest now.streams.names.keys now.streams.places.items)) (sym (w.are ∙ append-nil w.captured)) (is_watched words (heard_frames input) w.captured said now w.watches)
 
 -- what is known where a talk ended with its input
 abbrev pub HasEnded : Watching → Watching → (unread held mid : Option (List ℕ)) → Bool → Type 0
 HasEnded first now unread held mid bad = IfSome unread (λ input. (text : List ℕ) × (were : List (Option Became)) × Talked answered waiting first input now [] text were
     × Appends held mid text × (bad ≡ list_any is_bad were) × (((e : Watching) → waiting e ≡ None) → AllByRecursion (λ became. became ≢ Some NoMemory) were))
 
-so_far : (first now : Watching) (input text : List ℕ) (were : List (Option Became)) → Watches [] [] first → Talked answered waiting first input now [] text were
-    → (((e : Watching) → waiting e ≡ None) → AllByRecursion (λ became. became ≢ Some NoMemory) were) → WatchedSo input [] text were now
+so_far : (first now : Watching) (input text : List ℕ) (were : List (Option Became)) → Starts first → Talked answered waiting first input now [] text were
+    → (((e : Watching) → waiting e ≡ None) → AllByRecursion (λ became. became ≢ Some NoMemory) were) → WatchedSo first.in_words input [] text were now
 so_far first now input text were start talked unbroken = talked_so first now input [] text were talked start (unbroken (λ e. refl))
 
-pub gives : (first now : Watching) (unread held mid holds : Option (List ℕ)) (bad : Bool) → Watches [] [] first → HasEnded first now unread held mid bad
-    → Appends mid holds (all_kept_rest now.streams.names.keys now.streams.places.items) → IfSome unread (λ input. WatchGives input held holds)
+pub gives : (first now : Watching) (unread held mid holds : Option (List ℕ)) (bad : Bool) → Starts first → HasEnded first now unread held mid bad
+    → Appends mid holds (all_kept_rest now.streams.names.keys now.streams.places.items) → IfSome unread (λ input. WatchGives first.in_words input held holds)
 gives first now None held mid holds bad start ended wrote = _
 gives first now (Some input) held mid holds bad start (text, were, talked, held_so, is, unbroken) wrote =
     let w = so_far first now input text were start talked unbroken in
     let rest = all_kept_rest now.streams.names.keys now.streams.places.items in
-    (text, rest, all_read input text were now w, Appends-trans held mid holds text rest held_so wrote)
+    (text, rest, all_read first.in_words input text were now w, Appends-trans held mid holds text rest held_so wrote)
 
-pub tells_bad : (first now : Watching) (unread held mid : Option (List ℕ)) (bad : Bool) → Watches [] [] first → HasEnded first now unread held mid bad
+pub tells_bad : (first now : Watching) (unread held mid : Option (List ℕ)) (bad : Bool) → Starts first → HasEnded first now unread held mid bad
     → IfSome unread (λ input. bad ≡ list_any is_refused (lines input))
 tells_bad first now None held mid bad start ended = _
 tells_bad first now (Some input) held mid bad start (text, were, talked, held_so, is, unbroken) =
@@ -218,30 +311,30 @@ tells_bad first now (Some input) held mid bad start (text, were, talked, held_so
     is ∙ sym (w.bad ∙ or_none (list_any is_bad were))
 
 -- the rest wasn't written
-pub ends_short : (first now : Watching) (unread held mid holds : Option (List ℕ)) (bad : Bool) (f : TalkFault) → Watches [] [] first → HasEnded first now unread held mid bad
+pub ends_short : (first now : Watching) (unread held mid holds : Option (List ℕ)) (bad : Bool) (f : TalkFault) → Starts first → HasEnded first now unread held mid bad
     → ((f ≡ OutOfMemory) × Keeps mid holds) ⊎ ((f ≡ WriteFailed) × WritesFront mid holds (all_kept_rest now.streams.names.keys now.streams.places.items))
-    → IfSome unread (λ input. WatchFails input held holds f)
+    → IfSome unread (λ input. WatchFails first.in_words input held holds f)
 ends_short first now None held mid holds bad f start ended short = _
 ends_short first now (Some input) held mid holds bad f start (text, were, talked, held_so, is, unbroken) (inl (same, keeps)) =
     let w = so_far first now input text were start talked unbroken in
     let rest = all_kept_rest now.streams.names.keys now.streams.places.items in
-    subst (λ (g : TalkFault). WatchFails input held holds g) (sym same)
-    ([], text, rest, (captures packet_limit input, sym (append-nil (captures packet_limit input)), all_read input text were now w), Appends-kept held mid holds text held_so keeps)
+    subst (λ (g : TalkFault). WatchFails first.in_words input held holds g) (sym same)
+    ([], text, rest, (captures packet_limit input, sym (append-nil (captures packet_limit input)), all_read first.in_words input text were now w), Appends-kept held mid holds text held_so keeps)
 ends_short first now (Some input) held mid holds bad f start (text, were, talked, held_so, is, unbroken) (inr (same, front)) =
     let w = so_far first now input text were start talked unbroken in
     let rest = all_kept_rest now.streams.names.keys now.streams.places.items in
-    subst (λ (g : TalkFault). WatchFails input held holds g) (sym same)
-    ([], text, rest, (captures packet_limit input, sym (append-nil (captures packet_limit input)), all_read input text were now w), inr (refl, front_behind held mid holds text rest held_so front))
+    subst (λ (g : TalkFault). WatchFails first.in_words input held holds g) (sym same)
+    ([], text, rest, (captures packet_limit input, sym (append-nil (captures packet_limit input)), all_read first.in_words input text were now w), inr (refl, front_behind held mid holds text rest held_so front))
 
 -- ---- where a talk fails
 
 -- what was written so far is the text of the packets so far
-some_read : (input rest said : List ℕ) (were : List (Option Became)) (now : Watching) → WatchedSo input rest said were now → (left : List Capture) × (after : List ℕ) × IsWatchedTo input left said after
-some_read input rest said were now w =
-    (captures packet_limit rest, all_kept_rest now.streams.names.keys now.streams.places.items, (w.captured, w.are, is_watched w.captured said now w.watches))
+some_read : (words : Bool) (input rest said : List ℕ) (were : List (Option Became)) (now : Watching) → WatchedSo words input rest said were now → (left : List Capture) × (after : List ℕ) × IsWatchedTo words input left said after
+some_read words input rest said were now w =
+    (captures packet_limit rest, all_kept_rest now.streams.names.keys now.streams.places.items, (w.captured, w.are, is_watched words (heard_frames input) w.captured said now w.watches))
 
 -- a line to which memory is refused has no text
-no_text : (now : Watching) (line : List ℕ) (new : Watching) (text : List ℕ) → AnswersLine answered now line new text (Some NoMemory) → text ≡ []
+no_text : (now : Watching) (line : List ℕ) (new : Watching) (text : List ℕ) → AnswersLine answered waiting now line new text (Some NoMemory) → text ≡ []
 no_text now line new text (inl (which, same, none)) = none
 no_text now line new text (inr (spoken, short, none)) = none
 
@@ -255,60 +348,62 @@ snoc_is (x ∷ xs) (y ∷ ys) a b e =
     let rest = snoc_is xs ys a b tail in
     (ap (λ z. z ∷ xs) head ∙ ap (λ l. y ∷ l) rest.0, rest.1)
 
-memory_last : (first now : Watching) (input rest said : List ℕ) (all were : List (Option Became)) → Talked answered waiting first input now rest said all → all ≡ were ++ Some NoMemory ∷ [] → Watches [] [] first
-    → AllByRecursion (λ became. became ≢ Some NoMemory) were → (left : List Capture) × (after : List ℕ) × IsWatchedTo input left said after
+memory_last : (first now : Watching) (input rest said : List ℕ) (all were : List (Option Became)) → Talked answered waiting first input now rest said all → all ≡ were ++ Some NoMemory ∷ [] → Starts first
+    → AllByRecursion (λ became. became ≢ Some NoMemory) were → (left : List Capture) × (after : List ℕ) × IsWatchedTo first.in_words input left said after
 memory_last first now input rest said all were Talked.begins is start never = absurd (omega (arith, ap length is, length-append were (Some NoMemory ∷ [])))
 memory_last first new input rest said all were (Talked.goes now left before_said more before became talked some says) is start never =
     let same = snoc_is before were became (Some NoMemory) is in
     let w = talked_so first now input left before_said before talked start (subst (λ (l : List (Option Became)). AllByRecursion (λ b. b ≢ Some NoMemory) l) (sym same.0) never) in
-    let answers = subst (λ (b : Option Became). AnswersLine answered now (first_line left) new says.text b) same.1 says.answers in
+    let answers = subst (λ (b : Option Became). AnswersLine answered waiting now (first_line left) new says.text b) same.1 says.answers in
     let none : more ≡ [] = says.says ∙ ap (λ (b : Option Became). said_of says.text b None) same.1 ∙ append-nil says.text ∙ no_text now (first_line left) new says.text answers in
-    subst (λ l. (rest_left : List Capture) × (after : List ℕ) × IsWatchedTo input rest_left l after) (sym (ap (λ l. before_said ++ l) none ∙ append-nil before_said)) (some_read input left before_said before now w)
+    subst (λ l. (rest_left : List Capture) × (after : List ℕ) × IsWatchedTo first.in_words input rest_left l after) (sym (ap (λ l. before_said ++ l) none ∙ append-nil before_said)) (some_read first.in_words input left before_said before now w)
 
--- an answer is to some line
-some_line : (rest : List ℕ) (became : Became) (now new : Watching) (text : List ℕ) → (became ≡ NoMemory → ⊥) → AnswersLine answered now (first_line rest) new text (Some became) → 0 < length rest
-some_line [] became now new text not_memory (inl (inl (bad, long), same, none)) = absurd (omega (arith, long))
-some_line [] became now new text not_memory (inl (inr memory, same, none)) = absurd (not_memory memory)
-some_line [] became now new text not_memory (inr answers) = absurd (false≢true (sym answers.0))
-some_line (x ∷ rest) became now new text not_memory answers = omega arith
+-- nothing is said where no line is left
+nothing_said : (now new : Watching) (became : Option Became) (text : List ℕ) → AnswersLine answered waiting now [] new text became → said_of text became None ≡ []
+nothing_said now new None text answers = refl
+nothing_said now new (Some became) text (inl (which, same, none)) = append-nil text ∙ none
+nothing_said now new (Some Done) text (inr (given, short, inl (is, passes_by, none))) = append-nil text ∙ none
+nothing_said now new (Some Done) text (inr (given, short, inr (capture, is, goes))) = let wrong : ◌≡◌ {A = Line} (Ok None) (Ok (Some capture)) = is in absurd (cc)
+nothing_said now new (Some BadLine) text (inr (given, short, (is, passes_by, none))) = append-nil text ∙ none
+nothing_said now new (Some NoMemory) text (inr (given, short, none)) = append-nil text ∙ none
 
 -- the text so far, and a prefix of the next answer
-breaks : (input rest said : List ℕ) (were : List (Option Became)) (now new : Watching) (became : Option Became) (text : List ℕ) (held mid holds : Option (List ℕ)) → WatchedSo input rest said were now
-    → Appends held mid said → AnswersLine answered now (first_line rest) new text became → WritesFront mid holds (said_of text became None) → WatchFails input held holds WriteFailed
-breaks input rest said were now new None text held mid holds w held_so answers front =
-    let s = some_read input rest said were now w in
-    (s.0, said, s.1, s.2, inl (subst (λ l. WritesFront held holds l) (append-nil said) (front_behind held mid holds said [] held_so front)))
-breaks input rest said were now new (Some NoMemory) text held mid holds w held_so answers front =
-    let s = some_read input rest said were now w in
-    let none : text ++ [] ≡ [] = append-nil text ∙ no_text now (first_line rest) new text answers in
+breaks : (words : Bool) (input rest said : List ℕ) (were : List (Option Became)) (now new : Watching) (became : Option Became) (text : List ℕ) (held mid holds : Option (List ℕ)) → WatchedSo words input rest said were now
+    → Appends held mid said → AnswersLine answered waiting now (first_line rest) new text became → WritesFront mid holds (said_of text became None) → WatchFails words input held holds WriteFailed
+breaks words input [] said were now new became text held mid holds w held_so answers front =
+    let s = some_read words input [] said were now w in
+    let none = nothing_said now new became text answers in
+    (s.0, said, s.1, s.2, inl (subst (λ l. WritesFront held holds l) (ap (λ l. said ++ l) none ∙ append-nil said) (front_behind held mid holds said (said_of text became None) held_so front)))
+breaks words input (x ∷ rest) said were now new None text held mid holds w held_so answers front = absurd (false≢true (sym answers.0))
+breaks words input (x ∷ rest) said were now new (Some NoMemory) text held mid holds w held_so answers front =
+    let s = some_read words input (x ∷ rest) said were now w in
+    let none : text ++ [] ≡ [] = append-nil text ∙ no_text now (first_line (x ∷ rest)) new text answers in
     (s.0, said, s.1, s.2, inl (subst (λ l. WritesFront held holds l) (ap (λ l. said ++ l) none ∙ append-nil said) (front_behind held mid holds said (text ++ []) held_so front)))
-breaks input rest said were now new (Some Done) text held mid holds w held_so answers front =
-    let some = some_line rest Done now new text (λ e. absurd (cc)) answers in
-    let after = step input rest said were now new (Some Done) text w some (λ e. absurd (cc)) answers in
-    let s = some_read input (drop_through 10 rest) (said ++ (text ++ [])) (were ++ Some Done ∷ []) new after in
+breaks words input (x ∷ rest) said were now new (Some Done) text held mid holds w held_so answers front =
+    let after = step words input (x ∷ rest) said were now new (Some Done) text w (omega arith) (λ e. absurd (cc)) answers in
+    let s = some_read words input (drop_through 10 (x ∷ rest)) (said ++ (text ++ [])) (were ++ Some Done ∷ []) new after in
     (s.0, said ++ (text ++ []), s.1, s.2, inl (front_behind held mid holds said (text ++ []) held_so front))
-breaks input rest said were now new (Some BadLine) text held mid holds w held_so answers front =
-    let some = some_line rest BadLine now new text (λ e. absurd (cc)) answers in
-    let after = step input rest said were now new (Some BadLine) text w some (λ e. absurd (cc)) answers in
-    let s = some_read input (drop_through 10 rest) (said ++ (text ++ [])) (were ++ Some BadLine ∷ []) new after in
+breaks words input (x ∷ rest) said were now new (Some BadLine) text held mid holds w held_so answers front =
+    let after = step words input (x ∷ rest) said were now new (Some BadLine) text w (omega arith) (λ e. absurd (cc)) answers in
+    let s = some_read words input (drop_through 10 (x ∷ rest)) (said ++ (text ++ [])) (were ++ Some BadLine ∷ []) new after in
     (s.0, said ++ (text ++ []), s.1, s.2, inl (front_behind held mid holds said (text ++ []) held_so front))
 
-pub fails : (first now : Watching) (unread held holds : Option (List ℕ)) (f : TalkFault) → Watches [] [] first
-    → IfSome unread (λ input. Fails answered waiting first input now held holds f) → IfSome unread (λ input. WatchFails input held holds f)
+pub fails : (first now : Watching) (unread held holds : Option (List ℕ)) (f : TalkFault) → Starts first
+    → IfSome unread (λ input. Fails answered waiting first input now held holds f) → IfSome unread (λ input. WatchFails first.in_words input held holds f)
 fails first now None held holds f start failed = _
 fails first now (Some input) held holds ReadFailed start (rest, said, were, talked, held_so, unbroken) =
-    let s = some_read input rest said were now (talked_so first now input rest said were talked start (unbroken (λ e. refl))) in
+    let s = some_read first.in_words input rest said were now (talked_so first now input rest said were talked start (unbroken (λ e. refl))) in
     (s.0, said, s.1, s.2, held_so)
 fails first now (Some input) held holds OutOfMemory start (rest, said, were, talked, held_so, none, unbroken) =
     let s = memory_last first now input rest said (were ++ Some NoMemory ∷ []) were talked refl start (unbroken (λ e. refl)) in
     (s.0, said, s.1, s.2, held_so)
 fails first new (Some input) held holds WriteFailed start (now, mid, rest, said, more, were, became, talked, held_so, says, front, unbroken) =
     let w = talked_so first now input rest said were talked start (unbroken (λ e. refl)) in
-    breaks input rest said were now new became says.text held mid holds w held_so says.answers (subst (λ l. WritesFront mid holds l) says.says front)
+    breaks first.in_words input rest said were now new became says.text held mid holds w held_so says.answers (subst (λ l. WritesFront mid holds l) says.says front)
 
 -- memory was refused before the first line
-pub nothing_listed : (input : List ℕ) (held holds : Option (List ℕ)) → Keeps held holds → WatchFails input held holds OutOfMemory
-nothing_listed input held holds keeps = (
+pub nothing_listed : (words : Bool) (input : List ℕ) (held holds : Option (List ℕ)) → Keeps held holds → WatchFails words input held holds OutOfMemory
+nothing_listed words input held holds keeps = (
   captures packet_limit input,
   [],
   [],

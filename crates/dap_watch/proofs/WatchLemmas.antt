@@ -4,14 +4,14 @@ use Rattle.std.specs.List.{AllByRecursion, AllZip, concat, enumerate_from, filte
 use Rattle.std.proofs.lemmas.Bool.Decides.{nat_tests}
 use Rattle.std.proofs.lemmas.List.Elements.{filter-append}
 use Rattle.dap_listing.specs.Captured.{Spell, bytes_of}
-use Rattle.dap_listing.specs.Listing.{heading}
 use Rattle.dap_listing.specs.Lines.{Capture}
-use Rattle.dap_listing.specs.Packets.{IsSeen, Seen, seen_line}
+use Rattle.dap_listing.specs.Packets.{IsSeen, Seen}
 use Rattle.dap_listing.specs.declared.lines.Direction.{Direction}
 use Rattle.dap_listing.proofs.ForCallers.{decoded}
 use Rattle.dap_follow.specs.Streams.{Captured, IsOrdered, Placed, came_in, first_place, streams, ArePlaced}
 use Rattle.dap_follow.specs.Joined.{Message, Piece, is_message, latest, message_of, messages, pieces}
-use Rattle.dap_follow.specs.Following.{IsMessageText, IsPacketText, rest_lines}
+use Rattle.dap_meanings.specs.Frames.{frame_words}
+use Rattle.dap_follow.specs.Following.{IsMessageText, IsPacketText, frame_of, packet_line, rest_lines}
 use Rattle.dap_watch.specs.Inner.Segments.{Came}
 use Rattle.dap_follow.specs.declared.streams.Stream.{Stream}
 use Rattle.dap_follow.proofs.ForCallers.{enumerate_from-snoc, seen_more}
@@ -119,18 +119,18 @@ these_under n old new front back ms before after all low =
 
 -- ---- texts
 
-one_text : (k : ℕ) (p : Captured) (text : List ℕ) (all later : List Message) → filter (λ m. m.packet == k) later ≡ filter (λ m. m.packet == k) all
-    → IsPacketText false [] all (k, p) text → IsPacketText false [] later (k, p) text
-one_text k p text all later same is = (is.0, subst (λ (l : List Message). AllZip (λ m. IsMessageText false m.piece) l is.0) (sym same) is.1, is.2)
+one_text : (words : Bool) (frames : List (List (List ℕ))) (k : ℕ) (p : Captured) (text : List ℕ) (all later : List Message) → filter (λ m. m.packet == k) later ≡ filter (λ m. m.packet == k) all
+    → IsPacketText words frames all (k, p) text → IsPacketText words frames later (k, p) text
+one_text words frames k p text all later same is = (is.0, subst (λ (l : List Message). AllZip (λ m. IsMessageText words m.piece) l is.0) (sym same) is.1, is.2)
 
 -- the texts of earlier packets stay
-retext : (n : ℕ) (all later : List Message) → ((k : ℕ) → k < n → filter (λ m. m.packet == k) later ≡ filter (λ m. m.packet == k) all)
-    → (k : ℕ) (packets : List Captured) (texts : List (List ℕ)) → k + length packets ≤ n → AllZip (IsPacketText false [] all) (enumerate_from k packets) texts → AllZip (IsPacketText false [] later) (enumerate_from k packets) texts
-retext n all later same k [] [] within each = tt
-retext n all later same k [] (t ∷ texts) within each = absurd each
-retext n all later same k (p ∷ packets) [] within each = absurd each
-retext n all later same k (p ∷ packets) (t ∷ texts) within each =
-    (one_text k p t all later (same k (omega arith)) each.0, retext n all later same (k + 1) packets texts (omega arith) each.1)
+retext : (words : Bool) (frames : List (List (List ℕ))) (n : ℕ) (all later : List Message) → ((k : ℕ) → k < n → filter (λ m. m.packet == k) later ≡ filter (λ m. m.packet == k) all)
+    → (k : ℕ) (packets : List Captured) (texts : List (List ℕ)) → k + length packets ≤ n → AllZip (IsPacketText words frames all) (enumerate_from k packets) texts → AllZip (IsPacketText words frames later) (enumerate_from k packets) texts
+retext words frames n all later same k [] [] within each = tt
+retext words frames n all later same k [] (t ∷ texts) within each = absurd each
+retext words frames n all later same k (p ∷ packets) [] within each = absurd each
+retext words frames n all later same k (p ∷ packets) (t ∷ texts) within each =
+    (one_text words frames k p t all later (same k (omega arith)) each.0, retext words frames n all later same (k + 1) packets texts (omega arith) each.1)
 
 zip_snoc : (P : ℕ × Captured → List ℕ → Type 0) (xs : List (ℕ × Captured)) (ts : List (List ℕ)) (x : ℕ × Captured) (t : List ℕ) → AllZip P xs ts → P x t → AllZip P (xs ++ x ∷ []) (ts ++ t ∷ [])
 zip_snoc P [] [] x t all one = (one, tt)
@@ -142,34 +142,38 @@ concat_snoc : (ts : List (List ℕ)) (t : List ℕ) → concat (ts ++ t ∷ []) 
 concat_snoc [] t = append-nil t
 concat_snoc (u ∷ ts) t = ap (λ l. u ++ l) (concat_snoc ts t) ∙ sym (append_assoc u (concat ts) t)
 
-message_texts : (ms : List Piece) (texts : List (List ℕ)) → AllZip (IsMessageText false) ms texts → AllZip (λ m. IsMessageText false m.piece) (map message_of ms) texts
-message_texts [] [] all = tt
-message_texts [] (t ∷ texts) all = absurd all
-message_texts (m ∷ ms) [] all = absurd all
-message_texts (m ∷ ms) (t ∷ texts) all = (all.0, message_texts ms texts all.1)
+message_texts : (words : Bool) (ms : List Piece) (texts : List (List ℕ)) → AllZip (IsMessageText words) ms texts → AllZip (λ m. IsMessageText words m.piece) (map message_of ms) texts
+message_texts words [] [] all = tt
+message_texts words [] (t ∷ texts) all = absurd all
+message_texts words (m ∷ ms) [] all = absurd all
+message_texts words (m ∷ ms) (t ∷ texts) all = (all.0, message_texts words ms texts all.1)
 
 -- ---- one packet more
 
-pub watches_more : (captured : List Capture) (written : List ℕ) (old new : Watching) (way : Direction) (digits : List ℕ) (seen : Seen) (text first : List ℕ) (start : Streams)
-    → Watches captured written old → Spell digits (length digits / 2) → IsSeen seen (bytes_of digits) → new.packets ≡ old.packets + 1 → old.packets + 1 ≤ 2 ^ 50 → start ≡ old.streams
-    → first ≡ heading (old.packets + 1) way ++ seen_line seen
-    → ((packets : List Captured) (ordered : List (List Placed)) → length packets < 2 ^ 50 → KeepsAll packets ordered start → Tells packets (way, seen) ordered new.streams first text)
-    → Watches (captured ++ (way, digits) ∷ []) (written ++ text) new
-watches_more captured written old new way digits seen text first start w spelled is count most same line tells =
+pub watches_more : (words : Bool) (frames : List (List (List ℕ))) (captured : List Capture) (written : List ℕ) (old new : Watching) (way : Direction) (digits : List ℕ) (seen : Seen) (text first : List ℕ) (start : Streams)
+    → frame_of frames (old.packets + 1) ≡ frame_words old.before.items → Watches words frames captured written old → Spell digits (length digits / 2) → IsSeen seen (bytes_of digits) → new.in_words ≡ old.in_words → new.packets ≡ old.packets + 1 → old.packets + 1 ≤ 2 ^ 50 → start ≡ old.streams
+    → first ≡ packet_line old.in_words (frame_words old.before.items) (old.packets + 1) (way, seen)
+    → ((packets : List Captured) (ordered : List (List Placed)) → length packets < 2 ^ 50 → KeepsAll packets ordered start → Tells old.in_words packets (way, seen) ordered new.streams first text)
+    → Watches words frames (captured ++ (way, digits) ∷ []) (written ++ text) new
+watches_more words frames captured written old new way digits seen text first start framed w spelled is wanted count most same line tells =
     let n : ℕ = length w.packets in
     let number : old.packets + 1 ≡ 1 + n = omega (arith, w.count) in
     let few : n < 2 ^ 50 = omega (arith, number, most) in
-    let t = tells w.packets w.ordered few (subst (λ (s : Streams). KeepsAll w.packets w.ordered s) (sym same) w.keeps) in
+    let x : Captured = (way, seen) in
+    let told = tells w.packets w.ordered few (subst (λ (s : Streams). KeepsAll w.packets w.ordered s) (sym same) w.keeps) in
+    let t = subst (λ (b : Bool). Tells b w.packets x w.ordered new.streams first text) w.words told in
     let all = flat_map messages w.ordered in
     let later = flat_map messages t.later in
-    let x : Captured = (way, seen) in
     let packets = w.packets ++ x ∷ [] in
     let low = upto w.packets old.streams.names.keys w.ordered old.streams.places.items w.keeps.each in
     let here : filter (λ m. m.packet == 1 + n) later ≡ map message_of t.ms = these_under n all later t.front t.back t.ms t.before t.after t.whole low in
-    let own : IsPacketText false [] later (1 + n, x) text = (
+    let own_line : first ≡ packet_line words (frame_of frames (1 + n)) (1 + n) x =
+    line ∙ ap (λ (b : Bool). packet_line b (frame_words old.before.items) (old.packets + 1) x) w.words
+    ∙ ap (λ (f : List (List ℕ)). packet_line words f (old.packets + 1) x) (sym framed) ∙ ap (λ k. packet_line words (frame_of frames k) k x) number in
+    let own : IsPacketText words frames later (1 + n, x) text = (
       t.texts,
-      subst (λ (l : List Message). AllZip (λ m. IsMessageText false m.piece) l t.texts) (sym here) (message_texts t.ms t.texts t.are),
-      t.added ∙ ap (λ l. l ++ concat t.texts) line ∙ ap (λ k. (heading k way ++ seen_line seen) ++ concat t.texts) number,
+      subst (λ (l : List Message). AllZip (λ m. IsMessageText words m.piece) l t.texts) (sym here) (message_texts words t.ms t.texts t.are),
+      t.added ∙ ap (λ l. l ++ concat t.texts) own_line,
     ) in
     let longer : length packets ≡ n + 1 = length-append w.packets (x ∷ []) in
     record {
@@ -177,10 +181,11 @@ watches_more captured written old new way digits seen text first start w spelled
       ordered = t.later;
       texts = w.texts ++ text ∷ [];
       are_seen = seen_more captured w.packets way digits (bytes_of digits) seen w.are_seen (decoded digits (length digits / 2) spelled) is;
-      are_texts = subst (λ (l : List (ℕ × Captured)). AllZip (IsPacketText false [] later) l (w.texts ++ text ∷ [])) (sym (enumerate_from-snoc 1 w.packets x))
-          (zip_snoc (IsPacketText false [] later) (enumerate_from 1 w.packets) w.texts (1 + n, x) text
-          (retext (1 + n) all later (λ k below. earlier (1 + n) k all later t.front t.back t.ms below t.before t.after t.whole) 1 w.packets w.texts (omega arith) w.are_texts) own);
+      are_texts = subst (λ (l : List (ℕ × Captured)). AllZip (IsPacketText words frames later) l (w.texts ++ text ∷ [])) (sym (enumerate_from-snoc 1 w.packets x))
+          (zip_snoc (IsPacketText words frames later) (enumerate_from 1 w.packets) w.texts (1 + n, x) text
+          (retext words frames (1 + n) all later (λ k below. earlier (1 + n) k all later t.front t.back t.ms below t.before t.after t.whole) 1 w.packets w.texts (omega arith) w.are_texts) own);
       written_is = ap (λ l. l ++ text) w.written_is ∙ sym (concat_snoc w.texts text);
+      words = wanted ∙ w.words;
       count = omega (arith, count, number, longer);
       most = omega (arith, number, longer, most);
       keeps = t.keeps;
@@ -188,10 +193,10 @@ watches_more captured written old new way digits seen text first start w spelled
 
 -- ---- what a packet tells
 
-pub tells_message : (packets : List Captured) (x : Captured) (ordered : List (List Placed)) (new : Streams) (digits : List ℕ) (w : Whole) (old_text new_text : List ℕ)
-    → Grows packets x ordered new digits (Some w) → ((m : Piece) → IsWhole digits w m → (text : List ℕ) × IsMessageText false m text × (new_text ≡ old_text ++ text))
-    → Tells packets x ordered new old_text new_text
-tells_message packets x ordered new digits w old_text new_text g said =
+pub tells_message : (words : Bool) (packets : List Captured) (x : Captured) (ordered : List (List Placed)) (new : Streams) (digits : List ℕ) (w : Whole) (old_text new_text : List ℕ)
+    → Grows packets x ordered new digits (Some w) → ((m : Piece) → IsWhole digits w m → (text : List ℕ) × IsMessageText words m text × (new_text ≡ old_text ++ text))
+    → Tells words packets x ordered new old_text new_text
+tells_message words packets x ordered new digits w old_text new_text g said =
     let a = g.added in
     let told : AreTold (1 + length packets) digits (Some w) a.ms = a.told in
     let m = told.0 in
@@ -206,13 +211,13 @@ tells_message packets x ordered new digits w old_text new_text g said =
       after = a.after;
       whole = subst (λ (l : List Piece). AllByRecursion (λ p. whole_with p ≡ 1 + length packets) l) (sym told.1) (told.2, tt);
       texts = text.0 ∷ [];
-      are = subst (λ (l : List Piece). AllZip (IsMessageText false) l (text.0 ∷ [])) (sym told.1) (text.1, tt);
+      are = subst (λ (l : List Piece). AllZip (IsMessageText words) l (text.0 ∷ [])) (sym told.1) (text.1, tt);
       added = text.2 ∙ ap (λ l. old_text ++ l) (sym (append-nil text.0));
     }
 
-pub tells_none : (packets : List Captured) (x : Captured) (ordered : List (List Placed)) (new : Streams) (digits : List ℕ) (text : List ℕ)
-    → Grows packets x ordered new digits None → Tells packets x ordered new text text
-tells_none packets x ordered new digits text g =
+pub tells_none : (words : Bool) (packets : List Captured) (x : Captured) (ordered : List (List Placed)) (new : Streams) (digits : List ℕ) (text : List ℕ)
+    → Grows packets x ordered new digits None → Tells words packets x ordered new text text
+tells_none words packets x ordered new digits text g =
     let a = g.added in
     let told : a.ms ≡ [] = a.told in
     record {
@@ -229,8 +234,8 @@ tells_none packets x ordered new digits text g =
       added = sym (append-nil text);
     }
 
-pub tells_aside : (packets : List Captured) (x : Captured) (ordered : List (List Placed)) (new : Streams) (text : List ℕ) → KeepsAll (packets ++ x ∷ []) ordered new → Tells packets x ordered new text text
-tells_aside packets x ordered new text keeps = record {
+pub tells_aside : (words : Bool) (packets : List Captured) (x : Captured) (ordered : List (List Placed)) (new : Streams) (text : List ℕ) → KeepsAll (packets ++ x ∷ []) ordered new → Tells words packets x ordered new text text
+tells_aside words packets x ordered new text keeps = record {
   later = ordered;
   keeps = keeps;
   front = flat_map messages ordered;
@@ -263,9 +268,9 @@ are_ordered packets (s ∷ keys) [] places each = absurd each
 are_ordered packets (s ∷ keys) (o ∷ orders) [] each = absurd each
 are_ordered packets (s ∷ keys) (o ∷ orders) (p ∷ places) each = (is_ordered packets s o p each.0, are_ordered packets keys orders places each.1)
 
-pub is_watched : (captured : List Capture) (written : List ℕ) (w : Watching) → Watches captured written w
-    → IsWatched captured written (all_kept_rest w.streams.names.keys w.streams.places.items)
-is_watched captured written w k =
+pub is_watched : (words : Bool) (frames : List (List (List ℕ))) (captured : List Capture) (written : List ℕ) (w : Watching) → Watches words frames captured written w
+    → IsWatched words captured frames written (all_kept_rest w.streams.names.keys w.streams.places.items)
+is_watched words frames captured written w k =
     let keys = w.streams.names.keys in
     let names : keys ≡ streams k.packets = k.keeps.names in
     record {

@@ -1,12 +1,14 @@
 //! Laws over the definitions alone. Each function does nothing: its contract is the law.
 
-ghost use Rattle.std.specs.Prelude.{◌≡◌, ◌<◌, ◌++◌, ◌∷◌, ℕ, List, [], true, false};
+ghost use Rattle.std.specs.Prelude.{◌≡◌, ◌<◌, ◌≤◌, ◌++◌, ◌∷◌, ℕ, Bool, List, [], length, true};
 ghost use Rattle.dap_listing.specs.Lines.{Capture};
+ghost use Rattle.dap_listing.specs.Listing.{frames as input_frames, packet_limit};
+ghost use Rattle.linewise.specs.Talks.{longest};
 ghost use Rattle.dap_follow.specs.Following.{IsFollowed};
 ghost use Rattle.std.specs.List.{AllByRecursion};
 ghost use Rattle.dap_follow.specs.Streams.{Placed};
 ghost use Rattle.dap_follow.specs.Joined.{Piece, is_message, pieces};
-ghost use Rattle.dap_watch.specs.Watched.{IsWatched, whole_at};
+ghost use Rattle.dap_watch.specs.Watched.{IsWatched, heard_frames, whole_at};
 
 /// What is listed under a packet stays so whatever comes later: a segment of a later packet, put in its place among those of its
 /// stream, neither adds a message to those of an earlier packet nor takes one away. So a packet's lines can be written as it
@@ -32,6 +34,14 @@ pub fn listed_messages_can_go()
 
 /// What was written of a capture, and what is left of it, are together the listing of `follow`.
 pub fn watched_captures_are_followed()
-    ensures { (captured : List Capture) (written rest : List ℕ) → IsWatched captured written rest
-        → (frames : List (List (List ℕ))) → IsFollowed false captured frames (written ++ rest) }
+    ensures { (in_words : Bool) (captured : List Capture) (frames : List (List (List ℕ)))
+        (written rest : List ℕ) → IsWatched in_words captured frames written rest
+        → IsFollowed in_words captured frames (written ++ rest) }
+{}
+
+/// The lines before the packets of an input that `follow` takes, which has at most 16,777,216 bytes, are the same in both
+/// listings.
+pub fn short_inputs_have_their_frames()
+    ensures { (input : List ℕ) → length input ≤ longest
+        → heard_frames input ≡ input_frames packet_limit input }
 {}

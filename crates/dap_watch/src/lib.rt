@@ -7,5 +7,8 @@ mod rest;
 mod streams;
 mod watching;
 
-pub use laws::{listed_messages_can_go, listed_messages_stay, watched_captures_are_followed};
+pub use laws::{
+    listed_messages_can_go, listed_messages_stay, short_inputs_have_their_frames,
+    watched_captures_are_followed,
+};
 pub use watching::watch;

@@ -1,6 +1,6 @@
 //! The listing, line by line.
 
-ghost use Rattle.std.specs.Prelude.{◌≡◌, ◌≢◌, ◌⊎◌, ◌/◌, ◌*◌, ◌<◌, ◌≤◌, ◌^◌, ◌∷◌, ◌++◌, [], ℕ, List, OnOk, OnErr, IfOk, IfErr, IfSome, length, false};
+ghost use Rattle.std.specs.Prelude.{◌≡◌, ◌≢◌, ◌⊎◌, ◌/◌, ◌*◌, ◌<◌, ◌≤◌, ◌^◌, ◌∷◌, ◌++◌, [], ℕ, List, OnOk, OnErr, IfOk, IfErr, IfSome, length};
 ghost use Rattle.std.specs.Io.KnownBytes.{Appends, Keeps};
 ghost use Rattle.std.specs.List.{list_any};
 ghost use Rattle.std.specs.Str.Lines.{lines};
@@ -15,17 +15,17 @@ ghost use Rattle.dap_follow.specs.Streams.{Captured, Placed};
 ghost use Rattle.dap_watch.specs.Inner.Kept.{IsWhole};
 ghost use Rattle.dap_watch.specs.Inner.Rest.{all_kept_rest};
 ghost use Rattle.dap_watch.specs.Inner.Streams.{KeepsAll};
-ghost use Rattle.dap_watch.specs.Inner.Watching.{GoesOn, Tells, Watches};
+ghost use Rattle.dap_watch.specs.Inner.Watching.{GoesOn, PassesBy, Starts, Tells};
 ghost use Rattle.dap_watch.specs.Watched.{WatchFails, WatchGives, is_refused};
 
 use crate::places::Whole;
 use crate::rest::push_all;
 use crate::streams::Streams;
-use dap_follow::{push_length, push_range};
+use dap_follow::{push_length, push_packet_line, push_range};
 use dap_listing::{
-    CapturedPacket, CapturedSegment, Direction, line_packet, push_heading, push_messages,
-    push_seen, read_packet, write_text,
+    CapturedPacket, CapturedSegment, Direction, line_packet, push_messages, read_packet, write_text,
 };
+use dap_meanings::frame_text;
 use dap_text::push_str;
 use linewise::{Answer, Answers, Became, TalkFault, talk};
 use std::alloc::{AllocError, Global};
@@ -34,11 +34,14 @@ use std::io::{BufRead, Write};
 /// The most packets of a capture.
 const MOST_PACKETS: usize = 1 << 50;
 
-/// A capture as far as its lines came: how many packets there were, and what is kept of each stream.
+/// A capture as far as its lines came: whether words are wanted, how many packets there were, and what is kept of each stream.
 #[derive(Drop)]
 pub(crate) struct Watching {
+    pub(crate) in_words: bool,
     pub(crate) packets: usize,
     pub(crate) streams: Streams,
+    /// The line directly before, where it tells a frame; else nothing.
+    pub(crate) before: Vec<u8>,
     /// The digits of a message.
     pub(crate) digits: Vec<u8>,
     /// Room for the bytes of a packet or a message.
@@ -51,27 +54,31 @@ fn push_whole(
     whole: Whole,
     digits: &[u8],
     room: &mut Vec<u8>,
+    in_words: bool,
 ) -> Result<(), AllocError>
     requires { Spell digits.now (length digits.now / 2) }
     ensures { OnOk result ((m : Piece) → IsWhole digits.now whole m
-        → AddsSome text.old text.new (IsMessageText false m)) }
+        → AddsSome text.old text.new (IsMessageText in_words m)) }
 {
     let count = digits.len() / 2;
     push_str(text, "  message")?;
     push_range(text, whole.from, whole.to)?;
     push_length(text, count)?;
     room.resize(count, 0)?;
-    push_messages(text, digits, room, 0, false)
+    push_messages(text, digits, room, 0, in_words)
 }
 
 impl Watching {
     /// Nothing came yet. It takes no memory.
-    fn new(alloc: Global) -> Self
-        ensures { Watches [] [] result }
+    fn new(alloc: Global, in_words: bool) -> Self
+        ensures words { result.in_words ≡ in_words }
+        ensures starts { Starts result }
     {
         Watching {
+            in_words,
             packets: 0,
             streams: Streams::new(alloc),
+            before: Vec::new(alloc),
             digits: Vec::new(alloc),
             room: Vec::new(alloc),
         }
@@ -85,19 +92,21 @@ impl Watching {
         segment: &CapturedSegment<'_>,
     ) -> Result<(), AllocError>
         requires { Spell segment.now.digits.now (length segment.now.digits.now / 2) }
+        ensures words { self.new.in_words ≡ self.old.in_words }
         ensures packets { self.new.packets ≡ self.old.packets }
+        ensures before { self.new.before ≡ self.old.before }
         ensures told { OnOk result ((packets : List Captured) (ordered : List (List Placed))
             → length packets < 2 ^ 50 → KeepsAll packets ordered self.old.streams
-            → Tells packets (segment_packet way segment.now) ordered self.new.streams
-            text.old.items text.new.items) }
+            → Tells self.old.in_words packets (segment_packet way segment.now) ordered
+            self.new.streams text.old.items text.new.items) }
     {
         let Some(whole) = self.streams.add(way, segment, &mut self.digits)? else {
             return Ok(());
         };
-        push_whole(text, whole, &self.digits, &mut self.room)
+        push_whole(text, whole, &self.digits, &mut self.room, self.in_words)
     }
 
-    /// Takes a captured packet, and appends its lines.
+    /// Takes a captured packet, and appends its lines. It tells no frame of the packet after it.
     fn push_packet(
         &mut self,
         text: &mut Vec<u8>,
@@ -114,8 +123,8 @@ impl Watching {
         self.packets += 1;
         self.room.resize(digits.len() / 2, 0)?;
         let seen = read_packet(digits, &mut self.room);
-        push_heading(text, self.packets, way)?;
-        push_seen(text, &seen)?;
+        push_packet_line(text, self.packets, way, &self.before, &seen, self.in_words)?;
+        self.before.clear();
         match seen {
             Ok(CapturedPacket::Segment(segment)) => self.push_segment(text, way, &segment),
             Ok(CapturedPacket::DataAck(_)) => Ok(()),
@@ -142,6 +151,30 @@ impl Watching {
     }
 }
 
+impl Watching {
+    /// Takes a line without a packet: it is kept where it tells a frame, and the one before it isn't.
+    fn keep_line(&mut self, line: &[u8]) -> Result<(), AllocError>
+        ensures { OnOk result (PassesBy line.now self.old self.new) }
+    {
+        self.before.clear();
+        match frame_text(line) {
+            Some(_) => self.before.extend_from_slice(line),
+            None => Ok(()),
+        }
+    }
+
+    /// Passes by a line that is skipped.
+    fn pass_by(&mut self, line: &[u8]) -> Became
+        ensures done { result ≡ TheBecame.Done → PassesBy line.now self.old self.new }
+        ensures refused { result ≢ TheBecame.Done → result ≡ TheBecame.NoMemory }
+    {
+        match self.keep_line(line) {
+            Ok(()) => Became::Done,
+            Err(_) => Became::NoMemory,
+        }
+    }
+}
+
 impl Answers for Watching {
     ghost use Rattle.dap_watch.specs.Inner.Watching.{answered, no_pieces, waiting};
 
@@ -155,9 +188,12 @@ impl Answers for Watching {
 
     fn answer(&mut self, line: &[u8], text: &mut Vec<u8>) -> Answer<()> {
         match line_packet(1, line) {
-            Ok(None) => Answer::Whole(Became::Done),
+            Ok(None) => Answer::Whole(self.pass_by(line)),
             Ok(Some((way, digits))) => Answer::Whole(self.list_packet(text, way, digits)),
-            Err(_) => Answer::Whole(Became::BadLine),
+            Err(_) => {
+                self.before.clear();
+                Answer::Whole(Became::BadLine)
+            }
         }
     }
 
@@ -198,13 +234,14 @@ fn watch_all<R: BufRead, W: Write, F: Write>(
     writer: &mut W,
     error_writer: &mut F,
 ) -> Result<bool, TalkFault>
-    requires { Watches [] [] watching.old }
+    requires { Starts watching.old }
     ensures watched { OnOk result (IfSome (R.remaining reader.old) (λ input.
-        WatchGives input (W.contents writer.old) (W.contents writer.new))) }
+        WatchGives watching.old.in_words input (W.contents writer.old) (W.contents writer.new))) }
     ensures told { IfOk result (λ bad. IfSome (R.remaining reader.old) (λ input.
         bad ≡ list_any is_refused (lines input))) }
     ensures fault { IfErr result (λ fault. IfSome (R.remaining reader.old) (λ input.
-        WatchFails input (W.contents writer.old) (W.contents writer.new) fault)) }
+        WatchFails watching.old.in_words input (W.contents writer.old) (W.contents writer.new)
+        fault)) }
 {
     let bad = match talk(alloc, watching, reader, writer, error_writer) {
         Ok(bad) => bad,
@@ -219,7 +256,8 @@ fn watch_all<R: BufRead, W: Write, F: Write>(
 /// Lists the packets of a capture, each before the next line is read, and at the end of the input what is left of each stream;
 /// returns whether some line was bad.
 ///
-/// Messages are listed under the packet with which they are whole, as `follow` lists them. A bad line is reported to the error
+/// Messages are listed under the packet with which they are whole, as `follow` lists them, and with what the lines say in words,
+/// if these are wanted. The comment before a packet is kept until the packet comes. A bad line is reported to the error
 /// writer by its number, from 1, and has no packet. What is kept is the segments of messages that aren't whole, and 48 bytes for
 /// each gap. A capture has at most 2^50 packets; one more is refused as memory is.
 ///
@@ -230,14 +268,15 @@ pub fn watch<R: BufRead, W: Write, F: Write>(
     reader: &mut R,
     writer: &mut W,
     error_writer: &mut F,
+    in_words: bool,
 ) -> Result<bool, TalkFault>
     ensures watched { OnOk result (IfSome (R.remaining reader.old) (λ input.
-        WatchGives input (W.contents writer.old) (W.contents writer.new))) }
+        WatchGives in_words input (W.contents writer.old) (W.contents writer.new))) }
     ensures told { IfOk result (λ bad. IfSome (R.remaining reader.old) (λ input.
         bad ≡ list_any is_refused (lines input))) }
     ensures fault { IfErr result (λ fault. IfSome (R.remaining reader.old) (λ input.
-        WatchFails input (W.contents writer.old) (W.contents writer.new) fault)) }
+        WatchFails in_words input (W.contents writer.old) (W.contents writer.new) fault)) }
 {
-    let mut watching = Watching::new(alloc);
+    let mut watching = Watching::new(alloc, in_words);
     watch_all(alloc, &mut watching, reader, writer, error_writer)
 }

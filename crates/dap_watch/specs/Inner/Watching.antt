@@ -1,11 +1,12 @@
 -- What the program keeps of a capture that isn't over.
-use Rattle.std.specs.Prelude.{◌≡◌, ◌⊎◌, ⊤, ℕ, ◌+◌, ◌^◌, ◌≤◌, true, is_err, List, [], ◌∷◌, ◌++◌, length, map, Option, Some, None, Ok, false}
+use Rattle.std.specs.Prelude.{◌≡◌, ◌⊎◌, ⊤, ℕ, ◌+◌, ◌^◌, ◌≤◌, Bool, true, is_err, List, [], ◌∷◌, ◌++◌, length, map, Option, Some, None, Ok}
 use Rattle.std.specs.List.{AllByRecursion, AllZip, concat, enumerate_from, flat_map}
 use Rattle.dap_listing.specs.Lines.{Capture, line_of}
 use Rattle.dap_listing.specs.Listing.{packet_limit}
 use Rattle.dap_follow.specs.Streams.{Captured, Placed}
 use Rattle.dap_follow.specs.Joined.{Message, Piece, message_of, messages}
-use Rattle.dap_follow.specs.Following.{IsCaptured, IsMessageText, IsPacketText}
+use Rattle.dap_meanings.specs.Frames.{frame_words}
+use Rattle.dap_follow.specs.Following.{IsCaptured, IsMessageText, IsPacketText, frame_of}
 use Rattle.linewise.specs.declared.talking.Became.{Became}
 use Rattle.linewise.specs.declared.talking.Became.TheVariants.{Done, BadLine, NoMemory}
 use Rattle.dap_watch.specs.Watched.{whole_with}
@@ -14,7 +15,7 @@ use Rattle.dap_watch.specs.declared.streams.Streams.{Streams}
 use Rattle.dap_watch.specs.declared.watching.Watching.{Watching}
 
 -- a packet more, and the texts of the messages that are whole with it
-pub record Tells (packets : List Captured) (packet : Captured) (ordered : List (List Placed)) (new : Streams) (old_text new_text : List ℕ) : Type 0 where
+pub record Tells (in_words : Bool) (packets : List Captured) (packet : Captured) (ordered : List (List Placed)) (new : Streams) (old_text new_text : List ℕ) : Type 0 where
   pub later : List (List Placed)
   pub keeps : KeepsAll (packets ++ packet ∷ []) later new
   pub front : List Message
@@ -24,32 +25,49 @@ pub record Tells (packets : List Captured) (packet : Captured) (ordered : List (
   pub after : flat_map messages later ≡ front ++ (map message_of ms ++ back)
   pub whole : AllByRecursion (λ m. whole_with m ≡ 1 + length packets) ms
   pub texts : List (List ℕ)
-  pub are : AllZip (IsMessageText false) ms texts
+  pub are : AllZip (IsMessageText in_words) ms texts
   pub added : new_text ≡ old_text ++ concat texts
 
--- what the lines so far came to
-pub record Watches (captured : List Capture) (written : List ℕ) (w : Watching) : Type 0 where
+-- what the lines so far came to; the frames are those of all packets
+pub record Watches (in_words : Bool) (frames : List (List (List ℕ))) (captured : List Capture) (written : List ℕ) (w : Watching) : Type 0 where
   pub packets : List Captured
   pub ordered : List (List Placed)
   pub texts : List (List ℕ)
   pub are_seen : AllZip IsCaptured captured packets
-  pub are_texts : AllZip (IsPacketText false [] (flat_map messages ordered)) (enumerate_from 1 packets) texts
+  pub are_texts : AllZip (IsPacketText in_words frames (flat_map messages ordered)) (enumerate_from 1 packets) texts
   pub written_is : written ≡ concat texts
+  pub words : w.in_words ≡ in_words
   pub count : w.packets ≡ length packets
   pub most : length packets ≤ 2 ^ 50
   pub keeps : KeepsAll packets ordered w.streams
 
--- a captured packet more
+-- no line came yet
+pub record Starts (w : Watching) : Type 0 where
+  pub packets : w.packets ≡ 0
+  pub before : w.before.items ≡ []
+  pub watches : (frames : List (List (List ℕ))) → Watches w.in_words frames [] [] w
+
+-- a captured packet more, of which the line directly before it tells the frame
 abbrev pub GoesOn : Capture → Watching → Watching → List ℕ → Type 0
 GoesOn capture old new text =
-    (captured : List Capture) (written : List ℕ) → Watches captured written old → Watches (captured ++ capture ∷ []) (written ++ text) new
+    (new.packets ≡ old.packets + 1) × (new.before.items ≡ [])
+    × ((in_words : Bool) (frames : List (List (List ℕ))) (captured : List Capture) (written : List ℕ)
+    → frame_of frames (old.packets + 1) ≡ frame_words old.before.items → Watches in_words frames captured written old
+    → Watches in_words frames (captured ++ capture ∷ []) (written ++ text) new)
 
--- a line's packet is listed, and goes to those that are kept; a line at fault changes nothing
+-- a line without a packet: what is kept then tells its frame, if it tells one
+pub record PassesBy (line : List ℕ) (old new : Watching) : Type 0 where
+  pub words : new.in_words ≡ old.in_words
+  pub packets : new.packets ≡ old.packets
+  pub streams : new.streams ≡ old.streams
+  pub before : frame_words new.before.items ≡ frame_words line
+
+-- A line's packet is listed, and goes to those that are kept.
 abbrev pub answered : Watching → List ℕ → Watching → List ℕ → Became → Type 0
 answered old line new text Done =
-    ((line_of packet_limit line ≡ Ok None) × (new ≡ old) × (text ≡ []))
+    ((line_of packet_limit line ≡ Ok None) × PassesBy line old new × (text ≡ []))
     ⊎ ((capture : Capture) × (line_of packet_limit line ≡ Ok (Some capture)) × GoesOn capture old new text)
-answered old line new text BadLine = (is_err (line_of packet_limit line) ≡ true) × (new ≡ old) × (text ≡ [])
+answered old line new text BadLine = (is_err (line_of packet_limit line) ≡ true) × PassesBy line old new × (text ≡ [])
 answered old line new text NoMemory = text ≡ []
 
 -- its answers have no ending

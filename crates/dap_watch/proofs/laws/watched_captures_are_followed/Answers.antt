@@ -3,7 +3,7 @@ use Rattle.std.specs.List.{concat}
 use Rattle.dap_watch.proofs.laws.watched_captures_are_followed.Goals as goal
 
 pub returns : goal.returns
-returns c = λ captured written rest w frames. record {
+returns c = λ words captured frames written rest w. record {
   packets = w.packets;
   ordered = w.ordered;
   texts = w.texts;

@@ -12,7 +12,7 @@ returns-clause-told c =
     let x = segment_packet c.args.way c.args.segment.now in
     on_ok_weaker c.push_whole.result
     (λ said packets ordered few k.
-    tells_message packets x ordered c.add.new.self c.add.new.digits.items c.in-Some.whole c.args.text.now.items c.push_whole.new.text.items
+    tells_message c.args.self.now.in_words packets x ordered c.add.new.self c.add.new.digits.items c.in-Some.whole c.args.text.now.items c.push_whole.new.text.items
     (subst (λ (f : Option Whole). Grows packets x ordered c.add.new.self c.add.new.digits.items f) c.in-Some.is (c.in_ok-whole.ensures.grows packets ordered few k))
     (λ m whole. said m (subst (λ (l : List ℕ). IsWhole l c.in-Some.whole m) (sym c.deref.ensures.value) whole)))
     c.push_whole.ensures
