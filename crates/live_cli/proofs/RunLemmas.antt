@@ -4,7 +4,7 @@ use Rattle.std.specs.Prelude.{Option, Some, None, IfSome, fold}
 use Rattle.std.specs.Fmt.{digits}
 use Rattle.std.specs.Io.KnownBytes.{Keeps}
 use Rattle.hex.specs.Hex.{decode_pairs}
-use Rattle.clap.specs.Words.{Text, fault_of, is_simple, is_simple_and_free, new_app, with_subcommand}
+use Rattle.clap.specs.Words.{Text, fault_of, is_simple, is_simple_and_free, with_subcommand}
 use Rattle.cli_faults.specs.Programs.{new_program}
 use Rattle.clap.proofs.OnLiterals.{clap_on_literals}
 use Rattle.live_cli.specs.declared.words.Role.{Role}
@@ -17,7 +17,7 @@ use Rattle.linewise.specs.declared.talking.TalkFault.TheVariants.{NoMemory as Ou
 use Rattle.decnet_frames.proofs.ForCallers.{nothing_written}
 use Rattle.decnet_frames.specs.declared.run.FramesFault.TheVariants.{NoMemory as Wants}
 use Rattle.live_cli.specs.Running.{TaskGives}
-use Rattle.live_cli.specs.Words.{daplive, follow_line, frames_line, task_of, usual}
+use Rattle.live_cli.specs.Words.{daplive, follow_line, frames_line, task_of, usual, watch_line}
 use Rattle.live_cli.specs.Inner.CommandLine.{end_line_by, serve_line_by}
 
 pub some_from : {X : Type 0} {P Q : X → Type 0} (o : Option X) → IfSome o P → ((x : X) → P x → Q x) → IfSome o Q
@@ -31,7 +31,7 @@ some_both (Some x) one two next = next x one two
 -- the command line, with the digits of what is usual
 pub daplive_by : daplive ≡ fold with_subcommand (new_program (codes "daplive"))
     (serve_line_by.top ∷ (end_line_by (codes "ask") (codes "0101") (codes "0202")).top
-    ∷ follow_line.top ∷ frames_line.top ∷ (new_app (codes "watch")).top ∷ [])
+    ∷ follow_line.top ∷ frames_line.top ∷ watch_line.top ∷ [])
 unfolding digits
 daplive_by = refl
 
@@ -86,16 +86,24 @@ pub no_fault_watch : (program : Text) → fault_of daplive (program ∷ codes "w
 unfolding clap_on_literals digits
 no_fault_watch program = refl
 
-pub names_watch : (program : Text) → task_of (program ∷ codes "watch" ∷ []) ≡ Some Watch
+pub names_watch : (program : Text) → task_of (program ∷ codes "watch" ∷ []) ≡ Some (Watch false)
 unfolding clap_on_literals digits
 names_watch program = refl
+
+pub no_fault_watch_in_words : (program : Text) → fault_of daplive (program ∷ codes "watch" ∷ codes "--words" ∷ []) ≡ []
+unfolding clap_on_literals digits
+no_fault_watch_in_words program = refl
+
+pub names_watch_in_words : (program : Text) → task_of (program ∷ codes "watch" ∷ codes "--words" ∷ []) ≡ Some (Watch true)
+unfolding clap_on_literals digits
+names_watch_in_words program = refl
 
 -- out of memory, of whatever input
 pub refused : (task : Task) (known old new : Option (List ℕ)) (status : ℕ) → (status ≡ 3) × Keeps old new → IfSome known (λ input. TaskGives task input old new status)
 refused task None old new status memory = tt
 refused (End options) (Some input) old new status memory = inr (memory.1, memory.0)
 refused (Follow in_words) (Some input) old new status memory = (Err NoMemory, memory.1, memory.0)
-refused Watch (Some input) old new status memory = inr (OutOfMemory, nothing_listed input old new memory.1, memory.0)
+refused (Watch in_words) (Some input) old new status memory = inr (OutOfMemory, nothing_listed in_words input old new memory.1, memory.0)
 refused (Frames ends) (Some input) old new status memory = inr (Wants, nothing_written ends input old new memory.1, memory.0)
 
 -- two things that the words name are one

@@ -1,5 +1,5 @@
 -- What `daplive` does with an input, and its exit status.
-use Rattle.std.specs.Prelude.{◌≡◌, ◌⊎◌, ℕ, List, [], if◌then◌else◌, Option}
+use Rattle.std.specs.Prelude.{◌≡◌, ◌⊎◌, ℕ, Bool, List, [], if◌then◌else◌, Option}
 use Rattle.std.specs.Str.Lines.{lines}
 use Rattle.std.specs.List.{list_any}
 use Rattle.std.specs.Io.KnownBytes.{Appends, Keeps}
@@ -51,10 +51,10 @@ GivesAs Ask o input written holds status =
 
 -- The listing of all packets is written, and the status is 1 where some line is bad and 0 otherwise; or the reader or the writer fails,
 -- or memory is refused, and it is 3.
-abbrev pub ListsLines : List ℕ → (written holds : Option (List ℕ)) → ℕ → Type 0
-ListsLines input written holds status =
-    (WatchGives input written holds × (status ≡ (if list_any is_refused (lines input) then 1 else 0)))
-    ⊎ ((fault : TalkFault) × WatchFails input written holds fault × (status ≡ 3))
+abbrev pub ListsLines : (in_words : Bool) → List ℕ → (written holds : Option (List ℕ)) → ℕ → Type 0
+ListsLines in_words input written holds status =
+    (WatchGives in_words input written holds × (status ≡ (if list_any is_refused (lines input) then 1 else 0)))
+    ⊎ ((fault : TalkFault) × WatchFails in_words input written holds fault × (status ≡ 3))
 
 -- The lines of a capture file's frames are written, and the status is 0; or those before a fault of the file, and it is 1; or the
 -- reader or the writer fails, or memory is refused, and it is 3.
@@ -68,5 +68,5 @@ FramesGive ends input written holds status =
 abbrev pub TaskGives : Task → List ℕ → (written holds : Option (List ℕ)) → ℕ → Type 0
 TaskGives (End o) input written holds status = GivesAs o.role o input written holds status ⊎ (Keeps written holds × (status ≡ 3))
 TaskGives (Follow in_words) input written holds status = HasStatus (FollowGives in_words input written holds) status
-TaskGives Watch input written holds status = ListsLines input written holds status
+TaskGives (Watch in_words) input written holds status = ListsLines in_words input written holds status
 TaskGives (Frames ends) input written holds status = FramesGive ends input written holds status

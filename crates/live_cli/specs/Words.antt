@@ -61,14 +61,22 @@ serve_line = with_rule (end_line (usual Serve)) (number (codes "waiting") (decim
 abbrev pub frames_line : App
 frames_line = with_rule (new_app (codes "frames")) (record (new_rule (codes "nodes")) { value_names = 2 })
 
--- the subcommand `follow`, which has a flag
+-- a subcommand that lists a capture, which has a flag
+abbrev pub listing_line : Text → App
+listing_line name = with_rule (new_app name) (record (new_rule (codes "words")) { long = Some (codes "words"); action = Some SetTrue })
+
+-- the subcommand `follow`
 abbrev pub follow_line : App
-follow_line = with_rule (new_app (codes "follow")) (record (new_rule (codes "words")) { long = Some (codes "words"); action = Some SetTrue })
+follow_line = listing_line (codes "follow")
+
+-- the subcommand `watch`
+abbrev pub watch_line : App
+watch_line = listing_line (codes "watch")
 
 -- all words: one of five subcommands
 abbrev pub daplive : App
 daplive = fold with_subcommand (new_program (codes "daplive"))
-    (serve_line.top ∷ (end_line (usual Ask)).top ∷ follow_line.top ∷ frames_line.top ∷ (new_app (codes "watch")).top ∷ [])
+    (serve_line.top ∷ (end_line (usual Ask)).top ∷ follow_line.top ∷ frames_line.top ∷ watch_line.top ∷ [])
 
 -- ---- What they say.
 
@@ -120,7 +128,7 @@ task_in p =
     if bytes_eq p.0 (codes "serve") then option_map End (options_of Serve p.1)
     else if bytes_eq p.0 (codes "ask") then option_map End (options_of Ask p.1)
     else if bytes_eq p.0 (codes "frames") then option_map Frames (ends_of (all_of (codes "nodes") p.1))
-    else if bytes_eq p.0 (codes "watch") then Some Watch
+    else if bytes_eq p.0 (codes "watch") then Some (Watch (has_words p.1))
     else Some (Follow (has_words p.1))
 
 -- what the words name, the program's name first, where nothing is at fault in them

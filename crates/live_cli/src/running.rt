@@ -162,14 +162,15 @@ fn list<R: BufRead, W: Write, E: Write>(
 /// Lists a capture as its lines come, and answers the exit status.
 fn watch_lines<R: BufRead, W: Write, E: Write>(
     alloc: Global,
+    in_words: bool,
     reader: &mut R,
     writer: &mut W,
     error_writer: &mut E,
 ) -> u8
-    ensures { IfSome (R.remaining reader.old) (λ input. TaskGives Task.Watch input
+    ensures { IfSome (R.remaining reader.old) (λ input. TaskGives (Task.Watch in_words) input
         (W.contents writer.old) (W.contents writer.new) result) }
 {
-    match watch(alloc, reader, writer, error_writer) {
+    match watch(alloc, reader, writer, error_writer, in_words) {
         Ok(any_bad) => status(any_bad),
         Err(fault) => tell(fault, error_writer),
     }
@@ -246,7 +247,7 @@ fn run_task<R: BufRead, W: Write, E: Write>(
     match task {
         Task::End(options) => run_options(alloc, options, reader, writer, error_writer),
         Task::Follow { in_words } => list(alloc, in_words, reader, writer, error_writer),
-        Task::Watch => watch_lines(alloc, reader, writer, error_writer),
+        Task::Watch { in_words } => watch_lines(alloc, in_words, reader, writer, error_writer),
         Task::Frames(ends) => write_frames(alloc, ends, reader, writer, error_writer),
     }
 }
@@ -297,7 +298,11 @@ pub fn run_words<R: BufRead, W: Write, E: Write>(
         (W.contents writer.old) (W.contents writer.new) result) }
     ensures watch { (program : List ℕ)
         → map string_bytes words.now ≡ program ∷ codes "watch" ∷ []
-        → IfSome (R.remaining reader.old) (λ input. TaskGives Task.Watch input
+        → IfSome (R.remaining reader.old) (λ input. TaskGives (Task.Watch false) input
+        (W.contents writer.old) (W.contents writer.new) result) }
+    ensures watch_in_words { (program : List ℕ)
+        → map string_bytes words.now ≡ program ∷ codes "watch" ∷ codes "--words" ∷ []
+        → IfSome (R.remaining reader.old) (λ input. TaskGives (Task.Watch true) input
         (W.contents writer.old) (W.contents writer.new) result) }
     ensures digits { fault_of daplive (map string_bytes words.now) ≡ []
         → task_of (map string_bytes words.now) ≡ None

@@ -2,16 +2,15 @@
 
 ghost use Rattle.std.specs.Result.{result_ok};
 ghost use Rattle.std.specs.Prelude.{◌≡◌, ◌≤◌, false, IfErr, IfOk, IfSome, None, Some, codes, map, option_and_then, option_map, pos, string_bytes};
-ghost use Rattle.clap.specs.Words.{FailsBy, all_of, app_of, fault_of, first_of, found_of, kind_of, new_app, rows_of, rule_of, subcommand_of};
+ghost use Rattle.clap.specs.Words.{FailsBy, all_of, app_of, fault_of, first_of, found_of, kind_of, rows_of, rule_of, subcommand_of};
 ghost use Rattle.clap.specs.declared.builder.value_parser.ValueParser.TheVariants as parser;
 ghost use Rattle.dap_msg.specs.BothEnds.{greatest_message, least_buffer};
 ghost use Rattle.nsp_link.specs.Limits.{largest_segment, largest_window};
-ghost use Rattle.clap.specs.declared.builder.command.Command.TheViews.{out-Command};
 ghost use Rattle.dap_text.specs.Words.{short};
 ghost use Rattle.dap_live.specs.Orders.{address_of};
 ghost use Rattle.decnet_frames.specs.Nodes.{node_of};
 ghost use Rattle.live_cli.specs.Words.{daplive, ends_of, greatest_waiting, least_waiting, option as option_rule, options_of, task_in as task_of_rows, task_of, has_words as words_wanted, waiting_of};
-ghost use Rattle.live_cli.specs.Inner.CommandLine.{HasAddresses, HasLimits, HasRoom, HasWaiting, IsCommandLine, IsEndLine, IsFollowLine, IsFramesLine, IsServeLine};
+ghost use Rattle.live_cli.specs.Inner.CommandLine.{HasAddresses, HasLimits, HasRoom, HasWaiting, IsCommandLine, IsEndLine, IsFollowLine, IsFramesLine, IsServeLine, IsWatchLine};
 ghost use Rattle.live_cli.specs.Inner.Spelling.{IsMisspelt};
 
 use clap::builder::ValueParser;
@@ -284,13 +283,19 @@ fn follow_command<'a>(alloc: Global) -> Result<Command<'a>, Error>
 }
 
 /// The command line of the listing that is written as lines come.
-fn watch_command<'a>(alloc: Global) -> Command<'a>
-    ensures app { app_of result ≡ new_app (codes "watch") }
-    ensures local { (out-Command result).has_globals ≡ false }
+fn watch_command<'a>(alloc: Global) -> Result<Command<'a>, Error>
+    ensures line { IfOk result IsWatchLine }
+    ensures memory { IfErr result (λ error. kind_of error ≡ ErrorKind.OutOfMemory) }
 {
-    Command::new(alloc, "watch")
+    let words = Arg::new(alloc, "words")
+        .long("words")
+        .action(ArgAction::SetTrue)
+        .help("Also what the lines say in words");
+    let command = Command::new(alloc, "watch")
         .about("Lists captured NSP packets as their lines come, with DAP messages reassembled")
         .after_help(WATCH)
+        .arg(words)?;
+    Ok(command)
 }
 
 /// The command line of the frames of a capture file.
@@ -321,7 +326,7 @@ fn command_line<'a>(alloc: Global) -> Result<Command<'a>, Error>
     let command = command.subcommand(end_command(alloc, &ASKING)?)?;
     let command = command.subcommand(follow_command(alloc)?)?;
     let command = command.subcommand(frames_command(alloc)?)?;
-    let command = command.subcommand(watch_command(alloc))?;
+    let command = command.subcommand(watch_command(alloc)?)?;
     Ok(command)
 }
 
@@ -353,8 +358,8 @@ pub enum Task {
     End(Options),
     /// Lists a capture; also in words.
     Follow { in_words: bool },
-    /// Lists a capture as its lines come.
-    Watch,
+    /// Lists a capture as its lines come; also in words.
+    Watch { in_words: bool },
     /// Writes the packets in a capture file, between these nodes or those of the first packet.
     Frames(Option<Ends>),
 }
@@ -562,7 +567,9 @@ fn task_in<'a>(name: &str, matches: &ArgMatches<'a>) -> Result<Task, Misspelt<'a
     } else if is(name.as_bytes(), "frames") {
         Ok(Task::Frames(ends_in(matches)?))
     } else if is(name.as_bytes(), "watch") {
-        Ok(Task::Watch)
+        Ok(Task::Watch {
+            in_words: has_words(matches),
+        })
     } else {
         Ok(Task::Follow {
             in_words: has_words(matches),

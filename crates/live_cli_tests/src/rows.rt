@@ -424,6 +424,89 @@ part > dst=0202 src=0101 seg=3..3 len=5\n",
         b"1 > bad truncated at=1\n2 > ack dst=0202 src=0101 acks=0:1\n",
         b"bad line 2\nbad line 3\n",
     ),
+    // The same in words; and a frame that a bad line is behind, which tells of no packet.
+    (
+        &["watch", "--words"],
+        b"# frame 12 1600000000.123456 1.1 -> 1.2\n\
+> 6002020101010001020a00040703050600000000\n\
+# frame 13 - 1.2 -> 1.1\n\
+\n\
+< 6001010202010001020a00040503050600000000\n\
+# frame 14 1600000000.5 1.1 -> 1.2 \n\
+> 18020201010000\n\
+# frame 15 - 63.1023 -> 1.1\n\
+< 5801010202\n\
+> 6002020101020002020ba6041002000004030000000302080200014607000000\n\
+> 6002020101030002020306200303020701000000000000\n\
+> 6002020101040004020804030104030000000802080403000000414243\n\
+> 6002020101050004020301010308020400225c20080202000008020100\n\
+> 6002020101060008023e004141414141414141414141414141414141414141414141414141414141414141414141414141414141414141414141414141414141414141414141414108023d00424242424242424242424242424242424242424242424242424242424242424242424242424242424242424242424242424242424242424242424242\n\
+< 6001010202020009020d0010040300000004030000000009020600500000010509020600400000010d090205275000000009020532400000000902053040000000090205408000000009020500b0000000\n\
+> 600202010107000502010206020007020203000f020241420a0200\n\
+> 600202010108000802020041\n",
+        0,
+        b"1 > segment only dst=0202 src=0101 seg=1 acks=- len=13 ; frame 12 1600000000.123456 1.1 -> 1.2\n\
+\x20 message seg=1..1 len=13\n\
+\x20 config bufsiz=1024 ostype=7 filesys=3 version=5.6.0.0.0 syscap=0 ; VAX/VMS\n\
+2 < segment only dst=0101 src=0202 seg=1 acks=- len=13\n\
+\x20 message seg=1..1 len=13\n\
+\x20 config bufsiz=1024 ostype=5 filesys=3 version=5.6.0.0.0 syscap=0\n\
+3 > not-here control ; connect initiate\n\
+4 < not-here control ; frame 15 - 63.1023 -> 1.1\n\
+5 > segment only dst=0202 src=0101 seg=2 acks=- len=25\n\
+\x20 message seg=2..2 len=25\n\
+\x20 attributes org=16 rfm=2 mrs=0 mrn=03000000 ; relative, variable\n\
+\x20 access func=2 opt=0 name=46 fac=7 shr=0 display=0 password=0 ; create, \"F\", for get put delete\n\
+6 > segment only dst=0202 src=0101 seg=3 acks=- len=16\n\
+\x20 message seg=3..3 len=16\n\
+\x20 attributes org=32 rfm=3 ; indexed, VFC\n\
+\x20 access func=1 opt=0 name=- fac=0 shr=0 display=0 password=0 ; open, \"\"\n\
+7 > segment only dst=0202 src=0101 seg=4 acks=- len=22\n\
+\x20 message seg=4..4 len=22\n\
+\x20 control func=4 rac=1 key=03000000 ; put, by number, record 3\n\
+\x20 data recnum=03000000 body=414243 ; record 3, \"ABC\"\n\
+8 > segment only dst=0202 src=0101 seg=5 acks=- len=22\n\
+\x20 message seg=5..5 len=22\n\
+\x20 control func=1 rac=3 ; get, whole file\n\
+\x20 data recnum=- body=225c20 ; \"\\\"\\\\ \"\n\
+\x20 data recnum=- body=00\n\
+\x20 data recnum=- body=- ; \"\"\n\
+9 > segment only dst=0202 src=0101 seg=6 acks=- len=129\n\
+\x20 message seg=6..6 len=129\n\
+\x20 data recnum=- body=41414141414141414141414141414141414141414141414141414141414141414141414141414141414141414141414141414141414141414141414141 ; \"AAAAAAAAAAAAAAAAAAAAAAAAAAAAAAAAAAAAAAAAAAAAAAAAAAAAAAAAAAAA\"..\n\
+\x20 data recnum=- body=424242424242424242424242424242424242424242424242424242424242424242424242424242424242424242424242424242424242424242424242 ; \"BBBBBBBBBBBBBBBBBBBBBBBBBBBBBBBBBBBBBBBBBBBBBBBBBBBBBBBBBBBB\"\n\
+10 < segment only dst=0101 src=0202 seg=2 acks=- len=74\n\
+\x20 message seg=2..2 len=74\n\
+\x20 status 1000 rfa=03000000 recnum=03000000 stv=- ; success, record 3\n\
+\x20 status 5000 rfa=- recnum=- stv=05 ; record exists\n\
+\x20 status 4000 rfa=- recnum=- stv=0d ; error on opening\n\
+\x20 status 5027 rfa=- recnum=- stv=- ; end of file\n\
+\x20 status 4032 rfa=- recnum=- stv=- ; file not found\n\
+\x20 status 4030 rfa=- recnum=- stv=- ; file locked\n\
+\x20 status 8040 rfa=- recnum=- stv=- ; format\n\
+\x20 status b000 rfa=- recnum=- stv=-\n\
+11 > segment only dst=0202 src=0101 seg=7 acks=- len=20\n\
+\x20 message seg=7..7 len=20\n\
+\x20 continue func=2 ; skip\n\
+\x20 ack\n\
+\x20 complete func=3 fop=0 check=- ; purge\n\
+\x20 other type=15 body=4142 ; name\n\
+\x20 other type=10 body=- ; key definition\n\
+12 > segment only dst=0202 src=0101 seg=8 acks=- len=5\n\
+\x20 message seg=8..8 len=5\n\
+\x20 data recnum=- body=41 ; \"A\"\n",
+        b"",
+    ),
+    (
+        &["watch", "--words"],
+        b"# frame 1 - 1.1 -> 1.2\n> 6\n> 04020201010180\n# frame 2 - 1.1 -> 1.2\n> 04020201010180\n\
+> 04020201010180\n",
+        1,
+        b"1 > ack dst=0202 src=0101 acks=0:1\n\
+2 > ack dst=0202 src=0101 acks=0:1 ; frame 2 - 1.1 -> 1.2\n\
+3 > ack dst=0202 src=0101 acks=0:1\n",
+        b"bad line 2\n",
+    ),
     // A repeat of a segment of a listed message isn't taken again.
     (
         &["watch"],

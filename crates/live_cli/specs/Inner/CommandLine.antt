@@ -7,7 +7,7 @@ use Rattle.dap_msg.specs.BothEnds.{greatest_message, least_buffer}
 use Rattle.nsp_link.specs.Limits.{largest_segment, largest_window}
 use Rattle.live_cli.specs.declared.words.Task.{Task}
 use Rattle.live_cli.specs.declared.words.Task.TheVariants.{End, Follow, Frames, Watch}
-use Rattle.live_cli.specs.Words.{daplive, follow_line, frames_line, greatest_waiting, least_waiting, number, option}
+use Rattle.live_cli.specs.Words.{daplive, follow_line, frames_line, greatest_waiting, least_waiting, number, option, watch_line}
 
 -- the command is another with more words, none of them global
 pub record Becomes (before : Command) (line : App) (command : Command) : Type 0 where
@@ -60,6 +60,11 @@ pub record IsFollowLine (command : Command) : Type 0 where
   pub app : app_of command ≡ follow_line
   pub local : (out-Command command).has_globals ≡ false
 
+-- a command that is the command line of `watch`
+pub record IsWatchLine (command : Command) : Type 0 where
+  pub app : app_of command ≡ watch_line
+  pub local : (out-Command command).has_globals ≡ false
+
 -- a command that is the command line of `frames`
 pub record IsFramesLine (command : Command) : Type 0 where
   pub app : app_of command ≡ frames_line
@@ -75,5 +80,5 @@ pub record IsCommandLine (command : Command) : Type 0 where
 abbrev pub HasRoom : Task → Type 0
 HasRoom (End options) = least_buffer ≤ options.buffer
 HasRoom (Follow in_words) = Unit {0}
-HasRoom Watch = Unit {0}
+HasRoom (Watch in_words) = Unit {0}
 HasRoom (Frames ends) = Unit {0}

@@ -6,7 +6,7 @@ use Rattle.live_cli.specs.declared.words.Task.{Task}
 use Rattle.live_cli.specs.declared.words.Task.TheVariants.{End, Follow, Frames, Watch}
 use Rattle.live_cli.specs.Running.{TaskGives}
 use Rattle.live_cli.specs.Words.{daplive, task_of, usual}
-use Rattle.live_cli.proofs.RunLemmas.{names_follow, names_in_words, no_fault_in_words, names_frames, names_usual, names_watch, no_fault, no_fault_follow, no_fault_frames, no_fault_watch, none_named, one_task, refused}
+use Rattle.live_cli.proofs.RunLemmas.{names_follow, names_in_words, no_fault_in_words, names_frames, names_usual, names_watch, names_watch_in_words, no_fault, no_fault_follow, no_fault_frames, no_fault_watch, no_fault_watch_in_words, none_named, one_task, refused}
 use Rattle.live_cli.proofs.running.run_words.Goals as goal
 
 pub returns-in-Err : goal.returns-in-Err
@@ -27,8 +27,10 @@ returns-in-Err g c =
           (c.refuse.ensures.memory (only_memory kinds e (ap (fault_of daplive) words ∙ no_fault_in_words program) has));
       frames = λ program words. refused (Frames None) input old new c.refuse.result
           (c.refuse.ensures.memory (only_memory kinds e (ap (fault_of daplive) words ∙ no_fault_frames program) has));
-      watch = λ program words. refused Watch input old new c.refuse.result
+      watch = λ program words. refused (Watch false) input old new c.refuse.result
           (c.refuse.ensures.memory (only_memory kinds e (ap (fault_of daplive) words ∙ no_fault_watch program) has));
+      watch_in_words = λ program words. refused (Watch true) input old new c.refuse.result
+          (c.refuse.ensures.memory (only_memory kinds e (ap (fault_of daplive) words ∙ no_fault_watch_in_words program) has));
       digits = λ none unnamed. let kept = c.refuse.ensures.memory (only_memory kinds e none has) in (inr kept.0, kept.1);
       mistake = λ mistakes.
           elim (memory_or_mistake kinds e mistakes has) [
@@ -77,7 +79,14 @@ pub returns-in-Ok-Ok-clause-watch : goal.returns-in-Ok-Ok-clause-watch
 returns-in-Ok-Ok-clause-watch g c program named =
     let words = map string_bytes c.args.words.now in
     let named_first : Some c.in-Ok-Ok.task ≡ task_of words = search rules in
-    let same = one_task words c.in-Ok-Ok.task Watch named_first (ap task_of named ∙ names_watch program) in
+    let same = one_task words c.in-Ok-Ok.task (Watch false) named_first (ap task_of named ∙ names_watch program) in
+    subst (λ (task : Task). IfSome (g.R.Read.remaining c.args.reader.now) (λ input. TaskGives task input (g.W.Write.contents c.args.writer.now) (g.W.Write.contents c.run_task.new.writer) c.run_task.result)) same c.run_task.ensures
+
+pub returns-in-Ok-Ok-clause-watch_in_words : goal.returns-in-Ok-Ok-clause-watch_in_words
+returns-in-Ok-Ok-clause-watch_in_words g c program named =
+    let words = map string_bytes c.args.words.now in
+    let named_first : Some c.in-Ok-Ok.task ≡ task_of words = search rules in
+    let same = one_task words c.in-Ok-Ok.task (Watch true) named_first (ap task_of named ∙ names_watch_in_words program) in
     subst (λ (task : Task). IfSome (g.R.Read.remaining c.args.reader.now) (λ input. TaskGives task input (g.W.Write.contents c.args.writer.now) (g.W.Write.contents c.run_task.new.writer) c.run_task.result)) same c.run_task.ensures
 
 pub returns-in-Ok-Ok-clause-frames : goal.returns-in-Ok-Ok-clause-frames
@@ -109,7 +118,13 @@ pub returns-in-Ok-Err-clause-watch : goal.returns-in-Ok-Err-clause-watch
 returns-in-Ok-Err-clause-watch g c program named =
     let words = map string_bytes c.args.words.now in
     let none : None ≡ task_of words = search rules in
-    absurd (none_named words Watch none (ap task_of named ∙ names_watch program))
+    absurd (none_named words (Watch false) none (ap task_of named ∙ names_watch program))
+
+pub returns-in-Ok-Err-clause-watch_in_words : goal.returns-in-Ok-Err-clause-watch_in_words
+returns-in-Ok-Err-clause-watch_in_words g c program named =
+    let words = map string_bytes c.args.words.now in
+    let none : None ≡ task_of words = search rules in
+    absurd (none_named words (Watch true) none (ap task_of named ∙ names_watch_in_words program))
 
 pub returns-in-Ok-Err-clause-frames : goal.returns-in-Ok-Err-clause-frames
 returns-in-Ok-Err-clause-frames g c program named =

@@ -12,10 +12,11 @@ returns-clause-line c =
     let third = c.in_ok-command-3.ensures in
     let follow = c.in_ok-follow_command.ensures.line in
     let frames = c.in_ok-frames_command.ensures.line in
+    let watch = c.in_ok-watch_command.ensures.line in
     let fourth = c.in_ok-command-4.ensures in
     let fifth = c.in_ok-command-5.ensures in
-    let app = fifth.shape c.watch_command.ensures.local
-    ∙ ap (λ (a : App). with_subcommand a (app_of c.watch_command.result).top) (fourth.shape frames.local
+    let app = fifth.shape watch.local
+    ∙ ap (λ (a : App). with_subcommand a (app_of c.in_ok-watch_command.field-0).top) (fourth.shape frames.local
     ∙ ap (λ (a : App). with_subcommand a (app_of c.in_ok-frames_command.field-0).top) (third.shape follow.local
     ∙ ap (λ (a : App). with_subcommand a (app_of c.in_ok-follow_command.field-0).top) (second.shape ask.local
     ∙ ap (λ (a : App). with_subcommand a (app_of c.in_ok-end_command.field-0).top) (first.shape serve.local))))
