@@ -2,7 +2,7 @@
 use Rattle.std.proofs.Common.{◌≡◌, ℕ, zero, suc, List, [], ◌∷◌, length, Option, Some, None, refl, ap, sym, subst, ◌∙◌, inr, arith}
 use Rattle.std.specs.Prelude.{set, slice_get, replicate}
 use Rattle.std.proofs.lemmas.List.{length-set}
-use Rattle.dap_shared.specs.Shared.{SharedValue}
+use Rattle.dap_shared.specs.Noted.{NotedValue}
 use Rattle.nsp_link.specs.declared.link.LinkSetup.{LinkSetup}
 use Rattle.dap_end.specs.Ports.{PortValue, new_port}
 use Rattle.dap_end.specs.Node.{NodeValue}
@@ -40,17 +40,17 @@ no-ports links = λ j p e. absurd (none-there links j p e)
 -- ---- A node.
 
 -- one port was set, or the link is no longer there
-pub node-set : (v : NodeValue) (link : ℕ) (shared : SharedValue) (o : Option PortValue) → IsNode v → length shared.sessions ≡ length v.shared.sessions → ((q : PortValue) → o ≡ Some q → IsPort q)
-    → IsNode (record { shared = shared; ports = set v.ports link o })
-node-set v link shared o h many new =
+pub node-set : (v : NodeValue) (link : ℕ) (noted : NotedValue) (o : Option PortValue) → IsNode v → length noted.shared.sessions ≡ length v.noted.shared.sessions → ((q : PortValue) → o ≡ Some q → IsPort q)
+    → IsNode (record { noted = noted; ports = set v.ports link o })
+node-set v link noted o h many new =
     record { links = length-set v.ports link o ∙ h.links ∙ sym many; ports = set-ports v.ports link o new h.ports }
 
 -- a port was taken out, and another put back
-pub node-again : (v : NodeValue) (link : ℕ) (shared : SharedValue) (p : PortValue) → IsNode v → length shared.sessions ≡ length v.shared.sessions → IsPort p
-    → IsNode (record { shared = shared; ports = set (set v.ports link None) link (Some p) })
-node-again v link shared p h many new =
-    subst (λ (l : List (Option PortValue)). IsNode (record { shared = shared; ports = l })) (sym (set-again v.ports link None (Some p)))
-    (node-set v link shared (Some p) h many (λ q is. subst IsPort (let same : p ≡ q = cc in same) new))
+pub node-again : (v : NodeValue) (link : ℕ) (noted : NotedValue) (p : PortValue) → IsNode v → length noted.shared.sessions ≡ length v.noted.shared.sessions → IsPort p
+    → IsNode (record { noted = noted; ports = set (set v.ports link None) link (Some p) })
+node-again v link noted p h many new =
+    subst (λ (l : List (Option PortValue)). IsNode (record { noted = noted; ports = l })) (sym (set-again v.ports link None (Some p)))
+    (node-set v link noted (Some p) h many (λ q is. subst IsPort (let same : p ≡ q = cc in same) new))
 
 -- a new port
 pub port-new : (setup : LinkSetup) (p : PortValue) → p ≡ new_port setup → IsPort p

@@ -1,25 +1,26 @@
 -- A node: several links, each with its port, before one table of files.
-use Rattle.std.specs.Prelude.{◌≡◌, ℕ, List, set, slice_get, Option, Some, None}
+use Rattle.std.specs.Prelude.{◌≡◌, ℕ, ◌==◌, ◌&&◌, Bool, true, false, List, [], set, slice_get, Option, Some, None}
 use Rattle.nsp_link.specs.declared.link.LinkSetup.{LinkSetup}
-use Rattle.dap_shared.specs.Shared.{SharedValue, SharedServed, SharedBegins}
+use Rattle.dap_shared.specs.Shared.{SharedBegins}
+use Rattle.dap_shared.specs.Noted.{NotedServed, NotedValue}
 use Rattle.dap_accessed.specs.declared.fault.AddFault.{AddFault}
 use Rattle.dap_accessed.specs.declared.fault.AddFault.TheVariants as fault
 use Rattle.dap_end.specs.Ports.{EndValue, HasCome, PortValue, new_port}
 use Rattle.dap_end.specs.Turns.{EndOf}
 use Rattle.dap_end.specs.By.{serves_by}
 
--- what is kept of all exchanges, and the port of each link that is there
+-- what is kept of all exchanges, the address of each link, what was noted of locks, and the port of each link that is there
 pub record NodeValue : Type 0 where
-  pub shared : SharedValue
+  pub noted : NotedValue
   pub ports : List (Option PortValue)
 
 -- a link of a node: its port, before all exchanges
 abbrev pub LinkValue : Type 0
-LinkValue = EndValue SharedValue
+LinkValue = EndValue NotedValue
 
 -- what serves a link, as one of the two ends: while fewer bytes of its answers wait than this
-abbrev pub serves_on : (link : ℕ) → (most : ℕ) → EndOf SharedValue
-serves_on link most = serves_by (SharedServed link) most
+abbrev pub serves_on : (link : ℕ) → (most : ℕ) → EndOf NotedValue
+serves_on link most = serves_by (NotedServed link) most
 
 -- the link is there, with this port
 abbrev pub HasPort : (link : ℕ) → NodeValue → PortValue → Type 0
@@ -29,22 +30,52 @@ HasPort link v port = slice_get v.ports link ≡ Some (Some port)
 abbrev pub AtPort : (link : ℕ) → NodeValue → (Says : PortValue → Type 0) → Type 0
 AtPort link v Says = (p : PortValue) × HasPort link v p × Says p
 
--- The link moved so, and every other port stayed.
+-- ---- Which link it is.
+
+-- the link is there, and this is its own address
+abbrev pub has_local : (local : ℕ) → Option PortValue → Bool
+has_local local None = false
+has_local local (Some p) = p.link.setup.local == local
+
+-- the link is there, and these are its own address and its peer's
+abbrev pub is_between : (local remote : ℕ) → Option PortValue → Bool
+is_between local remote None = false
+is_between local remote (Some p) = (p.link.setup.local == local) && (p.link.setup.remote == remote)
+
+-- the link isn't there
+abbrev pub is_free : Option PortValue → Bool
+is_free None = true
+is_free (Some p) = false
+
+-- ---- What becomes of it.
+
+-- what was noted is forgotten
+abbrev pub forgotten : NotedValue → NotedValue
+forgotten v = record v { locked = [] }
+
+-- Older notes were forgotten, the link moved so, and every other port stayed.
 pub record OnLink (link : ℕ) (Does : LinkValue → LinkValue → Type 0) (old new : NodeValue) : Type 0 where
   pub before : PortValue
   pub after : PortValue
   pub there : HasPort link old before
-  pub does : Does (record { port = before; present = old.shared }) (record { port = after; present = new.shared })
+  pub does : Does (record { port = before; present = forgotten old.noted }) (record { port = after; present = new.noted })
   pub ports : new.ports ≡ set old.ports link (Some after)
+
+-- The link has this address, and nothing else changed of the addresses and the notes.
+pub record HasAddress (link : ℕ) (address : ℕ) (old new : NotedValue) : Type 0 where
+  pub addresses : new.addresses ≡ set old.addresses link address
+  pub locked : new.locked ≡ old.locked
 
 -- The link began anew with this setup, and every other port stayed: what was open on it is closed.
 pub record BeganOn (link : ℕ) (setup : LinkSetup) (old new : NodeValue) : Type 0 where
-  pub shared : SharedBegins link old.shared new.shared
+  pub shared : SharedBegins link old.noted.shared new.noted.shared
+  pub address : HasAddress link setup.local old.noted new.noted
   pub ports : new.ports ≡ set old.ports link (Some (new_port setup))
 
--- The link ended, and every other port stayed.
+-- The link ended, and every other port stayed. The address of a link that isn't there is 0.
 pub record EndedOn (link : ℕ) (old new : NodeValue) : Type 0 where
-  pub shared : SharedBegins link old.shared new.shared
+  pub shared : SharedBegins link old.noted.shared new.noted.shared
+  pub address : HasAddress link 0 old.noted new.noted
   pub ports : new.ports ≡ set old.ports link None
 
 -- ---- Files that a node is given.

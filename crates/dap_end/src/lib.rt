@@ -6,6 +6,7 @@ mod asking;
 mod fault;
 mod laws;
 mod node;
+mod places;
 mod port;
 mod serving;
 mod turns;

@@ -12,18 +12,18 @@ ghost use Rattle.dap_accessed.specs.Adding.{with_new_file, with_record};
 ghost use Rattle.dap_shared.specs.Nodes.{Gives, GivesRecord};
 ghost use Rattle.dap_shared.specs.Shared.{NotAdded, RecordNotAdded, SharedAfter, SharedGiven};
 ghost use Rattle.dap_end.specs.Ports.{PortValue};
-ghost use Rattle.std.specs.List.{list_any};
+ghost use Rattle.std.specs.List.{list_any, position};
 ghost use Rattle.dap_end.specs.Inner.Come.{come_on};
-ghost use Rattle.dap_end.specs.Node.{AtPort, BeganOn, EndedOn, HasPort, NodeNotGiven, NoneHasCome, OnLink, SomeHasCome, serves_on};
+ghost use Rattle.dap_end.specs.Node.{AtPort, BeganOn, EndedOn, HasPort, NodeNotGiven, NoneHasCome, OnLink, SomeHasCome, has_local, is_between, is_free, serves_on};
 ghost use Rattle.dap_end.specs.Turns.{Takes, WentOn};
 ghost use Rattle.dap_end.specs.declared.fault.EndFault.TheVariants as end_fault;
 ghost use Rattle.std.specs.Result.{result_map_both};
 
 use crate::fault::TakeFault;
 use crate::port::Port;
-use crate::turns;
+use crate::{places, turns};
 use dap_accessed::{AddFault, FileTable, NoMemory};
-use dap_shared::SharedFiles;
+use dap_shared::NotedFiles;
 use nsp_link::{Got, LinkEnd, LinkFault, LinkSetup};
 use rec_file::Shape;
 use std::alloc::Global;
@@ -32,7 +32,7 @@ use std::marker::Model;
 /// A server of several links. A link is a number from 0, and is there or not.
 #[derive(Drop)]
 pub struct ServingNode {
-    shared: SharedFiles,
+    noted: NotedFiles,
     ports: Vec<Option<Port>>,
 }
 
@@ -44,10 +44,13 @@ impl Model for ServingNode {
 
     ghost coded = { node_code };
 
-    ghost view = { λ a. record { shared = a.shared; ports = a.ports.items } };
+    ghost view = { λ a. record { noted = a.noted; ports = a.ports.items } };
 
-    ghost invariant = { λ a. IsNode (record { shared = a.shared; ports = a.ports.items }) };
+    ghost invariant = { λ a. IsNode (record { noted = a.noted; ports = a.ports.items }) };
 }
+
+/// The address of a link that isn't there.
+const NO_ADDRESS: u16 = 0;
 
 /// So many links that aren't there.
 fn no_ports(alloc: Global, links: usize) -> Result<Vec<Option<Port>>, NoMemory>
@@ -105,20 +108,30 @@ impl ServingNode {
     /// is there.
     pub fn new(alloc: Global, bufsiz: u16, links: usize) -> Result<ServingNode, NoMemory>
         requires { least_buffer ≤ bufsiz }
-        ensures stands { IfOk result (λ node. SharedAfter [] [] node.shared) }
-        ensures own { IfOk result (λ node. node.shared.own ≡ bufsiz) }
+        ensures stands { IfOk result (λ node. SharedAfter [] [] node.noted.shared) }
+        ensures own { IfOk result (λ node. node.noted.shared.own ≡ bufsiz) }
+        ensures addresses { IfOk result (λ node. node.noted.addresses ≡ replicate links 0) }
+        ensures locked { IfOk result (λ node. node.noted.locked ≡ []) }
         ensures ports { IfOk result (λ node. node.ports ≡ replicate links None) }
     {
-        let shared = SharedFiles::new(alloc, bufsiz, links)?;
+        let noted = NotedFiles::new(alloc, bufsiz, links)?;
         let ports = no_ports(alloc, links)?;
-        Ok(ServingNode { shared, ports })
+        Ok(ServingNode { noted, ports })
     }
 
     /// The files, in the order in which they were made: what all messages so far, of all links, have made of them.
     pub fn files(&self) -> &FileTable
-        ensures { result.now ≡ self.now.shared.files }
+        ensures { result.now ≡ self.now.noted.shared.files }
     {
-        self.shared.files()
+        self.noted.files()
+    }
+
+    /// Of each Access that the last [`ServingNode::take`] or [`ServingNode::go_on`] refused, as another link has the file
+    /// open: the lowest address of a link that locks it out. In the order of the Accesses.
+    pub fn locked(&self) -> &[u16]
+        ensures { result.now ≡ self.now.noted.locked }
+    {
+        self.noted.locked()
     }
 
     /// How many links there is room for.
@@ -140,9 +153,30 @@ impl ServingNode {
         }
     }
 
-    /// Begins a link, or begins it anew: what was open on it is closed, a PUT or an UPDATE that waits for its record
-    /// is dropped, and so is all that waits. Refused, with nothing changed: `BadSetup` where a limit of the setup
-    /// isn't in its range; `NoMemory`.
+    /// The first link that has this own address, where one is there.
+    pub fn find_local(&self, local: u16) -> Option<usize>
+        ensures { result ≡ position (has_local local) self.now.ports }
+    {
+        places::find_local(&self.ports, local)
+    }
+
+    /// The first link that has this own address and this peer, where one is there.
+    pub fn find_between(&self, local: u16, remote: u16) -> Option<usize>
+        ensures { result ≡ position (is_between local remote) self.now.ports }
+    {
+        places::find_between(&self.ports, local, remote)
+    }
+
+    /// The first link that isn't there; none where all are.
+    pub fn find_free(&self) -> Option<usize>
+        ensures { result ≡ position is_free self.now.ports }
+    {
+        places::find_free(&self.ports)
+    }
+
+    /// Begins a link, or begins it anew, with the own address of the setup: what was open on it is closed, a PUT or an
+    /// UPDATE that waits for its record is dropped, and so is all that waits. Refused, with nothing changed: `BadSetup`
+    /// where a limit of the setup isn't in its range; `NoMemory`.
     pub fn begin(&mut self, alloc: Global, link: usize, setup: LinkSetup) -> Result<(), LinkFault>
         requires { link < length self.old.ports }
         ensures ok { OnOk result (BeganOn link setup self.old self.new) }
@@ -151,7 +185,7 @@ impl ServingNode {
     {
         let port = Port::new(alloc, setup)?;
         self.ports[link] = Some(port);
-        self.shared.begin(link);
+        self.noted.begin(link, setup.local);
         Ok(())
     }
 
@@ -161,10 +195,11 @@ impl ServingNode {
         ensures { EndedOn link self.old self.new }
     {
         self.ports[link] = None;
-        self.shared.begin(link);
+        self.noted.begin(link, NO_ADDRESS);
     }
 
-    /// What [`crate::ServingEnd::take`] does, on one of the links: no other link moves.
+    /// What [`crate::ServingEnd::take`] does, on one of the links: no other link moves. What was noted before is
+    /// forgotten.
     pub fn take(
         &mut self,
         link: usize,
@@ -173,16 +208,20 @@ impl ServingNode {
         out: &mut Vec<Vec<u8>>,
     ) -> Result<Got, TakeFault>
         requires { (p : PortValue) × HasPort link self.old p }
-        ensures { OnLink link (λ before after. Takes (serves_on link most_waiting) before after
-            packet.now (bodies out.old.items) (bodies out.new.items) result) self.old self.new }
+        ensures takes { OnLink link (λ before after. Takes (serves_on link most_waiting)
+            before after packet.now (bodies out.old.items) (bodies out.new.items) result)
+            self.old self.new }
+        ensures addresses { self.new.noted.addresses ≡ self.old.noted.addresses }
     {
         let mut port = take_port(&mut self.ports, link);
-        let result = turns::take(&mut port, &mut self.shared, link, packet, most_waiting, out);
+        self.noted.forget();
+        let result = turns::take(&mut port, &mut self.noted, link, packet, most_waiting, out);
         self.ports[link] = Some(port);
         result
     }
 
-    /// What [`crate::ServingEnd::go_on`] does, on one of the links: no other link moves.
+    /// What [`crate::ServingEnd::go_on`] does, on one of the links: no other link moves. What was noted before is
+    /// forgotten.
     pub fn go_on(
         &mut self,
         link: usize,
@@ -190,12 +229,14 @@ impl ServingNode {
         out: &mut Vec<Vec<u8>>,
     ) -> Result<(), LinkFault>
         requires { (p : PortValue) × HasPort link self.old p }
-        ensures { OnLink link (λ before after. WentOn (serves_on link most_waiting) before after
-            (bodies out.old.items) (bodies out.new.items)
+        ensures went { OnLink link (λ before after. WentOn (serves_on link most_waiting)
+            before after (bodies out.old.items) (bodies out.new.items)
             (result_map_both (λ done. done) end_fault.Link result)) self.old self.new }
+        ensures addresses { self.new.noted.addresses ≡ self.old.noted.addresses }
     {
         let mut port = take_port(&mut self.ports, link);
-        let result = turns::go_on(&mut port, &mut self.shared, link, most_waiting, out);
+        self.noted.forget();
+        let result = turns::go_on(&mut port, &mut self.noted, link, most_waiting, out);
         self.ports[link] = Some(port);
         result
     }
@@ -249,18 +290,19 @@ impl ServingNode {
         requires { IsTrue (is_shape shape) }
         ensures idle { OnOk result (NoneHasCome self.old.ports) }
         ensures given { OnOk result
-            (SharedGiven (Gives name.now shape) self.old.shared self.new.shared) }
-        ensures files { OnOk result (self.new.shared.files
-            ≡ with_new_file name.now shape self.old.shared.files) }
+            (SharedGiven (Gives name.now shape) self.old.noted.shared self.new.noted.shared) }
+        ensures files { OnOk result (self.new.noted.shared.files
+            ≡ with_new_file name.now shape self.old.noted.shared.files) }
         ensures ports { self.new.ports ≡ self.old.ports }
+        ensures notes { self.new.noted ≡ record self.old.noted { shared = self.new.noted.shared } }
         ensures refused { IfErr result
-            (NodeNotGiven self.old (NotAdded self.old.shared.files name.now)) }
+            (NodeNotGiven self.old (NotAdded self.old.noted.shared.files name.now)) }
         ensures unchanged { OnErr result (self.new ≡ self.old) }
     {
         if has_come(&self.ports) {
             return Err(AddFault::Busy);
         }
-        self.shared.add(name, shape)
+        self.noted.add(name, shape)
     }
 
     /// A record more in the newest file, under its number, before a segment came on any link. In a sequential file
@@ -271,17 +313,18 @@ impl ServingNode {
     pub fn add_record(&mut self, number: u32, body: &[u8]) -> Result<(), AddFault>
         ensures idle { OnOk result (NoneHasCome self.old.ports) }
         ensures given { OnOk result
-            (SharedGiven (GivesRecord number body.now) self.old.shared self.new.shared) }
+            (SharedGiven (GivesRecord number body.now) self.old.noted.shared self.new.noted.shared) }
         ensures files { OnOk result
-            (self.new.shared.files ≡ with_record number body.now self.old.shared.files) }
+            (self.new.noted.shared.files ≡ with_record number body.now self.old.noted.shared.files) }
         ensures ports { self.new.ports ≡ self.old.ports }
+        ensures notes { self.new.noted ≡ record self.old.noted { shared = self.new.noted.shared } }
         ensures refused { IfErr result
-            (NodeNotGiven self.old (RecordNotAdded self.old.shared.files number body.now)) }
+            (NodeNotGiven self.old (RecordNotAdded self.old.noted.shared.files number body.now)) }
         ensures unchanged { OnErr result (self.new ≡ self.old) }
     {
         if has_come(&self.ports) {
             return Err(AddFault::Busy);
         }
-        self.shared.add_record(number, body)
+        self.noted.add_record(number, body)
     }
 }

@@ -7,4 +7,5 @@ pub mod Stepping
 pub mod Growing
 pub mod Held
 pub mod Holders
+pub mod Lowest
 pub mod Examples

@@ -1,3 +1,4 @@
 -- What only the contracts of private functions cite, and proofs: nobody has to believe it.
 pub mod Beside
 pub mod Held
+pub mod Lower

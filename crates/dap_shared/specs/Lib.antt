@@ -3,4 +3,5 @@ pub mod Nodes
 pub mod Keeping
 pub mod Shared
 pub mod Stored
+pub mod Noted
 pub mod Inner

@@ -5,6 +5,7 @@ use Rattle.dap_accessed.specs.Standing.{Files}
 use Rattle.dap_accessed.specs.Tables.{files_code}
 use Rattle.dap_accessed.specs.Sessions.{SessionValue}
 use Rattle.dap_accessed.specs.Stored.{session_code}
+use Rattle.dap_shared.specs.Noted.{NotedValue}
 use Rattle.dap_shared.specs.Shared.{SharedValue}
 
 -- the parts as one value
@@ -13,4 +14,12 @@ shared_code =
     code_by (ℕ × (Files × List SessionValue)) (coded× coded_ℕ (coded× files_code (coded_list session_code)))
     (λ v. (v.own, (v.files, v.sessions)))
     (λ p. record { own = p.0; files = p.1.0; sessions = p.1.1 })
+    (λ _. refl)
+
+-- the same with addresses and what was noted
+abbrev pub noted_code : Coded NotedValue
+noted_code =
+    code_by (SharedValue × (List ℕ × List ℕ)) (coded× shared_code (coded× (coded_list coded_ℕ) (coded_list coded_ℕ)))
+    (λ v. (v.shared, (v.addresses, v.locked)))
+    (λ p. record { shared = p.0; addresses = p.1.0; locked = p.1.1 })
     (λ _. refl)

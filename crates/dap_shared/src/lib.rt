@@ -4,6 +4,7 @@
 
 mod laws;
 mod locks;
+mod noted;
 mod server;
 mod shared;
 
@@ -12,5 +13,6 @@ pub use laws::{
     writers_are_alone,
 };
 pub use locks::FILE_LOCKED;
+pub use noted::NotedFiles;
 pub use server::Serving;
 pub use shared::SharedFiles;

@@ -17,5 +17,5 @@ pub use laws::{
     whole_messages_are_taken, whole_messages_wait,
 };
 pub use link::{
-    GREATEST_AGE, Got, LARGEST_LIMIT, LARGEST_SEGMENT, LARGEST_WINDOW, LinkEnd, LinkSetup,
+    GREATEST_AGE, Got, LARGEST_LIMIT, LARGEST_SEGMENT, LARGEST_WINDOW, LinkEnd, LinkSetup, is_setup,
 };

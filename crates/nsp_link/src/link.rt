@@ -118,6 +118,13 @@ impl LinkEnd {
         })
     }
 
+    /// How it was set up.
+    pub fn setup(&self) -> LinkSetup
+        ensures { result ≡ self.now.setup }
+    {
+        self.setup
+    }
+
     /// The segments that were sent, each counted once, however often it was sent.
     pub fn sent_count(&self) -> u64
         ensures value { result ≡ self.now.sent }
@@ -191,8 +198,8 @@ impl LinkEnd {
     }
 }
 
-/// Whether each limit is in its range.
-fn is_setup(setup: &LinkSetup) -> bool
+/// Whether each limit of a setup is in its range.
+pub fn is_setup(setup: &LinkSetup) -> bool
     ensures yes { result ≡ true → IsSetup setup.now }
     ensures no { result ≡ false → IsSetup setup.now → ⊥ }
 {

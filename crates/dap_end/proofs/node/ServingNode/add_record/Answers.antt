@@ -20,6 +20,6 @@ returns-clause-idle c =
 
 pub returns-clause-refused : goal.returns-clause-refused
 returns-clause-refused c =
-    let v : NodeValue = record { shared = c.self.inside.shared; ports = c.self.inside.ports.items } in
+    let v : NodeValue = record { noted = c.self.inside.noted; ports = c.self.inside.ports.items } in
     let still : list_any come_on v.ports ≡ false = search rules in
-    subst (λ (w : NodeValue). IfErr c.add_record.result (NodeNotGiven w (RecordNotAdded w.shared.files c.args.number c.args.body.now))) c.self.view_is (record-refused v c.args.number c.args.body.now c.add_record.result (none_come v.ports still) c.add_record.ensures.refused)
+    subst (λ (w : NodeValue). IfErr c.add_record.result (NodeNotGiven w (RecordNotAdded w.noted.shared.files c.args.number c.args.body.now))) c.self.view_is (record-refused v c.args.number c.args.body.now c.add_record.result (none_come v.ports still) c.add_record.ensures.refused)

@@ -1,13 +1,18 @@
-use Rattle.std.proofs.Common.{arith, ap, sym, subst, ◌∙◌, List, Option, Some, None, length}
+use Rattle.std.proofs.Common.{arith, ap, sym, subst, ◌∙◌, ℕ, List, Option, Some, None, length}
 use Rattle.std.specs.Prelude.{set}
 use Rattle.std.proofs.lemmas.Option.{slice_get_within}
 use Rattle.std.proofs.lemmas.List.{length-set}
 use Rattle.nsp_link.specs.declared.link.Got.TheVariants.{AckOnly}
+use Rattle.dap_msg.specs.Blocked.{bodies}
+use Rattle.dap_shared.specs.Noted.{NotedValue}
+use Rattle.std.specs.Result.{result_map_both}
+use Rattle.dap_end.specs.declared.fault.EndFault.TheVariants as end_fault
+use Rattle.dap_end.specs.Turns.{WentOn}
 use Rattle.dap_end.specs.By.{end_with}
 use Rattle.dap_end.specs.Ports.{PortValue}
 use Rattle.dap_end.specs.Inner.NodeInside.{IsNode}
-use Rattle.dap_end.specs.Node.{NodeValue}
-use Rattle.dap_end.proofs.Links.{by-answered}
+use Rattle.dap_end.specs.Node.{NodeValue, forgotten, serves_on}
+use Rattle.dap_end.proofs.Links.{by-answered, addresses-of, keeps-addresses, keeps-links, links-of}
 use Rattle.dap_end.proofs.Ports.{node-again, set-again}
 use Rattle.dap_end.proofs.node.ServingNode.go_on.Goals as goal
 
@@ -17,7 +22,8 @@ go_on-result-requires-clause-kept c = c.self.invariant.ports c.args.link c.take_
 pub go_on-result-requires-clause-link : goal.go_on-result-requires-clause-link
 go_on-result-requires-clause-link c =
     let there = slice_get_within c.self.inside.ports.items c.args.link _ c.take_port-port.ensures.port in
-    omega (arith, there, c.self.invariant.links)
+    let many = ap links-of c.forget.ensures in
+    omega (arith, there, c.self.invariant.links, many)
 
 pub index_mut-requires : goal.index_mut-requires
 index_mut-requires c =
@@ -28,18 +34,23 @@ index_mut-requires c =
 
 pub invariant_of-self : goal.invariant_of-self
 invariant_of-self c =
-    let v : NodeValue = record { shared = c.self.inside.shared; ports = c.self.inside.ports.items } in
-    let many = by-answered c.args.link c.args.most_waiting (end_with c.take_port-port.result v.shared) (end_with c.go_on-result.new.port c.go_on-result.new.server) AckOnly _ _ _ c.go_on-result.ensures.went in
-    subst (λ (l : List (Option PortValue)). IsNode (record { shared = c.go_on-result.new.server; ports = set l c.args.link (Some c.go_on-result.new.port) })) (sym c.take_port-port.ensures.rest)
+    let v : NodeValue = record { noted = c.self.inside.noted; ports = c.self.inside.ports.items } in
+    let many = by-answered ℕ links-of keeps-links c.args.link c.args.most_waiting (end_with c.take_port-port.result c.forget.new.self) (end_with c.go_on-result.new.port c.go_on-result.new.server) AckOnly _ _ _ c.go_on-result.ensures.went ∙ ap links-of c.forget.ensures in
+    subst (λ (l : List (Option PortValue)). IsNode (record { noted = c.go_on-result.new.server; ports = set l c.args.link (Some c.go_on-result.new.port) })) (sym c.take_port-port.ensures.rest)
     (node-again v c.args.link c.go_on-result.new.server c.go_on-result.new.port c.self.invariant many c.go_on-result.ensures.kept)
 
-pub returns : goal.returns
-returns c =
+pub returns-clause-went : goal.returns-clause-went
+returns-clause-went c =
     rw (← c.self.view_is)
     (record {
       before = c.take_port-port.result;
       after = c.go_on-result.new.port;
       there = c.take_port-port.ensures.port;
-      does = c.go_on-result.ensures.went;
+      does = subst (λ (n : NotedValue). WentOn (serves_on c.args.link c.args.most_waiting) (end_with c.take_port-port.result n) (end_with c.go_on-result.new.port c.go_on-result.new.server) (bodies c.args.out.now.items) (bodies c.go_on-result.new.out.items) (result_map_both (λ done. done) end_fault.Link c.go_on-result.result)) c.forget.ensures c.go_on-result.ensures.went;
       ports = ap (λ (l : List (Option PortValue)). set l c.args.link (Some c.go_on-result.new.port)) c.take_port-port.ensures.rest ∙ set-again c.self.inside.ports.items c.args.link None (Some c.go_on-result.new.port);
     })
+
+pub returns-clause-addresses : goal.returns-clause-addresses
+returns-clause-addresses c =
+    rw (← c.self.view_is)
+    (by-answered (List ℕ) addresses-of keeps-addresses c.args.link c.args.most_waiting (end_with c.take_port-port.result c.forget.new.self) (end_with c.go_on-result.new.port c.go_on-result.new.server) AckOnly _ _ _ c.go_on-result.ensures.went ∙ ap addresses-of c.forget.ensures)

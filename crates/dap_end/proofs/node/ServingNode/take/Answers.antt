@@ -1,12 +1,15 @@
-use Rattle.std.proofs.Common.{arith, ap, sym, subst, ◌∙◌, List, Option, Some, None, length}
+use Rattle.std.proofs.Common.{arith, ap, sym, subst, ◌∙◌, ℕ, List, Option, Some, None, length}
 use Rattle.std.specs.Prelude.{set}
 use Rattle.std.proofs.lemmas.Option.{slice_get_within}
 use Rattle.std.proofs.lemmas.List.{length-set}
+use Rattle.dap_msg.specs.Blocked.{bodies}
+use Rattle.dap_shared.specs.Noted.{NotedValue}
+use Rattle.dap_end.specs.Turns.{Takes}
 use Rattle.dap_end.specs.By.{end_with}
 use Rattle.dap_end.specs.Ports.{PortValue}
 use Rattle.dap_end.specs.Inner.NodeInside.{IsNode}
-use Rattle.dap_end.specs.Node.{NodeValue}
-use Rattle.dap_end.proofs.Links.{by-takes}
+use Rattle.dap_end.specs.Node.{NodeValue, forgotten, serves_on}
+use Rattle.dap_end.proofs.Links.{by-takes, addresses-of, keeps-addresses, keeps-links, links-of}
 use Rattle.dap_end.proofs.Ports.{node-again, set-again}
 use Rattle.dap_end.proofs.node.ServingNode.take.Goals as goal
 
@@ -16,7 +19,8 @@ take-result-requires-clause-kept c = c.self.invariant.ports c.args.link c.take_p
 pub take-result-requires-clause-link : goal.take-result-requires-clause-link
 take-result-requires-clause-link c =
     let there = slice_get_within c.self.inside.ports.items c.args.link _ c.take_port-port.ensures.port in
-    omega (arith, there, c.self.invariant.links)
+    let many = ap links-of c.forget.ensures in
+    omega (arith, there, c.self.invariant.links, many)
 
 pub index_mut-requires : goal.index_mut-requires
 index_mut-requires c =
@@ -27,18 +31,23 @@ index_mut-requires c =
 
 pub invariant_of-self : goal.invariant_of-self
 invariant_of-self c =
-    let v : NodeValue = record { shared = c.self.inside.shared; ports = c.self.inside.ports.items } in
-    let many = by-takes c.args.link c.args.most_waiting (end_with c.take_port-port.result v.shared) (end_with c.take-result.new.port c.take-result.new.server) c.args.packet.now _ _ _ c.take-result.ensures.takes in
-    subst (λ (l : List (Option PortValue)). IsNode (record { shared = c.take-result.new.server; ports = set l c.args.link (Some c.take-result.new.port) })) (sym c.take_port-port.ensures.rest)
+    let v : NodeValue = record { noted = c.self.inside.noted; ports = c.self.inside.ports.items } in
+    let many = by-takes ℕ links-of keeps-links c.args.link c.args.most_waiting (end_with c.take_port-port.result c.forget.new.self) (end_with c.take-result.new.port c.take-result.new.server) c.args.packet.now _ _ _ c.take-result.ensures.takes ∙ ap links-of c.forget.ensures in
+    subst (λ (l : List (Option PortValue)). IsNode (record { noted = c.take-result.new.server; ports = set l c.args.link (Some c.take-result.new.port) })) (sym c.take_port-port.ensures.rest)
     (node-again v c.args.link c.take-result.new.server c.take-result.new.port c.self.invariant many c.take-result.ensures.kept)
 
-pub returns : goal.returns
-returns c =
+pub returns-clause-takes : goal.returns-clause-takes
+returns-clause-takes c =
     rw (← c.self.view_is)
     (record {
       before = c.take_port-port.result;
       after = c.take-result.new.port;
       there = c.take_port-port.ensures.port;
-      does = c.take-result.ensures.takes;
+      does = subst (λ (n : NotedValue). Takes (serves_on c.args.link c.args.most_waiting) (end_with c.take_port-port.result n) (end_with c.take-result.new.port c.take-result.new.server) c.args.packet.now (bodies c.args.out.now.items) (bodies c.take-result.new.out.items) c.take-result.result) c.forget.ensures c.take-result.ensures.takes;
       ports = ap (λ (l : List (Option PortValue)). set l c.args.link (Some c.take-result.new.port)) c.take_port-port.ensures.rest ∙ set-again c.self.inside.ports.items c.args.link None (Some c.take-result.new.port);
     })
+
+pub returns-clause-addresses : goal.returns-clause-addresses
+returns-clause-addresses c =
+    rw (← c.self.view_is)
+    (by-takes (List ℕ) addresses-of keeps-addresses c.args.link c.args.most_waiting (end_with c.take_port-port.result c.forget.new.self) (end_with c.take-result.new.port c.take-result.new.server) c.args.packet.now _ _ _ c.take-result.ensures.takes ∙ ap addresses-of c.forget.ensures)

@@ -1,0 +1,100 @@
+-- The lowest address, one link more.
+use Rattle.std.proofs.Common.{◌≡◌, ℕ, suc, ◌+◌, ◌<◌, ◌≤◌, ◌⊎◌, Bool, true, false, List, [], length, get_or, Option, Some, None, refl, ap, sym, subst, ◌∙◌, inl, inr, arith}
+use Rattle.std.specs.Prelude.{IfOk, IfSome, IsTrue, Result, Ok, Err, ◌++◌}
+use Rattle.std.specs.Option.{option_to_list}
+use Rattle.dap_msg.specs.Items.{ItemAt}
+use Rattle.dap_accessed.specs.Standing.{Files}
+use Rattle.dap_accessed.specs.declared.fault.NoMemory.{NoMemory}
+use Rattle.dap_accessed.specs.declared.served.Served.{Served}
+use Rattle.dap_shared.specs.Shared.{SharedAfter, SharedServes}
+use Rattle.std.proofs.lemmas.Bool.{cases_eq}
+use Rattle.dap_msg.specs.declared.items.Item.{Item}
+use Rattle.dap_shared.specs.Nodes.{Event, Node, is_locked_out, locks_out, node_after}
+use Rattle.dap_shared.specs.Noted.{IsLowest, LeastOf, NotedServed, NotedValue}
+use Rattle.dap_shared.specs.Inner.Lower.{IsLower}
+use Rattle.dap_shared.proofs.Holders.{is-holder}
+
+module _ (test : ℕ → Bool) (number : ℕ → ℕ) (k : ℕ) where
+  none-more : test k ≡ false → LeastOf test number k None → LeastOf test number (k + 1) None
+  none-more not_k h i lt = elim (cases_eq i k) [
+    | inl same ↦ subst (λ (j : ℕ). test j ≡ false) (sym same) not_k
+    | inr other ↦ h i (omega (arith, lt, other))
+  ]
+
+  -- it doesn't pass
+  pub not-more : (low : Option ℕ) → test k ≡ false → LeastOf test number k low → LeastOf test number (k + 1) low
+  not-more None not_k h = none-more not_k h
+  not-more (Some n) not_k h = (
+    let lt = h.0.1 in (h.0.0, omega (arith, lt), h.0.2, h.0.3),
+    λ i lt is. elim (cases_eq i k) [
+      | inl same ↦ (let off : false ≡ true = sym not_k ∙ subst (λ (j : ℕ). test j ≡ true) same is in absurd (let none : ⊥ = cc in none))
+      | inr other ↦ h.1 i (omega (arith, lt, other)) is
+    ],
+  )
+
+  below : (low : Option ℕ) (n : ℕ) → n ≤ number k → IfSome low (λ m. n ≤ m) → LeastOf test number k low → (i : ℕ) → i < k + 1 → IsTrue (test i) → n ≤ number i
+  below None n own other h i lt is = elim (cases_eq i k) [
+    | inl same ↦ subst (λ (j : ℕ). n ≤ number j) (sym same) own
+    | inr apart ↦ (let off : false ≡ true = sym (h i (omega (arith, lt, apart))) ∙ is in absurd (let none : ⊥ = cc in none))
+  ]
+  below (Some m) n own other h i lt is = elim (cases_eq i k) [
+    | inl same ↦ subst (λ (j : ℕ). n ≤ number j) (sym same) own
+    | inr apart ↦ (let more = h.1 i (omega (arith, lt, apart)) is in omega (arith, other, more))
+  ]
+
+  one-of : (low : Option ℕ) (n : ℕ) → IsTrue (test k) → (n ≡ number k) ⊎ (low ≡ Some n) → LeastOf test number k low → (i : ℕ) × (i < k + 1) × IsTrue (test i) × (n ≡ number i)
+  one-of low n is (inl own) h = (k, omega arith, is, own)
+  one-of None n is (inr e) h = absurd (let none : ⊥ = cc in none)
+  one-of (Some m) n is (inr e) h =
+      let same : m ≡ n = cc in
+      let lt = h.0.1 in
+      (h.0.0, omega (arith, lt), h.0.2, sym same ∙ h.0.3)
+
+  -- it passes
+  pub one-more : (low : Option ℕ) (n : ℕ) → IsTrue (test k) → n ≤ number k → IfSome low (λ m. n ≤ m) → (n ≡ number k) ⊎ (low ≡ Some n) → LeastOf test number k low → LeastOf test number (k + 1) (Some n)
+  one-more low n is own other one h = (one-of low n is one h, below low n own other h)
+
+module _ (test : ℕ → Bool) (number : ℕ → ℕ) (k : ℕ) where
+  pub step : (low new : Option ℕ) (address : ℕ) (b : Bool) → b ≡ test k → address ≡ number k → (b ≡ false → new ≡ low) → (b ≡ true → IsLower low address new) → LeastOf test number k low → LeastOf test number (k + 1) new
+  step low new address true is own still lower h =
+      let o = lower refl in
+      subst (λ (x : Option ℕ). LeastOf test number (k + 1) x) (sym o.is)
+      (one-more test number k low o.lower (sym is) (subst (λ (a : ℕ). o.lower ≤ a) own o.own) o.other (subst (λ (a : ℕ). (o.lower ≡ a) ⊎ (low ≡ Some o.lower)) own o.one) h)
+  step low new address false is own still lower h =
+      subst (λ (x : Option ℕ). LeastOf test number (k + 1) x) (sym (still refl)) (not-more test number k low (sym is) h)
+
+free : (node : Node) (link other : ℕ) (item : Item) (b : Bool) → locks_out other link node item ≡ b → other < length node.exchanges → is_locked_out link node item ≡ false → b ≡ false
+free node link other item true is lt none = sym (is-holder node link other item lt is) ∙ none
+free node link other item false is lt none = refl
+
+-- where none is refused, none locks out
+pub none-lowest : (addresses : List ℕ) (link : ℕ) (node : Node) (item : Item) → length addresses ≡ length node.exchanges → is_locked_out link node item ≡ false → IsLowest addresses link node item None
+none-lowest addresses link node item many none i lt = free node link i item (locks_out i link node item) refl (omega (arith, lt, many)) none
+
+-- ---- What is noted.
+
+pub noted-served : (link : ℕ) (item : Item) (bytes : List ℕ) (at next : ℕ) (old new : NotedValue) (served : Served) (told lowest : Option ℕ) (addresses : List ℕ) → ItemAt bytes at item next → served.next ≡ next → SharedServes link item old.shared new.shared served.answers
+    → ((first : Files) (events : List Event) → SharedAfter first events old.shared → IsLowest addresses link (node_after old.shared.own first (length old.shared.sessions) events) item told) → told ≡ lowest → addresses ≡ old.addresses
+    → new.locked ≡ old.locked ++ option_to_list lowest → new.addresses ≡ old.addresses → NotedServed link bytes at old new served
+noted-served link item bytes at next old new served told lowest addresses reads n s low is all locked same =
+    record {
+      item = item;
+      reads = subst (λ (k : ℕ). ItemAt bytes at item k) (sym n) reads;
+      serves = record {
+        shared = s;
+        noted = λ first events h. (
+          lowest,
+          subst (λ (l : List ℕ). IsLowest l link (node_after old.shared.own first (length old.shared.sessions) events) item lowest) all
+              (subst (λ (o : Option ℕ). IsLowest addresses link (node_after old.shared.own first (length old.shared.sessions) events) item o) is (low first events h)),
+          locked,
+        );
+        same_addresses = same;
+      };
+    }
+
+pub noted-result : (link : ℕ) (item : Item) (bytes : List ℕ) (at next : ℕ) (old new : NotedValue) (r : Result Served NoMemory) (told lowest : Option ℕ) (addresses : List ℕ) → ItemAt bytes at item next → IfOk r (λ served. served.next ≡ next)
+    → IfOk r (λ served. SharedServes link item old.shared new.shared served.answers)
+    → ((first : Files) (events : List Event) → SharedAfter first events old.shared → IsLowest addresses link (node_after old.shared.own first (length old.shared.sessions) events) item told) → told ≡ lowest → addresses ≡ old.addresses
+    → new.locked ≡ old.locked ++ option_to_list lowest → new.addresses ≡ old.addresses → IfOk r (NotedServed link bytes at old new)
+noted-result link item bytes at next old new (Ok served) told lowest addresses reads n s low is all locked same = noted-served link item bytes at next old new served told lowest addresses reads n s low is all locked same
+noted-result link item bytes at next old new (Err f) told lowest addresses reads n s low is all locked same = tt
