@@ -31,3 +31,19 @@ pub use Rattle.dap_end.proofs.Known.{IsKnown, new_known, going_known, taking_kno
 pub use Rattle.dap_end.proofs.Agreeing.{one-report-each, none-unexpected, both-agree}
 pub use Rattle.dap_end.proofs.AllRead.{all_told, all_read, answers-front, admissible-more}
 pub use Rattle.dap_end.proofs.Goes.{limit-own}
+-- what a link of which a message more came leaves of what was gone through; and one item more
+pub use Rattle.dap_end.proofs.Taking.{Grown, grown}
+pub use Rattle.dap_end.proofs.Going.{gone_nothing, gone_stays}
+pub use Rattle.dap_end.proofs.ServingOne.{port_given, port_gone}
+-- the packets that an end wrote, after one that came
+pub use Rattle.dap_end.proofs.Packets.{ack_written, written_on}
+-- what was gone through is of what the peer sent; and items that are a front of messages are the first of these
+pub use Rattle.dap_end.proofs.Fronts.{served_front}
+pub use Rattle.dap_end.proofs.Joined.{Taken, first_ones}
+-- two links, each of which takes what the other sends: a packet comes, and an end writes one, or goes on
+pub use Rattle.dap_end.proofs.Ways.{AreJoined, swapped, comes}
+pub use Rattle.dap_end.proofs.Moving.{again_sent, goes, wrote_one}
+-- a client that is joined to a link: at first, and after an event of it
+pub use Rattle.dap_end.proofs.Clients.{Client, IsJoinedTo, asks, new_joined}
+-- no message is too long to be handed over, where there is none
+pub use Rattle.dap_end.proofs.Proceeding.{none_short}

@@ -1,6 +1,6 @@
 -- Two ends keep the headline.
-use Rattle.std.proofs.Common.{◌≡◌, ℕ, zero, suc, ◌+◌, ◌-◌, ◌<◌, ◌≤◌, arith, refl, sym, ◌∙◌, subst, ap, append_assoc, List, [], ◌∷◌, ◌++◌, length, map, inl, inr}
-use Rattle.std.specs.Prelude.{None, Option, Some, IfSome, All}
+use Rattle.std.proofs.Common.{◌≡◌, ℕ, ◌≤◌, refl, sym, ◌∙◌, subst, ap, append_assoc, List, [], ◌∷◌, ◌++◌, length, map}
+use Rattle.std.specs.Prelude.{None, Option, Some, IfSome}
 use Rattle.std.proofs.lemmas.List.{append-nil, map-append}
 use Rattle.dap_msg.specs.declared.message.Message.{Message}
 use Rattle.dap_msg.specs.declared.items.Item.{Item}
@@ -8,42 +8,38 @@ use Rattle.dap_msg.specs.declared.items.Item.TheVariants.{Whole}
 use Rattle.dap_msg.specs.Blocked.{NspMessage, joined, Blocked, all_joined, messages_in, AllFit}
 use Rattle.dap_msg.proofs.ForCallers.{are_items}
 use Rattle.nsp_link.specs.declared.link.LinkSetup.{LinkSetup}
-use Rattle.nsp_link.specs.Link.{LinkValue, Stands, Sends, new_link, with_inbox, AreShort}
-use Rattle.nsp_link.proofs.ForCallers.{stands_new, may_queue_parts}
 use Rattle.dap_accessed.specs.Standing.{Files}
 use Rattle.dap_accessed.specs.Present.{Present}
 use Rattle.dap_accessed.specs.Groups.{Answers, After, added, limit_for}
 use Rattle.dap_accessing.specs.Request.{Request}
-use Rattle.dap_accessing.specs.declared.report.Report.{Report}
 use Rattle.dap_accessing.specs.Asked.{Asked}
 use Rattle.dap_accessing.specs.Told.{Told}
 use Rattle.dap_end.specs.Pasts.{AreFull}
 use Rattle.dap_end.specs.Ports.{PortValue}
 use Rattle.nsp_link.specs.Receiving.{Receives}
 use Rattle.dap_end.specs.Going.{AreItemsOf, AreFrontOf}
-use Rattle.dap_end.specs.Writing.{AreSegments, WroteMore}
 use Rattle.dap_end.specs.Serving.{IsAfter}
 use Rattle.dap_end.specs.Done.{ServingValue, Past, answers_to, nothing_yet}
 use Rattle.dap_end.specs.Asking.{HasAsked}
-use Rattle.dap_end.specs.Done.{AskingValue, AskingPast, nothing_asked}
+use Rattle.dap_end.specs.Done.{AskingPast}
 use Rattle.dap_end.specs.Runs.{RunsBy}
-use Rattle.dap_end.specs.Headline.{Written, AreWrittenOf}
-use Rattle.dap_end.specs.Calls.{numbered, WroteOne, EndEvent, Came, GoesOn, Repeats}
-use Rattle.dap_end.specs.Calls.{AskingEvent, Asks, By, requests_in}
+use Rattle.dap_end.specs.Headline.{Written}
+use Rattle.dap_end.specs.Calls.{WroteOne, EndEvent, Came, GoesOn, Repeats}
+use Rattle.dap_end.specs.Calls.{AskingEvent}
 use Rattle.dap_end.specs.Joined.{Pair}
 use Rattle.dap_end.specs.Calls.{PairEvent, AtA, AtB, PairStepped}
 use Rattle.dap_end.specs.Inner.Running.{AreOpposite, AreNew, PairHeadline}
-use Rattle.dap_end.specs.Pasts.{asked_one}
 use Rattle.dap_end.proofs.Taking.{grown}
 use Rattle.dap_end.proofs.Afterwards.{after_received}
-use Rattle.dap_end.proofs.Proceeding.{none_short, still_sent, worked_grew}
+use Rattle.dap_end.proofs.Proceeding.{still_sent, worked_grew}
 use Rattle.dap_end.proofs.Fronts.{served_front}
-use Rattle.dap_end.proofs.Asked.{asked_past, handed_is, handed_past, full-blocked, full-both, read_grows, still_received}
-use Rattle.dap_end.proofs.Asked as asked
-use Rattle.dap_end.proofs.Packets.{all_written, written_on, numbered_written, one_written}
-use Rattle.dap_end.proofs.Running.{in_append, answers_from, went_written}
-use Rattle.dap_end.proofs.Hearing.{HandedOver}
-use Rattle.dap_end.proofs.Ways.{AreTrue, IsWay, AreJoined, swapped, comes, moved, Moves, works, counts_numbered}
+use Rattle.dap_end.proofs.Asked.{full-blocked, full-both}
+use Rattle.dap_end.proofs.Packets.{written_on}
+use Rattle.dap_end.proofs.Running.{in_append, answers_from}
+use Rattle.dap_end.proofs.Moving.{wrote_one, goes, again_sent}
+use Rattle.dap_end.proofs.Clients.{Client, IsJoinedTo, new_joined}
+use Rattle.dap_end.proofs.Clients.{asks as client_asks}
+use Rattle.dap_end.proofs.Ways.{AreJoined, swapped, comes}
 use Rattle.dap_end.specs.Inner.ServingView.{with_port}
 
 -- ---- The items of NSP messages that are messages joined.
@@ -158,107 +154,27 @@ headline first p j =
 
 -- ---- New ends.
 
-new_way : (s t : LinkSetup) → AreOpposite s t → IsWay (new_link s) (new_link t) [] [] []
-new_way s t o =
-    record {
-      positive = omega (arith, o.good.0);
-      there = sym (ap (λ (x : LinkSetup). x.remote) o.facing);
-      back = sym (ap (λ (x : LinkSetup). x.local) o.facing);
-      limit = sym (ap (λ (x : LinkSetup). x.max_message) o.facing);
-      stands = stands_new t s.seg_size [];
-      short = none_short (new_link t);
-      packets = tt;
-      counts = tt;
-      acked_taken = omega arith;
-      taken_sent = omega arith;
-      within = omega arith;
-      window = o.good.3;
-      held = tt;
-    }
-
-turned : (s t : LinkSetup) → AreOpposite s t → AreOpposite t s
-turned s t o =
-    record {
-      good = o.other_good;
-      other_good = o.good;
-      facing =
-          ap (λ (x : ℕ). record s { local = x }) (sym (ap (λ (x : LinkSetup). x.remote) o.facing))
-          ∙ ap (λ (x : ℕ). record s { local = t.remote; remote = x }) (sym (ap (λ (x : LinkSetup). x.local) o.facing))
-          ∙ ap (λ (x : ℕ). record s { local = t.remote; remote = t.local; max_message = x }) (sym (ap (λ (x : LinkSetup). x.max_message) o.facing));
-    }
+-- the client of two ends
+abbrev client_of : Pair → Client
+client_of p = record { a = p.a; wrote = p.from_a; requests = p.requests; reports = p.reports }
 
 pub new_pair : (s t : LinkSetup) (first : Files) (p : Pair) → AreOpposite s t → AreNew s t first p → IsLinked first p
 new_pair s t first p o n =
-    let ways : AreJoined (new_link s) (new_link t) [] [] [] [] [] [] = record { there = new_way s t o; back = new_way t s (turned s t o); works_a = refl; works_b = refl } in
-    subst (IsLinked first) (sym n.none)
-    (record {
-      asked = nothing_asked;
-      asking = n.asking;
+    let c = new_joined s t (client_of p) o n.port_a n.asking (ap (λ (x : Pair). x.from_a) n.none) (ap (λ (x : Pair). x.requests) n.none) (ap (λ (x : Pair). x.reports) n.none) in
+    record {
+      asked = c.asked;
+      asking = c.asking;
       served = nothing_yet first;
       serving = n.serving;
       had = refl;
-      requests = refl;
-      told = refl;
+      requests = c.requests;
+      told = c.told;
       ways =
-          subst (λ (x : PortValue). AreJoined x.link p.b.port.link [] [] [] [] [] []) (sym n.port_a)
-          (subst (λ (x : PortValue). AreJoined (new_link s) x.link [] [] [] [] [] []) (sym n.port_b) ways);
-    })
+          subst (λ (l : List Written). AreJoined p.a.port.link p.b.port.link c.asked.handed [] c.asked.given [] p.from_a l) (sym (ap (λ (x : Pair). x.from_b) n.none))
+          (subst (λ (x : PortValue). AreJoined p.a.port.link x.link c.asked.handed [] c.asked.given [] p.from_a []) (sym n.port_b) c.ways);
+    }
 
 -- ---- The end that serves is called.
-
--- the packets of an end that wrote one are true
-one_true : (v : LinkValue) (k : Option ℕ) (w : Written) → IfSome k (λ n. n ≤ v.sent) → WroteOne v k w → AreTrue v.sent v.coming.received (w ∷ [])
-one_true v k w was h =
-    (record { segment = subst (λ (s : Option ℕ). IfSome s (λ n. n ≤ v.sent)) (sym h.0) was; acks = omega (arith, h.1) }, tt)
-
--- the same, and the end moved by nothing else
-wrote_one : (a b : LinkValue) (from_a from_b to_a to_b : List (List ℕ)) (wire_a wire_b : List Written) (k : Option ℕ) (w : Written) → AreJoined a b from_a from_b to_a to_b wire_a wire_b → Sends a from_a → IfSome k (λ n. n ≤ a.sent) → WroteOne a k w
-    → AreJoined a b from_a from_b to_a to_b (wire_a ++ w ∷ []) wire_b
-wrote_one a b from_a from_b to_a to_b wire_a wire_b k w j sends was one =
-    subst (λ (l : List (List ℕ)). AreJoined a b l from_b to_a to_b (wire_a ++ w ∷ []) wire_b) (append-nil from_a)
-    (works a b from_a from_b to_a to_b [] to_a wire_a wire_b (w ∷ []) a.coming.inbox a.queue a.sent j (record { more = omega arith; within = j.there.within }) (none_short a) j.back.stands
-    (subst (λ (l : List (List ℕ)). AreWrittenOf a l (wire_a ++ w ∷ [])) (sym (append-nil from_a)) (all_written a from_a wire_a (w ∷ []) j.there.packets (one_written a from_a k w sends one, tt)))
-    (one_true a k w was one))
-
-same_front : (v link : LinkValue) (sent : ℕ) → link ≡ record (with_inbox v link.coming.inbox) { queue = link.queue } → record link { sent = sent } ≡ moved v link.coming.inbox link.queue sent
-same_front v link sent e = subst (λ (l : LinkValue). record l { sent = sent } ≡ moved v l.coming.inbox l.queue sent) (sym e) refl
-
-within_by : (v link : LinkValue) (sent n : ℕ) → link ≡ record (with_inbox v link.coming.inbox) { queue = link.queue } → sent ≡ link.sent + n → (0 < n → sent ≤ link.acked + link.setup.window) → v.sent ≤ v.acked + v.setup.window → Moves v link.coming.inbox link.queue sent
-within_by v link sent zero e is within before =
-    let same : link.sent ≡ v.sent = ap (λ (l : LinkValue). l.sent) e in record { more = omega (arith, is, same); within = omega (arith, is, same, before) }
-within_by v link sent (suc n) e is within before =
-    let same : link.sent ≡ v.sent = ap (λ (l : LinkValue). l.sent) e in
-    let acked : link.acked ≡ v.acked = ap (λ (l : LinkValue). l.acked) e in
-    let window : link.setup.window ≡ v.setup.window = ap (λ (l : LinkValue). l.setup.window) e in
-    record { more = omega (arith, is, same); within = omega (arith, within (omega arith), acked, window) }
-
--- an end goes on: this is its link in between, and then so many segments were written
-goes : (a b link : LinkValue) (new : PortValue) (port : PortValue) (from_a from_b to_a to_b more given now : List (List ℕ)) (wire_a wire_b : List Written) (packets : List (List ℕ)) → AreJoined a b from_a from_b to_a to_b wire_a wire_b → port.link ≡ link
-    → link ≡ record (with_inbox a link.coming.inbox) { queue = link.queue } → WroteMore port new packets → now ≡ from_a ++ more → AreShort a more → Stands link b.setup.seg_size from_b given → Sends link now
-    → AreJoined new.link b now from_b given to_b (wire_a ++ numbered (link.sent + 1) link.coming.received packets) wire_b
-goes a b link new port from_a from_b to_a to_b more given now wire_a wire_b packets j at counts w is short stands sends =
-    let n = length packets in
-    let ws = numbered (link.sent + 1) link.coming.received packets in
-    let sent : ℕ = link.sent + n in
-    let new_is : new.link ≡ record link { sent = sent } = ap (λ (p : PortValue). p.link) w.sent ∙ ap (λ (l : LinkValue). record l { sent = l.sent + n }) at in
-    let to : new.link ≡ moved a link.coming.inbox link.queue sent = new_is ∙ same_front a link sent counts in
-    let within : 0 < n → sent ≤ link.acked + link.setup.window = λ some. subst (λ (l : LinkValue). l.sent ≤ l.acked + l.setup.window) new_is (w.within some) in
-    let moves : Moves a link.coming.inbox link.queue sent = within_by a link sent n counts refl within j.there.within in
-    let same_sent : link.sent ≡ a.sent = ap (λ (l : LinkValue). l.sent) counts in
-    let same_received : link.coming.received ≡ a.coming.received = ap (λ (l : LinkValue). l.coming.received) counts in
-    let wrote : AreWrittenOf link now ws = numbered_written link now (link.sent + 1) packets sends (subst (λ (l : LinkValue). AreSegments l (l.sent + 1) packets) at w.writes) in
-    let all : AreWrittenOf new.link now (wire_a ++ ws) = went_written a link new.link from_a more now wire_a ws counts is (new_is ∙ ap (λ (k : ℕ). record link { sent = k }) (sym (ap (λ (l : LinkValue). l.sent) new_is))) j.there.packets wrote in
-    let stands' : Stands (moved a link.coming.inbox link.queue sent) b.setup.seg_size from_b given =
-    subst (λ (l : LinkValue). Stands l b.setup.seg_size from_b given) (same_front a link sent counts) (record { taken = stands.taken; held = stands.held }) in
-    let packets' : AreWrittenOf (moved a link.coming.inbox link.queue sent) (from_a ++ more) (wire_a ++ ws) =
-    subst (λ (l : LinkValue). AreWrittenOf l (from_a ++ more) (wire_a ++ ws)) to (subst (λ (h : List (List ℕ)). AreWrittenOf new.link h (wire_a ++ ws)) is all) in
-    let true_ws : AreTrue sent a.coming.received ws = subst (λ (k : ℕ). AreTrue sent k ws) same_received (counts_numbered link packets) in
-    subst (λ (h : List (List ℕ)). AreJoined new.link b h from_b given to_b (wire_a ++ ws) wire_b) (sym is)
-    (subst (λ (l : LinkValue). AreJoined l b (from_a ++ more) from_b given to_b (wire_a ++ ws) wire_b) (sym to)
-    (works a b from_a from_b to_a to_b more given wire_a wire_b ws link.coming.inbox link.queue sent j moves short stands' packets' true_ws))
-
-again_sent : (v : LinkValue) (i : ℕ) → i < v.sent - v.acked → IfSome (Some (v.acked + 1 + i)) (λ n. n ≤ v.sent)
-again_sent v i lt = omega arith
 
 wrote_b : (first : Files) (old new : Pair) (wrote : List Written) (w : Written) (k : Option ℕ) → WroteOne old.b.port.link k w → new.b ≡ old.b → wrote ≡ w ∷ [] → IfSome k (λ n. n ≤ old.b.port.link.sent)
     → new.from_b ≡ old.from_b ++ wrote → new ≡ record old { b = new.b; from_b = new.from_b } → IsLinked first old → IsLinked first new
@@ -324,126 +240,23 @@ serves first old new (Repeats None) ws ((t, at), e) j = wrote_b first old new ws
 
 -- ---- The end that asks is called.
 
-wrote_a : (first : Files) (old new : Pair) (event : AskingEvent) (wrote : List Written) (w : Written) (k : Option ℕ) → WroteOne old.a.port.link k w → new.a ≡ old.a → new.reports ≡ old.reports → wrote ≡ w ∷ [] → IfSome k (λ n. n ≤ old.a.port.link.sent) → requests_in (event ∷ []) ≡ []
-    → new.from_a ≡ old.from_a ++ wrote → new ≡ record old { a = new.a; from_a = new.from_a; requests = old.requests ++ requests_in (event ∷ []); reports = new.reports } → IsLinked first old → IsLinked first new
-wrote_a first old new event wrote w k one same none is was quiet at e j =
-    let ways = wrote_one old.a.port.link old.b.port.link j.asked.handed j.served.handed j.asked.given j.served.given old.from_a old.from_b k w j.ways j.asking.sends was one in
-    let to : new ≡ record old { from_a = old.from_a ++ w ∷ [] } =
-    e ∙ ap (λ (v : AskingValue). record old { a = v; from_a = new.from_a; requests = old.requests ++ requests_in (event ∷ []); reports = new.reports }) same
-    ∙ ap (λ (l : List Written). record old { from_a = l; requests = old.requests ++ requests_in (event ∷ []); reports = new.reports }) (at ∙ ap (λ (l : List Written). old.from_a ++ l) is)
-    ∙ ap (λ (l : List Request). record old { from_a = old.from_a ++ w ∷ []; requests = l; reports = new.reports }) (ap (λ (l : List Request). old.requests ++ l) quiet ∙ append-nil old.requests)
-    ∙ ap (λ (l : List Report). record old { from_a = old.from_a ++ w ∷ []; reports = l }) none in
-    subst (IsLinked first) (sym to)
-    (record {
-      asked = j.asked;
-      asking = j.asking;
-      served = j.served;
-      serving = j.serving;
-      had = j.had;
-      requests = j.requests;
-      told = j.told;
-      ways = ways;
-    })
-
--- the front of what it did before a segment is written: it read, and handed over
-record Hands (past : AskingPast) (old heard handed : AskingValue) : Type 0 where
-  now : AskingPast
-  is : HasAsked now handed
-  requests : now.requests ≡ past.requests
-  answers : now.answers ≡ past.answers
-  more : List (List ℕ)
-  more_is : now.handed ≡ past.handed ++ more
-  short : AreShort heard.port.link more
-  given : now.given ≡ past.given
-  link : handed.port.link ≡ record (with_inbox heard.port.link handed.port.link.coming.inbox) { queue = handed.port.link.queue }
-  same : (size : ℕ) (messages given : List (List ℕ)) → Stands heard.port.link size messages given → Stands handed.port.link size messages given
-
-hands : (past : AskingPast) (old heard handed : AskingValue) → HasAsked past heard → HandedOver heard handed → Hands past old heard handed
-hands past old heard handed h (inl same) =
-    subst (Hands past old heard) (sym same)
-    (record { now = past; is = h; requests = refl; answers = refl; more = []; more_is = sym (append-nil past.handed); short = none_short heard.port.link; given = refl; link = refl; same = λ size messages given s. s })
-hands past old heard handed h (inr k) =
-    let one = k.1 in
-    subst (Hands past old heard) (sym (handed_is heard handed k.0 one))
-    (record {
-      now = record past { handed = past.handed ++ heard.port.outbox };
-      is = subst (HasAsked (record past { handed = past.handed ++ heard.port.outbox })) (handed_is heard handed k.0 one) (handed_past heard handed k.0 one past h);
-      requests = refl;
-      answers = refl;
-      more = heard.port.outbox;
-      more_is = refl;
-      short = (may_queue_parts heard.port.link heard.port.outbox one.0).1;
-      given = refl;
-      link = refl;
-      same = λ size messages given s. record { taken = s.taken; held = s.held };
-    })
-
-link_trans : (a b c : LinkValue) → b ≡ with_inbox a b.coming.inbox → c ≡ record (with_inbox b c.coming.inbox) { queue = c.queue } → c ≡ record (with_inbox a c.coming.inbox) { queue = c.queue }
-link_trans a b c ab bc = bc ∙ ap (λ (l : LinkValue). record (with_inbox l c.coming.inbox) { queue = c.queue }) ab
-
 asks : (first : Files) (old new : Pair) (event : AskingEvent) (ws : List Written) → PairStepped old (AtA event) ws new → IsLinked first old → IsLinked first new
-asks first old new (By (Came bytes)) ws s j =
-    let t = s.0.0 in
-    let g = grown old.a.port.link t.1 bytes t.0 t.2 in
-    let back = swapped old.a.port.link old.b.port.link j.asked.handed j.served.handed j.asked.given j.served.given old.from_a old.from_b j.ways in
-    let ways = comes old.b.port.link old.a.port.link t.1 j.served.handed j.asked.handed j.served.given j.asked.given old.from_b old.from_a t.6.0 t.6.1 t.0 back t.6.2 t.6.4
-    (subst (λ (x : List ℕ). Receives old.a.port.link t.1 x t.0) t.6.3 t.2) (written_on old.a.port.link t.1 g j.asked.handed old.from_a j.ways.there.packets) in
-    subst (IsLinked first) (sym s.1)
-    (record {
-      asked = j.asked;
-      asking = subst (HasAsked j.asked) (sym t.3) (still_received old.a t.1 g t.2.sends j.asked j.asking);
+asks first old new event ws s j =
+    let before : IsJoinedTo old.b.port.link j.served.handed j.served.given old.from_b (client_of old) = record { asked = j.asked; asking = j.asking; requests = j.requests; told = j.told; ways = j.ways } in
+    let now = client_asks old.b.port.link j.served.handed j.served.given old.from_b (client_of old) (client_of new) event ws s.0 (ap (λ (p : Pair). p.requests) s.1) before in
+    let same : new.b ≡ old.b = ap (λ (p : Pair). p.b) s.1 in
+    record {
+      asked = now.asked;
+      asking = now.asking;
       served = j.served;
-      serving = j.serving;
+      serving = subst (IsAfter j.served) (sym same) j.serving;
       had = j.had;
-      requests = j.requests ∙ sym (append-nil old.requests);
-      told = t.5 ∙ j.told;
+      requests = now.requests;
+      told = now.told;
       ways =
-          subst (λ (l : List Written). AreJoined new.a.port.link old.b.port.link j.asked.handed j.served.handed j.asked.given j.served.given l old.from_b) (sym (s.0.1 ∙ ap (λ (l : List Written). old.from_a ++ l) t.4 ∙ append-nil old.from_a))
-          (subst (λ (v : AskingValue). AreJoined v.port.link old.b.port.link j.asked.handed j.served.handed j.asked.given j.served.given old.from_a old.from_b) (sym t.3)
-          (swapped old.b.port.link t.1 j.served.handed j.asked.handed j.served.given j.asked.given old.from_b old.from_a ways));
-    })
-asks first old new (Asks request) ws s j =
-    let t = s.0 in
-    let a = t.1 in
-    subst (IsLinked first) (sym s.1)
-    (record {
-      asked = asked_one j.asked old.a.present.own request;
-      asking = asked_past request old.a new.a t.0 a j.asked j.asking;
-      served = j.served;
-      serving = j.serving;
-      had = j.had;
-      requests = ap (λ (l : List Request). l ++ request ∷ []) j.requests;
-      told = t.3 ∙ j.told ∙ sym (a.asks.told j.asked.requests j.asked.answers j.asking.asking);
-      ways =
-          subst (λ (l : List Written). AreJoined new.a.port.link old.b.port.link j.asked.handed j.served.handed j.asked.given j.served.given l old.from_b) (sym t.4)
-          (subst (λ (x : PortValue). AreJoined x.link old.b.port.link j.asked.handed j.served.handed j.asked.given j.served.given old.from_a old.from_b) (sym a.port) j.ways);
-    })
-asks first old new (By GoesOn) ws s j =
-    let t = s.0.0 in
-    let (heard, all, over) = t.2 in
-    let m = read_grows old.a heard all.0 all.2 in
-    let read = m.past j.asked j.asking in
-    let g = read.1 in
-    let h = hands read.0 old.a heard t.0 g.is over in
-    let limit : heard.port.link.setup.max_message ≡ old.a.port.link.setup.max_message = ap (λ (l : LinkValue). l.setup.max_message) m.link in
-    let short : AreShort old.a.port.link h.more = subst (λ (n : ℕ). All (λ m. length m ≤ n) h.more) limit h.short in
-    let stands : Stands t.0.port.link old.b.port.link.setup.seg_size j.served.handed h.now.given =
-    h.same old.b.port.link.setup.seg_size j.served.handed h.now.given (subst (λ (l : List (List ℕ)). Stands heard.port.link old.b.port.link.setup.seg_size j.served.handed l) (sym h.given) (g.stands old.b.port.link.setup.seg_size j.served.handed j.ways.back.stands)) in
-    let ways = goes old.a.port.link old.b.port.link t.0.port.link new.a.port t.0.port j.asked.handed j.served.handed j.asked.given j.served.given h.more h.now.given h.now.handed old.from_a old.from_b t.1 j.ways refl
-    (link_trans old.a.port.link heard.port.link t.0.port.link m.link h.link) t.3 (h.more_is ∙ ap (λ (l : List (List ℕ)). l ++ h.more) g.handed) short stands h.is.sends in
-    subst (IsLinked first) (sym s.1)
-    (record {
-      asked = h.now;
-      asking = subst (HasAsked h.now) (sym t.4) (asked.still_sent t.0 new.a.port (length t.1) t.3.sent h.now h.is);
-      served = j.served;
-      serving = j.serving;
-      had = j.had;
-      requests = h.requests ∙ g.requests ∙ j.requests ∙ sym (append-nil old.requests);
-      told = all.1 ∙ ap (λ (l : List Report). l ++ all.0) j.told ∙ sym g.told ∙ ap (λ (l : List Request). Told l read.0.answers) (sym (h.requests ∙ g.requests)) ∙ ap (Told h.now.requests) (sym h.answers);
-      ways = subst (λ (l : List Written). AreJoined new.a.port.link old.b.port.link h.now.handed j.served.handed h.now.given j.served.given l old.from_b) (sym (s.0.1 ∙ ap (λ (l : List Written). old.from_a ++ l) t.5)) ways;
-    })
-asks first old new (By (Repeats (Some i))) ws ((t, at), e) j = wrote_a first old new (By (Repeats (Some i))) ws t.0 _ t.2 t.3 t.5 t.4 (again_sent old.a.port.link i t.1) refl at e j
-asks first old new (By (Repeats None)) ws ((t, at), e) j = wrote_a first old new (By (Repeats None)) ws t.0 _ t.2 t.3 t.5 t.4 tt refl at e j
+          subst (λ (l : List Written). AreJoined new.a.port.link new.b.port.link now.asked.handed j.served.handed now.asked.given j.served.given new.from_a l) (sym (ap (λ (p : Pair). p.from_b) s.1))
+          (subst (λ (v : ServingValue). AreJoined new.a.port.link v.port.link now.asked.handed j.served.handed now.asked.given j.served.given new.from_a old.from_b) (sym same) now.ways);
+    }
 
 -- ---- All events.
 

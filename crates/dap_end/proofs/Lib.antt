@@ -25,6 +25,8 @@ pub mod Bounding
 pub mod Alike
 pub mod Known
 pub mod Ways
+pub mod Moving
+pub mod Clients
 pub mod Joined
 pub mod Calling
 pub mod ForCallers

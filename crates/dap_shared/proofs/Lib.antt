@@ -9,3 +9,4 @@ pub mod Held
 pub mod Holders
 pub mod Lowest
 pub mod Examples
+pub mod ForCallers

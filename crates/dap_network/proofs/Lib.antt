@@ -1,0 +1,5 @@
+pub mod Sets
+pub mod Histories
+pub mod Standing
+pub mod Linked
+pub mod Network

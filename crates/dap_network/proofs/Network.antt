@@ -1,0 +1,405 @@
+-- A node, its peers, and the history of what was served.
+use Rattle.std.proofs.Common.{◌≡◌, ◌≢◌, ℕ, ◌+◌, ◌<◌, ◌≤◌, refl, sym, ◌∙◌, subst, ap, append_assoc, List, [], ◌∷◌, ◌++◌, length, map, inl, inr}
+use Rattle.std.specs.Prelude.{IfSome, Option, Some, None, set, slice_get}
+use Rattle.std.specs.Global.{Vec}
+use Rattle.std.proofs.lemmas.Bool.{cases_eq}
+use Rattle.std.proofs.lemmas.List.{append-nil, map-append}
+use Rattle.dap_msg.specs.declared.items.Item.{Item}
+use Rattle.dap_msg.specs.declared.message.Message.{Message}
+use Rattle.dap_msg.specs.Blocked.{Blocked, NspMessage, bodies}
+use Rattle.dap_msg.specs.Items.{ItemAt}
+use Rattle.dap_shared.specs.Keeping.{AreOf}
+use Rattle.nsp_link.specs.declared.link.LinkSetup.{LinkSetup}
+use Rattle.dap_accessed.specs.Served.{Answered}
+use Rattle.dap_accessed.specs.Standing.{Files}
+use Rattle.dap_accessed.specs.Sessions.{SessionValue}
+use Rattle.dap_shared.specs.Nodes.{AnswersOn, Event, Serves, Begins, Gives, GivesRecord, added_on, items_on, limit_on}
+use Rattle.dap_shared.specs.Shared.{SharedAfter, SharedBegins, SharedGiven, SharedServed, SharedValue}
+use Rattle.dap_shared.proofs.ForCallers.{answers-grow}
+use Rattle.dap_end.specs.By.{ServedBy}
+use Rattle.dap_end.specs.Calls.{AskingEvent, Came, EndEvent, GoesOn, Repeats, WroteOne}
+use Rattle.dap_end.specs.Going.{given_then}
+use Rattle.dap_end.specs.Headline.{Written}
+use Rattle.dap_end.specs.Moved.{with_link}
+use Rattle.dap_end.specs.Node.{EndedOn, HasPort, NodeValue}
+use Rattle.dap_end.specs.Ports.{EndValue, HandsOver, PortValue, new_port}
+use Rattle.dap_end.proofs.ForCallers.{again_sent}
+use Rattle.dap_network.specs.History.{IsHistory, Tells}
+use Rattle.dap_network.specs.Headline.{LinkHeadline, NetworkHeadline}
+use Rattle.dap_network.specs.Network.{AtNode, AtPeer, FileGiven, IsNew, LinkBegan, LinkBegins, LinkEnds, Network, NetworkEvent, NetworkRuns, NetworkStepped, Peer, PeerStepped, RecordGiven, SteppedOn, WorkedBy, hands_over, link_of, rests, serves_one}
+use Rattle.dap_network.proofs.Histories.{IsSame, another_begins, answers_begin, file_given, items_begin, items_own, link_there, others_serve, record_given, same}
+use Rattle.dap_network.proofs.Linked.{LinkStands, kept, link_new, link_went, packet_again, packet_came, peer_called}
+use Rattle.dap_network.proofs.Sets.{set_other, set_there}
+use Rattle.dap_network.proofs.Standing.{PortGrew, PortStands, grew_none, grew_on, grew_posted, grew_served, stands_posted, stands_served}
+
+module _ (own links : ℕ) (first : Files) where
+  -- what is kept of all links stands after this history
+  pub record Holds (history : List Event) (v : SharedValue) : Type 0 where
+    pub after : SharedAfter first history v
+    pub is_own : v.own ≡ own
+    pub as_many : length v.sessions ≡ links
+
+  -- the answers by the numbers of the node
+  answered_here : (v : SharedValue) (link : ℕ) (history : List Event) (item : Item) (out : Vec (Vec ℕ)) → Holds history v
+      → Answered (limit_on link v.own first (length v.sessions) history) (added_on link v.own first (length v.sessions) history item) out
+      → Answered (limit_on link own first links history) (added_on link own first links history item) out
+  answered_here v link history item out h a =
+      subst (λ (n : ℕ). Answered (limit_on link own first n history) (added_on link own first n history item) out) h.as_many
+      (subst (λ (o : ℕ). Answered (limit_on link o first (length v.sessions) history) (added_on link o first (length v.sessions) history item) out) h.is_own a)
+
+  -- ---- Items of a link are served.
+
+  -- Some items of the link were served, and what waited was handed over: so the port grew.
+  record Went (link : ℕ) (history : List Event) (given handed : List (List ℕ)) (old new : EndValue SharedValue) : Type 0 where
+    items : List Item
+    now : List Event
+    is : now ≡ history ++ map (Serves link) items
+    holds : Holds now new.present
+    given' : List (List ℕ)
+    handed' : List (List ℕ)
+    packets : List NspMessage
+    stands : PortStands given' handed' packets (items_on link now) (AnswersOn link own first links now) new.port
+    grew : PortGrew given handed given' handed' old.port new.port
+
+  abbrev StandsAt : (link : ℕ) → List Event → (given handed : List (List ℕ)) → List NspMessage → PortValue → Type 0
+  StandsAt link history given handed packets port = PortStands given handed packets (items_on link history) (AnswersOn link own first links history) port
+
+  -- one item
+  one_item : (link : ℕ) (history : List Event) (given handed : List (List ℕ)) (packets : List NspMessage) (old new : EndValue SharedValue) (n : ℕ) → ServedBy (SharedServed link) old new n → Holds history old.present
+      → StandsAt link history given handed packets old.port → Went link history given handed old new
+  one_item link history given handed packets old new n s h stands =
+      let item = s.by.item in
+      let serves = s.by.serves in
+      let now = history ++ Serves link item ∷ [] in
+      let after : SharedAfter first now new.present = serves.stands first history h.after in
+      let many : length new.present.sessions ≡ links = serves.same_links ∙ h.as_many in
+      let there : link < links = link_there links link history item (subst (λ (k : ℕ). AreOf k now) many after.links) in
+      let limit = limit_on link own first links history in
+      let more = added_on link own first links history item in
+      let reads : ItemAt s.one.bytes old.port.place item s.one.next = subst (ItemAt s.one.bytes old.port.place item) s.next s.by.reads in
+      let served = stands_served given handed packets (items_on link history) (AnswersOn link own first links history) old.port stands s.one.bytes s.one.later item s.one.next limit more s.served.answers s.one.fits s.one.came reads s.within s.idle
+      (answered_here old.present link history item s.served.answers h (serves.answered first history h.after)) in
+      let given' = given_then given s.one.bytes s.one.next in
+      let packets' = packets ++ Blocked limit more in
+      record {
+        items = item ∷ [];
+        now = now;
+        is = refl;
+        holds = record { after = after; is_own = serves.same_own ∙ h.is_own; as_many = many };
+        given' = given';
+        handed' = handed;
+        packets = packets';
+        stands =
+            subst (λ (p : PortValue). StandsAt link now given' handed packets' p) (sym s.port)
+            (subst (λ (l : List Item). PortStands given' handed packets' l (AnswersOn link own first links now) _) (sym (items_own link history item))
+            (subst (λ (l : List Message). PortStands given' handed packets' (items_on link history ++ item ∷ []) l _) (sym (answers-grow own first links history link item there)) served));
+        grew = subst (λ (p : PortValue). PortGrew given handed given' handed old.port p) (sym s.port) (grew_served given handed old.port s.one.bytes s.one.later (bodies s.served.answers.items) s.one.next s.one.came);
+      }
+
+  went_none : (link : ℕ) (history : List Event) (given handed : List (List ℕ)) (packets : List NspMessage) (v : EndValue SharedValue) → Holds history v.present → StandsAt link history given handed packets v.port → Went link history given handed v v
+  went_none link history given handed packets v h stands =
+      record { items = []; now = history; is = sym (append-nil history); holds = h; given' = given; handed' = handed; packets = packets; stands = stands; grew = grew_none given handed v.port }
+
+  went_posted : (link : ℕ) (history : List Event) (given handed : List (List ℕ)) (packets : List NspMessage) (old new : EndValue SharedValue) (n : ℕ) → HandsOver old new n → Holds history old.present → StandsAt link history given handed packets old.port
+      → Went link history given handed old new
+  went_posted link history given handed packets old new n p h stands =
+      subst (Went link history given handed old) (sym p.1)
+      (record {
+        items = [];
+        now = history;
+        is = sym (append-nil history);
+        holds = h;
+        given' = given;
+        handed' = handed ++ old.port.outbox;
+        packets = packets;
+        stands = stands_posted given handed packets (items_on link history) (AnswersOn link own first links history) old.port stands;
+        grew = grew_posted given handed old new n p;
+      })
+
+  went_on : (link : ℕ) (history : List Event) (given handed : List (List ℕ)) (a b c : EndValue SharedValue) → (one : Went link history given handed a b) → Went link one.now one.given' one.handed' b c → Went link history given handed a c
+  went_on link history given handed a b c one two =
+      record {
+        items = one.items ++ two.items;
+        now = two.now;
+        is =
+            two.is ∙ ap (λ (l : List Event). l ++ map (Serves link) two.items) one.is ∙ append_assoc history (map (Serves link) one.items) (map (Serves link) two.items)
+            ∙ ap (λ (l : List Event). history ++ l) (sym (map-append (Serves link) one.items two.items));
+        holds = two.holds;
+        given' = two.given';
+        handed' = two.handed';
+        packets = two.packets;
+        stands = two.stands;
+        grew = grew_on given handed one.given' one.handed' two.given' two.handed' a.port b.port c.port one.grew two.grew;
+      }
+
+  worked : (link : ℕ) (history : List Event) (given handed : List (List ℕ)) (packets : List NspMessage) (a b : EndValue SharedValue) → WorkedBy (SharedServed link) a b → Holds history a.present → StandsAt link history given handed packets a.port
+      → Went link history given handed a b
+  worked link history given handed packets a b rests h stands = went_none link history given handed packets a h stands
+  worked link history given handed packets a b (serves_one mid n s on) h stands =
+      let one = one_item link history given handed packets a mid n s h stands in
+      went_on link history given handed a mid b one (worked link one.now one.given' one.handed' one.packets mid b on one.holds one.stands)
+  worked link history given handed packets a b (hands_over mid n p on) h stands =
+      let one = went_posted link history given handed packets a mid n p h stands in
+      went_on link history given handed a mid b one (worked link one.now one.given' one.handed' one.packets mid b on one.holds one.stands)
+
+  -- ---- The node, and all its links.
+
+  abbrev Linked : (link : ℕ) → List Event → PortValue → Peer → Type 0
+  Linked link history port peer = LinkStands (items_on link history) (AnswersOn link own first links history) port peer
+
+  pub record NetworkStands (history : List Event) (net : Network) : Type 0 where
+    pub holds : Holds history net.node.noted.shared
+    pub each : (link : ℕ) (port : PortValue) (peer : Peer) → HasPort link net.node port → slice_get net.peers link ≡ Some peer → Linked link history port peer
+
+  -- a link that has the same items and answers
+  still : (link : ℕ) (old new : List Event) (port : PortValue) (peer : Peer) → IsSame own links first link old new → Linked link old port peer → Linked link new port peer
+  still link old new port peer s h =
+      subst (λ (l : List Message). LinkStands (items_on link new) l port peer) (sym s.answers) (subst (λ (l : List Item). LinkStands l (AnswersOn link own first links old) port peer) (sym s.items) h)
+
+  -- One link moved, and no other has other items or answers.
+  record Moved (link : ℕ) (history now : List Event) (old new : Network) : Type 0 where
+    holds : Holds now new.node.noted.shared
+    ports : (other : ℕ) → other ≢ link → slice_get new.node.ports other ≡ slice_get old.node.ports other
+    peers : (other : ℕ) → other ≢ link → slice_get new.peers other ≡ slice_get old.peers other
+    others : (other : ℕ) → other ≢ link → IsSame own links first other history now
+    here : (port : PortValue) (peer : Peer) → HasPort link new.node port → slice_get new.peers link ≡ Some peer → Linked link now port peer
+
+  moved : (link : ℕ) (history now : List Event) (old new : Network) → Moved link history now old new → NetworkStands history old → NetworkStands now new
+  moved link history now old new m h =
+      record {
+        holds = m.holds;
+        each = λ j port peer at with_peer. elim (cases_eq j link) [
+          | inl is ↦ subst (λ (k : ℕ). Linked k now port peer) (sym is) (m.here port peer (subst (λ (k : ℕ). HasPort k new.node port) is at) (subst (λ (k : ℕ). slice_get new.peers k ≡ Some peer) is with_peer))
+          | inr apart ↦ still j history now port peer (m.others j apart) (h.each j port peer (sym (m.ports j apart) ∙ at) (sym (m.peers j apart) ∙ with_peer))
+        ];
+      }
+
+  -- after one event
+  record Next (event : NetworkEvent) (history : List Event) (new : Network) : Type 0 where
+    told : List Event
+    tells : Tells event told
+    now : List Event
+    is : now ≡ history ++ told
+    stands : NetworkStands now new
+
+  -- the node is called on a link, and no more is served
+  module _ (link : ℕ) (history : List Event) (old new : Network) (event : EndEvent) (more : List Written) (s : SteppedOn link old event more new) (h : NetworkStands history old) where
+    abbrev peer_then : Peer
+    peer_then = record s.peer { from_node = s.peer.from_node ++ more }
+
+    before_it : Linked link history s.before s.peer
+    before_it = h.each link s.before s.peer s.open s.there
+
+    -- the link moved so
+    stepped : (now : List Event) → Holds now new.node.noted.shared → ((other : ℕ) → other ≢ link → IsSame own links first other history now) → Linked link now s.after peer_then → NetworkStands now new
+    stepped now holds others here =
+        moved link history now old new
+        (record {
+          holds = holds;
+          ports = λ j apart. ap (λ (l : List (Option PortValue)). slice_get l j) s.ports ∙ set_other old.node.ports link j (Some s.after) apart;
+          peers = λ j apart. ap (λ (l : List Peer). slice_get l j) s.peers ∙ set_other old.peers link j peer_then apart;
+          others = others;
+          here = λ port peer at with_peer. (let p : Some port ≡ Some s.after = set_there old.node.ports link (Some s.after) (Some port) (sym (ap (λ (l : List (Option PortValue)). slice_get l link) s.ports) ∙ at) in
+              let q : peer ≡ peer_then = set_there old.peers link peer_then peer (sym (ap (λ (l : List Peer). slice_get l link) s.peers) ∙ with_peer) in
+              let same_port : s.after ≡ port = cc in
+              subst (λ (x : PortValue). Linked link now x peer) same_port (subst (Linked link now s.after) (sym q) here));
+        })
+        h
+
+    -- what is kept of all links stayed
+    same_shared : new.node.noted.shared ≡ old.node.noted.shared → Holds history new.node.noted.shared
+    same_shared e = subst (Holds history) (sym e) h.holds
+
+  -- a packet is written again, or an acknowledgement
+  again : (link : ℕ) (history : List Event) (old new : Network) (event : EndEvent) (more : List Written) → (s : SteppedOn link old event more new) → NetworkStands history old → Tells (AtNode link event) [] → (w : Written) (k : Option ℕ) → WroteOne s.before.link k w
+      → IfSome k (λ n. n ≤ s.before.link.sent) → link_of s.after new.node ≡ link_of s.before old.node → more ≡ w ∷ [] → Next (AtNode link event) history new
+  again link history old new event more s h tells w k one was kept_so only =
+      let before = before_it link history old new event more s h in
+      let wrote = packet_again (items_on link history) (AnswersOn link own first links history) s.before s.peer before k w one was in
+      let port : s.after ≡ s.before = ap (λ (v : EndValue SharedValue). v.port) kept_so in
+      let here = subst (λ (p : PortValue). Linked link history p (record s.peer { from_node = s.peer.from_node ++ more })) (sym port)
+      (subst (λ (l : List Written). Linked link history s.before (record s.peer { from_node = s.peer.from_node ++ l })) (sym only) wrote) in
+      record {
+        told = [];
+        tells = tells;
+        now = history;
+        is = sym (append-nil history);
+        stands = stepped link history old new event more s h history (same_shared link history old new event more s h (ap (λ (v : EndValue SharedValue). v.present) kept_so)) (λ j apart. same own links first j history) here;
+      }
+
+  -- each event on a link
+  on_link : (link : ℕ) (history : List Event) (old new : Network) (event : EndEvent) (more : List Written) → SteppedOn link old event more new → NetworkStands history old → Next (AtNode link event) history new
+  on_link link history old new (Came bytes) more s h =
+      let t = s.steps in
+      let same_ports : s.after ≡ with_link s.before t.1 = ap (λ (v : EndValue SharedValue). v.port) t.3 in
+      let before = before_it link history old new (Came bytes) more s h in
+      let came = packet_came (items_on link history) (AnswersOn link own first links history) s.before s.peer before t.1 bytes t.0 t.2 t.6 in
+      let wire : s.peer.from_node ++ more ≡ s.peer.from_node = ap (λ (l : List Written). s.peer.from_node ++ l) t.4 ∙ append-nil s.peer.from_node in
+      let here = subst (λ (p : PortValue). Linked link history p (record s.peer { from_node = s.peer.from_node ++ more })) (sym same_ports) (subst (λ (l : List Written). Linked link history (with_link s.before t.1) (record s.peer { from_node = l })) (sym wire) came) in
+      record {
+        told = [];
+        tells = refl;
+        now = history;
+        is = sym (append-nil history);
+        stands = stepped link history old new (Came bytes) more s h history (same_shared link history old new (Came bytes) more s h (ap (λ (v : EndValue SharedValue). v.present) t.3)) (λ j apart. same own links first j history) here;
+      }
+  on_link link history old new GoesOn more s h =
+      let t = s.steps in
+      let before = before_it link history old new GoesOn more s h in
+      let w = worked link history before.given before.handed before.packets (link_of s.before old.node) t.0 t.2 h.holds before.stands in
+      let went = link_went (items_on link history) (AnswersOn link own first links history) s.before s.peer before w.given' w.handed' w.packets (items_on link w.now) (AnswersOn link own first links w.now) t.0.port s.after t.1 w.stands w.grew t.3 in
+      let here = subst (λ (l : List Written). Linked link w.now s.after (record s.peer { from_node = s.peer.from_node ++ l })) (sym t.5) went in
+      let holds : Holds w.now new.node.noted.shared = subst (Holds w.now) (sym (ap (λ (v : EndValue SharedValue). v.present) t.4)) w.holds in
+      record {
+        told = map (Serves link) w.items;
+        tells = (w.items, refl);
+        now = w.now;
+        is = w.is;
+        stands = stepped link history old new GoesOn more s h w.now holds (λ j apart. subst (IsSame own links first j history) (sym w.is) (others_serve own links first j link history w.items apart)) here;
+      }
+  on_link link history old new (Repeats (Some i)) more s h =
+      let t = s.steps in again link history old new (Repeats (Some i)) more s h refl t.0 (Some (s.before.link.acked + 1 + i)) t.2 (again_sent s.before.link i t.1) t.3 t.4
+  on_link link history old new (Repeats None) more s h = let t = s.steps in again link history old new (Repeats None) more s h refl t.0 None t.2 tt t.3 t.4
+
+  on_peer : (link : ℕ) (history : List Event) (old new : Network) (event : AskingEvent) (more : List Written) → PeerStepped link old event more new → NetworkStands history old → Next (AtPeer link event) history new
+  on_peer link history old new event more s h =
+      let nodes : new.node ≡ old.node = ap (λ (n : Network). n.node) s.is in
+      let peers : new.peers ≡ set old.peers link s.then = ap (λ (n : Network). n.peers) s.is in
+      record {
+        told = [];
+        tells = refl;
+        now = history;
+        is = sym (append-nil history);
+        stands = moved link history history old new
+            (record {
+              holds = subst (λ (n : NodeValue). Holds history n.noted.shared) (sym nodes) h.holds;
+              ports = λ j apart. ap (λ (n : NodeValue). slice_get n.ports j) nodes;
+              peers = λ j apart. ap (λ (l : List Peer). slice_get l j) peers ∙ set_other old.peers link j s.then apart;
+              others = λ j apart. same own links first j history;
+              here = λ port peer at with_peer. (let q : peer ≡ s.then = set_there old.peers link s.then peer (sym (ap (λ (l : List Peer). slice_get l link) peers) ∙ with_peer) in
+                  let before = h.each link port s.peer (sym (ap (λ (n : NodeValue). slice_get n.ports link) nodes) ∙ at) s.there in
+                  subst (Linked link history port) (sym q) (peer_called (items_on link history) (AnswersOn link own first links history) port s.peer before s.then event more s.steps s.requests s.same));
+            })
+            h;
+      }
+
+  -- ---- Links that begin and end.
+
+  began : (link : ℕ) (history : List Event) (port : PortValue) (peer : Peer) → LinkStands [] [] port peer → Linked link (history ++ Begins link ∷ []) port peer
+  began link history port peer j =
+      let now = history ++ Begins link ∷ [] in
+      subst (λ (l : List Message). LinkStands (items_on link now) l port peer) (sym (answers_begin own links first link history)) (subst (λ (l : List Item). LinkStands l [] port peer) (sym (items_begin link history)) j)
+
+  held_on : (link : ℕ) (history : List Event) (old new : SharedValue) → SharedBegins link old new → Holds history old → Holds (history ++ Begins link ∷ []) new
+  held_on link history old new b h = record { after = b.stands first history h.after; is_own = b.same_own ∙ h.is_own; as_many = b.same_links ∙ h.as_many }
+
+  on_begin : (link : ℕ) (setup : LinkSetup) (history : List Event) (old new : Network) → LinkBegan link setup old new → NetworkStands history old → Next (LinkBegins link setup) history new
+  on_begin link setup history old new s h =
+      let b = s.began in
+      let now = history ++ Begins link ∷ [] in
+      record {
+        told = Begins link ∷ [];
+        tells = refl;
+        now = now;
+        is = refl;
+        stands = moved link history now old new
+            (record {
+              holds = held_on link history old.node.noted.shared new.node.noted.shared b.shared h.holds;
+              ports = λ j apart. ap (λ (l : List (Option PortValue)). slice_get l j) b.ports ∙ set_other old.node.ports link j (Some (new_port setup)) apart;
+              peers = λ j apart. ap (λ (l : List Peer). slice_get l j) s.peers ∙ set_other old.peers link j s.peer apart;
+              others = λ j apart. another_begins own links first j link history apart;
+              here = λ port peer at with_peer. (let p : Some port ≡ Some (new_port setup) = set_there old.node.ports link (Some (new_port setup)) (Some port) (sym (ap (λ (l : List (Option PortValue)). slice_get l link) b.ports) ∙ at) in
+                  let q : peer ≡ s.peer = set_there old.peers link s.peer peer (sym (ap (λ (l : List Peer). slice_get l link) s.peers) ∙ with_peer) in
+                  let same_port : new_port setup ≡ port = cc in
+                  began link history port peer (subst (λ (x : PortValue). LinkStands [] [] x peer) same_port (subst (LinkStands [] [] (new_port setup)) (sym q) (link_new setup s.peer s.is_new))));
+            })
+            h;
+      }
+
+  on_end : (link : ℕ) (history : List Event) (old new : Network) → EndedOn link old.node new.node → new.peers ≡ old.peers → NetworkStands history old → Next (LinkEnds link) history new
+  on_end link history old new e peers h =
+      let now = history ++ Begins link ∷ [] in
+      record {
+        told = Begins link ∷ [];
+        tells = refl;
+        now = now;
+        is = refl;
+        stands = moved link history now old new
+            (record {
+              holds = held_on link history old.node.noted.shared new.node.noted.shared e.shared h.holds;
+              ports = λ j apart. ap (λ (l : List (Option PortValue)). slice_get l j) e.ports ∙ set_other old.node.ports link j None apart;
+              peers = λ j apart. ap (λ (l : List Peer). slice_get l j) peers;
+              others = λ j apart. another_begins own links first j link history apart;
+              here = λ port peer at with_peer. (let p : Some port ≡ None = set_there old.node.ports link None (Some port) (sym (ap (λ (l : List (Option PortValue)). slice_get l link) e.ports) ∙ at) in
+                  let none : ⊥ = cc in absurd none);
+            })
+            h;
+      }
+
+  -- ---- Files that are given.
+
+  on_given : (event : NetworkEvent) (given : Event) (history : List Event) (old new : Network) → Tells event (given ∷ []) → ((link : ℕ) → IsSame own links first link history (history ++ given ∷ [])) → SharedGiven given old.node.noted.shared new.node.noted.shared
+      → new.node.ports ≡ old.node.ports → new.peers ≡ old.peers → NetworkStands history old → Next event history new
+  on_given event given history old new tells all g ports peers h =
+      let now = history ++ given ∷ [] in
+      record {
+        told = given ∷ [];
+        tells = tells;
+        now = now;
+        is = refl;
+        stands = record {
+          holds = record { after = g.stands first history h.holds.after; is_own = g.same_own ∙ h.holds.is_own; as_many = ap (λ (l : List SessionValue). length l) g.same_sessions ∙ h.holds.as_many };
+          each = λ j port peer at with_peer. still j history now port peer (all j)
+              (h.each j port peer (sym (ap (λ (l : List (Option PortValue)). slice_get l j) ports) ∙ at) (sym (ap (λ (l : List Peer). slice_get l j) peers) ∙ with_peer));
+        };
+      }
+
+  -- ---- All events.
+
+  next : (event : NetworkEvent) (history : List Event) (old new : Network) (more : List Written) → NetworkStepped old event more new → NetworkStands history old → Next event history new
+  next (AtPeer link event) history old new more s h = on_peer link history old new event more s h
+  next (AtNode link event) history old new more s h = on_link link history old new event more s h
+  next (LinkBegins link setup) history old new more s h = on_begin link setup history old new s.0 h
+  next (LinkEnds link) history old new more s h = on_end link history old new s.0 s.1 h
+  next (FileGiven name shape) history old new more s h = on_given (FileGiven name shape) (Gives name shape) history old new refl (λ link. file_given own links first link history name shape) s.0 s.1 s.2 h
+  next (RecordGiven number body) history old new more s h = on_given (RecordGiven number body) (GivesRecord number body) history old new refl (λ link. record_given own links first link history number body) s.0 s.1 s.2 h
+
+  -- after all events
+  record After (events : List NetworkEvent) (history : List Event) (new : Network) : Type 0 where
+    told : List Event
+    tells : IsHistory events told
+    now : List Event
+    is : now ≡ history ++ told
+    stands : NetworkStands now new
+
+  runs : (events : List NetworkEvent) (history : List Event) (old new : Network) → NetworkRuns old events new → NetworkStands history old → After events history new
+  runs [] history old new r h = record { told = []; tells = refl; now = history; is = sym (append-nil history); stands = subst (NetworkStands history) (sym r) h }
+  runs (event ∷ events) history old new r h =
+      let one = next event history old r.0 r.1 r.2 h in
+      let rest = runs events one.now r.0 new r.3 one.stands in
+      record {
+        told = one.told ++ rest.told;
+        tells = (one.told, rest.told, refl, one.tells, rest.tells);
+        now = rest.now;
+        is = rest.is ∙ ap (λ (l : List Event). l ++ rest.told) one.is ∙ append_assoc history one.told rest.told;
+        stands = rest.stands;
+      }
+
+  -- what it comes to
+  told_by : (events : List NetworkEvent) (new : Network) (history : List Event) → IsHistory events history → NetworkStands history new → NetworkHeadline first events new
+  told_by events new history tells h =
+      let v = new.node.noted.shared in
+      record {
+        history = history;
+        in_order = tells;
+        files_after = ap (λ (x : SharedValue). x.files) h.holds.after.stands;
+        links = λ link port peer at with_peer. (let k = kept (items_on link history) (AnswersOn link own first links history) port peer (h.each link port peer at with_peer) in
+            let one : LinkHeadline link own first links history peer = record { taken = k.taken; served = k.served; taken_in_order = k.taken_in_order; read = k.read; read_in_order = k.read_in_order; reports_told = k.reports_told } in
+            subst (λ (n : ℕ). LinkHeadline link v.own first n history peer) (sym h.holds.as_many) (subst (λ (o : ℕ). LinkHeadline link o first links history peer) (sym h.holds.is_own) one));
+      }
+
+  pub network_keeps : (events : List NetworkEvent) (old new : Network) → IsNew first old → old.node.noted.shared.own ≡ own → length old.node.noted.shared.sessions ≡ links → NetworkRuns old events new → NetworkHeadline first events new
+  network_keeps events old new n is_own as_many r =
+      let start : NetworkStands [] old = record { holds = record { after = n.shared; is_own = is_own; as_many = as_many }; each = λ link port peer at with_peer. absurd (n.none link port at) } in
+      let end = runs events [] old new r start in
+      told_by events new end.told end.tells (subst (λ (l : List Event). NetworkStands l new) end.is end.stands)

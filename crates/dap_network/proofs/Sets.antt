@@ -1,0 +1,21 @@
+-- Lists in which one place was set.
+use Rattle.std.proofs.Common.{◌≡◌, ◌≢◌, ℕ, zero, suc, List, [], ◌∷◌, Some, refl, ap}
+use Rattle.std.specs.Prelude.{get_or, set, slice_get}
+
+pub set_there : {A : Type 0} (xs : List A) (i : ℕ) (a b : A) → slice_get (set xs i a) i ≡ Some b → b ≡ a
+set_there [] i a b e = let none : ⊥ = cc in absurd none
+set_there (x ∷ xs) zero a b e = let same : b ≡ a = cc in same
+set_there (x ∷ xs) (suc i) a b e = set_there xs i a b e
+
+pub set_other : {A : Type 0} (xs : List A) (i j : ℕ) (a : A) → j ≢ i → slice_get (set xs i a) j ≡ slice_get xs j
+set_other [] i j a d = refl
+set_other (x ∷ xs) zero zero a d = absurd (d refl)
+set_other (x ∷ xs) zero (suc j) a d = refl
+set_other (x ∷ xs) (suc i) zero a d = refl
+set_other (x ∷ xs) (suc i) (suc j) a d = set_other xs i j a (λ e. d (ap suc e))
+
+-- what stands for a place that isn't there was set
+pub set_plain : {A : Type 0} (xs : List A) (i : ℕ) (d : A) → get_or (set xs i d) i d ≡ d
+set_plain [] i d = refl
+set_plain (x ∷ xs) zero d = refl
+set_plain (x ∷ xs) (suc i) d = set_plain xs i d

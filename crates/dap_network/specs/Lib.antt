@@ -1,0 +1,3 @@
+pub mod Network
+pub mod History
+pub mod Headline

@@ -1,0 +1,120 @@
+-- A serving node, the peer of each of its links, and a network that loses, repeats and reorders packets. The headline is
+-- the law `many_links_keep_the_headline`.
+use Rattle.std.specs.Prelude.{◌≡◌, ℕ, List, [], ◌∷◌, ◌++◌, set, Option, Some, None, slice_get}
+use Rattle.rec_file.specs.declared.shapes.Shape.{Shape}
+use Rattle.nsp_link.specs.declared.link.LinkSetup.{LinkSetup}
+use Rattle.nsp_link.specs.Link.{IsSetup}
+use Rattle.dap_accessed.specs.Standing.{Files}
+use Rattle.dap_accessing.specs.Request.{Request}
+use Rattle.dap_accessing.specs.declared.report.Report.{Report}
+use Rattle.dap_shared.specs.Nodes.{Gives, GivesRecord}
+use Rattle.dap_shared.specs.Shared.{SharedAfter, SharedGiven, SharedServed, SharedValue}
+use Rattle.dap_end.specs.Ports.{EndValue, HandsOver, PortValue, new_port}
+use Rattle.dap_end.specs.By.{ServedBy, ServesAt, end_with}
+use Rattle.dap_end.specs.Asking.{HasAsked}
+use Rattle.dap_end.specs.Done.{AskingValue, nothing_asked}
+use Rattle.dap_end.specs.Headline.{Written}
+use Rattle.dap_end.specs.Joined.{IsBrought}
+use Rattle.dap_end.specs.Calls.{AskingEvent, AskingStepped, EndEvent, EndStepped, requests_in}
+use Rattle.dap_end.specs.Node.{BeganOn, EndedOn, HasPort, NodeValue}
+use Rattle.dap_end.specs.Runs.{RunsBy}
+
+-- The peer of a link, every packet that it and the node wrote on the link, what was asked of the peer, and what it reported:
+-- all of it since the link began.
+pub record Peer : Type 0 where
+  pub client : AskingValue
+  pub from_peer : List Written
+  pub from_node : List Written
+  pub requests : List Request
+  pub reports : List Report
+
+-- a node, and the peer of each link
+pub record Network : Type 0 where
+  pub node : NodeValue
+  pub peers : List Peer
+
+-- ---- Events.
+
+-- The peer of a link is called. Or the node is called on a link; it begins a link with a setup, and a new peer, or ends one;
+-- it is given a file without records, or a record of the newest file.
+pub data NetworkEvent : Type 0 where
+  AtPeer : (link : ℕ) → AskingEvent → NetworkEvent
+  AtNode : (link : ℕ) → EndEvent → NetworkEvent
+  LinkBegins : (link : ℕ) → LinkSetup → NetworkEvent
+  LinkEnds : (link : ℕ) → NetworkEvent
+  FileGiven : (name : List ℕ) → Shape → NetworkEvent
+  RecordGiven : (number : ℕ) → (body : List ℕ) → NetworkEvent
+
+-- items that came were served so, and what waited was passed on, in any order
+pub data WorkedBy {P : Type 0} (serves : ServesAt P) : EndValue P → EndValue P → Type 0 where
+  rests : {v : EndValue P} → WorkedBy serves v v
+  serves_one : {old new : EndValue P} (mid : EndValue P) (n : ℕ) → ServedBy serves old mid n → WorkedBy serves mid new → WorkedBy serves old new
+  hands_over : {old new : EndValue P} (mid : EndValue P) (n : ℕ) → HandsOver old mid n → WorkedBy serves mid new → WorkedBy serves old new
+
+-- a port of a node, before what the node keeps of all links
+abbrev pub link_of : PortValue → NodeValue → EndValue SharedValue
+link_of port node = end_with port node.noted.shared
+
+-- On a link there is an event of the node, and its packets follow those before. No other port moves. What comes is a packet
+-- that the link's peer wrote, unaltered and not more than 2,047 numbers old.
+pub record SteppedOn (link : ℕ) (old : Network) (event : EndEvent) (more : List Written) (new : Network) : Type 0 where
+  pub peer : Peer
+  pub there : slice_get old.peers link ≡ Some peer
+  pub before : PortValue
+  pub after : PortValue
+  pub open : HasPort link old.node before
+  pub steps : EndStepped (Unit {0}) (WorkedBy (SharedServed link)) (IsBrought peer.from_peer) (link_of before old.node) event (link_of after new.node) more
+  pub ports : new.node.ports ≡ set old.node.ports link (Some after)
+  pub peers : new.peers ≡ set old.peers link (record peer { from_node = peer.from_node ++ more })
+
+-- There is an event of the peer of a link, and its packets and reports follow those before. What comes is a packet that
+-- the node wrote on the link, unaltered and not more than 2,047 numbers old.
+pub record PeerStepped (link : ℕ) (old : Network) (event : AskingEvent) (more : List Written) (new : Network) : Type 0 where
+  pub peer : Peer
+  pub there : slice_get old.peers link ≡ Some peer
+  pub then : Peer
+  pub steps : AskingStepped (IsBrought peer.from_node) (peer.client, peer.reports, peer.from_peer) event more (then.client, then.reports, then.from_peer)
+  pub requests : then.requests ≡ peer.requests ++ requests_in (event ∷ [])
+  pub same : then.from_node ≡ peer.from_node
+  pub is : new ≡ record old { peers = set old.peers link then }
+
+-- The setup of a peer: but for segments and windows it is the node's, with the addresses exchanged.
+pub record AreFacing (node peer : LinkSetup) : Type 0 where
+  pub good : IsSetup node
+  pub other_good : IsSetup peer
+  pub facing : node ≡ record peer { local = peer.remote; remote = peer.local; seg_size = node.seg_size; window = node.window }
+
+-- a peer of which nothing was asked, on a link that the node begins with this setup
+pub record IsNewPeer (setup : LinkSetup) (peer : Peer) : Type 0 where
+  pub own : LinkSetup
+  pub facing : AreFacing setup own
+  pub port : peer.client.port ≡ new_port own
+  pub asking : HasAsked nothing_asked peer.client
+  pub none : peer ≡ record { client = peer.client; from_peer = []; from_node = []; requests = []; reports = [] }
+
+-- a link began, with a new peer
+pub record LinkBegan (link : ℕ) (setup : LinkSetup) (old new : Network) : Type 0 where
+  pub began : BeganOn link setup old.node new.node
+  pub peer : Peer
+  pub is_new : IsNewPeer setup peer
+  pub peers : new.peers ≡ set old.peers link peer
+
+-- what each event does, and the packets that it writes
+abbrev pub NetworkStepped : Network → NetworkEvent → List Written → Network → Type 0
+NetworkStepped old (AtPeer link event) more new = PeerStepped link old event more new
+NetworkStepped old (AtNode link event) more new = SteppedOn link old event more new
+NetworkStepped old (LinkBegins link setup) more new = LinkBegan link setup old new × (more ≡ [])
+NetworkStepped old (LinkEnds link) more new = EndedOn link old.node new.node × (new.peers ≡ old.peers) × (more ≡ [])
+NetworkStepped old (FileGiven name shape) more new =
+    SharedGiven (Gives name shape) old.node.noted.shared new.node.noted.shared × (new.node.ports ≡ old.node.ports) × (new.peers ≡ old.peers) × (more ≡ [])
+NetworkStepped old (RecordGiven number body) more new =
+    SharedGiven (GivesRecord number body) old.node.noted.shared new.node.noted.shared × (new.node.ports ≡ old.node.ports) × (new.peers ≡ old.peers) × (more ≡ [])
+
+-- events, one after another
+abbrev pub NetworkRuns : Network → List NetworkEvent → Network → Type 0
+NetworkRuns old events new = RunsBy NetworkStepped old events new
+
+-- A node with these files, of which no link is there.
+pub record IsNew (first : Files) (net : Network) : Type 0 where
+  pub shared : SharedAfter first [] net.node.noted.shared
+  pub none : (link : ℕ) (port : PortValue) → HasPort link net.node port → ⊥
