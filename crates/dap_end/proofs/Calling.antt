@@ -30,7 +30,7 @@ use Rattle.dap_end.specs.Calls.{numbered, Came, GoesOn, Repeats}
 use Rattle.dap_end.specs.Calls.{AskingEvent, Asks, By, AskingStepped, AskingRunsAs, requests_in}
 use Rattle.dap_end.proofs.Packets.{ack_written}
 use Rattle.dap_end.proofs.Emitting.{wrote_nothing}
-use Rattle.dap_end.proofs.Running.{numbered_bytes, runs_then}
+use Rattle.dap_end.proofs.Stepping.{numbered_bytes, runs_then}
 
 -- ---- Runs join.
 

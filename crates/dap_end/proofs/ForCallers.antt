@@ -20,7 +20,7 @@ pub use Rattle.dap_end.proofs.Joined.{front_fit, back_fit}
 pub use Rattle.dap_end.proofs.Asked.{asked_past, handed_is, handed_past}
 pub use Rattle.dap_end.proofs.Afterwards.{posted_is, posted_past}
 -- the packets of one segment more; segments have one list of packets
-pub use Rattle.dap_end.proofs.Emitting.{segments_more}
+pub use Rattle.dap_end.proofs.Emitting.{segments_more, wrote_nothing}
 pub use Rattle.dap_end.proofs.Writing.{segments_one}
 -- what a call answers and leaves follows from the end and the call
 pub use Rattle.dap_end.proofs.Determined.{going_one, taking_one}
@@ -47,3 +47,9 @@ pub use Rattle.dap_end.proofs.Moving.{again_sent, goes, wrote_one}
 pub use Rattle.dap_end.proofs.Clients.{Client, IsJoinedTo, asks, new_joined}
 -- no message is too long to be handed over, where there is none
 pub use Rattle.dap_end.proofs.Proceeding.{none_short}
+-- calls of an end are events of it, whatever it does by itself
+pub use Rattle.dap_end.proofs.Stepping.{SteppedBy, RunsIn, AreCalls, ack_is, again_is, going_on_is, runs_then, taken_is}
+-- events of a client, with what it wrote and reported before
+pub use Rattle.dap_end.proofs.Hearing.{requests_of}
+pub use Rattle.dap_end.proofs.Calling.{SoFar, behind_these}
+pub use Rattle.dap_end.proofs.Arriving.{asked_as}

@@ -9,6 +9,7 @@ pub mod Emitting
 pub mod Proceeding
 pub mod Fronts
 pub mod Packets
+pub mod Stepping
 pub mod Running
 pub mod Asked
 pub mod Hearing

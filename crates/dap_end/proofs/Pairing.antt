@@ -9,7 +9,7 @@ use Rattle.dap_end.specs.Runs.{RunsBy}
 use Rattle.dap_end.specs.Headline.{Arrival, Written}
 use Rattle.dap_end.specs.Joined.{Pair, IsBrought}
 use Rattle.dap_end.specs.Calls.{EndEvent, Stepped, Runs, AskingEvent, AskingStepped, AskingRuns, requests_in, AtA, AtB, PairStepped, PairRuns}
-use Rattle.dap_end.proofs.Running.{runs_then}
+use Rattle.dap_end.proofs.Stepping.{runs_then}
 use Rattle.dap_end.proofs.Running as serving
 use Rattle.dap_end.proofs.Hearing.{requests_of}
 use Rattle.dap_end.proofs.Calling.{SoFar, behind_these}

@@ -1,13 +1,12 @@
 -- What a list of a serving end's calls leaves.
-use Rattle.std.proofs.Common.{◌≡◌, ℕ, ◌+◌, ◌<◌, arith, refl, sym, ◌∙◌, subst, ap, append_assoc, true, false, List, [], ◌∷◌, ◌++◌, length, inl, inr}
-use Rattle.std.specs.Prelude.{◌⊎◌, Bool, max, ◌-◌, Option, Some, None, Result, Ok, Err}
-use Rattle.std.proofs.lemmas.List.{append-nil, map-append}
+use Rattle.std.proofs.Common.{◌≡◌, ℕ, ◌+◌, ◌<◌, arith, refl, sym, ◌∙◌, subst, ap, append_assoc, false, List, [], ◌∷◌, ◌++◌, length, inl, inr}
+use Rattle.std.specs.Prelude.{◌⊎◌, max, ◌-◌, Option, Some, None, Result, Ok, Err}
+use Rattle.std.proofs.lemmas.List.{append-nil}
 use Rattle.dap_msg.specs.declared.items.Item.{Item}
 use Rattle.dap_msg.specs.declared.message.Message.{Message}
 use Rattle.dap_msg.specs.Blocked.{NspMessage, Blocked, messages_in}
 use Rattle.dap_msg.proofs.ForCallers.{messages_in-Blocked}
 use Rattle.nsp_link.specs.declared.link.Got.{Got}
-use Rattle.nsp_link.specs.declared.link.Got.TheVariants.{AckOnly}
 use Rattle.nsp_link.specs.declared.fault.LinkFault.{LinkFault}
 use Rattle.nsp_link.specs.declared.fault.LinkFault.TheVariants as fault
 use Rattle.nsp_link.specs.Due.{MayRefuse}
@@ -19,15 +18,14 @@ use Rattle.dap_accessed.specs.Groups.{Answers, added, limit_for}
 use Rattle.dap_accessed.proofs.ForCallers.{Answers-more}
 use Rattle.dap_end.specs.declared.fault.EndFault.{EndFault}
 use Rattle.dap_end.specs.declared.fault.TakeFault.{TakeFault}
-use Rattle.dap_end.specs.declared.fault.TakeFault.TheVariants as take_fault
 use Rattle.dap_end.specs.Ports.{EndValue, HandsOver, PortValue}
 use Rattle.nsp_link.specs.Receiving.{Receives}
 use Rattle.dap_end.specs.Going.{AreFrontOf}
-use Rattle.dap_end.specs.Writing.{Acknowledged, wants_ack, WroteAnswer, WroteMore}
+use Rattle.dap_end.specs.Writing.{WroteMore}
 use Rattle.dap_end.specs.Moved.{sent_more}
 use Rattle.dap_end.specs.Serving.{IsAfter, ServedOne}
 use Rattle.dap_end.specs.Done.{ServingValue, Past, answers_to, nothing_yet}
-use Rattle.dap_end.specs.Turns.{Answered, DidAll, WroteThen, WentOn, TookIn, TookThen, Takes}
+use Rattle.dap_end.specs.Turns.{DidAll, WentOn, TookIn, Takes}
 use Rattle.dap_end.specs.Taking.{serves}
 use Rattle.dap_end.specs.Calls.{WorkedOn, rests}
 use Rattle.dap_end.specs.Runs.{RunsBy}
@@ -36,10 +34,10 @@ use Rattle.dap_end.specs.Calls.{numbered, WroteOne, EndEvent, Came, GoesOn, Repe
 use Rattle.dap_end.proofs.Taking.{grown}
 use Rattle.dap_end.proofs.Afterwards.{after_received}
 use Rattle.dap_end.proofs.Fronts.{served_front}
-use Rattle.dap_end.proofs.Packets.{all_written, still_written, written_on, numbered_written, one_written, ack_written}
-use Rattle.dap_end.proofs.Emitting.{wrote_nothing}
+use Rattle.dap_end.proofs.Packets.{all_written, still_written, written_on, numbered_written, one_written}
 use Rattle.dap_end.proofs.Proceeding.{still_sent, worked_grew, one_served, one_posted, all_worked}
 use Rattle.dap_end.specs.Inner.ServingView.{with_port}
+use Rattle.dap_end.proofs.Stepping as stepping
 
 -- ---- The answers.
 
@@ -229,118 +227,52 @@ pub refused_due : (old new : LinkValue) (size : ℕ) (messages given : List (Lis
 refused_due old new size messages given bytes e s f h =
     let due = h.due size messages given f.0 f.1 f.2 f.3 (s.1, s.0, f.4) in (two_reasons old f.1 e due.0, due.1)
 
--- ---- Runs join.
+-- ---- Calls are runs.
 
--- one run behind another
-pub runs_then : {S E A : Type 0} (Goes : S → E → A → S → Type 0) (xs ys : List E) (a b c : S) → RunsBy Goes a xs b → RunsBy Goes b ys c → RunsBy Goes a (xs ++ ys) c
-runs_then Goes [] ys a b c r q = subst (λ s. RunsBy Goes s ys c) r q
-runs_then Goes (x ∷ xs) ys a b c r q = (r.0, r.1, r.2, runs_then Goes xs ys r.0 b c r.3 q)
+-- it may do nothing
+none : (v : ServingValue) → WorkedOn v v
+none v = rests
 
 -- with packets that were there before
 pub shifted : (comes : LinkValue → List ℕ → Type 0) (events : List EndEvent) (front : List Written) (old new : Wrote) → RunsBy (Stepped comes) old events new → RunsBy (Stepped comes) (old.0, front ++ old.1) events (new.0, front ++ new.1)
-shifted comes [] front old new r = ap (λ (x : Wrote). (x.0, front ++ x.1)) r
-shifted comes (event ∷ events) front old new r =
-    ((r.0.0, front ++ r.0.1), r.1, (r.2.0, ap (λ (l : List Written). front ++ l) r.2.1 ∙ sym (append_assoc front old.1 r.1)), shifted comes events front r.0 new r.3)
-
--- ---- Calls are runs.
+shifted comes events front old new r = stepping.shifted WorkedOn none comes events front old new r
 
 module _ (comes : LinkValue → List ℕ → Type 0) where
   pub no_call : (v : ServingValue) → RunsAs comes v v []
   no_call v = ([], refl)
 
   pub more_calls : (old mid new : ServingValue) (ws more : List Written) → RunsAs comes old mid ws → RunsAs comes mid new more → RunsAs comes old new (ws ++ more)
-  more_calls old mid new ws more r q =
-      let behind = subst (λ (l : List Written). RunsBy (Stepped comes) (mid, l) q.0 (new, ws ++ more)) (append-nil ws) (shifted comes q.0 ws (mid, []) (new, more) q.1) in
-      (r.0 ++ q.0, runs_then (Stepped comes) r.0 q.0 (old, []) (mid, ws) (new, ws ++ more) r.1 behind)
-
-  one_event : (old new : ServingValue) (event : EndEvent) (ws : List Written) → Stepping comes old event new ws → RunsAs comes old new ws
-  one_event old new event ws s = (event ∷ [], ((new, ws), ws, (s, refl), refl))
-
-  -- served and handed over, and nothing written
-  served_only : (old new : ServingValue) → WorkedOn old new → Stepping comes old GoesOn new []
-  served_only old new m = (new, [], m, wrote_nothing new.port, refl, refl)
+  more_calls old mid new ws more r q = stepping.more_calls WorkedOn none comes old mid new ws more r q
 
   pub serving_is : (old new : ServingValue) (n : ℕ) → ServedOne old new n → RunsAs comes old new []
-  serving_is old new n s = one_event old new GoesOn [] (served_only old new (one_served old new n s))
+  serving_is old new n s = stepping.doing_is WorkedOn none comes old new (one_served old new n s)
 
   pub serving_all_is : (most : ℕ) (old new : ServingValue) (r : Result (Unit {0}) EndFault) → DidAll (serves most) old new r → RunsAs comes old new []
-  serving_all_is most old new r s = one_event old new GoesOn [] (served_only old new (all_worked most old new r s))
+  serving_all_is most old new r s = stepping.all_is WorkedOn none comes (serves most) (all_worked most) old new r s
 
   pub posting_is : (old new : ServingValue) (n : ℕ) → HandsOver old new n → RunsAs comes old new []
-  posting_is old new n p = one_event old new GoesOn [] (served_only old new (one_posted old new n p))
+  posting_is old new n p = stepping.doing_is WorkedOn none comes old new (one_posted old new n p)
 
   pub writing_is : (old new : ServingValue) (bytes : List ℕ) → new ≡ with_port old new.port → WroteMore old.port new.port (bytes ∷ [])
       → RunsAs comes old new (record { bytes = bytes; segment = Some (old.port.link.sent + 1); acks = old.port.link.coming.received } ∷ [])
-  writing_is old new bytes rest w = one_event old new GoesOn _ (old, bytes ∷ [], rests, w, rest, refl)
+  writing_is old new bytes rest w = stepping.writing_is WorkedOn none comes old new bytes rest w
 
   pub again_is : (v : ServingValue) (i : ℕ) (bytes : List ℕ) → i < v.port.link.sent - v.port.link.acked → WritesSent v.port.link (Some (v.port.link.acked + 1 + i)) bytes
       → RunsAs comes v v (record { bytes = bytes; segment = Some (v.port.link.acked + 1 + i); acks = v.port.link.coming.received } ∷ [])
-  again_is v i bytes lt w = one_event v v (Repeats (Some i)) _ (record { bytes = bytes; segment = Some (v.port.link.acked + 1 + i); acks = v.port.link.coming.received }, lt, (refl, refl, w), refl, refl, tt)
-
-  ack_step : (v : ServingValue) (bytes : List ℕ) → IsSpelling (ack_packet_of v.port.link) bytes → Stepping comes v (Repeats None) v (record { bytes = bytes; segment = None; acks = v.port.link.coming.received } ∷ [])
-  ack_step v bytes s = (record { bytes = bytes; segment = None; acks = v.port.link.coming.received }, tt, (refl, refl, ack_written v.port.link bytes s), refl, refl, tt)
+  again_is v i bytes lt w = stepping.again_is WorkedOn none comes v i bytes lt w
 
   pub ack_is : (v : ServingValue) (bytes : List ℕ) → IsSpelling (ack_packet_of v.port.link) bytes → RunsAs comes v v (record { bytes = bytes; segment = None; acks = v.port.link.coming.received } ∷ [])
-  ack_is v bytes s = one_event v v (Repeats None) _ (ack_step v bytes s)
-
-  came : (old new : ServingValue) (bytes : List ℕ) (r : Result Got LinkFault) → comes old.port.link bytes → TookIn old new bytes r → Stepping comes old (Came bytes) new []
-  came old new bytes r h t = (r, new.port.link, t.receives, t.rest, refl, tt, h)
+  ack_is v bytes s = stepping.ack_is WorkedOn none comes v bytes s
 
   pub receiving_is : (old new : ServingValue) (bytes : List ℕ) (r : Result Got LinkFault) → comes old.port.link bytes → TookIn old new bytes r → RunsAs comes old new []
-  receiving_is old new bytes r h t = one_event old new (Came bytes) [] (came old new bytes r h t)
+  receiving_is old new bytes r h t = stepping.receiving_is WorkedOn none comes old new bytes r h t
 
--- the bytes of some packets, numbered
-pub numbered_bytes : (k a : ℕ) (packets : List (List ℕ)) → bytes_of (numbered k a packets) ≡ packets
-numbered_bytes k a [] = refl
-numbered_bytes k a (p ∷ packets) = ap (λ (l : List (List ℕ)). p ∷ l) (numbered_bytes (k + 1) a packets)
-
--- several packets behind those that were there
-behind : (out all packets : List (List ℕ)) (k a : ℕ) → all ≡ out ++ packets → all ≡ out ++ bytes_of (numbered k a packets)
-behind out all packets k a e = e ∙ ap (λ (l : List (List ℕ)). out ++ l) (sym (numbered_bytes k a packets))
-
-bytes_append : (xs ys : List Written) → bytes_of (xs ++ ys) ≡ bytes_of xs ++ bytes_of ys
-bytes_append xs ys = map-append (λ (w : Written). w.bytes) xs ys
-
-module _ (comes : LinkValue → List ℕ → Type 0) where
   -- a run whose packets stand behind those that were there
   abbrev pub AreCalls : ServingValue → ServingValue → (out all : List (List ℕ)) → Type 0
   AreCalls old new out all = (wrote : List Written) × RunsAs comes old new wrote × (all ≡ out ++ bytes_of wrote)
 
-  took_by : (old mid new : ServingValue) (bytes : List ℕ) (out all : List (List ℕ)) → Stepping comes old (Came bytes) mid [] → AreCalls mid new out all → AreCalls old new out all
-  took_by old mid new bytes out all s c = (c.0, (Came bytes ∷ c.1.0, ((mid, []), [], (s, refl), c.1.1)), c.2)
-
-  -- with an acknowledgement or without
-  answered_is : (old served new : ServingValue) (out all packets written : List (List ℕ)) (wants : Bool) → WorkedOn old served → new ≡ with_port served new.port → WroteMore served.port new.port written → all ≡ out ++ packets
-      → Acknowledged new.port wants written packets → AreCalls old new out all
-  answered_is old served new out all packets written false m rest w is ack =
-      (_, one_event comes old new GoesOn _ (served, written, m, w, rest, refl), behind out all written _ _ (is ∙ ap (λ (l : List (List ℕ)). out ++ l) ack))
-  answered_is old served new out all packets written true m rest w is ack =
-      let first = numbered (served.port.link.sent + 1) served.port.link.coming.received written in
-      let last : Written = record { bytes = ack.0; segment = None; acks = new.port.link.coming.received } in (
-        first ++ last ∷ [],
-        more_calls comes old new new first (last ∷ []) (one_event comes old new GoesOn first (served, written, m, w, rest, refl)) (ack_is comes new ack.0 ack.2),
-        is ∙ ap (λ (l : List (List ℕ)). out ++ l) (ack.1 ∙ ap (λ (l : List (List ℕ)). l ++ ack.0 ∷ []) (sym (numbered_bytes _ _ written)) ∙ sym (bytes_append first (last ∷ []))),
-      )
-
-  whole_is : (most : ℕ) (old new : ServingValue) (got : Got) (out all : List (List ℕ)) → WroteThen (serves most) (λ p q. WroteAnswer p q got) old new out all → AreCalls old new out all
-  whole_is most old new got out all w =
-      let (packets, is, a) = w.wrote in answered_is old w.mid new out all packets a.0 (wants_ack got (length a.0)) (all_worked most old w.mid (Ok tt) w.done) w.rest a.1 is a.3
-
-  answer_is : (most : ℕ) (old new : ServingValue) (got : Got) (out all : List (List ℕ)) (r : Result (Unit {0}) EndFault) → Answered (serves most) old new got out all r → AreCalls old new out all
-  answer_is most old new got out all (Ok done) w = whole_is most old new got out all w
-  answer_is most old new got out all (Err f) (inl h) =
-      ([], one_event comes old new GoesOn [] (served_only comes old new (all_worked most old new (Err f) h.0)), h.1 ∙ sym (append-nil out))
-  answer_is most old new got out all (Err f) (inr h) =
-      let w = h.1 in
-      (_, one_event comes old new GoesOn _ (w.mid, w.wrote.0, all_worked most old w.mid (Ok tt) w.done, w.wrote.2.0, w.rest, refl), behind out all w.wrote.0 _ _ w.wrote.1)
-
   pub going_on_is : (most : ℕ) (old new : ServingValue) (out all : List (List ℕ)) (r : Result (Unit {0}) EndFault) → WentOn (serves most) old new out all r → AreCalls old new out all
-  going_on_is most old new out all r w = answer_is most old new AckOnly out all r w
-
-  then_is : (most : ℕ) (old new : ServingValue) (bytes : List ℕ) (got : Got) (out all : List (List ℕ)) (r : Result (Unit {0}) EndFault) → comes old.port.link bytes → TookThen (serves most) old new bytes got out all r → AreCalls old new out all
-  then_is most old new bytes got out all r h (mid, t, a) = took_by old mid new bytes out all (came comes old mid bytes (Ok got) h t) (answer_is most mid new got out all r a)
+  going_on_is most old new out all r w = stepping.going_on_is WorkedOn none comes (serves most) (all_worked most) old new out all r w
 
   pub taken_is : (most : ℕ) (old new : ServingValue) (bytes : List ℕ) (out all : List (List ℕ)) (r : Result Got TakeFault) → comes old.port.link bytes → Takes (serves most) old new bytes out all r → AreCalls old new out all
-  taken_is most old new bytes out all (Ok got) h t = then_is most old new bytes got out all (Ok tt) h t
-  taken_is most old new bytes out all (Err (take_fault.Refused f)) h t = ([], receiving_is comes old new bytes (Err f) h t.0, t.1 ∙ sym (append-nil out))
-  taken_is most old new bytes out all (Err (take_fault.Unfinished got f)) h t = then_is most old new bytes got out all (Err f) h t
+  taken_is most old new bytes out all r h t = stepping.taken_is WorkedOn none comes (serves most) (all_worked most) old new bytes out all r h t

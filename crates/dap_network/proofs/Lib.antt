@@ -3,3 +3,5 @@ pub mod Histories
 pub mod Standing
 pub mod Linked
 pub mod Network
+pub mod Calling
+pub mod Asking

@@ -19,3 +19,21 @@ pub set_plain : {A : Type 0} (xs : List A) (i : ℕ) (d : A) → get_or (set xs 
 set_plain [] i d = refl
 set_plain (x ∷ xs) zero d = refl
 set_plain (x ∷ xs) (suc i) d = set_plain xs i d
+
+-- what was set is there, where something was
+pub set_here : {A : Type 0} (xs : List A) (i : ℕ) (a b : A) → slice_get xs i ≡ Some a → slice_get (set xs i b) i ≡ Some b
+set_here [] i a b e = let none : ⊥ = cc in absurd none
+set_here (x ∷ xs) zero a b e = refl
+set_here (x ∷ xs) (suc i) a b e = set_here xs i a b e
+
+-- what is there is set
+pub set_same : {A : Type 0} (xs : List A) (i : ℕ) (a : A) → slice_get xs i ≡ Some a → set xs i a ≡ xs
+set_same [] i a e = refl
+set_same (x ∷ xs) zero a e = let same : a ≡ x = cc in ap (λ (y : _). y ∷ xs) same
+set_same (x ∷ xs) (suc i) a e = ap (λ (l : List _). x ∷ l) (set_same xs i a e)
+
+-- a place is set again
+pub set_again : {A : Type 0} (xs : List A) (i : ℕ) (a b : A) → set (set xs i a) i b ≡ set xs i b
+set_again [] i a b = refl
+set_again (x ∷ xs) zero a b = refl
+set_again (x ∷ xs) (suc i) a b = ap (λ (l : List _). x ∷ l) (set_again xs i a b)

@@ -1,3 +1,4 @@
 pub mod Network
 pub mod History
 pub mod Headline
+pub mod Calls

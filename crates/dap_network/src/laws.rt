@@ -1,15 +1,83 @@
 //! Laws over the definitions alone. Each function does nothing: its contract is the law.
 
-ghost use Rattle.std.specs.Prelude.{ℕ, List};
+ghost use Rattle.std.specs.Prelude.{◌≡◌, ◌+◌, ◌-◌, ◌<◌, ◌++◌, ◌∷◌, [], ℕ, List, None, Option, Result, Some, slice_get};
+ghost use Rattle.std.specs.List.{AllByRecursion};
+ghost use Rattle.nsp_link.specs.declared.link.Got.{Got as TheGot};
+ghost use Rattle.nsp_link.specs.Link.{IsSpelling};
+ghost use Rattle.nsp_link.specs.Sending.{WritesSent, ack_packet_of};
 ghost use Rattle.dap_accessed.specs.Standing.{Files};
+ghost use Rattle.dap_accessing.specs.Request.{Request as TheRequest};
+ghost use Rattle.dap_accessing.specs.declared.report.Report.{Report as TheReport};
+ghost use Rattle.dap_end.specs.declared.fault.EndFault.{EndFault as TheEndFault};
+ghost use Rattle.dap_end.specs.declared.fault.TakeFault.{TakeFault as TheTakeFault};
+ghost use Rattle.dap_end.specs.Calls.{AskingRuns};
+ghost use Rattle.dap_end.specs.Done.{AskingValue};
+ghost use Rattle.dap_end.specs.Headline.{Arrival, Written, bytes_of};
+ghost use Rattle.dap_end.specs.Joined.{IsBrought};
+ghost use Rattle.dap_end.specs.Node.{HasPort, NodeValue, OnLink, serves_on};
+ghost use Rattle.dap_end.specs.Ports.{PortValue};
+ghost use Rattle.dap_end.specs.Turns.{Takes, WentOn};
+ghost use Rattle.dap_network.specs.Calls.{Leads, node_then, peer_then};
 ghost use Rattle.dap_network.specs.Headline.{NetworkHeadline};
-ghost use Rattle.dap_network.specs.Network.{IsNew, Network, NetworkEvent, NetworkRuns};
+ghost use Rattle.dap_network.specs.Network.{IsNew, Network, NetworkEvent, NetworkRuns, Peer};
 
-/// A node and the peers of its links keep the headline, over every list of their calls, links that begin and end among them, and
-/// over a network that loses, repeats and reorders packets, but brings none altered or more than 2,047 numbers old. There is
-/// one order in which all was served. The files are those after it. On each link the messages of its peer were served, each
-/// once and in order, and the peer's reports are those of the answers that this order gives.
+/// A node and the peers of its links keep the headline, over every list of their calls, links that begin and end among
+/// them, and over a network that loses, repeats and reorders packets, but brings none altered or more than 2,047 numbers
+/// old. There is one order in which all was served: that of the calls. The files are those after it. On each link the
+/// messages of its peer were served, each once and in order, and the peer's reports are those of the answers that this
+/// order gives there.
 pub fn many_links_keep_the_headline()
-    ensures { (first : Files) (events : List NetworkEvent) (old new : Network) → IsNew first old
-        → NetworkRuns old events new → NetworkHeadline first events new }
+    ensures { (first : Files) (events : List NetworkEvent) (old new : Network)
+        → IsNew first old → NetworkRuns old events new → NetworkHeadline first events new }
+{}
+
+/// Each call of a node on a link, refused or not, is some events of the network: where the packet that comes is one that the
+/// link's peer wrote, and not more than 2,047 numbers old. The calls by which a link begins or ends, and by which a file or a
+/// record is given, are events as they are.
+pub fn node_calls_are_events()
+    ensures take { (link most : ℕ) (old : Network) (node : NodeValue) (peer : Peer)
+        (bytes : List ℕ) (out all : List (List ℕ)) (r : Result TheGot TheTakeFault)
+        → slice_get old.peers link ≡ Some peer
+        → ((p : PortValue) → HasPort link old.node p → IsBrought peer.from_peer p.link bytes)
+        → OnLink link (λ before after. Takes (serves_on link most) before after bytes out all r)
+            old.node node
+        → (wrote : List Written) × Leads old (node_then old node link peer wrote)
+        × (all ≡ out ++ bytes_of wrote) }
+    ensures go_on { (link most : ℕ) (old : Network) (node : NodeValue) (peer : Peer)
+        (out all : List (List ℕ)) (r : Result (Unit {0}) TheEndFault)
+        → slice_get old.peers link ≡ Some peer
+        → OnLink link (λ before after. WentOn (serves_on link most) before after out all r)
+            old.node node
+        → (wrote : List Written) × Leads old (node_then old node link peer wrote)
+        × (all ≡ out ++ bytes_of wrote) }
+    ensures resend { (link i : ℕ) (old : Network) (peer : Peer) (p : PortValue) (bytes : List ℕ)
+        → slice_get old.peers link ≡ Some peer → HasPort link old.node p
+        → i < p.link.sent - p.link.acked
+        → WritesSent p.link (Some (p.link.acked + 1 + i)) bytes
+        → Leads old (node_then old old.node link peer (record {
+          bytes = bytes;
+          segment = Some (p.link.acked + 1 + i);
+          acks = p.link.coming.received;
+        } ∷ [])) }
+    ensures ack { (link : ℕ) (old : Network) (peer : Peer) (p : PortValue) (bytes : List ℕ)
+        → slice_get old.peers link ≡ Some peer → HasPort link old.node p
+        → IsSpelling (ack_packet_of p.link) bytes
+        → Leads old (node_then old old.node link peer (record {
+          bytes = bytes;
+          segment = None;
+          acks = p.link.coming.received;
+        } ∷ [])) }
+    // Two lists of events are one where the second begins as the first ends.
+    ensures more { (old mid new : Network) → Leads old mid → Leads mid new → Leads old new }
+{}
+
+/// Each run of calls of a link's peer is some events of the network, where the packets that come are those that the node
+/// wrote on the link, and not more than 2,047 numbers old.
+pub fn peer_calls_are_events()
+    ensures { (link : ℕ) (old : Network) (peer : Peer) (client : AskingValue)
+        (came : List Arrival) (requests : List TheRequest) (reports : List TheReport)
+        (wrote : List Written) → slice_get old.peers link ≡ Some peer
+        → AllByRecursion (λ c. IsBrought peer.from_node c.0 c.1) came
+        → AskingRuns came requests peer.client client reports wrote
+        → Leads old (peer_then old link peer client requests reports wrote) }
 {}

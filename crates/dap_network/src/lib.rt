@@ -4,4 +4,4 @@
 
 mod laws;
 
-pub use laws::many_links_keep_the_headline;
+pub use laws::{many_links_keep_the_headline, node_calls_are_events, peer_calls_are_events};

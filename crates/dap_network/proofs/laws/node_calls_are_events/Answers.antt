@@ -1,0 +1,18 @@
+use Rattle.dap_network.proofs.Asking.{leads_on}
+use Rattle.dap_network.proofs.Calling.{ack_leads, go_on_leads, resend_leads, take_leads}
+use Rattle.dap_network.proofs.laws.node_calls_are_events.Goals as goal
+
+pub returns-clause-take : goal.returns-clause-take
+returns-clause-take c = λ link most old node peer bytes out all r at brought on. take_leads link peer most old node bytes out all r at brought on
+
+pub returns-clause-go_on : goal.returns-clause-go_on
+returns-clause-go_on c = λ link most old node peer out all r at on. go_on_leads link peer most old node out all r at on
+
+pub returns-clause-resend : goal.returns-clause-resend
+returns-clause-resend c = λ link i old peer p bytes at there lt w. resend_leads link peer old p i bytes at there lt w
+
+pub returns-clause-ack : goal.returns-clause-ack
+returns-clause-ack c = λ link old peer p bytes at there s. ack_leads link peer old p bytes at there s
+
+pub returns-clause-more : goal.returns-clause-more
+returns-clause-more c = leads_on
