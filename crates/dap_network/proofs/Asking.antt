@@ -30,7 +30,7 @@ module _ (link : ℕ) where
       ap (λ (x : SoFar). so old (then peer [] x)) r ∙ ap (λ (l : List Request). so old (record peer { requests = l })) (append-nil peer.requests) ∙ ap (λ (l : List Peer). record old { peers = l }) (set_same old.peers link peer at)
   asking_events old peer (event ∷ events) now at r =
       let q = then peer (requests_in (event ∷ [])) r.0 in
-      let step : PeerStepped link old event r.1 (so old q) = record { peer = peer; there = at; then = q; steps = r.2; requests = refl; same = refl; is = refl } in
+      let step : PeerStepped link old event r.1 (so old q) = record { peer = peer; with_peer = at; then = q; steps = r.2; requests = refl; same = refl; is = refl } in
       let rest = asking_events (so old q) q events now (set_here old.peers link peer q at) r.3 in
       let last = then q (requests_in events) now in
       let requests = append_assoc peer.requests (requests_in (event ∷ [])) (requests_in events) ∙ ap (λ (l : List Request). peer.requests ++ l) (requests_of event events) in

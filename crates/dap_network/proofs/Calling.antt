@@ -99,10 +99,10 @@ module _ (link : ℕ) (peer : Peer) where
   stepped_to net new a b event ws more all so t at then =
       record {
         peer = peer_so ws;
-        there = so.with_peer;
+        with_peer = so.with_peer;
         before = a.port;
         after = b.port;
-        open = so.there;
+        there = so.there;
         steps = subst (λ (s : SharedValue). EndStepped (Unit {0}) (WorkedBy (SharedServed link)) Comes (end_with a.port s) event (end_with b.port new.node.noted.shared) more) (sym so.shared)
             (subst (λ (s : SharedValue). EndStepped (Unit {0}) (WorkedBy (SharedServed link)) Comes (plain a) event (end_with b.port s) more) (sym then.1) t);
         ports = then.0;

@@ -2,6 +2,6 @@ pub mod Sets
 pub mod Histories
 pub mod Standing
 pub mod Linked
-pub mod Network
+pub mod Kept
 pub mod Calling
 pub mod Asking

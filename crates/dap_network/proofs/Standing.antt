@@ -88,16 +88,16 @@ abbrev pub SameCounts : LinkValue → LinkValue → Type 0
 SameCounts old new = new ≡ record (with_inbox old new.coming.inbox) { queue = new.queue }
 
 -- More left, and more was handed over.
-pub record PortGrew (given handed given' handed' : List (List ℕ)) (old new : PortValue) : Type 0 where
+pub record PortGrew (given handed left passed : List (List ℕ)) (old new : PortValue) : Type 0 where
   pub link : SameCounts old.link new.link
-  pub more : Behind handed handed' (AreShort old.link)
-  pub stands : (size : ℕ) (messages : List (List ℕ)) → Stands old.link size messages given → Stands new.link size messages given'
+  pub more : Behind handed passed (AreShort old.link)
+  pub stands : (size : ℕ) (messages : List (List ℕ)) → Stands old.link size messages given → Stands new.link size messages left
 
 pub grew_none : (given handed : List (List ℕ)) (port : PortValue) → PortGrew given handed given handed port port
 grew_none given handed port = record { link = refl; more = ([], sym (append-nil handed), none_short port.link); stands = λ size messages s. s }
 
-pub grew_on : (g h g' h' g'' h'' : List (List ℕ)) (a b c : PortValue) → PortGrew g h g' h' a b → PortGrew g' h' g'' h'' b c → PortGrew g h g'' h'' a c
-grew_on g h g' h' g'' h'' a b c one two =
+pub grew_on : (g h g2 h2 g3 h3 : List (List ℕ)) (a b c : PortValue) → PortGrew g h g2 h2 a b → PortGrew g2 h2 g3 h3 b c → PortGrew g h g3 h3 a c
+grew_on g h g2 h2 g3 h3 a b c one two =
     let limit : b.link.setup.max_message ≡ a.link.setup.max_message = ap (λ (l : LinkValue). l.setup.max_message) one.link in
     record {
       link = two.link ∙ ap (λ (l : LinkValue). record (with_inbox l c.link.coming.inbox) { queue = c.link.queue }) one.link;

@@ -59,10 +59,10 @@ link_of port node = end_with port node.noted.shared
 -- that the link's peer wrote, unaltered and not more than 2,047 numbers old.
 pub record SteppedOn (link : ℕ) (old : Network) (event : EndEvent) (more : List Written) (new : Network) : Type 0 where
   pub peer : Peer
-  pub there : slice_get old.peers link ≡ Some peer
+  pub with_peer : slice_get old.peers link ≡ Some peer
   pub before : PortValue
   pub after : PortValue
-  pub open : HasPort link old.node before
+  pub there : HasPort link old.node before
   pub steps : EndStepped (Unit {0}) (WorkedBy (SharedServed link)) (IsBrought peer.from_peer) (link_of before old.node) event (link_of after new.node) more
   pub ports : new.node.ports ≡ set old.node.ports link (Some after)
   pub peers : new.peers ≡ set old.peers link (record peer { from_node = peer.from_node ++ more })
@@ -71,7 +71,7 @@ pub record SteppedOn (link : ℕ) (old : Network) (event : EndEvent) (more : Lis
 -- the node wrote on the link, unaltered and not more than 2,047 numbers old.
 pub record PeerStepped (link : ℕ) (old : Network) (event : AskingEvent) (more : List Written) (new : Network) : Type 0 where
   pub peer : Peer
-  pub there : slice_get old.peers link ≡ Some peer
+  pub with_peer : slice_get old.peers link ≡ Some peer
   pub then : Peer
   pub steps : AskingStepped (IsBrought peer.from_node) (peer.client, peer.reports, peer.from_peer) event more (then.client, then.reports, then.from_peer)
   pub requests : then.requests ≡ peer.requests ++ requests_in (event ∷ [])

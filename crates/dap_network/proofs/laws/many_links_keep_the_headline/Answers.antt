@@ -1,5 +1,5 @@
 use Rattle.std.proofs.Common.{refl, length}
-use Rattle.dap_network.proofs.Network.{network_keeps}
+use Rattle.dap_network.proofs.Kept.{network_keeps}
 use Rattle.dap_network.proofs.laws.many_links_keep_the_headline.Goals as goal
 
 pub returns : goal.returns

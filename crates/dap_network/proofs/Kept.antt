@@ -22,7 +22,7 @@ use Rattle.dap_end.specs.Going.{given_then}
 use Rattle.dap_end.specs.Headline.{Written}
 use Rattle.dap_end.specs.Moved.{with_link}
 use Rattle.dap_end.specs.Node.{EndedOn, HasPort, NodeValue}
-use Rattle.dap_end.specs.Ports.{EndValue, HandsOver, PortValue, new_port}
+use Rattle.dap_end.specs.Ports.{EndValue, HandsOver, PortValue, gone_on, new_port}
 use Rattle.dap_end.proofs.ForCallers.{again_sent}
 use Rattle.dap_network.specs.History.{IsHistory, Tells}
 use Rattle.dap_network.specs.Headline.{LinkHeadline, NetworkHeadline}
@@ -55,11 +55,11 @@ module _ (own links : ℕ) (first : Files) where
     now : List Event
     is : now ≡ history ++ map (Serves link) items
     holds : Holds now new.present
-    given' : List (List ℕ)
-    handed' : List (List ℕ)
+    left : List (List ℕ)
+    passed : List (List ℕ)
     packets : List NspMessage
-    stands : PortStands given' handed' packets (items_on link now) (AnswersOn link own first links now) new.port
-    grew : PortGrew given handed given' handed' old.port new.port
+    stands : PortStands left passed packets (items_on link now) (AnswersOn link own first links now) new.port
+    grew : PortGrew given handed left passed old.port new.port
 
   abbrev StandsAt : (link : ℕ) → List Event → (given handed : List (List ℕ)) → List NspMessage → PortValue → Type 0
   StandsAt link history given handed packets port = PortStands given handed packets (items_on link history) (AnswersOn link own first links history) port
@@ -79,26 +79,27 @@ module _ (own links : ℕ) (first : Files) where
       let reads : ItemAt s.one.bytes old.port.place item s.one.next = subst (ItemAt s.one.bytes old.port.place item) s.next s.by.reads in
       let served = stands_served given handed packets (items_on link history) (AnswersOn link own first links history) old.port stands s.one.bytes s.one.later item s.one.next limit more s.served.answers s.one.fits s.one.came reads s.within s.idle
       (answered_here old.present link history item s.served.answers h (serves.answered first history h.after)) in
-      let given' = given_then given s.one.bytes s.one.next in
-      let packets' = packets ++ Blocked limit more in
+      let left = given_then given s.one.bytes s.one.next in
+      let all = packets ++ Blocked limit more in
+      let to : PortValue = record (gone_on old.port s.one.bytes s.one.later s.one.next) { outbox = bodies s.served.answers.items } in
       record {
         items = item ∷ [];
         now = now;
         is = refl;
         holds = record { after = after; is_own = serves.same_own ∙ h.is_own; as_many = many };
-        given' = given';
-        handed' = handed;
-        packets = packets';
+        left = left;
+        passed = handed;
+        packets = all;
         stands =
-            subst (λ (p : PortValue). StandsAt link now given' handed packets' p) (sym s.port)
-            (subst (λ (l : List Item). PortStands given' handed packets' l (AnswersOn link own first links now) _) (sym (items_own link history item))
-            (subst (λ (l : List Message). PortStands given' handed packets' (items_on link history ++ item ∷ []) l _) (sym (answers-grow own first links history link item there)) served));
-        grew = subst (λ (p : PortValue). PortGrew given handed given' handed old.port p) (sym s.port) (grew_served given handed old.port s.one.bytes s.one.later (bodies s.served.answers.items) s.one.next s.one.came);
+            subst (λ (p : PortValue). StandsAt link now left handed all p) (sym s.port)
+            (subst (λ (l : List Item). PortStands left handed all l (AnswersOn link own first links now) to) (sym (items_own link history item))
+            (subst (λ (l : List Message). PortStands left handed all (items_on link history ++ item ∷ []) l to) (sym (answers-grow own first links history link item there)) served));
+        grew = subst (λ (p : PortValue). PortGrew given handed left handed old.port p) (sym s.port) (grew_served given handed old.port s.one.bytes s.one.later (bodies s.served.answers.items) s.one.next s.one.came);
       }
 
   went_none : (link : ℕ) (history : List Event) (given handed : List (List ℕ)) (packets : List NspMessage) (v : EndValue SharedValue) → Holds history v.present → StandsAt link history given handed packets v.port → Went link history given handed v v
   went_none link history given handed packets v h stands =
-      record { items = []; now = history; is = sym (append-nil history); holds = h; given' = given; handed' = handed; packets = packets; stands = stands; grew = grew_none given handed v.port }
+      record { items = []; now = history; is = sym (append-nil history); holds = h; left = given; passed = handed; packets = packets; stands = stands; grew = grew_none given handed v.port }
 
   went_posted : (link : ℕ) (history : List Event) (given handed : List (List ℕ)) (packets : List NspMessage) (old new : EndValue SharedValue) (n : ℕ) → HandsOver old new n → Holds history old.present → StandsAt link history given handed packets old.port
       → Went link history given handed old new
@@ -109,14 +110,14 @@ module _ (own links : ℕ) (first : Files) where
         now = history;
         is = sym (append-nil history);
         holds = h;
-        given' = given;
-        handed' = handed ++ old.port.outbox;
+        left = given;
+        passed = handed ++ old.port.outbox;
         packets = packets;
         stands = stands_posted given handed packets (items_on link history) (AnswersOn link own first links history) old.port stands;
         grew = grew_posted given handed old new n p;
       })
 
-  went_on : (link : ℕ) (history : List Event) (given handed : List (List ℕ)) (a b c : EndValue SharedValue) → (one : Went link history given handed a b) → Went link one.now one.given' one.handed' b c → Went link history given handed a c
+  went_on : (link : ℕ) (history : List Event) (given handed : List (List ℕ)) (a b c : EndValue SharedValue) → (one : Went link history given handed a b) → Went link one.now one.left one.passed b c → Went link history given handed a c
   went_on link history given handed a b c one two =
       record {
         items = one.items ++ two.items;
@@ -125,11 +126,11 @@ module _ (own links : ℕ) (first : Files) where
             two.is ∙ ap (λ (l : List Event). l ++ map (Serves link) two.items) one.is ∙ append_assoc history (map (Serves link) one.items) (map (Serves link) two.items)
             ∙ ap (λ (l : List Event). history ++ l) (sym (map-append (Serves link) one.items two.items));
         holds = two.holds;
-        given' = two.given';
-        handed' = two.handed';
+        left = two.left;
+        passed = two.passed;
         packets = two.packets;
         stands = two.stands;
-        grew = grew_on given handed one.given' one.handed' two.given' two.handed' a.port b.port c.port one.grew two.grew;
+        grew = grew_on given handed one.left one.passed two.left two.passed a.port b.port c.port one.grew two.grew;
       }
 
   worked : (link : ℕ) (history : List Event) (given handed : List (List ℕ)) (packets : List NspMessage) (a b : EndValue SharedValue) → WorkedBy (SharedServed link) a b → Holds history a.present → StandsAt link history given handed packets a.port
@@ -137,10 +138,10 @@ module _ (own links : ℕ) (first : Files) where
   worked link history given handed packets a b rests h stands = went_none link history given handed packets a h stands
   worked link history given handed packets a b (serves_one mid n s on) h stands =
       let one = one_item link history given handed packets a mid n s h stands in
-      went_on link history given handed a mid b one (worked link one.now one.given' one.handed' one.packets mid b on one.holds one.stands)
+      went_on link history given handed a mid b one (worked link one.now one.left one.passed one.packets mid b on one.holds one.stands)
   worked link history given handed packets a b (hands_over mid n p on) h stands =
       let one = went_posted link history given handed packets a mid n p h stands in
-      went_on link history given handed a mid b one (worked link one.now one.given' one.handed' one.packets mid b on one.holds one.stands)
+      went_on link history given handed a mid b one (worked link one.now one.left one.passed one.packets mid b on one.holds one.stands)
 
   -- ---- The node, and all its links.
 
@@ -188,7 +189,7 @@ module _ (own links : ℕ) (first : Files) where
     peer_then = record s.peer { from_node = s.peer.from_node ++ more }
 
     before_it : Linked link history s.before s.peer
-    before_it = h.each link s.before s.peer s.open s.there
+    before_it = h.each link s.before s.peer s.there s.with_peer
 
     -- the link moved so
     stepped : (now : List Event) → Holds now new.node.noted.shared → ((other : ℕ) → other ≢ link → IsSame own links first other history now) → Linked link now s.after peer_then → NetworkStands now new
@@ -247,7 +248,7 @@ module _ (own links : ℕ) (first : Files) where
       let t = s.steps in
       let before = before_it link history old new GoesOn more s h in
       let w = worked link history before.given before.handed before.packets (link_of s.before old.node) t.0 t.2 h.holds before.stands in
-      let went = link_went (items_on link history) (AnswersOn link own first links history) s.before s.peer before w.given' w.handed' w.packets (items_on link w.now) (AnswersOn link own first links w.now) t.0.port s.after t.1 w.stands w.grew t.3 in
+      let went = link_went (items_on link history) (AnswersOn link own first links history) s.before s.peer before w.left w.passed w.packets (items_on link w.now) (AnswersOn link own first links w.now) t.0.port s.after t.1 w.stands w.grew t.3 in
       let here = subst (λ (l : List Written). Linked link w.now s.after (record s.peer { from_node = s.peer.from_node ++ l })) (sym t.5) went in
       let holds : Holds w.now new.node.noted.shared = subst (Holds w.now) (sym (ap (λ (v : EndValue SharedValue). v.present) t.4)) w.holds in
       record {
@@ -277,7 +278,7 @@ module _ (own links : ℕ) (first : Files) where
               peers = λ j apart. ap (λ (l : List Peer). slice_get l j) peers ∙ set_other old.peers link j s.then apart;
               others = λ j apart. same own links first j history;
               here = λ port peer at with_peer. (let q : peer ≡ s.then = set_there old.peers link s.then peer (sym (ap (λ (l : List Peer). slice_get l link) peers) ∙ with_peer) in
-                  let before = h.each link port s.peer (sym (ap (λ (n : NodeValue). slice_get n.ports link) nodes) ∙ at) s.there in
+                  let before = h.each link port s.peer (sym (ap (λ (n : NodeValue). slice_get n.ports link) nodes) ∙ at) s.with_peer in
                   subst (Linked link history port) (sym q) (peer_called (items_on link history) (AnswersOn link own first links history) port s.peer before s.then event more s.steps s.requests s.same));
             })
             h;
