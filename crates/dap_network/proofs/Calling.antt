@@ -72,11 +72,11 @@ did link most a b (Err (end_fault.Read f)) d = absurd d.2
 -- ---- Events of a link are events of the network.
 
 module _ (link : ℕ) (peer : Peer) where
-  abbrev Comes : nsp.LinkValue → List ℕ → Type 0
+  abbrev pub Comes : nsp.LinkValue → List ℕ → Type 0
   Comes = IsBrought peer.from_peer
 
   -- the peer, to which the node wrote this more
-  abbrev peer_so : List Written → Peer
+  abbrev pub peer_so : List Written → Peer
   peer_so ws = record peer { from_node = peer.from_node ++ ws }
 
   plain_event : (a b : LinkValue) (event : EndEvent) (ws : List Written) → EndStepped (Unit {0}) (Does link) Comes a event b ws → EndStepped (Unit {0}) (WorkedBy (SharedServed link)) Comes (plain a) event (plain b) ws
@@ -85,13 +85,13 @@ module _ (link : ℕ) (peer : Peer) where
   plain_event a b (Repeats k) ws t = (t.0, t.1, t.2, ap (λ (v : LinkValue). plain v) t.3, t.4, t.5)
 
   -- The link is so in the network, and its peer was written this.
-  record IsSo (net : Network) (v : LinkValue) (ws : List Written) : Type 0 where
-    there : HasPort link net.node v.port
-    shared : net.node.noted.shared ≡ v.present.shared
-    with_peer : slice_get net.peers link ≡ Some (peer_so ws)
+  pub record IsSo (net : Network) (v : LinkValue) (ws : List Written) : Type 0 where
+    pub there : HasPort link net.node v.port
+    pub shared : net.node.noted.shared ≡ v.present.shared
+    pub with_peer : slice_get net.peers link ≡ Some (peer_so ws)
 
   -- the network then
-  abbrev Then : Network → LinkValue → List Written → Network → Type 0
+  abbrev pub Then : Network → LinkValue → List Written → Network → Type 0
   Then net v ws new = (new.node.ports ≡ set net.node.ports link (Some v.port)) × (new.node.noted.shared ≡ v.present.shared) × (new.peers ≡ set net.peers link (peer_so ws))
 
   stepped_to : (net new : Network) (a b : LinkValue) (event : EndEvent) (ws more all : List Written) → IsSo net a ws → EndStepped (Unit {0}) (WorkedBy (SharedServed link)) Comes (plain a) event (plain b) more → all ≡ ws ++ more → Then net b all new

@@ -40,14 +40,14 @@ pub fn node_calls_are_events()
         → slice_get old.peers link ≡ Some peer
         → ((p : PortValue) → HasPort link old.node p → IsBrought peer.from_peer p.link bytes)
         → OnLink link (λ before after. Takes (serves_on link most) before after bytes out all r)
-            old.node node
+        old.node node
         → (wrote : List Written) × Leads old (node_then old node link peer wrote)
         × (all ≡ out ++ bytes_of wrote) }
     ensures go_on { (link most : ℕ) (old : Network) (node : NodeValue) (peer : Peer)
         (out all : List (List ℕ)) (r : Result (Unit {0}) TheEndFault)
         → slice_get old.peers link ≡ Some peer
         → OnLink link (λ before after. WentOn (serves_on link most) before after out all r)
-            old.node node
+        old.node node
         → (wrote : List Written) × Leads old (node_then old node link peer wrote)
         × (all ≡ out ++ bytes_of wrote) }
     ensures resend { (link i : ℕ) (old : Network) (peer : Peer) (p : PortValue) (bytes : List ℕ)
