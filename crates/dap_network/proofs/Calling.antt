@@ -126,14 +126,14 @@ module _ (link : ℕ) (peer : Peer) where
       let v : b ≡ a = ap (λ (x : LinkValue × List Written). x.0) r in
       let l : all ≡ ws = ap (λ (x : LinkValue × List Written). x.1) r in
       let to : Then net a ws new = subst (λ (x : LinkValue). Then net x ws new) v (subst (λ (x : List Written). Then net b x new) l then) in
-      (AtNode link GoesOn ∷ [], new, [], rests_so net new a ws so to, refl)
+      (AtNode link GoesOn ∷ [], (new, [], rests_so net new a ws so to, refl))
   leads_by (event ∷ events) net new a b ws all so r then =
       let mid = r.0 in
       let on = between net mid.0 mid.1 in
       let step = stepped_to net on a mid.0 event ws r.1 mid.1 so (plain_event a mid.0 event r.1 r.2.0) r.2.1 (refl, refl, refl) in
       let to : Then on b all new = (then.0 ∙ sym (set_again net.node.ports link (Some mid.0.port) (Some b.port)), then.1, then.2 ∙ sym (set_again net.peers link (peer_so mid.1) (peer_so all))) in
       let rest = leads_by events on new mid.0 b mid.1 all (is_between net a mid.0 ws mid.1 so) r.3 to in
-      (AtNode link event ∷ rest.0, on, r.1, step, rest.1)
+      (AtNode link event ∷ rest.0, (on, r.1, step, rest.1))
 
   -- ---- Calls of the node.
 
