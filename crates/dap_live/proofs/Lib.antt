@@ -5,3 +5,6 @@ pub mod OneAsking
 mod ReachLemmas
 mod ResultLemmas
 pub mod ForCallers
+pub mod Places
+pub mod NodeRows
+pub mod NodeLemmas
