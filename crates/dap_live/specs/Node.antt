@@ -63,6 +63,11 @@ node_taken_said (Err (take.Unfinished got f)) locked packets =
 abbrev pub about : (link : ℕ) → Node → Node
 about link node = record node { last = Some link }
 
+-- the same, if there is such a link
+abbrev pub about_any : Option ℕ → Node → Node
+about_any None node = node
+about_any (Some link) node = about link node
+
 -- the node is as this one, and this is answered
 abbrev pub Says : LineAnswer → (then new : Node) → List ℕ → Became → Type 0
 Says said then new text became = (new ≡ then) × (text ≡ said.0) × (became ≡ said.1)
@@ -132,11 +137,11 @@ ResendsOn link port old new text became = (packets : List (List ℕ)) × AllAgai
 
 -- ---- Links that begin and end.
 
--- the link began with this setup; or it is refused, and the line concerns this link, or none
-abbrev pub BeginsOn : (link : ℕ) → LinkSetup → (refused : Option ℕ) → Node → Node → List ℕ → Became → Type 0
-BeginsOn link setup refused old new text became =
+-- the link began with this setup, and the line concerns it; or it is refused
+abbrev pub BeginsOn : (link : ℕ) → LinkSetup → Node → Node → List ℕ → Became → Type 0
+BeginsOn link setup old new text became =
     (IsSetup setup × BeganOn link setup old.node new.node × (new ≡ record (about link old) { node = new.node }) × (text ≡ []) × (became ≡ Done))
-    ⊎ ((f : LinkFault) × SetupFault setup f × Refuses f (record old { last = refused }) new text became)
+    ⊎ ((f : LinkFault) × SetupFault setup f × Refuses f old new text became)
 
 -- why no link is added where all are there: a bad setup comes first
 abbrev pub NoLink : LinkSetup → LineAnswer → Type 0
@@ -147,13 +152,13 @@ NoLink setup said =
 abbrev pub AddsLink : LinkSetup → Node → Node → List ℕ → Became → Type 0
 AddsLink setup old new text became = MatchOption (position is_free old.node.ports)
     ((said : LineAnswer) × NoLink setup said × Says said old new text became)
-    (λ link. BeginsOn link setup None old new text became)
+    (λ link. BeginsOn link setup old new text became)
 
--- the link that has this own address is renewed, or one is added
+-- the link that has this own address is renewed, and the line concerns it also where that is refused; or one is added
 abbrev pub Renews : (local remote : ℕ) → (segment : Option ℕ) → Node → Node → List ℕ → Became → Type 0
 Renews local remote segment old new text became = MatchOption (position (has_local local) old.node.ports)
     (AddsLink (setup_beside old.usual local remote segment) old new text became)
-    (λ link. AtPort link old.node (λ p. BeginsOn link (setup_beside p.link.setup local remote segment) (Some link) old new text became))
+    (λ link. AtPort link old.node (λ p. BeginsOn link (setup_beside p.link.setup local remote segment) (about link old) new text became))
 
 -- the link ended
 abbrev pub EndsOn : (link : ℕ) → Node → Node → List ℕ → Became → Type 0
@@ -201,6 +206,17 @@ Does old order.Files new text became = (new ≡ old) × ComesIn (files_lines old
 Does old (order.File file) new text became = OnNode old new × AddsFileTo old.node file new.node text became
 Does old (order.Record r) new text became = OnNode old new × AddsRecordTo old.node r new.node text became
 
+-- the link that an order names by its own address: a packet names none, as its bytes have to be read first
+abbrev pub named_by : Node → NodeOrder → Option ℕ
+named_by node (order.Resend local) = position (has_local local) node.node.ports
+named_by node (order.Ack local) = position (has_local local) node.node.ports
+named_by node (order.New local remote segment) = position (has_local local) node.node.ports
+named_by node o = None
+
+-- nothing is done, and the line concerns the link that it names
+abbrev pub IsNotDone : Node → NodeOrder → Node → Type 0
+IsNotDone old o new = new ≡ about_any (named_by old o) old
+
 -- the node before a line, which concerns no link so far
 abbrev pub of_none : Node → Node
 of_none node = record node { last = None }
@@ -211,7 +227,7 @@ abbrev pub DoesNodeOrder : Node → Option NodeOrder → Node → List ℕ → B
 DoesNodeOrder old None new text became = (new ≡ old) × (text ≡ []) × (became ≡ BadLine)
 DoesNodeOrder old (Some o) new text became =
     Does old o new text became
-    ⊎ (((new ≡ old) ⊎ ((said : List ℕ) × (came : Became) × Does old o new said came)) × (text ≡ []) × (became ≡ NoMemory))
+    ⊎ ((IsNotDone old o new ⊎ ((said : List ℕ) × (came : Became) × Does old o new said came)) × (text ≡ []) × (became ≡ NoMemory))
 
 -- what a node does by a line
 abbrev pub answered : Node → List ℕ → Node → List ℕ → Became → Type 0

@@ -18,7 +18,8 @@ ghost use Rattle.dap_live.specs.Both.{DoneOr, Stays};
 ghost use Rattle.dap_live.specs.Sending.{SaysAck, UnlessFailed};
 ghost use Rattle.dap_live.specs.Texts.{LineAnswer, add_refusal};
 ghost use Rattle.dap_live.specs.Inner.NodeReaching.{Done, NodeReaches};
-ghost use Rattle.dap_live.specs.Node.{AddsFileTo, AddsLink, AddsRecordTo, BeginsOn, Does, DoesNodeOrder, FindsLink, GivenTo, GoesOnWith, NoLink, Renews, ResendsOn, TakesOn, about, is_behind_at, pieces, receiver_of, sender_of, waits_on as waits_by};
+ghost use Rattle.dap_live.specs.NodeOrders.{setup_beside};
+ghost use Rattle.dap_live.specs.Node.{AddsFileTo, AddsLink, AddsRecordTo, BeginsOn, Does, DoesNodeOrder, FindsLink, GivenTo, GoesOnWith, IsNotDone, NoLink, ResendsOn, TakesOn, about, is_behind_at, pieces, receiver_of, sender_of, waits_on as waits_by};
 
 use crate::node_orders::{NodeOrder, read_node_order, set_up_beside};
 use crate::sending::{has_message, is_left, push_again, say_ack, waits};
@@ -221,14 +222,14 @@ fn resend_running(node: &mut Node, link: usize, text: &mut Vec<u8>) -> Result<Be
     requires text { text.old.items ≡ [] }
     ensures ok { IfOk result (λ became. AtPort link node.old.node (λ p.
         ResendsOn link p node.old node.new text.new.items became)) }
-    ensures err { OnErr result ((node.new ≡ node.old) ⊎ Done (λ said became.
+    ensures err { OnErr result ((node.new ≡ about link node.old) ⊎ Done (λ said became.
         AtPort link node.old.node (λ p. ResendsOn link p node.old node.new said became))) }
 {
+    node.last = Some(link);
     push_again(link_of(&node.node, link), text)?;
     if is_behind(&node.node, link, node.most_waiting) {
         go_on_behind(node, link, text)
     } else {
-        node.last = Some(link);
         Ok(Became::Done)
     }
 }
@@ -240,15 +241,14 @@ fn resend_on(node: &mut Node, link: usize, text: &mut Vec<u8>) -> Result<Became,
     ensures ok { IfOk result (λ became. AtPort link node.old.node (λ p.
         UnlessFailed p.link text.new.items (Stays Became.Done (about link node.old) node.new became)
         (ResendsOn link p node.old node.new text.new.items became))) }
-    ensures err { OnErr result ((node.new ≡ node.old) ⊎ Done (λ said became.
+    ensures err { OnErr result ((node.new ≡ about link node.old) ⊎ Done (λ said became.
         AtPort link node.old.node (λ p. UnlessFailed p.link said
         (Stays Became.Done (about link node.old) node.new became)
         (ResendsOn link p node.old node.new said became)))) }
 {
     if link_of(&node.node, link).has_failed() {
-        let became = push_link_refusal(text, LinkFault::Failed)?;
         node.last = Some(link);
-        return Ok(became);
+        return push_link_refusal(text, LinkFault::Failed);
     }
     resend_running(node, link, text)
 }
@@ -272,18 +272,17 @@ fn ack_on(node: &mut Node, link: usize, text: &mut Vec<u8>) -> Result<Became, Al
     ensures ok { IfOk result (λ became. AtPort link node.old.node (λ p.
         Stays Became.Done (about link node.old) node.new became
         × SaysAck p.link text.new.items)) }
-    ensures err { OnErr result (node.new ≡ node.old) }
+    ensures err { OnErr result (node.new ≡ about link node.old) }
 {
-    let became = say_ack(link_of(&node.node, link), text)?;
     node.last = Some(link);
-    Ok(became)
+    say_ack(link_of(&node.node, link), text)
 }
 
 /// Acknowledges all segments that were taken, on the link that has this own address.
 fn ack(node: &mut Node, local: u16, text: &mut Vec<u8>) -> Result<Became, AllocError>
     requires { text.old.items ≡ [] }
     ensures ok { IfOk result (Does node.old (NodeOrder.Ack local) node.new text.new.items) }
-    ensures err { OnErr result (node.new ≡ node.old) }
+    ensures err { OnErr result (IsNotDone node.old (NodeOrder.Ack local) node.new) }
 {
     match find(&node.node, local) {
         Some(link) => ack_on(node, link, text),
@@ -306,17 +305,16 @@ fn close(node: &mut Node, local: u16, text: &mut Vec<u8>) -> Result<Became, Allo
     }
 }
 
-/// Begins a link with this setup. Where that is refused the line concerns this link, or none.
+/// Begins a link with this setup, which the line concerns then.
 fn begin_on(
     node: &mut Node,
     link: usize,
     setup: LinkSetup,
-    refused: Option<usize>,
     text: &mut Vec<u8>,
 ) -> Result<Became, AllocError>
     requires link { link < length node.old.node.ports }
     requires text { text.old.items ≡ [] }
-    ensures ok { IfOk result (BeginsOn link setup refused node.old node.new text.new.items) }
+    ensures ok { IfOk result (BeginsOn link setup node.old node.new text.new.items) }
     ensures err { OnErr result (node.new ≡ node.old) }
 {
     match node.node.begin(node.alloc, link, setup) {
@@ -324,11 +322,7 @@ fn begin_on(
             node.last = Some(link);
             Ok(Became::Done)
         }
-        Err(fault) => {
-            let became = push_link_refusal(text, fault)?;
-            node.last = refused;
-            Ok(became)
-        }
+        Err(fault) => push_link_refusal(text, fault),
     }
 }
 
@@ -353,9 +347,31 @@ fn add_link(node: &mut Node, setup: LinkSetup, text: &mut Vec<u8>) -> Result<Bec
     ensures err { OnErr result (node.new ≡ node.old) }
 {
     match node.node.find_free() {
-        Some(link) => begin_on(node, link, setup, None, text),
+        Some(link) => begin_on(node, link, setup, text),
         None => refuse_link(setup, text),
     }
+}
+
+/// Renews a link, with its own address and this peer.
+fn renew_on(
+    node: &mut Node,
+    link: usize,
+    local: u16,
+    remote: u16,
+    segment: Option<u32>,
+    text: &mut Vec<u8>,
+) -> Result<Became, AllocError>
+    requires there { (p : PortValue) × HasPort link node.old.node p }
+    requires within { link < length node.old.node.ports }
+    requires text { text.old.items ≡ [] }
+    ensures ok { IfOk result (λ became. AtPort link node.old.node (λ p. BeginsOn link
+        (setup_beside p.link.setup local remote segment) (about link node.old) node.new
+        text.new.items became)) }
+    ensures err { OnErr result (node.new ≡ about link node.old) }
+{
+    node.last = Some(link);
+    let old = link_of(&node.node, link).setup();
+    begin_on(node, link, set_up_beside(old, local, remote, segment), text)
 }
 
 /// Renews the link that has this own address, or adds one.
@@ -367,15 +383,12 @@ fn renew(
     text: &mut Vec<u8>,
 ) -> Result<Became, AllocError>
     requires { text.old.items ≡ [] }
-    ensures ok { IfOk result (Renews local remote segment node.old node.new text.new.items) }
-    ensures err { OnErr result (node.new ≡ node.old) }
+    ensures ok { IfOk result (Does node.old (NodeOrder.New local remote segment)
+        node.new text.new.items) }
+    ensures err { OnErr result (IsNotDone node.old (NodeOrder.New local remote segment) node.new) }
 {
     match find(&node.node, local) {
-        Some(link) => {
-            let old = link_of(&node.node, link).setup();
-            let setup = set_up_beside(old, local, remote, segment);
-            begin_on(node, link, setup, Some(link), text)
-        }
+        Some(link) => renew_on(node, link, local, remote, segment, text),
         None => add_link(
             node,
             set_up_beside(node.usual, local, remote, segment),

@@ -1,4 +1,4 @@
-//! The rows of a server of two links.
+//! The rows of a server of several links.
 
 use crate::node_rows::NODE_ROWS;
 use dap_live::Node;
@@ -16,9 +16,9 @@ const USUAL: LinkSetup = LinkSetup {
     max_message: LARGEST_LIMIT,
 };
 
-/// What a server of two links answers to lines.
-fn answers(alloc: Global, lines: &[u8]) -> Result<Vec<u8>, Fail> {
-    let mut node = Node::new(alloc, 1024, 2, USUAL, 1 << 20)?;
+/// What a server of so many links answers to lines.
+fn answers(alloc: Global, links: usize, lines: &[u8]) -> Result<Vec<u8>, Fail> {
+    let mut node = Node::new(alloc, 1024, links, USUAL, 1 << 20)?;
     let mut reader = lines;
     let mut written = Vec::new(alloc);
     let mut told = Vec::new(alloc);
@@ -28,8 +28,8 @@ fn answers(alloc: Global, lines: &[u8]) -> Result<Vec<u8>, Fail> {
 
 #[test]
 fn each_row_of_a_node_holds(rt: HostRuntime) -> Result<(), Fail> {
-    for (lines, wanted) in NODE_ROWS {
-        let written = answers(rt.alloc(), lines)?;
+    for (links, lines, wanted) in NODE_ROWS {
+        let written = answers(rt.alloc(), *links, lines)?;
         assert_eq!(rt; written.as_slice(), *wanted);
     }
     Ok(())
