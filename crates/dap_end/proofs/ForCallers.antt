@@ -31,3 +31,6 @@ pub use Rattle.dap_end.proofs.Known.{IsKnown, new_known, going_known, taking_kno
 pub use Rattle.dap_end.proofs.Agreeing.{one-report-each, none-unexpected, both-agree}
 pub use Rattle.dap_end.proofs.AllRead.{all_told, all_read, answers-front, admissible-more}
 pub use Rattle.dap_end.proofs.Goes.{limit-own}
+-- what two ends that are alike do is alike; what waits is refused for one reason, and not where it may be handed over
+pub use Rattle.dap_end.proofs.Turning.{DoAlike, no_want, took_same, went_same}
+pub use Rattle.dap_end.proofs.Determined.{may_or_not, refused_one}

@@ -8,3 +8,6 @@ pub mod ForCallers
 pub mod Places
 pub mod NodeRows
 pub mod NodeLemmas
+pub mod Forms
+pub mod OneTurn
+pub mod OneNode

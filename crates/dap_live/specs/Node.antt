@@ -1,5 +1,5 @@
 -- What a server of several links does by a line, and what it answers. A line concerns one link, or none.
-use Rattle.std.specs.Prelude.{◌≡◌, ◌⊎◌, ◌++◌, Bool, ℕ, MatchBool, MatchOption, MatchResult, List, [], ◌∷◌, codes, slice_get, Option, Some, None, Result, Ok, Err}
+use Rattle.std.specs.Prelude.{◌≡◌, ◌⊎◌, ◌++◌, Bool, ℕ, length, MatchBool, MatchOption, MatchResult, List, [], ◌∷◌, codes, replicate, slice_get, Option, Some, None, Result, Ok, Err}
 use Rattle.std.specs.List.{concat, flat_map, position}
 use Rattle.rec_file.specs.Shapes.{checked_shape}
 use Rattle.nsp_seg.specs.declared.packet.Packet.{Packet}
@@ -10,17 +10,17 @@ use Rattle.nsp_link.specs.declared.link.Got.{Got}
 use Rattle.nsp_link.specs.declared.link.LinkSetup.{LinkSetup}
 use Rattle.nsp_link.specs.declared.fault.LinkFault.{LinkFault}
 use Rattle.nsp_link.specs.declared.fault.LinkFault.TheVariants as fault
-use Rattle.nsp_link.specs.Link.{IsSetup, SetupFault}
+use Rattle.nsp_link.specs.Link.{IsSetup, LinkValue, Sends, SetupFault}
 use Rattle.dap_msg.specs.Codes.{stscode, reasons}
 use Rattle.dap_accessed.specs.Adding.{with_new_file, with_record}
-use Rattle.dap_accessed.specs.Standing.{Files}
+use Rattle.dap_accessed.specs.Standing.{Files, place_of}
 use Rattle.dap_shared.specs.Nodes.{Event, Gives, GivesRecord}
-use Rattle.dap_shared.specs.Shared.{NotAdded, RecordNotAdded, SharedGiven}
+use Rattle.dap_shared.specs.Shared.{MayGiveRecord, NotAdded, RecordNotAdded, SharedAfter, SharedGiven}
 use Rattle.dap_end.specs.declared.fault.EndFault.{EndFault}
 use Rattle.dap_end.specs.declared.fault.TakeFault.{TakeFault}
 use Rattle.dap_end.specs.declared.fault.TakeFault.TheVariants as take
 use Rattle.dap_end.specs.Ports.{PortValue}
-use Rattle.dap_end.specs.Node.{AtPort, BeganOn, EndedOn, NodeNotGiven, NodeValue, NoneHasCome, OnLink, has_local, is_between, is_free, serves_on}
+use Rattle.dap_end.specs.Node.{AtPort, BeganOn, EndedOn, HasPort, NodeNotGiven, NodeValue, NoneHasCome, OnLink, has_local, is_between, is_free, serves_on}
 use Rattle.dap_end.specs.Turns.{Takes, WentOn}
 use Rattle.dap_text.specs.Answers.{got_text}
 use Rattle.dap_text.specs.Text.{line_feed, word_text}
@@ -38,6 +38,31 @@ use Rattle.dap_live.specs.NodeOrders.{node_order_of, setup_beside}
 use Rattle.dap_live.specs.Sending.{AllAgain, SaysAck, UnlessFailed, is_left, is_served_next, waits_of}
 use Rattle.dap_live.specs.Texts.{LineAnswer, add_refusal, end_refusal, link_refusal, packets_text, refused, status_line}
 use Rattle.dap_live.specs.Both.{DoneOr, Stays}
+
+-- ---- A new node.
+
+-- a node without files and links, with room for so many
+pub record IsNew (usual : LinkSetup) (buffer links most : ℕ) (node : Node) : Type 0 where
+  pub stands : SharedAfter [] [] node.node.noted.shared
+  pub own : node.node.noted.shared.own ≡ buffer
+  pub sessions : length node.node.noted.shared.sessions ≡ links
+  pub locked : node.node.noted.locked ≡ []
+  pub addresses : node.node.noted.addresses ≡ replicate links 0
+  pub ports : node.node.ports ≡ replicate links None
+  pub setup : node.usual ≡ usual
+  pub most_waiting : node.most_waiting ≡ most
+  pub last : node.last ≡ None
+
+-- ---- What it came by.
+
+-- some messages are sent on the link
+abbrev pub HasSent : LinkValue → Type 0
+HasSent link = (handed : List (List ℕ)) × Sends link handed
+
+-- some history left what is kept of the links, and on each of them some messages are sent
+abbrev pub HasRun : NodeValue → Type 0
+HasRun v = (first : Files) × (events : List Event) × SharedAfter first events v.noted.shared
+    × ((link : ℕ) (p : PortValue) → HasPort link v p → HasSent p.link)
 
 -- ---- Texts.
 
@@ -178,13 +203,15 @@ pub record GivenTo (made : Files) (event : Event) (old new : NodeValue) : Type 0
 abbrev pub AddsFileTo : NodeValue → FileLine → NodeValue → List ℕ → Became → Type 0
 AddsFileTo old file new text became = MatchOption (checked_shape file.org file.rfm file.mrs file.mrn)
     ((new ≡ old) × (text ≡ status_line stscode.access_refused reasons.bad_attributes) × (became ≡ Done))
-    (λ shape. DoneOr (λ became. became) (GivenTo (with_new_file file.name shape old.noted.shared.files) (Gives file.name shape) old new)
+    (λ shape. DoneOr (λ became. became)
+    ((place_of file.name old.noted.shared.files ≡ None) × GivenTo (with_new_file file.name shape old.noted.shared.files) (Gives file.name shape) old new)
     (NodeNotGiven old (NotAdded old.noted.shared.files file.name)) add_refusal old new text became)
 
 -- a record is added to the newest file, or the reason why not is answered
 abbrev pub AddsRecordTo : NodeValue → RecordLine → NodeValue → List ℕ → Became → Type 0
 AddsRecordTo old r new =
-    DoneOr (λ became. became) (GivenTo (with_record r.number r.body old.noted.shared.files) (GivesRecord r.number r.body) old new)
+    DoneOr (λ became. became)
+    (MayGiveRecord old.noted.shared.files r.number r.body × GivenTo (with_record r.number r.body old.noted.shared.files) (GivesRecord r.number r.body) old new)
     (NodeNotGiven old (RecordNotAdded old.noted.shared.files r.number r.body)) add_refusal old new
 
 -- ---- A line.

@@ -1,13 +1,14 @@
 //! The server of several links, over lines.
 
-ghost use Rattle.std.specs.Prelude.{◌≡◌, ◌≤◌, ◌<◌, ◌⊎◌, ◌++◌, [], ℕ, List, length, replicate, Some, None, OnOk, OnErr, IfOk, IfErr, IfSome, IsTrue, MatchBool, MatchOption};
+ghost use Rattle.std.specs.Prelude.{◌≡◌, ◌≤◌, ◌<◌, ◌⊎◌, ◌++◌, [], ℕ, List, length, Some, None, OnOk, OnErr, IfOk, IfErr, IfSome, IsTrue, MatchBool, MatchOption};
 ghost use Rattle.std.specs.List.{position};
 ghost use Rattle.dap_msg.specs.BothEnds.{least_buffer};
 ghost use Rattle.dap_msg.specs.Blocked.{bodies};
 ghost use Rattle.rec_file.specs.Shapes.{is_shape};
 ghost use Rattle.dap_accessed.specs.Adding.{with_new_file};
+ghost use Rattle.dap_accessed.specs.Standing.{place_of};
 ghost use Rattle.dap_shared.specs.Nodes.{Gives};
-ghost use Rattle.dap_shared.specs.Shared.{NotAdded, SharedAfter};
+ghost use Rattle.dap_shared.specs.Shared.{NotAdded};
 ghost use Rattle.dap_end.specs.Ports.{PortValue};
 ghost use Rattle.dap_end.specs.Node.{AtPort, HasPort, NodeNotGiven, OnLink, has_local, serves_on};
 ghost use Rattle.dap_end.specs.Turns.{Takes, WentOn};
@@ -19,7 +20,7 @@ ghost use Rattle.dap_live.specs.Sending.{SaysAck, UnlessFailed};
 ghost use Rattle.dap_live.specs.Texts.{LineAnswer, add_refusal};
 ghost use Rattle.dap_live.specs.Inner.NodeReaching.{Done, NodeReaches};
 ghost use Rattle.dap_live.specs.NodeOrders.{setup_beside};
-ghost use Rattle.dap_live.specs.Node.{AddsFileTo, AddsLink, AddsRecordTo, BeginsOn, Does, DoesNodeOrder, FindsLink, GivenTo, GoesOnWith, IsNotDone, NoLink, ResendsOn, TakesOn, about, is_behind_at, pieces, receiver_of, sender_of, waits_on as waits_by};
+ghost use Rattle.dap_live.specs.Node.{AddsFileTo, AddsLink, AddsRecordTo, BeginsOn, Does, DoesNodeOrder, FindsLink, GivenTo, GoesOnWith, IsNew, IsNotDone, NoLink, ResendsOn, TakesOn, about, is_behind_at, pieces, receiver_of, sender_of, waits_on as waits_by};
 
 use crate::node_orders::{NodeOrder, read_node_order, set_up_beside};
 use crate::sending::{has_message, is_left, push_again, say_ack, waits};
@@ -61,13 +62,7 @@ impl Node {
         most_waiting: u64,
     ) -> Result<Node, NoMemory>
         requires { least_buffer ≤ bufsiz }
-        ensures stands { IfOk result (λ n. SharedAfter [] [] n.node.noted.shared) }
-        ensures own { IfOk result (λ n. n.node.noted.shared.own ≡ bufsiz) }
-        ensures addresses { IfOk result (λ n. n.node.noted.addresses ≡ replicate links 0) }
-        ensures ports { IfOk result (λ n. n.node.ports ≡ replicate links None) }
-        ensures usual { IfOk result (λ n. n.usual ≡ usual) }
-        ensures most { IfOk result (λ n. n.most_waiting ≡ most_waiting) }
-        ensures last { IfOk result (λ n. n.last ≡ None) }
+        ensures { IfOk result (IsNew usual bufsiz links most_waiting) }
     {
         let node = ServingNode::new(alloc, bufsiz, links)?;
         Ok(Node {
@@ -407,7 +402,8 @@ fn add_shaped(
     requires shape { IsTrue (is_shape shape) }
     requires text { text.old.items ≡ [] }
     ensures ok { IfOk result (DoneOr (λ became. became)
-        (GivenTo (with_new_file name.now shape node.old.noted.shared.files)
+        ((place_of name.now node.old.noted.shared.files ≡ None)
+        × GivenTo (with_new_file name.now shape node.old.noted.shared.files)
         (Gives name.now shape) node.old node.new)
         (NodeNotGiven node.old (NotAdded node.old.noted.shared.files name.now)) add_refusal
         node.old node.new text.new.items) }
