@@ -107,10 +107,13 @@ is_word _ = false
 abbrev pub is_given : Text → List Row → Bool
 is_given name rows = option_map_or (λ row. is_word row.source) (find (λ row. bytes_eq row.id name) rows) false
 
--- so many links, of which several have no address of the words
+-- the words give the end an address
+abbrev pub has_address : List Row → Bool
+has_address rows = is_given (codes "local") rows || is_given (codes "remote") rows
+
+-- so many links; several have no address of the words
 abbrev pub links_beside : List Row → ℕ → Option ℕ
-links_beside rows links =
-    if nat_lt 1 links && (is_given (codes "local") rows || is_given (codes "remote") rows) then None else Some links
+links_beside rows links = if nat_lt 1 links && has_address rows then None else Some links
 
 -- how many links there is room for; `ask` has no such option
 abbrev pub links_of : Role → List Row → Option ℕ

@@ -1,7 +1,7 @@
 //! What the words say.
 
 ghost use Rattle.std.specs.Result.{result_ok};
-ghost use Rattle.std.specs.Prelude.{◌≡◌, ◌≤◌, ◌↔◌, false, IfErr, IfOk, IfSome, IsOk, None, Some, codes, map, option_and_then, option_map, pos, string_bytes};
+ghost use Rattle.std.specs.Prelude.{◌≡◌, ◌≤◌, false, IfErr, IfOk, IfSome, IsTrue, None, Some, codes, map, option_and_then, option_map, pos, string_bytes};
 ghost use Rattle.clap.specs.Words.{FailsBy, all_of, app_of, fault_of, first_of, found_of, kind_of, rows_of, rule_of, subcommand_of};
 ghost use Rattle.clap.specs.declared.builder.value_parser.ValueParser.TheVariants as parser;
 ghost use Rattle.dap_msg.specs.BothEnds.{greatest_message, least_buffer};
@@ -9,7 +9,7 @@ ghost use Rattle.nsp_link.specs.Limits.{largest_segment, largest_window};
 ghost use Rattle.dap_text.specs.Words.{short};
 ghost use Rattle.dap_live.specs.Orders.{address_of};
 ghost use Rattle.decnet_frames.specs.Nodes.{node_of};
-ghost use Rattle.live_cli.specs.Words.{daplive, ends_of, greatest_waiting, is_given as is_given_in, least_waiting, links_of, most_links, option as option_rule, options_of, task_in as task_of_rows, task_of, has_words as words_wanted, waiting_of};
+ghost use Rattle.live_cli.specs.Words.{daplive, ends_of, greatest_waiting, has_address, is_given as is_given_in, is_word as is_in_words, least_waiting, links_of, most_links, option as option_rule, options_of, task_in as task_of_rows, task_of, has_words as words_wanted, waiting_of};
 ghost use Rattle.live_cli.specs.Inner.CommandLine.{HasAddresses, HasLimits, HasLinks, HasRoom, HasWaiting, IsCommandLine, IsEndLine, IsFollowLine, IsFramesLine, IsServeLine, IsWatchLine};
 ghost use Rattle.live_cli.specs.Inner.Spelling.{IsMisspelt};
 
@@ -514,30 +514,49 @@ fn waiting_in<'a>(role: Role, matches: &ArgMatches<'a>) -> Result<u32, Misspelt<
     }
 }
 
+/// Whether a value is in the words, and no default.
+fn is_word(source: Option<ValueSource>) -> bool
+    ensures { result ≡ is_in_words source }
+{
+    matches!(source, Some(ValueSource::CommandLine))
+}
+
 /// Whether the words give an option a value.
 fn is_given(matches: &ArgMatches<'_>, name: &str) -> bool
     ensures { result ≡ is_given_in name.now (rows_of (found_of matches.now)) }
 {
-    match matches.value_source(name) {
-        Some(ValueSource::CommandLine) => true,
-        _ => false,
+    is_word(matches.value_source(name))
+}
+
+/// Whether the words give an end an address.
+fn is_addressed(matches: &ArgMatches<'_>) -> bool
+    ensures { result ≡ has_address (rows_of (found_of matches.now)) }
+{
+    is_given(matches, "local") || is_given(matches, "remote")
+}
+
+/// An address that the words give where there is no place for it.
+fn addressed<'a>(matches: &ArgMatches<'a>, name: &'static str) -> Misspelt<'a>
+    requires { IsTrue (is_given_in name.now (rows_of (found_of matches.now))) }
+    ensures { IsMisspelt (rows_of (found_of matches.now)) result }
+{
+    Misspelt {
+        option: name,
+        value: text_in(matches, name).unwrap_or(""),
+        digits: Digits::Nowhere,
     }
 }
 
-/// That the words give an address no value.
-fn check_usual<'a>(matches: &ArgMatches<'a>, name: &'static str) -> Result<(), Misspelt<'a>>
-    ensures usual { IsOk result ↔ (is_given_in name.now (rows_of (found_of matches.now)) ≡ false) }
-    ensures misspelt { IfErr result (IsMisspelt (rows_of (found_of matches.now))) }
+/// The first address that the words give.
+fn first_address<'a>(matches: &ArgMatches<'a>) -> Misspelt<'a>
+    requires { IsTrue (has_address (rows_of (found_of matches.now))) }
+    ensures { IsMisspelt (rows_of (found_of matches.now)) result }
 {
-    if !is_given(matches, name) {
-        return Ok(());
+    if is_given(matches, "local") {
+        addressed(matches, "local")
+    } else {
+        addressed(matches, "remote")
     }
-    let value = text_in(matches, name).unwrap_or("");
-    Err(Misspelt {
-        option: name,
-        value,
-        digits: Digits::Nowhere,
-    })
 }
 
 /// How many links there is room for; with several of them the words give no address. A client has one.
@@ -549,9 +568,8 @@ fn links_in<'a>(role: Role, matches: &ArgMatches<'a>) -> Result<u16, Misspelt<'a
         return Ok(1);
     }
     let links = number_in(matches, "links")?;
-    if links > 1 {
-        check_usual(matches, "local")?;
-        check_usual(matches, "remote")?;
+    if links > 1 && is_addressed(matches) {
+        return Err(first_address(matches));
     }
     Ok(links)
 }
