@@ -37,6 +37,7 @@ WORDS = [
     ("ask --local 000g --remote 1", f"--local 000g: {ADDRESS}"),
     ("ask --remote 1 --local 000g", f"--local 000g: {ADDRESS}"),
     ("serve --segment +512", f"--segment +512: {NUMBER}"),
+    ("serve --links 2 --local 0303", "--local 0303: with several links the addresses are those of 'new'"),
 ]
 # what has a listing or answers of more than a pipe holds
 PACKETS = b"".join(b"> 60020201010%d80010001020a00040703050600000000\n" % (number % 8) for number in range(2_000))

@@ -53,3 +53,6 @@ pub use Rattle.dap_end.proofs.Stepping.{SteppedBy, RunsIn, AreCalls, ack_is, aga
 pub use Rattle.dap_end.proofs.Hearing.{requests_of}
 pub use Rattle.dap_end.proofs.Calling.{SoFar, behind_these}
 pub use Rattle.dap_end.proofs.Arriving.{asked_as}
+-- what two ends that are alike do is alike; what waits is refused for one reason, and not where it may be handed over
+pub use Rattle.dap_end.proofs.Turning.{DoAlike, no_want, took_same, went_same}
+pub use Rattle.dap_end.proofs.Determined.{may_or_not, refused_one}

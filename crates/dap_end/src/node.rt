@@ -10,7 +10,8 @@ ghost use Rattle.nsp_link.specs.declared.fault.LinkFault.TheVariants.{Failed, No
 ghost use Rattle.nsp_link.specs.declared.fault.LinkFault.TheVariants as fault;
 ghost use Rattle.dap_accessed.specs.Adding.{with_new_file, with_record};
 ghost use Rattle.dap_shared.specs.Nodes.{Gives, GivesRecord};
-ghost use Rattle.dap_shared.specs.Shared.{NotAdded, RecordNotAdded, SharedAfter, SharedGiven};
+ghost use Rattle.dap_shared.specs.Shared.{MayGiveRecord, NotAdded, RecordNotAdded, SharedAfter, SharedGiven};
+ghost use Rattle.dap_accessed.specs.Standing.{place_of};
 ghost use Rattle.dap_end.specs.Ports.{PortValue};
 ghost use Rattle.std.specs.List.{list_any, position};
 ghost use Rattle.dap_end.specs.Inner.Come.{come_on};
@@ -110,6 +111,7 @@ impl ServingNode {
         requires { least_buffer ≤ bufsiz }
         ensures stands { IfOk result (λ node. SharedAfter [] [] node.noted.shared) }
         ensures own { IfOk result (λ node. node.noted.shared.own ≡ bufsiz) }
+        ensures links { IfOk result (λ node. length node.noted.shared.sessions ≡ links) }
         ensures addresses { IfOk result (λ node. node.noted.addresses ≡ replicate links 0) }
         ensures locked { IfOk result (λ node. node.noted.locked ≡ []) }
         ensures ports { IfOk result (λ node. node.ports ≡ replicate links None) }
@@ -289,6 +291,7 @@ impl ServingNode {
     pub fn add(&mut self, name: &[u8], shape: Shape) -> Result<(), AddFault>
         requires { IsTrue (is_shape shape) }
         ensures idle { OnOk result (NoneHasCome self.old.ports) }
+        ensures may { OnOk result (place_of name.now self.old.noted.shared.files ≡ None) }
         ensures given { OnOk result
             (SharedGiven (Gives name.now shape) self.old.noted.shared self.new.noted.shared) }
         ensures files { OnOk result (self.new.noted.shared.files
@@ -312,6 +315,7 @@ impl ServingNode {
     /// NoMemory. Each leaves the node unchanged.
     pub fn add_record(&mut self, number: u32, body: &[u8]) -> Result<(), AddFault>
         ensures idle { OnOk result (NoneHasCome self.old.ports) }
+        ensures may { OnOk result (MayGiveRecord self.old.noted.shared.files number body.now) }
         ensures given { OnOk result
             (SharedGiven (GivesRecord number body.now) self.old.noted.shared self.new.noted.shared) }
         ensures files { OnOk result

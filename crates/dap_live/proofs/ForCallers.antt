@@ -3,3 +3,4 @@
 -- an input has one text
 pub use Rattle.dap_live.proofs.OneServing.{new_serving, serving_text}
 pub use Rattle.dap_live.proofs.OneAsking.{new_asking, asking_text}
+pub use Rattle.dap_live.proofs.OneNode.{new_node, node_text}

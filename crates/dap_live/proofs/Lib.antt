@@ -5,3 +5,9 @@ pub mod OneAsking
 mod ReachLemmas
 mod ResultLemmas
 pub mod ForCallers
+pub mod Places
+pub mod NodeRows
+pub mod NodeLemmas
+pub mod Forms
+pub mod OneTurn
+pub mod OneNode

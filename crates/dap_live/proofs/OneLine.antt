@@ -36,12 +36,13 @@ use Rattle.dap_live.specs.declared.orders.Order.TheVariants as order
 use Rattle.dap_live.specs.Orders.{address_of, order_of}
 use Rattle.dap_live.specs.Inner.Orders.{addresses, order_forms, packet_of}
 use Rattle.dap_live.specs.Sending.{AllAgain, SaysAck}
+use Rattle.dap_live.proofs.Forms.{AllFit, all_fit, also, ends_fit, field_fits, form_fits, none_fit}
 use Rattle.dap_accessing.specs.declared.report.Report.{Report}
 use Rattle.dap_live.specs.Texts.{done_said, end_refusal, link_refusal, packet_text, taken_said}
 
 -- ---- A packet's line says bytes.
 
-abbrev HexFits : Option (List ℕ) → Type 0
+abbrev pub HexFits : Option (List ℕ) → Type 0
 HexFits None = Unit {0}
 HexFits (Some bytes) = AreBytes bytes
 
@@ -57,68 +58,22 @@ test_fits : (word : List ℕ) (good : Bool) → HexFits (if good then result_ok 
 test_fits word true = decoded_fits word (length word % 2 == 1)
 test_fits word false = tt
 
-hex_fits : (word : List ℕ) → HexFits (hex_of word)
+pub hex_fits : (word : List ℕ) → HexFits (hex_of word)
 hex_fits word = test_fits word (is_hex_text word)
 
 abbrev pub Fits : Option Order → Type 0
 Fits (Some (order.Packet bytes)) = AreBytes bytes
 Fits _ = Unit {0}
 
--- a line of one word, or the last word of a line
-ends_fit : (order : Order) (words : Words) → Fits (Some order) → Fits (ends order words)
-ends_fit order [] h = h
-ends_fit order (w ∷ words) h = tt
-
-next_fits : {X : Type 0} (next : X → Words → Option Order) (o : Option X) (words : Words)
-    → ((x : X) → o ≡ Some x → (more : Words) → Fits (next x more))
-    → Fits (option_and_then {T = X × Words} (λ p. next p.0 p.1) (option_map (λ x. (x, words)) o))
-next_fits next None words h = tt
-next_fits next (Some x) words h = h x refl words
-
-field_fits : {X : Type 0} (read : List ℕ → Option X) (next : X → Words → Option Order)
-    → ((w : List ℕ) (x : X) → read w ≡ Some x → (more : Words) → Fits (next x more)) → (words : Words) → Fits (field read next words)
-field_fits read next h [] = tt
-field_fits read next h (w ∷ words) = next_fits next (read w) words (h w)
-
-either_fits : (one other : Option Order) → Fits one → Fits other → Fits (option_or one other)
-either_fits None other h k = k
-either_fits (Some order) other h k = h
-
--- a form of line, behind its first word
-form_fits : (name : List ℕ) (next : Words → Option Order) → ((words : Words) → Fits (next words)) → (words : Words) → Fits (word name next words)
-form_fits name next h [] = tt
-form_fits name next h (w ∷ words) = if_fits (bytes_eq w name) (next words) (h words)
-  where
-    if_fits : (b : Bool) (o : Option Order) → Fits o → Fits (if b then o else None)
-    if_fits true o k = k
-    if_fits false o k = tt
-
--- forms that all are such
-AllFit : List (Words → Option Order) → Type 0
-AllFit forms = (words : Words) → Fits (one_of forms words)
-
-none_fit : AllFit []
-unfolding AllFit
-none_fit words = tt
-
-also : (form : Words → Option Order) (forms : List (Words → Option Order)) → ((words : Words) → Fits (form words)) → AllFit forms
-    → AllFit (form ∷ forms)
-unfolding AllFit
-also form forms h k words = either_fits (form words) (one_of forms words) (h words) (k words)
-
 packet_fits : (words : Words) → Fits (packet_of words)
-packet_fits = field_fits hex_of (λ bytes. ends (order.Packet bytes))
-    (λ w bytes read more. ends_fit (order.Packet bytes) more (subst HexFits read (hex_fits w)))
-
-all_fit : (forms : List (Words → Option Order)) → AllFit forms → (words : Words) → Fits (one_of forms words)
-unfolding AllFit
-all_fit forms h words = h words
+packet_fits = field_fits Fits tt hex_of (λ bytes. ends (order.Packet bytes))
+    (λ w bytes read more. ends_fit Fits tt (order.Packet bytes) more (subst HexFits read (hex_fits w)))
 
 -- two addresses, and what follows
 addresses_fit : (next : ℕ → ℕ → Words → Option Order) → ((local remote : ℕ) (words : Words) → Fits (next local remote words))
     → (words : Words) → Fits (addresses next words)
-addresses_fit next h = field_fits address_of (λ local. field address_of (next local))
-    (λ w local read. field_fits address_of (next local) (λ v remote read'. h local remote))
+addresses_fit next h = field_fits Fits tt address_of (λ local. field address_of (next local))
+    (λ w local read. field_fits Fits tt address_of (next local) (λ v remote read'. h local remote))
 
 abbrev between : ℕ → ℕ → Words → Option Order
 between local remote = ends (order.New (Between local remote))
@@ -127,32 +82,32 @@ abbrev cut : ℕ → ℕ → Words → Option Order
 cut local remote = field long (λ segment. ends (order.New (Cut local remote segment)))
 
 between_fits : (local remote : ℕ) (words : Words) → Fits (between local remote words)
-between_fits local remote words = ends_fit (order.New (Between local remote)) words tt
+between_fits local remote words = ends_fit Fits tt (order.New (Between local remote)) words tt
 
 cut_fits : (local remote : ℕ) (words : Words) → Fits (cut local remote words)
-cut_fits local remote = field_fits long (λ segment. ends (order.New (Cut local remote segment)))
-    (λ w segment read more. ends_fit (order.New (Cut local remote segment)) more tt)
+cut_fits local remote = field_fits Fits tt long (λ segment. ends (order.New (Cut local remote segment)))
+    (λ w segment read more. ends_fit Fits tt (order.New (Cut local remote segment)) more tt)
 
 map_fits : {X : Type 0} (of : X → Order) → ((x : X) → Fits (Some (of x))) → (o : Option X) → Fits (option_map of o)
 map_fits of h None = tt
 map_fits of h (Some x) = h x
 
-forms_fit : (line : List ℕ) → AllFit (order_forms line)
+forms_fit : (line : List ℕ) → AllFit Fits tt (order_forms line)
 forms_fit line =
-    also _ _ (form_fits (codes ">") packet_of packet_fits)
-    (also _ _ (form_fits (codes "resend") (ends order.Resend) (λ words. ends_fit order.Resend words tt))
-    (also _ _ (form_fits (codes "ack") (ends order.Ack) (λ words. ends_fit order.Ack words tt))
-    (also _ _ (form_fits (codes "new") (ends (order.New Same)) (λ words. ends_fit (order.New Same) words tt))
-    (also _ _ (form_fits (codes "new") (addresses between) (addresses_fit between between_fits))
-    (also _ _ (form_fits (codes "new") (addresses cut) (addresses_fit cut cut_fits))
-    (also _ _ (form_fits (codes "files") (ends order.Files) (λ words. ends_fit order.Files words tt))
-    (also _ _ (form_fits (codes "file") (λ words. option_map order.File (file_of line)) (λ words. map_fits order.File (λ file. tt) (file_of line)))
-    (also _ _ (form_fits [] (λ words. option_map order.Record (record_of line)) (λ words. map_fits order.Record (λ r. tt) (record_of line)))
-    (also _ _ (form_fits (codes "ask") (λ words. option_map order.Ask (request_of words)) (λ words. map_fits order.Ask (λ request. tt) (request_of words)))
-    none_fit)))))))))
+    also Fits tt _ _ (form_fits Fits tt (codes ">") packet_of packet_fits)
+    (also Fits tt _ _ (form_fits Fits tt (codes "resend") (ends order.Resend) (λ words. ends_fit Fits tt order.Resend words tt))
+    (also Fits tt _ _ (form_fits Fits tt (codes "ack") (ends order.Ack) (λ words. ends_fit Fits tt order.Ack words tt))
+    (also Fits tt _ _ (form_fits Fits tt (codes "new") (ends (order.New Same)) (λ words. ends_fit Fits tt (order.New Same) words tt))
+    (also Fits tt _ _ (form_fits Fits tt (codes "new") (addresses between) (addresses_fit between between_fits))
+    (also Fits tt _ _ (form_fits Fits tt (codes "new") (addresses cut) (addresses_fit cut cut_fits))
+    (also Fits tt _ _ (form_fits Fits tt (codes "files") (ends order.Files) (λ words. ends_fit Fits tt order.Files words tt))
+    (also Fits tt _ _ (form_fits Fits tt (codes "file") (λ words. option_map order.File (file_of line)) (λ words. map_fits order.File (λ file. tt) (file_of line)))
+    (also Fits tt _ _ (form_fits Fits tt [] (λ words. option_map order.Record (record_of line)) (λ words. map_fits order.Record (λ r. tt) (record_of line)))
+    (also Fits tt _ _ (form_fits Fits tt (codes "ask") (λ words. option_map order.Ask (request_of words)) (λ words. map_fits order.Ask (λ request. tt) (request_of words)))
+    (none_fit Fits tt))))))))))
 
 pub line_fits : (line : List ℕ) → Fits (order_of line)
-line_fits line = all_fit (order_forms line) (forms_fit line) (words_of line)
+line_fits line = all_fit Fits tt (order_forms line) (forms_fit line) (words_of line)
 
 -- ---- What a link sends again.
 

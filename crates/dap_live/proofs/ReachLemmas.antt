@@ -31,9 +31,13 @@ where_none true none Goes Stays stays = absurd (true≢false none)
 
 -- ---- On a link that runs.
 
-unless_runs : (failed : Bool) → failed ≡ false → (Nothing This : Type 0) → This → MatchBool failed Nothing This
+pub unless_runs : (failed : Bool) → failed ≡ false → (Nothing This : Type 0) → This → MatchBool failed Nothing This
 unless_runs false works Nothing This this = this
 unless_runs true works Nothing This this = absurd (true≢false works)
+
+pub unless_failed : (failed : Bool) → failed ≡ true → (Nothing This : Type 0) → Nothing → MatchBool failed Nothing This
+unless_failed true fails Nothing This nothing = nothing
+unless_failed false fails Nothing This nothing = absurd (true≢false (sym fails))
 
 pub unless_reached : {E C : Type 0} (link : LinkValue) → link.failed ≡ false → (was : C) (old new : E) (This : List ℕ → C → Type 0)
     → ((new ≡ old) ⊎ ((said : List ℕ) × (came : C) × This said came))

@@ -4,4 +4,6 @@ pub mod Sending
 pub mod Both
 pub mod Serving
 pub mod Asking
+pub mod NodeOrders
+pub mod Node
 pub mod Inner

@@ -8,10 +8,11 @@ ghost use Rattle.dap_end.specs.Asking.{HasDone};
 ghost use Rattle.linewise.specs.Talks.{HaveOneText};
 ghost use Rattle.dap_live.specs.Serving as serving;
 ghost use Rattle.dap_live.specs.Asking as asking;
+ghost use Rattle.dap_live.specs.Node as node;
 
 /// An input has one text: two talks over it, of ends of one value, in which no answer is out of memory, have the
 /// same text, and the same became of each line. A server came to its value by its calls, and before a segment came
-/// it did nothing.
+/// it did nothing; a node too came to its value by its calls.
 pub fn inputs_have_one_text()
     ensures serving { HaveOneText serving.answered serving.waiting (λ one other.
         (one.end ≡ other.end) × (one.setup ≡ other.setup)
@@ -21,4 +22,8 @@ pub fn inputs_have_one_text()
     ensures asking { HaveOneText asking.answered asking.waiting (λ one other.
         (one.end ≡ other.end) × (one.setup ≡ other.setup)
         × (one.reports.items ≡ other.reports.items) × HasDone one.end) }
+    ensures node { HaveOneText node.answered node.waiting (λ one other.
+        (one.node ≡ other.node) × (one.usual ≡ other.usual)
+        × (one.most_waiting ≡ other.most_waiting) × (one.last ≡ other.last)
+        × node.HasRun one.node) }
 {}

@@ -3,6 +3,8 @@
 
 mod asking;
 mod laws;
+mod node;
+mod node_orders;
 mod orders;
 mod sending;
 mod serving;
@@ -10,5 +12,6 @@ mod texts;
 
 pub use asking::Asking;
 pub use laws::inputs_have_one_text;
+pub use node::Node;
 pub use orders::read_address;
 pub use serving::Serving;

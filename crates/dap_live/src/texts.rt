@@ -10,6 +10,8 @@ ghost use Rattle.dap_text.specs.Answers.{got_text};
 ghost use Rattle.dap_text.specs.Reports.{report_text};
 ghost use Rattle.dap_text.specs.Text.{line_feed};
 ghost use Rattle.dap_live.specs.Texts.{add_refusal, ask_refusal, done_said, end_refusal, link_refusal, packet_text, packets_text, refused, reports_text, status_line, taken_said};
+ghost use Rattle.dap_text.specs.Text.{word_text};
+ghost use Rattle.dap_live.specs.Node.{locked_text, node_taken_said, served_said};
 ghost use Rattle.dap_live.specs.Inner.Saying.{AddsSaid};
 
 use dap_accessed::{AddFault, reason_number};
@@ -212,6 +214,66 @@ pub(crate) fn push_taken(
         Err(TakeFault::Unfinished(got, fault)) => {
             push_got(text, got)?;
             push_done(text, reports, packets, Err(fault))
+        }
+    }
+}
+
+/// The line of a link that locks an Access out.
+fn push_locked_line(text: &mut Vec<u8>, local: u16) -> Result<(), AllocError>
+    ensures { OnOk result (Adds text.old text.new
+        (concat (codes "locked " ∷ word_text local ∷ line_feed ∷ []))) }
+{
+    push_word(text, "locked ", local)?;
+    push_str(text, "\n")
+}
+
+/// The lines of the links that lock Accesses out.
+fn push_locked(text: &mut Vec<u8>, locked: &[u16]) -> Result<(), AllocError>
+    ensures { OnOk result (Adds text.old text.new (locked_text locked.now)) }
+{
+    for local in locked.iter() {
+        push_locked_line(text, *local)?;
+    }
+    Ok(())
+}
+
+/// Says what was served on a link of several: who locked Accesses out, the packets, and why not all was done.
+pub(crate) fn push_served(
+    text: &mut Vec<u8>,
+    locked: &[u16],
+    packets: &Vec<Vec<u8>>,
+    done: Result<(), EndFault>,
+) -> Result<Became, AllocError>
+    ensures { IfOk result (AddsSaid text.old text.new
+        (served_said locked.now (bodies packets.now.items) done)) }
+{
+    push_locked(text, locked)?;
+    push_packets(text, packets)?;
+    match done {
+        Ok(()) => Ok(Became::Done),
+        Err(fault) => push_end_refusal(text, fault),
+    }
+}
+
+/// The answer to a packet on a link of several.
+pub(crate) fn push_node_taken(
+    text: &mut Vec<u8>,
+    taken: Result<Got, TakeFault>,
+    locked: &[u16],
+    packets: &Vec<Vec<u8>>,
+) -> Result<Became, AllocError>
+    ensures { IfOk result (AddsSaid text.old text.new
+        (node_taken_said taken locked.now (bodies packets.now.items))) }
+{
+    match taken {
+        Ok(got) => {
+            push_got(text, got)?;
+            push_served(text, locked, packets, Ok(()))
+        }
+        Err(TakeFault::Refused(fault)) => push_link_refusal(text, fault),
+        Err(TakeFault::Unfinished(got, fault)) => {
+            push_got(text, got)?;
+            push_served(text, locked, packets, Err(fault))
         }
     }
 }

@@ -9,7 +9,7 @@ use Rattle.dap_accessed.specs.declared.served.Served.{Served}
 use Rattle.dap_accessed.specs.declared.fault.AddFault.{AddFault}
 use Rattle.dap_accessed.specs.declared.fault.AddFault.TheVariants as fault
 use Rattle.dap_accessed.specs.Standing.{Files, file_at, place_of}
-use Rattle.dap_accessed.specs.Adding.{newest}
+use Rattle.dap_accessed.specs.Adding.{MayStore, newest}
 use Rattle.dap_accessed.specs.Storing.{StoreRefused}
 use Rattle.dap_accessed.specs.Present.{present_of}
 use Rattle.dap_accessed.specs.Served.{AllAtMost, Answered}
@@ -79,6 +79,10 @@ abbrev pub NotAdded : Files → (name : List ℕ) → AddFault → Type 0
 NotAdded files name fault.FileExists = place_of name files ≡ None → ⊥
 NotAdded files name fault.NoMemory = place_of name files ≡ None
 NotAdded files name _ = ⊥
+
+-- there is a file, and the newest one takes the record under this number
+abbrev pub MayGiveRecord : Files → (number : ℕ) → (body : List ℕ) → Type 0
+MayGiveRecord files number body = (0 < length files) × MayStore (file_at (newest files) files) number body
 
 -- why a record isn't added, the first reason in this order
 abbrev pub RecordNotAdded : Files → (number : ℕ) → (body : List ℕ) → AddFault → Type 0

@@ -4,11 +4,11 @@ ghost use Rattle.std.specs.Prelude.{◌≡◌, ◌⊎◌, ◌≤◌, ◌<◌, �
 ghost use Rattle.dap_msg.specs.BothEnds.{least_buffer};
 ghost use Rattle.rec_file.specs.Shapes.{is_shape};
 ghost use Rattle.dap_accessed.specs.Adding.{with_new_file, with_record};
-ghost use Rattle.dap_accessed.specs.Standing.{Files};
+ghost use Rattle.dap_accessed.specs.Standing.{Files, place_of};
 ghost use Rattle.dap_shared.specs.Nodes.{Event, Gives, GivesRecord, node_after};
 ghost use Rattle.dap_shared.specs.Noted.{IsLowest, NotedServed};
 ghost use Rattle.dap_shared.specs.Inner.Lower.{IsLower};
-ghost use Rattle.dap_shared.specs.Shared.{NotAdded, RecordNotAdded, SharedAfter, SharedBegins, SharedGiven};
+ghost use Rattle.dap_shared.specs.Shared.{MayGiveRecord, NotAdded, RecordNotAdded, SharedAfter, SharedBegins, SharedGiven};
 
 use crate::server::Serving;
 use crate::shared::SharedFiles;
@@ -167,6 +167,7 @@ impl NotedFiles {
     /// What [`SharedFiles::add`] does.
     pub fn add(&mut self, name: &[u8], shape: Shape) -> Result<(), AddFault>
         requires { IsTrue (is_shape shape) }
+        ensures may { OnOk result (place_of name.now self.old.shared.files ≡ None) }
         ensures given { OnOk result
             (SharedGiven (Gives name.now shape) self.old.shared self.new.shared) }
         ensures files { OnOk result (self.new.shared.files
@@ -180,6 +181,7 @@ impl NotedFiles {
 
     /// What [`SharedFiles::add_record`] does.
     pub fn add_record(&mut self, number: u32, body: &[u8]) -> Result<(), AddFault>
+        ensures may { OnOk result (MayGiveRecord self.old.shared.files number body.now) }
         ensures given { OnOk result
             (SharedGiven (GivesRecord number body.now) self.old.shared self.new.shared) }
         ensures files { OnOk result (self.new.shared.files

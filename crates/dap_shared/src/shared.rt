@@ -6,11 +6,11 @@ ghost use Rattle.dap_msg.specs.Decoding.{IsSpelled};
 ghost use Rattle.dap_msg.specs.declared.items.Item.TheVariants.{Whole};
 ghost use Rattle.dap_msg.specs.declared.message.Message.{Message as TheMessage};
 ghost use Rattle.rec_file.specs.Shapes.{is_shape};
-ghost use Rattle.dap_accessed.specs.Standing.{Files};
+ghost use Rattle.dap_accessed.specs.Standing.{Files, place_of};
 ghost use Rattle.dap_accessed.specs.Adding.{with_new_file, with_record};
 ghost use Rattle.dap_accessed.specs.Sessions.{IsOpenIn, new_session};
 ghost use Rattle.dap_shared.specs.Nodes.{Event, FilesAfter, Gives, GivesRecord, is_locked_out, locks_out, node_after};
-ghost use Rattle.dap_shared.specs.Shared.{NotAdded, RecordNotAdded, SharedAfter, SharedBegins, SharedGiven, SharedServes};
+ghost use Rattle.dap_shared.specs.Shared.{MayGiveRecord, NotAdded, RecordNotAdded, SharedAfter, SharedBegins, SharedGiven, SharedServes};
 ghost use Rattle.dap_shared.specs.Inner.Beside.{MovesBeside, session_moved_up};
 ghost use Rattle.dap_shared.specs.Inner.Held.{MovesOn, session_at};
 
@@ -237,6 +237,7 @@ impl SharedFiles {
     /// Refusals in order: FileExists, NoMemory; each leaves all unchanged.
     pub fn add(&mut self, name: &[u8], shape: Shape) -> Result<(), AddFault>
         requires { IsTrue (is_shape shape) }
+        ensures may { OnOk result (place_of name.now self.old.files ≡ None) }
         ensures given { OnOk result (SharedGiven (Gives name.now shape) self.old self.new) }
         ensures files { OnOk result
             (self.new.files ≡ with_new_file name.now shape self.old.files) }
@@ -255,6 +256,7 @@ impl SharedFiles {
     /// Refusals in order: NoFile; as of a PUT with this number BadLength, NumberOutOfRange, RecordExists; NoMemory.
     /// Each leaves all unchanged.
     pub fn add_record(&mut self, number: u32, body: &[u8]) -> Result<(), AddFault>
+        ensures may { OnOk result (MayGiveRecord self.old.files number body.now) }
         ensures given { OnOk result
             (SharedGiven (GivesRecord number body.now) self.old self.new) }
         ensures files { OnOk result (self.new.files ≡ with_record number body.now self.old.files) }

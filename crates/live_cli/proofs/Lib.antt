@@ -1,1 +1,2 @@
+mod GivenLemmas
 mod RunLemmas

@@ -1,5 +1,5 @@
 -- What `daplive` does with an input, and its exit status.
-use Rattle.std.specs.Prelude.{◌≡◌, ◌⊎◌, ℕ, Bool, List, [], if◌then◌else◌, Option}
+use Rattle.std.specs.Prelude.{◌≡◌, ◌⊎◌, ℕ, nat_lt, Bool, MatchBool, List, [], if◌then◌else◌, Option}
 use Rattle.std.specs.Str.Lines.{lines}
 use Rattle.std.specs.List.{list_any}
 use Rattle.std.specs.Io.KnownBytes.{Appends, Keeps}
@@ -15,8 +15,10 @@ use Rattle.decnet_frames.specs.declared.text.Ends.{Ends}
 use Rattle.linewise.specs.Talks.{Answering, Talked, Fails, is_bad}
 use Rattle.linewise.specs.declared.talking.Became.{Became}
 use Rattle.linewise.specs.declared.talking.TalkFault.{TalkFault}
+use Rattle.dap_live.specs.declared.node.Node.{Node}
 use Rattle.dap_live.specs.declared.serving.Serving.{Serving}
 use Rattle.dap_live.specs.declared.asking.Asking.{Asking}
+use Rattle.dap_live.specs.Node as node
 use Rattle.dap_live.specs.Serving as serving
 use Rattle.dap_live.specs.Asking as asking
 use Rattle.live_cli.specs.declared.words.Options.{Options}
@@ -42,10 +44,20 @@ AnswersAll {E} answered waiting first input written holds status =
     × Appends written holds text × (status ≡ (if list_any is_bad lines then 1 else 0)))
     ⊎ ((last : E) × (fault : TalkFault) × Fails answered waiting first input last written holds fault × (status ≡ 3))
 
+-- a new server of one link with these options, without files, answers
+abbrev pub ServesOne : Options → List ℕ → (written holds : Option (List ℕ)) → ℕ → Type 0
+ServesOne o input written holds status =
+    (first : Serving) × serving.IsNew (setup_of o) o.buffer o.waiting [] first × AnswersAll serving.answered serving.waiting first input written holds status
+
+-- a new server with room for so many links, without a link and files, answers
+abbrev pub ServesLinks : Options → List ℕ → (written holds : Option (List ℕ)) → ℕ → Type 0
+ServesLinks o input written holds status =
+    (first : Node) × node.IsNew (setup_of o) o.buffer o.links o.waiting first × AnswersAll node.answered node.waiting first input written holds status
+
 -- a new end with these options, without files, answers
 abbrev pub GivesAs : Role → Options → List ℕ → (written holds : Option (List ℕ)) → ℕ → Type 0
 GivesAs Serve o input written holds status =
-    (first : Serving) × serving.IsNew (setup_of o) o.buffer o.waiting [] first × AnswersAll serving.answered serving.waiting first input written holds status
+    MatchBool (nat_lt 1 o.links) (ServesLinks o input written holds status) (ServesOne o input written holds status)
 GivesAs Ask o input written holds status =
     (first : Asking) × asking.IsNew (setup_of o) o.buffer first × AnswersAll asking.answered asking.waiting first input written holds status
 

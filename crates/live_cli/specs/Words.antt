@@ -1,9 +1,12 @@
 -- The command line of `daplive`.
-use Rattle.std.specs.Prelude.{ℕ, Bool, false, List, [], ◌∷◌, codes, bytes_eq, fold, if◌then◌else◌, pos, max, Option, Some, None, option_map, option_and_then}
+use Rattle.std.specs.Prelude.{ℕ, Bool, true, false, ◌||◌, ◌&&◌, nat_lt, List, [], ◌∷◌, codes, bytes_eq, fold, if◌then◌else◌, pos, max, Option, Some, None, option_map, option_and_then}
 use Rattle.std.specs.Fmt.{decimal}
 use Rattle.std.specs.Option.{option_map_or}
+use Rattle.std.specs.List.{find}
 use Rattle.clap.specs.declared.builder.action.ArgAction.TheVariants.{SetTrue}
 use Rattle.clap.specs.Words.{App, Row, Rule, Text, all_of, first_of, new_app, new_rule, subcommand_of, with_rule, with_subcommand}
+use Rattle.clap.specs.declared.parser.matches.ValueSource.{ValueSource}
+use Rattle.clap.specs.declared.parser.matches.ValueSource.TheVariants.{CommandLine}
 use Rattle.cli_faults.specs.Programs.{new_program}
 use Rattle.clap.specs.declared.builder.value_parser.ValueParser.TheVariants as parser
 use Rattle.dap_msg.specs.BothEnds.{greatest_message, least_buffer}
@@ -31,10 +34,14 @@ greatest_waiting = 1073741824
 abbrev pub usual_waiting : ℕ
 usual_waiting = 1048576
 
+-- how many links a server may have room for
+abbrev pub most_links : ℕ
+most_links = 1023
+
 -- the name of an end, and its options by default
 abbrev pub usual : Role → Text × Options
-usual Serve = (codes "serve", record { role = Serve; local = 514; remote = 257; segment = 512; window = 8; buffer = 1024; waiting = usual_waiting })
-usual Ask = (codes "ask", record { role = Ask; local = 257; remote = 514; segment = 512; window = 8; buffer = 1024; waiting = usual_waiting })
+usual Serve = (codes "serve", record { role = Serve; local = 514; remote = 257; segment = 512; window = 8; buffer = 1024; waiting = usual_waiting; links = 1 })
+usual Ask = (codes "ask", record { role = Ask; local = 257; remote = 514; segment = 512; window = 8; buffer = 1024; waiting = usual_waiting; links = 1 })
 
 -- ---- The command line, in the words of `clap`.
 
@@ -53,9 +60,11 @@ end_line (word, o) = fold with_rule (new_app word)
     ∷ number (codes "segment") (decimal o.segment) 1 largest_segment ∷ number (codes "window") (decimal o.window) 1 largest_window
     ∷ number (codes "buffer") (decimal o.buffer) least_buffer greatest_message ∷ [])
 
--- the subcommand `serve`, which has one option more
+-- the subcommand `serve`, which has two options more
 abbrev pub serve_line : App
-serve_line = with_rule (end_line (usual Serve)) (number (codes "waiting") (decimal usual_waiting) least_waiting greatest_waiting)
+serve_line =
+    with_rule (with_rule (end_line (usual Serve)) (number (codes "waiting") (decimal usual_waiting) least_waiting greatest_waiting))
+    (number (codes "links") (decimal 1) 1 most_links)
 
 -- the subcommand `frames`, which has two nodes or none
 abbrev pub frames_line : App
@@ -89,6 +98,28 @@ abbrev pub waiting_of : Role → List Row → Option ℕ
 waiting_of Serve rows = option_and_then (decimal_of greatest_waiting) (first_of (codes "waiting") rows)
 waiting_of Ask rows = Some usual_waiting
 
+-- the value is in the words, and no default
+abbrev pub is_word : Option ValueSource → Bool
+is_word (Some CommandLine) = true
+is_word _ = false
+
+-- the words give an option a value
+abbrev pub is_given : Text → List Row → Bool
+is_given name rows = option_map_or (λ row. is_word row.source) (find (λ row. bytes_eq row.id name) rows) false
+
+-- the words give the end an address
+abbrev pub has_address : List Row → Bool
+has_address rows = is_given (codes "local") rows || is_given (codes "remote") rows
+
+-- so many links; several have no address of the words
+abbrev pub links_beside : List Row → ℕ → Option ℕ
+links_beside rows links = if nat_lt 1 links && has_address rows then None else Some links
+
+-- how many links there is room for; `ask` has no such option
+abbrev pub links_of : Role → List Row → Option ℕ
+links_of Serve rows = option_and_then (links_beside rows) (option_and_then short (first_of (codes "links") rows))
+links_of Ask rows = Some 1
+
 -- The options of an end. An address is four hex digits, a number is decimal digits, and a buffer has at least 64
 -- bytes.
 abbrev pub options_of : Role → List Row → Option Options
@@ -98,7 +129,8 @@ options_of role rows =
     value rows short (codes "segment") (λ segment.
     value rows short (codes "window") (λ window.
     value rows short (codes "buffer") (λ buffer.
-    option_and_then (λ waiting. Some (record {
+    option_and_then (λ waiting.
+    option_and_then (λ links. Some (record {
       role = role;
       local = local;
       remote = remote;
@@ -106,7 +138,8 @@ options_of role rows =
       window = window;
       buffer = max least_buffer buffer;
       waiting = waiting;
-    })) (waiting_of role rows))))))
+      links = links;
+    })) (links_of role rows)) (waiting_of role rows))))))
 
 -- both ends, of two addresses of nodes
 abbrev pub ends_by : Option ℕ → Option ℕ → Option Ends

@@ -4,6 +4,7 @@ ghost use Rattle.std.specs.Prelude.{[]};
 ghost use Rattle.linewise.specs.Talks.{HaveOneText};
 ghost use Rattle.dap_live.specs.Serving as serving;
 ghost use Rattle.dap_live.specs.Asking as asking;
+ghost use Rattle.dap_live.specs.Node as node;
 ghost use Rattle.live_cli.specs.declared.words.Options.{Options as TheOptions};
 ghost use Rattle.live_cli.specs.Running.{setup_of};
 
@@ -18,4 +19,8 @@ pub fn inputs_have_one_text()
         → HaveOneText asking.answered asking.waiting
         (λ one other. asking.IsNew (setup_of options) options.buffer one
         × asking.IsNew (setup_of options) options.buffer other) }
+    ensures node { (options : TheOptions)
+        → HaveOneText node.answered node.waiting
+        (λ one other. node.IsNew (setup_of options) options.buffer options.links options.waiting one
+        × node.IsNew (setup_of options) options.buffer options.links options.waiting other) }
 {}

@@ -8,7 +8,7 @@ ghost use Rattle.dap_msg.specs.BothEnds.{least_buffer};
 ghost use Rattle.live_cli.specs.declared.words.Task.{Task as TheTask};
 ghost use Rattle.live_cli.specs.declared.words.Role.TheVariants as role;
 ghost use Rattle.live_cli.specs.declared.words.Role.{Role as TheRole};
-ghost use Rattle.live_cli.specs.Running.{AnswersAll, GivesAs, TaskGives, frames_status, setup_of};
+ghost use Rattle.live_cli.specs.Running.{AnswersAll, GivesAs, ServesLinks, ServesOne, TaskGives, frames_status, setup_of};
 ghost use Rattle.live_cli.specs.Inner.CommandLine.{HasRoom};
 ghost use Rattle.live_cli.specs.Words.{daplive, task_of, usual};
 
@@ -16,7 +16,7 @@ use crate::words::{Misspelt, Options, Role, Task, read_words};
 use clap::error::ErrorKind;
 use cli_faults::{Fronted, Reading, finish_reading, refuse};
 use dap_follow::follow;
-use dap_live::{Asking, Serving};
+use dap_live::{Asking, Node, Serving};
 use dap_watch::watch;
 use decnet_frames::{Counts, Ends, FramesFault, list_frames};
 use linewise::{Answers, talk};
@@ -87,7 +87,7 @@ fn serve<R: BufRead, W: Write, E: Write>(
     error_writer: &mut E,
 ) -> u8
     requires { least_buffer ≤ options.buffer }
-    ensures { IfSome (R.remaining reader.old) (λ input. GivesAs role.Serve options input
+    ensures { IfSome (R.remaining reader.old) (λ input. ServesOne options input
         (W.contents writer.old) (W.contents writer.new) result
         ⊎ (Keeps (W.contents writer.old) (W.contents writer.new) × (result ≡ 3))) }
 {
@@ -95,6 +95,33 @@ fn serve<R: BufRead, W: Write, E: Write>(
     match Serving::new(alloc, options.buffer, link_setup(options), most_waiting) {
         Ok(mut end) => converse(alloc, &mut end, reader, writer, error_writer),
         Err(fault) => no_end(fault, error_writer),
+    }
+}
+
+/// Answers the lines of the input by a server of several links, and answers the exit status.
+fn serve_links<R: BufRead, W: Write, E: Write>(
+    alloc: Global,
+    options: Options,
+    reader: &mut R,
+    writer: &mut W,
+    error_writer: &mut E,
+) -> u8
+    requires { least_buffer ≤ options.buffer }
+    ensures { IfSome (R.remaining reader.old) (λ input. ServesLinks options input
+        (W.contents writer.old) (W.contents writer.new) result
+        ⊎ (Keeps (W.contents writer.old) (W.contents writer.new) × (result ≡ 3))) }
+{
+    let most_waiting = u64::from(options.waiting);
+    let links = options.links as usize;
+    match Node::new(
+        alloc,
+        options.buffer,
+        links,
+        link_setup(options),
+        most_waiting,
+    ) {
+        Ok(mut node) => converse(alloc, &mut node, reader, writer, error_writer),
+        Err(_) => tell("no memory", error_writer),
     }
 }
 
@@ -117,8 +144,8 @@ fn ask<R: BufRead, W: Write, E: Write>(
     }
 }
 
-/// Answers the lines of the input by an end that is set up so, and answers the exit status: 0, or 1 where some line
-/// was none of the end's; 3 where the reader or the writer failed, or memory was refused before the first line.
+/// Answers the lines of the input by an end that is set up so, a server with room for several links by one that begins
+/// without a link, and answers the exit status: 0, or 1 where some line was none of the end's; 3 where the reader or the writer failed, or memory was refused before the first line.
 pub fn run_options<R: BufRead, W: Write, E: Write>(
     alloc: Global,
     options: Options,
@@ -131,6 +158,9 @@ pub fn run_options<R: BufRead, W: Write, E: Write>(
         (W.contents writer.old) (W.contents writer.new) result) }
 {
     match options.role {
+        Role::Serve if options.links > 1 => {
+            serve_links(alloc, options, reader, writer, error_writer)
+        }
         Role::Serve => serve(alloc, options, reader, writer, error_writer),
         Role::Ask => ask(alloc, options, reader, writer, error_writer),
     }

@@ -1,7 +1,7 @@
 //! What the words say.
 
 ghost use Rattle.std.specs.Result.{result_ok};
-ghost use Rattle.std.specs.Prelude.{◌≡◌, ◌≤◌, false, IfErr, IfOk, IfSome, None, Some, codes, map, option_and_then, option_map, pos, string_bytes};
+ghost use Rattle.std.specs.Prelude.{◌≡◌, ◌≤◌, false, IfErr, IfOk, IfSome, IsTrue, None, Some, codes, map, option_and_then, option_map, pos, string_bytes};
 ghost use Rattle.clap.specs.Words.{FailsBy, all_of, app_of, fault_of, first_of, found_of, kind_of, rows_of, rule_of, subcommand_of};
 ghost use Rattle.clap.specs.declared.builder.value_parser.ValueParser.TheVariants as parser;
 ghost use Rattle.dap_msg.specs.BothEnds.{greatest_message, least_buffer};
@@ -9,12 +9,13 @@ ghost use Rattle.nsp_link.specs.Limits.{largest_segment, largest_window};
 ghost use Rattle.dap_text.specs.Words.{short};
 ghost use Rattle.dap_live.specs.Orders.{address_of};
 ghost use Rattle.decnet_frames.specs.Nodes.{node_of};
-ghost use Rattle.live_cli.specs.Words.{daplive, ends_of, greatest_waiting, least_waiting, option as option_rule, options_of, task_in as task_of_rows, task_of, has_words as words_wanted, waiting_of};
-ghost use Rattle.live_cli.specs.Inner.CommandLine.{HasAddresses, HasLimits, HasRoom, HasWaiting, IsCommandLine, IsEndLine, IsFollowLine, IsFramesLine, IsServeLine, IsWatchLine};
+ghost use Rattle.live_cli.specs.Words.{daplive, ends_of, greatest_waiting, has_address, is_given as is_given_in, is_word as is_in_words, least_waiting, links_of, most_links, option as option_rule, options_of, task_in as task_of_rows, task_of, has_words as words_wanted, waiting_of};
+ghost use Rattle.live_cli.specs.Inner.CommandLine.{HasAddresses, HasLimits, HasLinks, HasRoom, HasWaiting, IsCommandLine, IsEndLine, IsFollowLine, IsFramesLine, IsServeLine, IsWatchLine};
 ghost use Rattle.live_cli.specs.Inner.Spelling.{IsMisspelt};
 
 use clap::builder::ValueParser;
 use clap::error::ErrorKind;
+use clap::parser::ValueSource;
 use clap::{Arg, ArgAction, ArgMatches, Command, Error, value_parser};
 use dap_live::read_address;
 use dap_msg::{GREATEST_MESSAGE, LEAST_BUFFER};
@@ -37,6 +38,7 @@ more is counted where a line ran out of memory. Empty lines, and those that begi
   resend                      the packets that aren't acknowledged, the oldest first; then what was left to do
   ack                         an acknowledgement of all that arrived
   new [LOCAL REMOTE [BYTES]]  a new link, with these addresses and segments of at most BYTES; serve keeps its files
+  close LOCAL                 serve --links 2 and more: the link ends; there new, resend and ack name their link by LOCAL
   files                       serve: the files, as the two lines below
   file NAME seq|rel fixed|variable MRS MRN
                               serve, before a packet arrived: one file more, without records
@@ -194,7 +196,17 @@ fn waitings<'a>() -> ValueParser<'a>
     value_parser!(u32).range(LEAST_WAITING..=GREATEST_WAITING as i64)
 }
 
-/// The option that only the server has.
+/// The links that a server may have room for: 1 to 1,023.
+const MOST_LINKS: i64 = 1023;
+
+/// The links that there may be room for.
+fn link_counts<'a>() -> ValueParser<'a>
+    ensures { result ≡ parser.Signed (pos 1) (pos most_links) }
+{
+    value_parser!(u16).range(1..=MOST_LINKS)
+}
+
+/// How many bytes may wait, an option that only the server has.
 fn with_waiting<'a>(alloc: Global, command: Command<'a>) -> Result<Command<'a>, Error>
     ensures added { IfOk result (HasWaiting command.entry) }
     ensures memory { IfErr result (λ error. kind_of error ≡ ErrorKind.OutOfMemory) }
@@ -208,6 +220,23 @@ fn with_waiting<'a>(alloc: Global, command: Command<'a>) -> Result<Command<'a>, 
         waitings(),
     );
     let command = command.arg(waiting)?;
+    Ok(command)
+}
+
+/// How many links there is room for, an option that only the server has.
+fn with_links<'a>(alloc: Global, command: Command<'a>) -> Result<Command<'a>, Error>
+    ensures added { IfOk result (HasLinks command.entry) }
+    ensures memory { IfErr result (λ error. kind_of error ≡ ErrorKind.OutOfMemory) }
+{
+    let links = number(
+        alloc,
+        "links",
+        "COUNT",
+        "1",
+        "Links that there is room for, 1 to 1023: with 2 and more each line names its link, and there is none at first",
+        link_counts(),
+    );
+    let command = command.arg(links)?;
     Ok(command)
 }
 
@@ -263,7 +292,8 @@ fn serve_command<'a>(alloc: Global) -> Result<Command<'a>, Error>
     ensures memory { IfErr result (λ error. kind_of error ≡ ErrorKind.OutOfMemory) }
 {
     let command = end_command(alloc, &SERVING)?;
-    with_waiting(alloc, command)
+    let command = with_waiting(alloc, command)?;
+    with_links(alloc, command)
 }
 
 /// The command line of the listing.
@@ -349,6 +379,8 @@ pub struct Options {
     pub buffer: u16,
     /// The bytes that may wait while the server goes on; of no meaning to the client.
     pub waiting: u32,
+    /// How many links the server has room for; with 2 and more the addresses are of no meaning. 1 for the client.
+    pub links: u16,
 }
 
 /// What the program does.
@@ -375,6 +407,8 @@ pub(crate) enum Digits {
     Bytes,
     /// By the address of a node.
     Node,
+    /// Not at all: a server of several links has no addresses of its own.
+    Nowhere,
 }
 
 /// An option whose value isn't spelled so.
@@ -391,6 +425,7 @@ impl Display for Digits {
             Digits::Address => "an address is four hex digits",
             Digits::Number | Digits::Bytes => "a number is decimal digits, ten at most",
             Digits::Node => "a node is an area, 1 to 63, a point, and a number, 1 to 1023, as 1.10",
+            Digits::Nowhere => "with several links the addresses are those of 'new'",
         })
     }
 }
@@ -479,7 +514,68 @@ fn waiting_in<'a>(role: Role, matches: &ArgMatches<'a>) -> Result<u32, Misspelt<
     }
 }
 
-/// How an end is set up, or the first address that isn't four hex digits, or number that isn't decimal digits.
+/// Whether a value is in the words, and no default.
+fn is_word(source: Option<ValueSource>) -> bool
+    ensures { result ≡ is_in_words source }
+{
+    matches!(source, Some(ValueSource::CommandLine))
+}
+
+/// Whether the words give an option a value.
+fn is_given(matches: &ArgMatches<'_>, name: &str) -> bool
+    ensures { result ≡ is_given_in name.now (rows_of (found_of matches.now)) }
+{
+    is_word(matches.value_source(name))
+}
+
+/// Whether the words give an end an address.
+fn is_addressed(matches: &ArgMatches<'_>) -> bool
+    ensures { result ≡ has_address (rows_of (found_of matches.now)) }
+{
+    is_given(matches, "local") || is_given(matches, "remote")
+}
+
+/// An address that the words give where there is no place for it.
+fn addressed<'a>(matches: &ArgMatches<'a>, name: &'static str) -> Misspelt<'a>
+    requires { IsTrue (is_given_in name.now (rows_of (found_of matches.now))) }
+    ensures { IsMisspelt (rows_of (found_of matches.now)) result }
+{
+    Misspelt {
+        option: name,
+        value: text_in(matches, name).unwrap_or(""),
+        digits: Digits::Nowhere,
+    }
+}
+
+/// The first address that the words give.
+fn first_address<'a>(matches: &ArgMatches<'a>) -> Misspelt<'a>
+    requires { IsTrue (has_address (rows_of (found_of matches.now))) }
+    ensures { IsMisspelt (rows_of (found_of matches.now)) result }
+{
+    if is_given(matches, "local") {
+        addressed(matches, "local")
+    } else {
+        addressed(matches, "remote")
+    }
+}
+
+/// How many links there is room for; with several of them the words give no address. A client has one.
+fn links_in<'a>(role: Role, matches: &ArgMatches<'a>) -> Result<u16, Misspelt<'a>>
+    ensures value { result_ok result ≡ links_of role (rows_of (found_of matches.now)) }
+    ensures misspelt { IfErr result (IsMisspelt (rows_of (found_of matches.now))) }
+{
+    if role == Role::Ask {
+        return Ok(1);
+    }
+    let links = number_in(matches, "links")?;
+    if links > 1 && is_addressed(matches) {
+        return Err(first_address(matches));
+    }
+    Ok(links)
+}
+
+/// How an end is set up, or the first address that isn't four hex digits, or number that isn't decimal digits; then the
+/// first address where there are several links.
 fn options_in<'a>(role: Role, matches: &ArgMatches<'a>) -> Result<Options, Misspelt<'a>>
     ensures options { result_ok result ≡ options_of role (rows_of (found_of matches.now)) }
     ensures room { IfOk result (λ o. least_buffer ≤ o.buffer) }
@@ -491,6 +587,7 @@ fn options_in<'a>(role: Role, matches: &ArgMatches<'a>) -> Result<Options, Missp
     let window = number_in(matches, "window")?;
     let buffer = number_in(matches, "buffer")?.max(LEAST_BUFFER);
     let waiting = waiting_in(role, matches)?;
+    let links = links_in(role, matches)?;
     Ok(Options {
         role,
         local,
@@ -499,6 +596,7 @@ fn options_in<'a>(role: Role, matches: &ArgMatches<'a>) -> Result<Options, Missp
         window,
         buffer,
         waiting,
+        links,
     })
 }
 

@@ -2,6 +2,10 @@
 #![tactic(auto)]
 
 #[cfg(test)]
+mod node_rows;
+#[cfg(test)]
+mod node_tests;
+#[cfg(test)]
 mod rows;
 #[cfg(test)]
 mod tests;

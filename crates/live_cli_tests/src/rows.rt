@@ -126,6 +126,85 @@ refused bad-line\nwaits 0\nrefused bad-line\nwaits 0\n",
         b"",
         b"daplive: --window 00000000008: a number is decimal digits, ten at most\n",
     ),
+    // Room for several links: lines name their link, and the server begins without one; with room for one all is as ever.
+    (
+        &["serve", "--links", "2", "--segment", "10"],
+        b"ack\nack 0202\nnew 0202 0101\nack 0202\n> 60020201010080010001020a00040703050600000000\n\
+new 0303 0101\nnew 0404 0101\nclose 0202\n",
+        1,
+        b"refused bad-line\nwaits 0\nrefused wrong-link\nwaits 0\nwaits 0\n< 04010102020080\nwaits 0\n\
+accepted\n< 20010102020180010001020a00040703050600\n< 400101020201800200000000\nwaits 2\n\
+waits 0\nrefused no-links\nwaits 0\nwaits 0\n",
+        b"bad line 1\n",
+    ),
+    (
+        &["serve", "--links=1023"],
+        b"resend 0202\nnew\n",
+        1,
+        b"refused wrong-link\nwaits 0\nrefused bad-line\nwaits 0\n",
+        b"bad line 2\n",
+    ),
+    (
+        &["serve", "--links", "1", "--local", "0303"],
+        b"close 0303\nack 0303\nnew 0303 0101\nack\n",
+        1,
+        b"refused bad-line\nwaits 0\nrefused bad-line\nwaits 0\nwaits 0\n< 04010103030080\nwaits 0\n",
+        b"bad line 1\nbad line 2\n",
+    ),
+    // Addresses have no place beside several links, and the number of links is one from 1 to 1,023.
+    (
+        &["serve", "--links", "2", "--local", "0303"],
+        b"files\n",
+        2,
+        b"",
+        b"daplive: --local 0303: with several links the addresses are those of 'new'\n",
+    ),
+    (
+        &["serve", "--remote", "0101", "--links", "2"],
+        b"files\n",
+        2,
+        b"",
+        b"daplive: --remote 0101: with several links the addresses are those of 'new'\n",
+    ),
+    (
+        &["serve", "--links", "+2"],
+        b"files\n",
+        2,
+        b"",
+        b"daplive: --links +2: a number is decimal digits, ten at most\n",
+    ),
+    (
+        &["serve", "--links", "0"],
+        b"files\n",
+        2,
+        b"",
+        b"error: invalid value '0' for '--links <COUNT>': 0 is not in 1..=1023\n\n\
+For more information, try '--help'.\n",
+    ),
+    (
+        &["serve", "--links", "1024"],
+        b"files\n",
+        2,
+        b"",
+        b"error: invalid value '1024' for '--links <COUNT>': 1024 is not in 1..=1023\n\n\
+For more information, try '--help'.\n",
+    ),
+    (
+        &["serve", "--links", "x"],
+        b"files\n",
+        2,
+        b"",
+        b"error: invalid value 'x' for '--links <COUNT>': invalid digit found in string\n\n\
+For more information, try '--help'.\n",
+    ),
+    (
+        &["serve", "--links", "2", "--links", "2"],
+        b"files\n",
+        2,
+        b"",
+        b"error: the argument '--links <COUNT>' cannot be used multiple times\n\n\
+Usage: daplive serve [OPTIONS]\n\nFor more information, try '--help'.\n",
+    ),
     // A message of three segments, the second one twice and behind the third.
     (
         &["follow"],

@@ -7,7 +7,7 @@ use Rattle.dap_msg.specs.BothEnds.{greatest_message, least_buffer}
 use Rattle.nsp_link.specs.Limits.{largest_segment, largest_window}
 use Rattle.live_cli.specs.declared.words.Task.{Task}
 use Rattle.live_cli.specs.declared.words.Task.TheVariants.{End, Follow, Frames, Watch}
-use Rattle.live_cli.specs.Words.{daplive, follow_line, frames_line, greatest_waiting, least_waiting, number, option, watch_line}
+use Rattle.live_cli.specs.Words.{daplive, follow_line, frames_line, greatest_waiting, least_waiting, most_links, number, option, watch_line}
 
 -- the command is another with more words, none of them global
 pub record Becomes (before : Command) (line : App) (command : Command) : Type 0 where
@@ -39,6 +39,10 @@ abbrev pub HasWaiting : Command → Command → Type 0
 HasWaiting before =
     Becomes before (with_rule (app_of before) (number (codes "waiting") (codes "1048576") least_waiting greatest_waiting))
 
+-- a command with the other option of it
+abbrev pub HasLinks : Command → Command → Type 0
+HasLinks before = Becomes before (with_rule (app_of before) (number (codes "links") (codes "1") 1 most_links))
+
 -- a command that is the command line of an end
 pub record IsEndLine (name own other : Text) (command : Command) : Type 0 where
   pub app : app_of command ≡ end_line_by name own other
@@ -47,8 +51,9 @@ pub record IsEndLine (name own other : Text) (command : Command) : Type 0 where
 -- the words behind `serve`
 abbrev pub serve_line_by : App
 serve_line_by =
-    with_rule (end_line_by (codes "serve") (codes "0202") (codes "0101"))
-    (number (codes "waiting") (codes "1048576") least_waiting greatest_waiting)
+    with_rule
+    (with_rule (end_line_by (codes "serve") (codes "0202") (codes "0101")) (number (codes "waiting") (codes "1048576") least_waiting greatest_waiting))
+    (number (codes "links") (codes "1") 1 most_links)
 
 -- a command that is the command line of the end that serves
 pub record IsServeLine (command : Command) : Type 0 where

@@ -1,0 +1,81 @@
+-- What is done on a link of a node, by what its calls say.
+use Rattle.std.proofs.Common.{◌≡◌, ◌⊎◌, inl, inr, ℕ, Bool, true, false, List, [], Some, refl, ap, sym, subst, ◌∙◌}
+use Rattle.std.specs.Prelude.{MatchBool, MatchOption, Option, None, Ok}
+use Rattle.std.specs.List.{position}
+use Rattle.nsp_link.specs.Link.{LinkValue}
+use Rattle.nsp_link.specs.declared.fault.LinkFault.TheVariants.{Failed}
+use Rattle.dap_end.specs.Ports.{PortValue}
+use Rattle.dap_end.specs.Node.{AtPort, HasPort, has_local}
+use Rattle.linewise.specs.declared.talking.Became.{Became}
+use Rattle.linewise.specs.declared.talking.Became.TheVariants as became_of
+use Rattle.dap_live.specs.declared.node.Node.{Node}
+use Rattle.dap_live.specs.Both.{Stays}
+use Rattle.dap_live.specs.Sending.{AllAgain, UnlessFailed}
+use Rattle.dap_live.specs.Texts.{link_refusal, packets_text}
+use Rattle.dap_live.specs.declared.node_orders.NodeOrder.TheVariants as order
+use Rattle.dap_live.specs.Inner.NodeReaching.{Done, NodeReaches}
+use Rattle.dap_live.specs.Node.{FindsLink, GoesOnWith, ResendsOn, TakesOn, about, about_any, is_behind_at}
+use Rattle.dap_live.proofs.ReachLemmas.{unless_failed, unless_runs, where_left, where_none}
+
+module _ (link : ℕ) (old : Node) (l : LinkValue) (at : AtPort link old.node (λ p. l ≡ p.link)) where
+  again-there : (packets : List (List ℕ)) → AllAgain l packets → AllAgain at.0.link packets
+  again-there packets all = subst (λ (k : LinkValue). AllAgain k packets) at.2 all
+
+  -- segments were sent again, and then it went on
+  pub resends-on : (front : List ℕ) (packets : List (List ℕ)) → AllAgain l packets → front ≡ packets_text packets → is_behind_at old.most_waiting at.0 ≡ true
+      → (new : Node) (text : List ℕ) (became : Became) → GoesOnWith link old front new text became → AtPort link old.node (λ p. ResendsOn link p old new text became)
+  resends-on front packets all is left new text became goes =
+      (at.0, at.1, (packets, again-there packets all, where_left _ left _ _ (subst (λ (f : List ℕ). GoesOnWith link old f new text became) is goes)))
+
+  -- or nothing was left to do
+  pub resends-alone : (text : List ℕ) (packets : List (List ℕ)) → AllAgain l packets → text ≡ packets_text packets → is_behind_at old.most_waiting at.0 ≡ false
+      → AtPort link old.node (λ p. ResendsOn link p old (about link old) text became_of.Done)
+  resends-alone text packets all is none = (at.0, at.1, (packets, again-there packets all, where_none _ none _ _ (refl, is, refl)))
+
+  -- the link runs
+  pub on-running : l.failed ≡ false → (new : Node) (text : List ℕ) (became : Became) → AtPort link old.node (λ p. ResendsOn link p old new text became)
+      → AtPort link old.node (λ p. UnlessFailed p.link text (Stays became_of.Done (about link old) new became) (ResendsOn link p old new text became))
+  on-running runs new text became (p, there, this) =
+      let one : at.0 ≡ p = (let same : Some (Some at.0) ≡ Some (Some p) = sym at.1 ∙ there in cc) in
+      let works : p.link.failed ≡ false = ap (λ (q : PortValue). q.link.failed) (sym one) ∙ ap (λ (k : LinkValue). k.failed) (sym at.2) ∙ runs in
+      (p, there, unless_runs p.link.failed works _ _ this)
+
+  -- it has failed
+  pub on-failed : l.failed ≡ true → (text : List ℕ) → text ≡ (link_refusal Failed).0
+      → AtPort link old.node (λ p. UnlessFailed p.link text (Stays became_of.Done (about link old) (about link old) became_of.Done) (ResendsOn link p old (about link old) text became_of.Done))
+  on-failed failed text is =
+      let stands : at.0.link.failed ≡ true = ap (λ (k : LinkValue). k.failed) (sym at.2) ∙ failed in
+      (at.0, at.1, unless_failed at.0.link.failed stands _ _ ((refl, refl), is))
+
+-- the line concerns the link already
+pub about-goes : (link : ℕ) (old : Node) (front : List ℕ) (new : Node) (text : List ℕ) (became : Became) → GoesOnWith link (about link old) front new text became → GoesOnWith link old front new text became
+about-goes link old front new text became h = record { gone = h.gone; packets = h.packets; went = h.went; rest = h.rest; says = h.says; ended = h.ended }
+
+-- ---- The link that a line names.
+
+pub on-some : (o : Option ℕ) (link : ℕ) → Some link ≡ o → (Nothing : Type 0) (This : ℕ → Type 0) → This link → MatchOption o Nothing This
+on-some (Some l) link e Nothing This this = subst This (let same : link ≡ l = cc in same) this
+on-some None link e Nothing This this = absurd (let none : ⊥ = cc in none)
+
+pub on-none : (o : Option ℕ) → None ≡ o → (Nothing : Type 0) (This : ℕ → Type 0) → Nothing → MatchOption o Nothing This
+on-none None e Nothing This nothing = nothing
+on-none (Some l) e Nothing This nothing = absurd (let none : ⊥ = cc in none)
+
+pub about-some : (o : Option ℕ) (link : ℕ) (old new : Node) → Some link ≡ o → new ≡ about link old → new ≡ about_any o old
+about-some (Some l) link old new e is = is ∙ ap (λ (i : ℕ). about i old) (let same : link ≡ l = cc in same)
+about-some None link old new e is = absurd (let none : ⊥ = cc in none)
+
+pub about-none : (o : Option ℕ) (old new : Node) → None ≡ o → new ≡ old → new ≡ about_any o old
+about-none None old new e is = is
+about-none (Some l) old new e is = absurd (let none : ⊥ = cc in none)
+
+-- how far `resend` was done
+pub reaches-resend : (local link : ℕ) (old new : Node) → Some link ≡ position (has_local local) old.node.ports
+    → ((new ≡ about link old) ⊎ Done (λ said became. AtPort link old.node (λ p. UnlessFailed p.link said (Stays became_of.Done (about link old) new became) (ResendsOn link p old new said became))))
+    → NodeReaches old (order.Resend local) new
+reaches-resend local link old new found (inl same) = inl (about-some _ link old new found same)
+reaches-resend local link old new found (inr done) = inr (done.0, done.1, on-some _ link found _ _ done.2)
+
+-- and a packet
+pub reaches-packet : (link : ℕ) (old new : Node) (bytes : List ℕ) → FindsLink old.node.ports bytes (Ok link) → Done (TakesOn link old bytes new) → NodeReaches old (order.Packet bytes) new
+reaches-packet link old new bytes found done = inr (done.0, done.1, (Ok link, found, done.2))

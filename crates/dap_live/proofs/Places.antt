@@ -1,0 +1,31 @@
+-- The place of a link that was found.
+use Rattle.std.proofs.Common.{◌≡◌, ℕ, ◌<◌, Bool, true, List, length, get_or, Option, Some, None, refl, ap, sym, ◌∙◌}
+use Rattle.std.specs.Prelude.{IfSome, slice_get}
+use Rattle.std.specs.List.{position}
+use Rattle.std.proofs.lemmas.List.Quantifiers.{position-Some}
+use Rattle.std.proofs.lemmas.Option.{slice_get-get_or}
+use Rattle.dap_end.specs.Ports.{PortValue}
+use Rattle.dap_end.specs.Node.{has_local, is_between}
+
+pub local-some : (local : ℕ) (o : Option PortValue) → has_local local o ≡ true → (p : PortValue) × (o ≡ Some p)
+local-some local None e = absurd (let none : ⊥ = cc in none)
+local-some local (Some p) e = (p, refl)
+
+pub between-some : (local remote : ℕ) (o : Option PortValue) → is_between local remote o ≡ true → (p : PortValue) × (o ≡ Some p)
+between-some local remote None e = absurd (let none : ⊥ = cc in none)
+between-some local remote (Some p) e = (p, refl)
+
+pub within : (test : Option PortValue → Bool) (ports : List (Option PortValue)) (r : Option ℕ) → r ≡ position test ports → IfSome r (λ i. i < length ports)
+within test ports None e = tt
+within test ports (Some i) e = (position-Some test ports i None (sym e)).0
+
+module _ (test : Option PortValue → Bool) (some : (o : Option PortValue) → test o ≡ true → (p : PortValue) × (o ≡ Some p)) where
+  pub at : (ports : List (Option PortValue)) (i : ℕ) → position test ports ≡ Some i → (p : PortValue) × (slice_get ports i ≡ Some (Some p))
+  at ports i e =
+      let f = position-Some test ports i None e in
+      let s = some (get_or ports i None) f.1 in
+      (s.0, slice_get-get_or ports i None f.0 ∙ ap Some s.1)
+
+  pub there : (ports : List (Option PortValue)) (r : Option ℕ) → r ≡ position test ports → IfSome r (λ i. (p : PortValue) × (slice_get ports i ≡ Some (Some p)))
+  there ports None e = tt
+  there ports (Some i) e = at ports i (sym e)

@@ -1,0 +1,36 @@
+//! The rows of a server of several links.
+
+use crate::node_rows::NODE_ROWS;
+use dap_live::Node;
+use linewise::talk;
+use nsp_link::{LARGEST_LIMIT, LinkSetup};
+use std::alloc::Global;
+use std::test::Fail;
+
+/// A setup as the program's words give it.
+const USUAL: LinkSetup = LinkSetup {
+    local: 0,
+    remote: 0,
+    seg_size: 512,
+    window: 8,
+    max_message: LARGEST_LIMIT,
+};
+
+/// What a server of so many links answers to lines.
+fn answers(alloc: Global, links: usize, lines: &[u8]) -> Result<Vec<u8>, Fail> {
+    let mut node = Node::new(alloc, 1024, links, USUAL, 1 << 20)?;
+    let mut reader = lines;
+    let mut written = Vec::new(alloc);
+    let mut told = Vec::new(alloc);
+    talk(alloc, &mut node, &mut reader, &mut written, &mut told)?;
+    Ok(written)
+}
+
+#[test]
+fn each_row_of_a_node_holds(rt: HostRuntime) -> Result<(), Fail> {
+    for (links, lines, wanted) in NODE_ROWS {
+        let written = answers(rt.alloc(), *links, lines)?;
+        assert_eq!(rt; written.as_slice(), *wanted);
+    }
+    Ok(())
+}
