@@ -8,7 +8,7 @@ usage: bridge.py serve --interface IF|--udp LPORT:HOST:RPORT --node 1.2 [--files
        bridge.py probe --to NODE
        bridge.py password NAME <PASSWORD
 
-`serve` takes links to object 17 (FAL), one after another, and holds the files over all of them. `ask` opens one link to
+`serve` takes links to object 17 (FAL), one at a time or --links at once, and holds the files over all of them. `ask` opens one link to
 that object, reads requests, one a line as they stand behind `ask` of docs/LIVE.md, asks each when the report of the one
 before has come, prints the reports, and closes the link at the end of the input. `copy`, `type`, `get` and `put` do that
 for a file that is named, and text. `probe` tests the file access listener of a node. docs/BRIDGE.md has all of it.
@@ -50,19 +50,19 @@ def serve(words, opened):
     if kept:
         opened(kept)
     end = opened(start_end(words, signals))
-    space, store, left, is_changed = Space(end, words.space), None, None, False
+    space, store, left, is_changed = Space(end, words.space), None, [], False
     if words.store is not None:
         store, left = open_store(words, opened, end, space, signals)
     else:
         is_changed = load_files(words, kept, end, space, signals)
     keeper = opened(Keeper(kept, end, is_changed)) if kept else None
-    role = Server(node, end, settings_of_server(words), keeper, words.links, store, space, entry)
+    role = Server(node, end, settings_of_server(words), keeper, words.stop_after, store, space, entry)
     node.start()
     where = words.interface or node.wire.name
     log.say(str(entry))
     log.say(f"node {node_text(words.node)} on {where}: takes links to object {nsp.FAL}")
-    if left:
-        role.resume(left)
+    for link in left:
+        role.resume(link)
     return carry(role, signals)
 
 

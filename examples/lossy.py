@@ -1,7 +1,7 @@
 #!/usr/bin/env python3
-"""Plays requests over both live ends and a line between them that loses, repeats and reorders packets.
+"""Plays requests over live ends and lines between them that lose, repeat and reorder packets.
 
-usage: lossy.py [--seed N] [--loss PERCENT] [--repeat PERCENT] [--reach N] [--asking WORDS] [--serving WORDS]
+usage: lossy.py [--links N] [--seed N] [--loss PERCENT] [--repeat PERCENT] [--reach N] [--asking WORDS] [--serving WORDS]
                 [--transcript FILE] [--daplive PROGRAM] < REQUESTS
 
 Reads requests, one a line, as they follow `ask`; empty lines and those that begin with `#` say nothing. It starts
@@ -10,12 +10,19 @@ the packets: each is lost, or repeated, with that chance, and any of the oldest 
 Where none is on its way, an end whose packets wait says `resend`. It prints the report of each request, or why it isn't
 asked, and at the end the files. With --transcript all lines of both ends are kept, of which
 `grep '^[<>]'` is a capture for `dapnsp show`.
+
+With --links N there are N ends that ask, each over a link of its own, before one that serves. Each line has the number of
+one of them before its request, from 1; each end asks its requests in their order, and the line decides between the
+ends. Each report has that number before it.
 """
 import argparse
+import collections
 
 from decnet import program
 from decnet.end import DAPLIVE
-from decnet.lossy import Both, Line
+from decnet.lossy import Both, Line, Several
+
+MOST_LINKS = 255
 
 
 def share(text):
@@ -32,9 +39,16 @@ def count(text):
     return int(text)
 
 
+def links(text):
+    if not 1 <= int(text) <= MOST_LINKS:
+        raise argparse.ArgumentTypeError(f"{text} is no number from 1 to {MOST_LINKS}")
+    return int(text)
+
+
 def read_options():
     parser = argparse.ArgumentParser(
         prog="lossy.py", description="Plays requests over both live ends and a lossy line.")
+    parser.add_argument("--links", type=links, metavar="N")
     parser.add_argument("--seed", type=int, default=1)
     parser.add_argument("--loss", type=share, default=20, metavar="PERCENT")
     parser.add_argument("--repeat", type=share, default=10, metavar="PERCENT")
@@ -46,22 +60,46 @@ def read_options():
     return parser.parse_args()
 
 
-def play(both):
-    """Asks the requests on standard input, and prints the reports and the files."""
-    for line in program.standard_input():
+def requests():
+    """The requests on standard input, each with the number of its line."""
+    for number, line in enumerate(program.standard_input(), 1):
         request = line.decode("utf-8", "surrogateescape").rstrip("\r\n")
         if request and not request.startswith("#"):
-            print(both.ask(request))
+            yield number, request
+
+
+def play(both):
+    """Asks the requests on standard input, and prints the reports and the files."""
+    for _, request in requests():
+        print(both.ask(request))
     for line in both.files():
+        print(line)
+
+
+def play_several(several, count):
+    """The same of several ends."""
+    asked = [collections.deque() for _ in range(count)]
+    for number, line in requests():
+        word, _, request = line.partition(" ")
+        if not (word.isascii() and word.isdecimal() and 1 <= int(word) <= count):
+            raise program.Fault(f"line {number}: no number from 1 to {count} before a request")
+        asked[int(word) - 1].append(request)
+    several.play(lambda link: asked[link].popleft() if asked[link] else None,
+                 lambda link, _request, report: print(f"{link + 1} {report}"))
+    for line in several.files():
         print(line)
 
 
 def main():
     options = read_options()
     line = Line(options.seed, options.loss, options.repeat, options.reach)
-    both = Both(line, options.asking.split(), options.serving.split(), options.daplive)
+    words = options.asking.split(), options.serving.split(), options.daplive
+    both = Both(line, *words) if options.links is None else Several(line, options.links, *words)
     try:
-        play(both)
+        if options.links is None:
+            play(both)
+        else:
+            play_several(both, options.links)
     finally:
         statuses = both.close()
     if options.transcript:

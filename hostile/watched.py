@@ -47,15 +47,23 @@ def capture(choose):
                 lines += [line(marks, way, number, piece)] * choose.choice((0, 1, 1, 1, 1, 1, 1, 2))
                 number += 1
     order = [(at + choose.choice((0, 0, 0, choose.uniform(0, 40))), one) for at, one in enumerate(lines)]
-    return b"\n".join(one for _at, one in sorted(order)) + b"\n"
+    return b"".join(b"".join(before(choose)) + one + b"\n" for _at, one in sorted(order))
+
+
+def before(choose):
+    """Lines that say nothing, before a packet: some tell its frame, if no other line is behind them."""
+    for _ in range(choose.choice((0, 1, 1, 2))):
+        number = choose.randint(1, 99_999)
+        yield choose.choice((b"# frame %d 1.%06d 1.1 -> 1.2\n" % (number, number), b"# frame %d - 1.2 -> 1.1\n" % number, b"\n",
+                             b"# frame %d\n" % number, b"# %d\n" % number))
 
 
 class Watched:
-    """The listing as lines come, by the program."""
+    """The listing as lines come, by the program; also in words."""
 
-    def __init__(self, suite, program, example):
-        self.suite, self.watch, self.follow = suite, [program, "watch"], [program, "follow"]
-        self.given = example
+    def __init__(self, suite, program, example, *words):
+        self.suite, self.watch, self.follow = suite, [program, "watch", *words], [program, "follow", *words]
+        self.given, self.name = example, " ".join(["daplive watch", *words])
         self.text = self.run(self.follow, example).stdout
 
     def all(self):
@@ -76,17 +84,18 @@ class Watched:
         with ThreadPoolExecutor(cpu_count()) as pool:
             came = list(pool.map(run, captures))
         wrong = [at for at, (one, other) in enumerate(came) if (one.returncode, one.stdout, one.stderr) != (0, other.stdout, b"")]
-        self.tell(f"daplive watch, {len(captures)} captures as follow lists them", len(captures), wrong)
+        self.tell(f"{self.name}, {len(captures)} captures as follow lists them", len(captures), wrong)
 
     def bad_lines(self):
-        """Lines that are none are told by their numbers, and the others are listed as if those weren't there."""
+        """Lines that are none are told by their numbers, and the others are listed as if those were comments."""
         lines = self.given.splitlines(keepends=True)
         wrong = []
         for at in range(len(lines) + 1):
-            ran = self.run(self.watch, b"".join([*lines[:at], b"> 6\n", *lines[at:]]))
-            if (ran.returncode, ran.stdout, ran.stderr.splitlines()[:1]) != (1, self.text, [b"bad line %d" % (at + 1)]):
+            given = lambda line: b"".join([*lines[:at], line, *lines[at:]])
+            ran, wanted = self.run(self.watch, given(b"> 6\n")), self.run(self.follow, given(b"# none\n")).stdout
+            if (ran.returncode, ran.stdout, ran.stderr.splitlines()[:1]) != (1, wanted, [b"bad line %d" % (at + 1)]):
                 wrong.append(at)
-        self.tell("daplive watch, a line that is none", len(lines) + 1, wrong)
+        self.tell(f"{self.name}, a line that is none", len(lines) + 1, wrong)
 
     def tell(self, name, count, wrong):
         self.suite.passed += count - len(wrong)
@@ -109,7 +118,7 @@ class Watched:
 
         for manner, what in [("", "one growth refused"), ("..", "all growths refused from one on")]:
             run = lambda at: self.suite.ran(self.watch, self.given, REFUSE_GROWTH=f"{at}{manner}")
-            self.suite.until_none(f"daplive watch, {what}", run, is_right)
+            self.suite.until_none(f"{self.name}, {what}", run, is_right)
 
     def fail(self):
         def unread(ran, _at):
@@ -124,8 +133,8 @@ class Watched:
 
         for size in (1, 65536):
             run = lambda at: self.suite.ran(self.watch, self.given, FAIL_READ=at, SHORT_READ=size)
-            self.suite.until_none(f"daplive watch, a read of {size} fails", run, unread)
+            self.suite.until_none(f"{self.name}, a read of {size} fails", run, unread)
         for size in (1, 5, 65536):
             for fault, what in [("FAIL_WRITE", "fails"), ("EMPTY_WRITE", "takes nothing")]:
                 run = lambda at: self.suite.ran(self.watch, self.given, SHORT_WRITE=size, **{fault: at})
-                self.suite.until_none(f"daplive watch, a write of {size} {what}", run, unwritten)
+                self.suite.until_none(f"{self.name}, a write of {size} {what}", run, unwritten)

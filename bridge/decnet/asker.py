@@ -53,7 +53,7 @@ class Asker(Role):
         self.status = FAILED
 
     def open(self, to, session):
-        self.link = self.link_to(self.node.way_to(to))
+        self.add(self.link_to(self.node.way_to(to)))
         self.link.explain = self.explain
         self.link.open(session)
 
@@ -147,7 +147,7 @@ class Asker(Role):
             if self.clock() >= self.report_until():
                 why = f"no report of {self.place()} within {self.patience:g} seconds"
                 self.link.disconnect(Reason.ABORTED, why)
-        elif not self.requests.is_open and not self.requests.whole and not self.end.waits:
+        elif not self.requests.is_open and not self.requests.whole and not self.link.waits:
             self.is_finished = True
             self.link.disconnect(Reason.NO_ERROR, "closed, all was asked")
 
@@ -173,7 +173,7 @@ class Asker(Role):
         self.status = GOOD if is_good else FAILED
 
     def stop(self):
-        if self.link is None or self.link.state is State.CLOSING:
+        if not self.links or self.link.state is State.CLOSING:
             self.closed(self.link)
         else:
             self.link.disconnect(Reason.ABORTED, "stopped by a signal")

@@ -19,6 +19,7 @@ MAX_PACKET = nsp.SEGMENT_HEADER + nsp.MAX_SEGMENT
 UNEXPECTED = "unexpected-answer"
 LINK_FAILED = ("bad-sequence", "message-too-long", "exhausted", UNEXPECTED, "failed")
 NO_MEMORY = "refused no-memory"
+LOCKED = "locked"  # in an answer, before the address of the link that locks a file
 
 
 @dataclass(frozen=True)
@@ -32,6 +33,7 @@ class Settings:
     unused: float = None  # seconds without a new data segment before the link is closed; None for never
     waiting: int = None  # bytes of answers that may wait before the live end serves no more; None for any number
     window: int = WINDOW  # segments that the live end has on their way
+    links: int = 1  # how many the live end may have at once; with more than one its lines name theirs
 
 
 class State(enum.Enum):
@@ -46,7 +48,7 @@ class State(enum.Enum):
 
 @dataclass(frozen=True)
 class LeftLink:
-    """A link without flow control that another bridge left open."""
+    """A link that another bridge left open."""
 
     peer: object
     local: int
@@ -55,6 +57,7 @@ class LeftLink:
     taken: int = 0  # messages of the other-data subchannel
     is_on: bool = True  # whether data is wanted
     acknowledged: int = 0  # the highest segment that the other end has
+    can_go_on: bool = True  # a link with flow control can't: nobody knows what may be sent
 
 
 class Countdown:
@@ -177,6 +180,7 @@ class Link:
         self.carried = lambda count: None  # told of the bytes of each new segment, either way
         self.noted = lambda text: None  # told of what is to be said of it while it is open
         self.explain = lambda packet: ""  # what to say of a packet that brought an answer without a place
+        self.locked_by = lambda local: None  # told of the link that has a file open which this one can't have
         self.peer, self.local, self.remote = peer, local, 0
         self.state, self.was_open = State.CLOSED, False
         self.why, self.reason = "", None  # why it was closed, in words; the reason that the other end gave
@@ -189,10 +193,11 @@ class Link:
         self.segment = settings.segment
         self.acknowledged = 0  # the highest segment that the other end has
         self.pending = 0  # lines that the live end hasn't answered
+        self.waits = 0  # how many of its packets wait to be acknowledged, as its last answer says
         self.has_changed = False  # whether anything came on it that may change files
         self.saves = 0  # saves that answers wait for
-        self.wanted_at = None  # when another node asked for a link, since this one was heard
-        self.wanted_by = None  # which node that was
+        self.wanted_at = None  # when somebody wanted its place or its file, since it was heard
+        self.wanted_by = ""  # who, and what
         self.half_open_until = None
         # when anything came; when a new segment came; when that, or an acknowledgement of one more segment, came
         self.heard_at = self.used_at = self.moved_at = clock()
@@ -248,6 +253,7 @@ class Link:
         self.other.resume(left.taken)
         self.flow.is_on = left.is_on
         self.confirm()
+        self.tell(self.named("ack"))  # of which nothing is sent yet: what waits is told behind it
 
     def connect_again(self):
         """The connect initiate came another time. Where the link is open the other end may have begun anew: it is
@@ -290,7 +296,7 @@ class Link:
             else:
                 self.begun(["segments of less than 64 bytes, or an unknown flow control"])
         if self.state is State.RUNNING:
-            self.tell("ack")
+            self.tell(self.named("ack"))
 
     def begun(self, answer):
         if answer:
@@ -423,7 +429,7 @@ class Link:
             if service:
                 self.flow.change(service)
         if self.other.taken != before:
-            self.end.remark(f"other {self.other.taken} {'on' if self.flow.is_on else 'off'}")
+            self.end.remark(f"other {self.local:04x} {self.other.taken} {'on' if self.flow.is_on else 'off'}")
         if self.state is State.RUNNING:
             self.send(nsp.other_ack(self.remote, self.local, self.other.taken))
             self.send_freed()
@@ -445,12 +451,18 @@ class Link:
         self.pending += 1
         self.end.tell(line, Answer(lambda answer: self.answered(answer, then)))
 
+    def named(self, word):
+        """A line of the live end that concerns this link."""
+        return f"{word} {self.local:04x}" if self.settings.links > 1 else word
+
     def tell(self, line):
         """Tells the live end a line, and does what its answer says when it comes."""
         self.ask_end(line, self.do)
 
     def answered(self, answer, then):
         self.pending -= 1
+        if answer != [NO_MEMORY]:  # which leaves the link as it was, and may not say what waits on it
+            self.waits = self.end.waits
         then(answer)
         self.watch()
 
@@ -465,6 +477,8 @@ class Link:
                 self.took(packet)
             elif word == "report":
                 self.told(text)
+            elif word == LOCKED:
+                self.locked_by(int(rest, 16))
             elif text == NO_MEMORY:
                 self.waiting.lacked_memory()
                 self.told(text)
@@ -556,7 +570,7 @@ class Link:
     def watch(self):
         """Runs the timer while segments that went aren't acknowledged."""
         is_stopped = self.flow.is_shut or not self.flow.is_on
-        if self.state is not State.RUNNING or is_stopped or self.end.waits <= len(self.flow.held):
+        if self.state is not State.RUNNING or is_stopped or self.waits <= len(self.flow.held):
             self.resend.stop()
         elif self.resend.at is None:
             self.resend.start(self.settings.resend, self.settings.tries)
@@ -571,10 +585,10 @@ class Link:
     def send_probe(self):
         self.send(nsp.link_service(self.remote, self.local, self.other.taken, self.other.sent))
 
-    def want(self, node):
-        """Another node asks for a link: this one is closed where its other end is silent for too long."""
+    def want(self, who):
+        """Somebody wants its place or its file: it is closed where its other end is silent for too long."""
         if self.wanted_at is None:
-            self.wanted_at, self.wanted_by = self.clock(), node
+            self.wanted_at, self.wanted_by = self.clock(), who
         self.probe()
 
     # ---- the clock
@@ -595,7 +609,7 @@ class Link:
         if self.resend.is_due() and not self.pending:
             if self.resend.again():
                 self.note_stall()
-                self.tell("resend")
+                self.tell(self.named("resend"))
             else:
                 self.give_up()
         if self.other.countdown.is_due():
@@ -609,13 +623,13 @@ class Link:
     def note_stall(self):
         """Says once that nothing is acknowledged for long: what is answered meanwhile waits."""
         if self.settings.tries - self.resend.left == STALLED_TRIES:
-            self.noted(f"node {node_text(self.peer.node)} acknowledges nothing; {self.end.waits} segments wait")
+            self.noted(f"node {node_text(self.peer.node)} acknowledges nothing; {self.waits} segments wait")
 
     def look_at_silence(self):
         """Asks a silent other end whether it is there, and closes a link that is of no use."""
         if self.wanted_at is not None and self.clock() >= self.wanted_until():
             seconds = self.clock() - self.heard_at
-            self.give_up(f" for {seconds:.0f} seconds, and node {node_text(self.wanted_by)} wants a link")
+            self.give_up(f" for {seconds:.0f} seconds, and {self.wanted_by}")
         elif self.clock() >= self.heard_at + self.settings.idle:
             self.probe()
         if self.settings.unused and self.clock() >= self.used_at + self.settings.unused:
@@ -632,7 +646,7 @@ class Link:
 
     def give_up(self, more=""):
         """Closes the link, of which nothing is heard any more."""
-        waits = self.end.waits if self.state is State.RUNNING else 0
+        waits = self.waits if self.state is State.RUNNING else 0
         segments = f"; {waits} segments weren't acknowledged" if waits else ""
         self.close(self.why or f"no answer from node {node_text(self.peer.node)}{more}{segments}")
 

@@ -34,7 +34,7 @@ def settings_of(words):
 
 def settings_of_server(words):
     """The same where links are served."""
-    return dataclasses.replace(settings_of(words), unused=words.unused, waiting=words.waiting or MOST)
+    return dataclasses.replace(settings_of(words), unused=words.unused, waiting=words.waiting or MOST, links=words.links)
 
 
 def open_node(words, opened):
@@ -58,11 +58,14 @@ def start_end(words, signals):
     role = "serve" if words.role == "serve" else "ask"
     named = ["window", "buffer", *(["waiting"] if role == "serve" else [])]
     options = [word for name in named if getattr(words, name) for word in (f"--{name}", str(getattr(words, name)))]
+    has_links = role == "serve" and words.links > 1
+    if has_links:
+        options += ["--links", str(words.links)]
     kind = End if words.store is None else StoredEnd
     end = kind(words.daplive, [role, *options], told=tell_of_end)
     try:
         answers = []
-        end.tell("new", Answer(answers.append))
+        end.tell("files" if has_links else "new", Answer(answers.append))
         wait_for(lambda: answers, end, signals)
     except BaseException:
         end.close()
@@ -102,7 +105,7 @@ def load_files(words, kept, end, space, signals):
 
 
 def open_store(words, opened, end, space, signals):
-    """The store, from which the live end stands again as it stood; and the link that was open then, or None."""
+    """The store, from which the live end stands again as it stood; and the links to go on with."""
     journal = opened(Journal(words.store, f"{program_of(end)} {' '.join(end.words)}", words.sync))
     is_new, is_good = journal.is_empty, not journal.is_empty and journal.parsed.lines[0] == journal.head()
     if is_new:
@@ -114,9 +117,14 @@ def open_store(words, opened, end, space, signals):
     has_packets, left = bool(journal.parsed.told), replay(end, journal, space, signals)
     journal.go_on()
     store = opened(Store(end, journal, words.growth))
-    if left is None and (has_packets or not is_good):
+    going_on = [link for link in left if link.can_go_on]
+    if words.links > 1:
+        for link in left:
+            if link not in going_on:
+                end.tell(f"close {link.local:04x}", Answer(lambda answer: None))
+    if not going_on and (has_packets or not is_good):
         renew_now(store, end, signals)
-    return store, left
+    return store, going_on
 
 
 def renew_now(store, end, signals):

@@ -94,6 +94,7 @@ class Across:
             for body in step.bodies:
                 for line in raw.say(body, step.cut):
                     link.send_or_hold(link.read_packet(line[2:]))
+                link.waits = raw.waits
                 link.watch()
             self.wait(lambda: is_over(raw.inbox), self.quiet)
             self.wait(lambda: False, min(self.quiet, SOON))
@@ -107,7 +108,7 @@ class Across:
         """Carries packets until it is done, the link is closed, or for so long none came."""
         self.heard_at = self.clock()
         while not is_done() and self.link.state is not State.CLOSED:
-            if quiet is not None and self.clock() >= self.heard_at + quiet and not self.link.end.waits:
+            if quiet is not None and self.clock() >= self.heard_at + quiet and not self.link.waits:
                 return
             times = [self.link.next_at(), self.node.hello_at, self.heard_at + quiet if quiet else None]
             seconds = min(at for at in times if at is not None) - self.clock()

@@ -82,14 +82,14 @@ class Addresses:
 
 
 class Role:
-    """A node's part in links to it and from it. There is at most one link at a time."""
+    """A node's part in links to it and from it."""
 
     def __init__(self, node, end, settings, clock=time.monotonic):
         self.node, self.end, self.settings, self.clock = node, end, settings, clock
         self.addresses, self.keeper, self.space = Addresses(), None, None
         self.refusing = self.addresses.next()  # the address of links that are refused
         self.refused = None  # what was refused last
-        self.link = None
+        self.links = {}  # those that aren't closed, by their own addresses
         self.is_done, self.status = False, GOOD
 
     def link_to(self, peer):
@@ -98,6 +98,14 @@ class Role:
         while local == self.refusing:
             local = self.addresses.next()
         return self.link_at(peer, local)
+
+    @property
+    def link(self):
+        """The link of a role that has one at most."""
+        return next(iter(self.links.values()), None)
+
+    def add(self, link):
+        self.links[link.local] = link
 
     def link_at(self, peer, local):
         link = Link(self.node, self.end, self.settings, peer, local, self.told, self.keeper, self.space, self.clock)
@@ -114,16 +122,18 @@ class Role:
             self.returned(arrived.peer.node, packet)
         elif packet.kind in nsp.CONNECTS:
             self.connect(arrived.peer, packet)
-        elif self.link and self.link.is_to(arrived.peer.node, packet):
-            self.link.receive(arrived.peer, packet)
         else:
-            self.answer_no_link(arrived.peer, packet)
+            link = self.links.get(packet.destination)
+            if link and link.is_to(arrived.peer.node, packet):
+                link.receive(arrived.peer, packet)
+            else:
+                self.answer_no_link(arrived.peer, packet)
         self.look()
 
     def returned(self, node, packet):
         """A router gave an own packet back."""
-        link = self.link
-        if link and packet.kind in nsp.CONNECTS and (node, packet.source) == (link.peer.node, link.local):
+        link = self.links.get(packet.source)
+        if link and packet.kind in nsp.CONNECTS and node == link.peer.node:
             link.returned()
 
     def answer_no_link(self, peer, packet):
@@ -148,13 +158,13 @@ class Role:
     def tick(self):
         self.node.say_hello()
         self.end.tick()
-        if self.link:
-            self.link.tick()
+        for link in list(self.links.values()):
+            link.tick()
         self.look()
 
     def next_at(self):
         """When there is something to do at the latest."""
-        times = [self.node.hello_at, self.end.next_at(), self.link.next_at() if self.link else None]
+        times = [self.node.hello_at, self.end.next_at(), *(link.next_at() for link in self.links.values())]
         return min(at for at in times if at is not None)
 
     def files(self):
@@ -169,13 +179,17 @@ class Role:
             self.receive(arrived)
 
     def abandon(self):
-        """Closes the link where the bridge can't go on."""
-        if self.link:
-            self.link.disconnect(Reason.ABORTED, "the bridge can't go on")
+        """Closes all links where the bridge can't go on."""
+        self.disconnect(Reason.ABORTED, "the bridge can't go on")
+
+    def disconnect(self, reason, why):
+        """Closes all links from this side."""
+        for link in self.links.values():
+            link.disconnect(reason, why)
 
     def lose_network(self):
-        """The network is gone: the link is too, and what isn't saved yet is."""
-        self.link = None
+        """The network is gone: the links are too, and what isn't saved yet is."""
+        self.links.clear()
 
     def told(self, text):
         """The live end said something that is no packet."""
@@ -186,9 +200,9 @@ class Role:
         return True
 
     def look(self):
-        """Looks at what became of the link."""
-        if self.link and self.link.state is State.CLOSED and self.is_over(self.link):
-            link, self.link = self.link, None
+        """Looks at what became of the links."""
+        for link in [one for one in self.links.values() if one.state is State.CLOSED and self.is_over(one)]:
+            del self.links[link.local]
             self.tell_closed(link)
             self.closed(link)
 

@@ -1,4 +1,4 @@
-"""The serving bridge: links to object 17, one after another, before a live end that holds the files."""
+"""The serving bridge: links to object 17, so many at once as are allowed, before a live end that holds the files."""
 import collections
 import itertools
 import time
@@ -6,15 +6,16 @@ from dataclasses import dataclass
 
 from decnet import log, nsp
 from decnet.address import node_text
+from decnet.end import Answer
 from decnet.journal import NOTE
 from decnet.kept import FILE, RECORD
 from decnet.link import NO_MEMORY
 from decnet.locked import KeptFault
 from decnet.nsp import Reason
 from decnet.role import FAULT, Role, Stopped, wait_for
-from decnet.stored import left_link
+from decnet.stored import left_links
 
-OLD_SECONDS = 10  # how long connect initiates of the link before may still come
+OLD_SECONDS = 10  # how long connect initiates of a link that is closed may still come
 MAX_UNANSWERED = 4000  # lines that the live end is told at the start before it answers the first
 AT_ONCE = 1000  # lines that are written to it at once then
 
@@ -35,13 +36,15 @@ class Entry:
 
 
 class Server(Role):
-    """Takes links for the object 17, one after another; its live end holds the files."""
+    """Takes links for the object 17; its live end holds the files."""
 
-    def __init__(self, node, end, settings, keeper=None, links=None, store=None, space=None, entry=None, clock=time.monotonic):
-        """A `keeper` saves the files when one is closed; a `store` keeps each line; `space` says how much is stored at
-        most, and `entry` who may open a link."""
+    def __init__(self, node, end, settings, keeper=None, stop_after=None, store=None, space=None, entry=None,
+                 clock=time.monotonic):
+        """A `keeper` saves the files when one is closed; it ends when `stop_after` links are closed; a `store` keeps each
+        line; `space` says how much is stored at most, and `entry` who may open a link."""
         super().__init__(node, end, settings, clock)
-        self.keeper, self.links, self.store, self.space, self.entry = keeper, links, store, space, entry or Entry()
+        self.keeper, self.stop_after, self.store, self.space = keeper, stop_after, store, space
+        self.entry = entry or Entry()
         if self.entry.guard:
             self.entry.guard.checked = self.checked
         if keeper:
@@ -49,16 +52,16 @@ class Server(Role):
         if store:
             end.failed = self.store_failed
         self.stops = 0
-        self.old, self.old_until = None, 0  # the node and address of the link before
+        self.old = {}  # until when connect initiates of closed links are passed over, by their nodes and addresses
 
     # ---- links
 
     def connect(self, peer, packet):
         """A connect initiate came."""
-        source = (peer.node, packet.source)
-        if self.link and source == (self.link.peer.node, self.link.remote):
-            self.link.connect_again()
-        elif source == self.old and self.clock() < self.old_until:
+        link = self.link_from(peer.node, packet.source)
+        if link:
+            link.connect_again()
+        elif self.clock() < self.old.get((peer.node, packet.source), 0):
             return
         elif nsp.read_object(packet.body) != nsp.FAL:
             self.refuse(peer, packet, Reason.NO_OBJECT)
@@ -70,13 +73,23 @@ class Server(Role):
             else:
                 self.take(peer, packet)
 
+    def link_from(self, node, remote):
+        """The link of another node by its address there."""
+        return next((link for link in self.links.values() if (link.peer.node, link.remote) == (node, remote)), None)
+
+    def has_room(self):
+        """Whether one more link may be open."""
+        most = self.settings.links if self.stop_after is None else min(self.settings.links, self.stop_after)
+        return len(self.links) < most
+
     def is_free(self, peer, packet):
         """Whether a link can be taken now; a connect initiate is refused where not, or passed over where it will be soon."""
         if self.stops:
             self.refuse(peer, packet, Reason.SHUTTING_DOWN)
-        elif self.link:
+        elif not self.has_room():
             self.refuse(peer, packet, Reason.BUSY)
-            self.link.want(peer.node)
+            for link in self.links.values():
+                link.want(f"node {node_text(peer.node)} wants a link")
         elif self.store and self.store.fault:
             self.refuse(peer, packet, Reason.NO_LINK_RESOURCES)
             self.store.try_again()
@@ -93,12 +106,31 @@ class Server(Role):
         self.look()
 
     def resume(self, left):
-        """Goes on with the link that another bridge left."""
+        """Goes on with a link that another bridge left."""
         while self.refusing == left.local:
             self.refusing = self.addresses.next()
-        self.link = self.link_at(left.peer, left.local)
-        self.link.resume(left)
+        link = self.link_at(left.peer, left.local)
+        self.add(link)
+        link.resume(left)
         log.say(f"link {left.local:04x}: from node {node_text(left.peer.node)}, goes on as it was")
+
+    def link_to(self, peer):
+        """A link that isn't open yet, with an address that none has."""
+        link = super().link_to(peer)
+        return link if link.local not in self.links else self.link_to(peer)
+
+    def link_at(self, peer, local):
+        link = super().link_at(peer, local)
+        link.locked_by = lambda holder: self.locked(link, holder)
+        return link
+
+    def locked(self, link, local):
+        """A link asked for a file that another one has open: that one is asked whether its other end is there."""
+        holder = self.links.get(local)
+        if holder:
+            if holder.wanted_at is None:
+                link.noted(f"a file that it wants is open over link {local:04x}, from node {node_text(holder.peer.node)}")
+            holder.want(f"node {node_text(link.peer.node)} wants a file that is open over it")
 
     def take(self, peer, packet):
         link = self.link_to(peer)
@@ -106,22 +138,31 @@ class Server(Role):
             self.node.send(peer, nsp.disconnect_confirm(packet.source, 0, Reason.NO_RESOURCES))
             self.log_refused(peer, packet, Reason.NO_RESOURCES)
             return
-        self.link = link
+        self.add(link)
         log.say(f"link {link.local:04x}: from node {node_text(peer.node)}, whose address is {link.remote:04x}; "
                 f"segments of {link.segment} bytes; flow control: {link.flow.control.name.lower()}")
 
     def closed(self, link):
         """A link is closed. Where the other end had no such link it begins anew, perhaps with the same address."""
-        is_anew = link.reason == Reason.NO_LINK
-        self.old = None if is_anew else (link.peer.node, link.remote)
-        self.old_until = self.clock() + OLD_SECONDS
-        if self.links is not None and link.was_open:
-            self.links -= 1
-        if self.store:
-            self.store.link_closed(is_last=self.stops > 0 or self.links == 0)
+        now = self.clock()
+        self.old = {source: until for source, until in self.old.items() if now < until}
+        if link.reason != Reason.NO_LINK:
+            self.old[link.peer.node, link.remote] = now + OLD_SECONDS
+        if self.stop_after is not None and link.was_open:
+            self.stop_after -= 1
+        self.end_link(link.local)
+        if self.store and not self.links:
+            self.store.links_closed(is_last=self.stops > 0 or self.stop_after == 0)
         if self.space:
             self.space.link_closed()
         self.save()
+
+    def end_link(self, local):
+        """Lets the live end forget a link; where it has one alone, it does so when the next one comes."""
+        if self.settings.links > 1:
+            self.end.tell(f"close {local:04x}", Answer(lambda answer: None))
+        else:
+            self.end.remark("link -")
 
     # ---- files
 
@@ -134,14 +175,13 @@ class Server(Role):
 
     def tick(self):
         super().tick()
-        if self.store and self.link and self.store.has_grown_too_much:
-            self.link.disconnect(Reason.NO_RESOURCES, "the store has grown as much as --growth allows for a link")
+        if self.store and self.store.has_grown_too_much:
+            self.disconnect(Reason.NO_RESOURCES, "the store has grown as much as --growth allows for a link")
 
     def store_failed(self, fault):
         """A line can't be kept, and what answers it doesn't go out."""
         log.say(f"{fault}: nothing more is taken until the store can be written")
-        if self.link:
-            self.link.disconnect(Reason.NO_RESOURCES, "the store can't be written")
+        self.disconnect(Reason.NO_RESOURCES, "the store can't be written")
 
     def save(self):
         """Saves the files where something isn't on the disk."""
@@ -163,25 +203,25 @@ class Server(Role):
         super().look()
         keepers = [one for one in (self.keeper, self.store) if one]
         is_saving = keepers and (self.end.is_busy or any(one.is_busy for one in keepers))
-        self.is_done = self.link is None and not is_saving and (self.stops > 0 or self.links == 0)
+        self.is_done = not self.links and not is_saving and (self.stops > 0 or self.stop_after == 0)
         if self.is_done and self.store and self.store.fault:
             self.status = FAULT
 
     def stop(self):
-        """The first time: closes the link that is open, saves the files, and ends. The second time the other end isn't
+        """The first time: closes the links that are open, saves the files, and ends. The second time the other end isn't
         waited for, the third time nothing is."""
         self.stops += 1
         if self.stops > 2:
             self.end.close_seconds = 0
             raise Stopped(FAULT)
         self.end.hurry()
-        if self.link and self.stops == 1:
-            self.link.disconnect(Reason.SHUTTING_DOWN, "stopped by a signal")
-        elif self.link:
-            self.link.close(self.link.why)
-        if self.stops > 1:
+        if self.stops == 1:
+            self.disconnect(Reason.SHUTTING_DOWN, "stopped by a signal")
+        else:
             self.end.close_seconds = 1
-        if self.store and not self.link:
+            for link in self.links.values():
+                link.close(link.why)
+        if self.store and not self.links:
             self.store.stop()
         self.save()
         self.look()
@@ -230,7 +270,7 @@ def load(end, path, lines, space, signals):
 
 
 def replay(end, journal, space, signals):
-    """Tells a live end the lines of a journal; the link that was open then, or None."""
+    """Tells a live end the lines of a journal; the links that were open then."""
     def check(number, line, answer):
         if line.startswith((FILE, RECORD)) or NO_MEMORY in answer:
             raise KeptFault(f"{journal.path}: line {number} behind its marks: {answer[-1]}", of_machine=NO_MEMORY in answer)
@@ -238,4 +278,4 @@ def replay(end, journal, space, signals):
     lines = journal.parsed.lines
     told = ((number, line) for number, line in enumerate(lines, 1) if line and not line.startswith(NOTE))
     tell_all(end, space.noted(told), check, signals)
-    return left_link(lines)
+    return left_links(lines)

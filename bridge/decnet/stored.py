@@ -33,22 +33,42 @@ def program_of(end):
     return digest.hexdigest()
 
 
-def left_link(lines):
-    """The link that was open when the bridge before ended, by the lines of its journal; None where there was none that can
-    be gone on with."""
-    words, others, packet = [], [], None
+class Opened:
+    """What a journal says of a link that is open."""
+
+    def __init__(self, node, station, remote, segment, flow):
+        self.peer, self.remote = Peer(read_node(node), bytes.fromhex(station)), int(remote, 16)
+        self.segment, self.can_go_on = int(segment), flow == FlowControl.NONE.name.lower()
+        self.taken, self.is_on, self.packet = 0, True, None  # of other data; the last packet of data that came
+
+    def left(self, local):
+        return LeftLink(self.peer, local, self.remote, self.segment, self.taken, self.is_on, acknowledged_in(self.packet),
+                        self.can_go_on)
+
+
+def left_links(lines):
+    """The links that were open when the bridge before ended, by the lines of its journal."""
+    links = {}  # by their own addresses, in hex
     for line in lines:
-        if line.startswith(NOTE + "link "):
-            words, others, packet = line.split(" ")[1:], [], None
-        elif line.startswith(NOTE + "other "):
-            others = line.split(" ")[1:]
-        elif line.startswith("> "):
-            packet = line[2:]
-    if len(words) != 6 or words[5] != FlowControl.NONE.name.lower():
-        return None
-    taken, is_on = (int(others[0]), others[1] == "on") if others else (0, True)
-    return LeftLink(Peer(read_node(words[0]), bytes.fromhex(words[1])), int(words[2], 16), int(words[3], 16),
-                    int(words[4]), taken, is_on, acknowledged_in(packet))
+        word, _, rest = line.partition(" ")
+        words = rest.split(" ")
+        if word == NOTE + "link" and rest == "-":
+            links.clear()
+        elif word == NOTE + "link":
+            node, station, local, *others = words
+            links[local] = Opened(node, station, *others)
+        elif word == NOTE + "other" and words[0] in links:
+            links[words[0]].taken, links[words[0]].is_on = int(words[1]), words[2] == "on"
+        elif word == ">" and (local := receiver_of(rest)) in links:
+            links[local].packet = rest
+        elif word == "close":
+            links.pop(rest, None)
+    return [link.left(int(local, 16)) for local, link in links.items()]
+
+
+def receiver_of(packet):
+    """The address that a packet is sent to: two bytes behind the first, the least one first."""
+    return packet[4:6] + packet[2:4]
 
 
 def acknowledged_in(packet):
@@ -98,7 +118,7 @@ class StoredEnd(End):
         """Keeps a line, and lets the disk have it before what its answer says goes out; false where that can't be."""
         if self.fault:
             return False
-        is_only_ack = line in OF_LINK or answer[:1] == [ONLY_ACK]
+        is_only_ack = line.partition(" ")[0] in OF_LINK or answer[:1] == [ONLY_ACK]
         self.is_due = self.is_due or not is_only_ack or NO_MEMORY in answer
         self.has_wanted_memory = self.has_wanted_memory or NO_MEMORY in answer
         try:
@@ -167,9 +187,8 @@ class Store:
         if self.fault and self.clock() >= self.tried_at + RETRY_SECONDS:
             self.renew()
 
-    def link_closed(self, is_last):
-        """A link is closed, behind which the bridge ends if it `is_last`."""
-        self.end.remark("link -")
+    def links_closed(self, is_last):
+        """The last link that was open is closed; the bridge ends behind it if it `is_last`."""
         if is_last:
             self.stop()
         elif self.fault or self.end.has_wanted_memory or self.end.journal.is_long() or self.has_grown_too_much:

@@ -18,7 +18,7 @@ PEOPLE = ("copy", "type", "get", "put")  # the roles that name a file
 # what holds where an option isn't given; one that isn't here is None then
 DEFAULTS = {"segment": 512, "resend": 1, "tries": 30, "idle": 30, "harm": 0, "seed": 1, "unused": 900, "patience": 120,
             "user": b"", "account": b"", "go_on": False, "sync": SYNCS[0], "growth": 1 << 30, "space": 1 << 28,
-            "append": False, "relative": False, "lines": False, "replace": False, "fixed": 0, "quiet": 2}
+            "append": False, "relative": False, "lines": False, "replace": False, "fixed": 0, "quiet": 2, "links": 1}
 PEOPLES = {"buffer": 65535}  # the same for the roles of PEOPLE
 # options of which one alone holds: one of the command line takes the place of another in the file of options
 GROUPS = (("interface", "udp", "frames"), ("save", "store", "folder"), ("password", "password_file", "password_env"))
@@ -134,7 +134,9 @@ def add_limits(parser):
                         help="of the live end: serve no more while this many bytes of answers wait (default 1048576)")
     parser.add_argument("--space", type=number(1 << 10, 1 << 40), metavar="BYTES",
                         help="close a link that stores more than this, as FILE has it (default 268435456)")
-    parser.add_argument("--links", type=number(1, 1_000_000_000), metavar="N", help="stop after this many links")
+    parser.add_argument("--links", type=number(1, 1023), metavar="N",
+                        help="take so many links at once, 1 to 1023 (default 1)")
+    parser.add_argument("--stop-after", type=number(1, 1_000_000_000), metavar="N", help="stop after this many links")
 
 
 def add_other(parser):

@@ -7,7 +7,7 @@ from unittest import mock
 from decnet import journal
 from decnet.journal import Journal, Parsed
 from decnet.locked import KeptFault
-from decnet.stored import Store, StoredEnd, left_link
+from decnet.stored import Store, StoredEnd, left_links
 from tests.support import SEED, Case
 
 PROGRAM = f"{'0' * 64} serve"
@@ -212,18 +212,26 @@ class NotesTest(Case):
     NOTE = "#link 1.1 aa0004000104 0a01 0b02 512 none"
 
     def test_the_link_that_was_left(self):
-        lines = ["file 46 seq variable 0 0", "> 11", "#link 1.9 000000000000 0001 0002 64 none", "#other 9 on", "#link -",
-                 self.NOTE, "> 60010a020b0580010041", "#other 1 on", "#other 2 off", "> 04010a020b0780", "resend"]
-        left = left_link(lines)
+        lines = ["file 46 seq variable 0 0", "> 11", "#link 1.9 000000000000 0001 0002 64 none", "#other 0001 9 on", "#link -",
+                 self.NOTE, "> 60010a020b0580010041", "#other 0a01 1 on", "#other 0a01 2 off", "> 04010a020b0780", "resend"]
+        left, = left_links(lines)
         self.assertEqual((left.peer.node, left.peer.station.hex()), (1025, "aa0004000104"))
         self.assertEqual((left.local, left.remote, left.segment), (0x0A01, 0x0B02, 512))
-        self.assertEqual((left.taken, left.is_on, left.acknowledged), (2, False, 7))
-        left = left_link(["#link 1.9 000000000000 0001 0002 64 none", "> 04020001000780", "#other 9 off", self.NOTE])
-        self.assertEqual((left.taken, left.is_on, left.acknowledged), (0, True, 0))
+        self.assertEqual((left.taken, left.is_on, left.acknowledged, left.can_go_on), (2, False, 7, True))
+
+    def test_several_links_that_were_left(self):
+        """One that was closed isn't; what is told of one is told of that one alone."""
+        others = ["#link 1.9 000000000000 0a02 0b02 64 segments", "#link 1.8 000000000000 0a03 0b03 64 none"]
+        lines = [self.NOTE, *others, "> 04020a020b0780", "> 04010a020b0580", "#other 0a02 9 off", "close 0a03", "ack 0a01"]
+        first, second = left_links(lines)
+        self.assertEqual((first.local, first.taken, first.is_on, first.acknowledged, first.can_go_on),
+                         (0x0A01, 0, True, 5, True))
+        self.assertEqual((second.local, second.taken, second.is_on, second.acknowledged, second.can_go_on),
+                         (0x0A02, 9, False, 7, False))
 
     def test_no_link_was_left(self):
-        for lines in ([], [self.NOTE, "#link -"], [self.NOTE.replace("none", "segments")], ["> 00"]):
-            self.assertIsNone(left_link(lines))
+        for lines in ([], [self.NOTE, "#link -"], [self.NOTE, "close 0a01"], ["> 00"]):
+            self.assertEqual(left_links(lines), [])
 
 
 class StoredEndTest(JournalCase):

@@ -182,7 +182,7 @@ class TransferTest(CapturedCase):
 
     def again(self, saved, transfer):
         """The saved files are good for the next start."""
-        server = self.serve(*HASTE, "--files", saved, "--links", 1)
+        server = self.serve(*HASTE, "--files", saved, "--stop-after", 1)
         child = self.ask(*HASTE, stdin=transfer.requests(transfer.fetching))
         expect_equal((child.finish(), server.finish()), (0, 0), "the exit statuses after a new start")
         expect_equal(child.reports(), transfer.reports(transfer.fetching), "the reports after a new start")
@@ -444,7 +444,7 @@ class PcapTest(UdpCase):
 
     def test_both_pcap_files_are_read_as_they_were_meant(self):
         serving, asking = (readings.Kept(self.folder / f"{name}.pcap") for name in ("serving", "asking"))
-        server = self.serve("--pcap", serving.path, "--idle", "0.3", "--links", "1")
+        server = self.serve("--pcap", serving.path, "--idle", "0.3", "--stop-after", "1")
         child = self.begin("ask", "--pcap", asking.path, stdin=None)
         child.write(b"hello\ncreate 46 0 2 0 0 15\nconnect\n")
         child.wait_for("report connected", child.out)
