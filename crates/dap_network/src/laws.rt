@@ -37,7 +37,7 @@ pub fn many_links_keep_the_headline()
 pub fn node_calls_are_events()
     ensures take { (link most : ℕ) (old : Network) (node : NodeValue) (peer : Peer)
         (bytes : List ℕ) (out all : List (List ℕ)) (r : Result TheGot TheTakeFault)
-        → slice_get old.peers link ≡ Some peer
+        → slice_get old.peers link ≡ Some (Some peer)
         → ((p : PortValue) → HasPort link old.node p → IsBrought peer.from_peer p.link bytes)
         → OnLink link (λ before after. Takes (serves_on link most) before after bytes out all r)
         old.node node
@@ -45,13 +45,13 @@ pub fn node_calls_are_events()
         × (all ≡ out ++ bytes_of wrote) }
     ensures go_on { (link most : ℕ) (old : Network) (node : NodeValue) (peer : Peer)
         (out all : List (List ℕ)) (r : Result (Unit {0}) TheEndFault)
-        → slice_get old.peers link ≡ Some peer
+        → slice_get old.peers link ≡ Some (Some peer)
         → OnLink link (λ before after. WentOn (serves_on link most) before after out all r)
         old.node node
         → (wrote : List Written) × Leads old (node_then old node link peer wrote)
         × (all ≡ out ++ bytes_of wrote) }
     ensures resend { (link i : ℕ) (old : Network) (peer : Peer) (p : PortValue) (bytes : List ℕ)
-        → slice_get old.peers link ≡ Some peer → HasPort link old.node p
+        → slice_get old.peers link ≡ Some (Some peer) → HasPort link old.node p
         → i < p.link.sent - p.link.acked
         → WritesSent p.link (Some (p.link.acked + 1 + i)) bytes
         → Leads old (node_then old old.node link peer (record {
@@ -60,7 +60,7 @@ pub fn node_calls_are_events()
           acks = p.link.coming.received;
         } ∷ [])) }
     ensures ack { (link : ℕ) (old : Network) (peer : Peer) (p : PortValue) (bytes : List ℕ)
-        → slice_get old.peers link ≡ Some peer → HasPort link old.node p
+        → slice_get old.peers link ≡ Some (Some peer) → HasPort link old.node p
         → IsSpelling (ack_packet_of p.link) bytes
         → Leads old (node_then old old.node link peer (record {
           bytes = bytes;
@@ -71,12 +71,29 @@ pub fn node_calls_are_events()
     ensures more { (old mid new : Network) → Leads old mid → Leads mid new → Leads old new }
 {}
 
+/// Each call of a node on a link whose peer is a stranger, refused or not, is some events of the network, whatever comes. What
+/// doesn't change the node, `resend` and `ack`, is nothing to a stranger's network.
+pub fn strangers_are_taken()
+    ensures take { (link most : ℕ) (old : Network) (node : NodeValue) (bytes : List ℕ)
+        (out all : List (List ℕ)) (r : Result TheGot TheTakeFault)
+        → slice_get old.peers link ≡ Some None
+        → OnLink link (λ before after. Takes (serves_on link most) before after bytes out all r)
+        old.node node
+        → Leads old (record old { node = node }) }
+    ensures go_on { (link most : ℕ) (old : Network) (node : NodeValue)
+        (out all : List (List ℕ)) (r : Result (Unit {0}) TheEndFault)
+        → slice_get old.peers link ≡ Some None
+        → OnLink link (λ before after. WentOn (serves_on link most) before after out all r)
+        old.node node
+        → Leads old (record old { node = node }) }
+{}
+
 /// Each run of calls of a link's peer is some events of the network, where the packets that come are those that the node
 /// wrote on the link, and not more than 2,047 numbers old.
 pub fn peer_calls_are_events()
     ensures { (link : ℕ) (old : Network) (peer : Peer) (client : AskingValue)
         (came : List Arrival) (requests : List TheRequest) (reports : List TheReport)
-        (wrote : List Written) → slice_get old.peers link ≡ Some peer
+        (wrote : List Written) → slice_get old.peers link ≡ Some (Some peer)
         → AllByRecursion (λ c. IsBrought peer.from_node c.0 c.1) came
         → AskingRuns came requests peer.client client reports wrote
         → Leads old (peer_then old link peer client requests reports wrote) }
