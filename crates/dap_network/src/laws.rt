@@ -1,11 +1,14 @@
 //! Laws over the definitions alone. Each function does nothing: its contract is the law.
 
-ghost use Rattle.std.specs.Prelude.{◌≡◌, ◌+◌, ◌-◌, ◌<◌, ◌++◌, ◌∷◌, [], ℕ, List, None, Option, Result, Some, slice_get};
+ghost use Rattle.std.specs.Prelude.{◌≡◌, ◌+◌, ◌-◌, ◌<◌, ◌++◌, ◌∷◌, [], ℕ, List, None, Option, Result, Some, map, slice_get};
 ghost use Rattle.std.specs.List.{AllByRecursion};
 ghost use Rattle.nsp_link.specs.declared.link.Got.{Got as TheGot};
 ghost use Rattle.nsp_link.specs.Link.{IsSpelling};
 ghost use Rattle.nsp_link.specs.Sending.{WritesSent, ack_packet_of};
+ghost use Rattle.dap_msg.specs.declared.items.Item.{Item};
 ghost use Rattle.dap_accessed.specs.Standing.{Files};
+ghost use Rattle.dap_accessed.specs.Groups.{After, Answers};
+ghost use Rattle.dap_shared.specs.Nodes.{AnswersOn, Begins, FilesAfter, Serves, items_on};
 ghost use Rattle.dap_accessing.specs.Request.{Request as TheRequest};
 ghost use Rattle.dap_accessing.specs.declared.report.Report.{Report as TheReport};
 ghost use Rattle.dap_end.specs.declared.fault.EndFault.{EndFault as TheEndFault};
@@ -29,6 +32,17 @@ ghost use Rattle.dap_network.specs.Network.{IsNew, Network, NetworkEvent, Networ
 pub fn many_links_keep_the_headline()
     ensures { (first : Files) (events : List NetworkEvent) (old new : Network)
         → IsNew first old → NetworkRuns old events new → NetworkHeadline first events new }
+{}
+
+/// With one link that began once, the history is what was served on it, and its files and answers are those of a server of one
+/// link. So the headline is that of two ends (`two_ends_keep_the_headline` of `dap_end`).
+pub fn one_link_is_as_before()
+    ensures items { (items : List Item)
+        → items_on 0 (Begins 0 ∷ map (Serves 0) items) ≡ items }
+    ensures files { (own : ℕ) (first : Files) (items : List Item)
+        → FilesAfter own first 1 (Begins 0 ∷ map (Serves 0) items) ≡ After own first items }
+    ensures answers { (own : ℕ) (first : Files) (items : List Item)
+        → AnswersOn 0 own first 1 (Begins 0 ∷ map (Serves 0) items) ≡ Answers own first items }
 {}
 
 /// Each call of a node on a link, refused or not, is some events of the network: where the packet that comes is one that the

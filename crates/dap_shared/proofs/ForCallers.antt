@@ -4,3 +4,5 @@
 pub use Rattle.dap_shared.proofs.Stepping.{all-more}
 -- one item more adds its answers on its link, and none on the others
 pub use Rattle.dap_shared.proofs.Growing.{answers-grow, answers-stay}
+-- where a node of one link stands is where a server of one link stands
+pub use Rattle.dap_shared.proofs.OneLink.{node_of, one-link}
