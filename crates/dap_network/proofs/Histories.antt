@@ -37,6 +37,11 @@ items_begin link history = items_more link [] history (Begins link ∷ []) ∙ a
 items_left : (link other : ℕ) (history : List Event) → link ≢ other → items_on link (history ++ Begins other ∷ []) ≡ items_on link history
 items_left link other history d = items_more link [] history (Begins other ∷ []) ∙ ap (λ (t : Bool). if t then [] else items_on link history) (ne_eqb other link (λ e. d (sym e)))
 
+-- all items of one link
+pub items_one : (before items : List Item) → served_on 0 before (map (Serves 0) items) ≡ before ++ items
+items_one before [] = sym (append-nil before)
+items_one before (item ∷ items) = items_one (before ++ item ∷ []) items ∙ append_assoc before (item ∷ []) items
+
 -- the link is one that the node has
 pub link_there : (links link : ℕ) (history : List Event) (item : Item) → AreOf links (history ++ Serves link item ∷ []) → link < links
 link_there links link [] item h = h.0

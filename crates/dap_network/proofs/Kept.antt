@@ -26,7 +26,7 @@ use Rattle.dap_end.specs.Ports.{EndValue, HandsOver, PortValue, gone_on, new_por
 use Rattle.dap_end.proofs.ForCallers.{again_sent}
 use Rattle.dap_network.specs.History.{IsHistory, Tells}
 use Rattle.dap_network.specs.Headline.{LinkHeadline, NetworkHeadline}
-use Rattle.dap_network.specs.Network.{AtNode, AtPeer, FileGiven, IsNew, LinkBegan, LinkBegins, LinkEnds, Network, NetworkEvent, NetworkRuns, NetworkStepped, Peer, PeerStepped, RecordGiven, SteppedOn, WorkedBy, hands_over, link_of, rests, serves_one}
+use Rattle.dap_network.specs.Network.{AtNode, AtPeer, FileGiven, IsNew, IsNewPeer, LinkBegan, LinkBegins, LinkEnds, Network, NetworkEvent, NetworkRuns, NetworkStepped, Peer, PeerStepped, RecordGiven, SteppedBefore, SteppedOn, WorkedBy, hands_over, link_of, rests, serves_one}
 use Rattle.dap_network.proofs.Histories.{IsSame, another_begins, answers_begin, file_given, items_begin, items_own, link_there, others_serve, record_given, same}
 use Rattle.dap_network.proofs.Linked.{LinkStands, kept, link_new, link_went, packet_again, packet_came, peer_called}
 use Rattle.dap_network.proofs.Sets.{set_other, set_there}
@@ -48,6 +48,18 @@ module _ (own links : ℕ) (first : Files) where
       (subst (λ (o : ℕ). Answered (limit_on link o first (length v.sessions) history) (added_on link o first (length v.sessions) history item) out) h.is_own a)
 
   -- ---- Items of a link are served.
+
+  -- one item more, whoever sent it
+  held_item : (link : ℕ) (history : List Event) (old new : EndValue SharedValue) (n : ℕ) → (s : ServedBy (SharedServed link) old new n) → Holds history old.present → Holds (history ++ Serves link s.by.item ∷ []) new.present
+  held_item link history old new n s h =
+      let serves = s.by.serves in record { after = serves.stands first history h.after; is_own = serves.same_own ∙ h.is_own; as_many = serves.same_links ∙ h.as_many }
+
+  any_worked : (link : ℕ) (history : List Event) (a b : EndValue SharedValue) → WorkedBy (SharedServed link) a b → Holds history a.present → (items : List Item) × Holds (history ++ map (Serves link) items) b.present
+  any_worked link history a b rests h = ([], subst (λ (l : List Event). Holds l a.present) (sym (append-nil history)) h)
+  any_worked link history a b (serves_one mid n s on) h =
+      let rest = any_worked link (history ++ Serves link s.by.item ∷ []) mid b on (held_item link history a mid n s h) in
+      (s.by.item ∷ rest.0, subst (λ (l : List Event). Holds l b.present) (append_assoc history (Serves link s.by.item ∷ []) (map (Serves link) rest.0)) rest.1)
+  any_worked link history a b (hands_over mid n p on) h = any_worked link history mid b on (subst (Holds history) (sym (ap (λ (v : EndValue SharedValue). v.present) p.1)) h)
 
   -- Some items of the link were served, and what waited was handed over: so the port grew.
   record Went (link : ℕ) (history : List Event) (given handed : List (List ℕ)) (old new : EndValue SharedValue) : Type 0 where
@@ -71,9 +83,8 @@ module _ (own links : ℕ) (first : Files) where
       let item = s.by.item in
       let serves = s.by.serves in
       let now = history ++ Serves link item ∷ [] in
-      let after : SharedAfter first now new.present = serves.stands first history h.after in
-      let many : length new.present.sessions ≡ links = serves.same_links ∙ h.as_many in
-      let there : link < links = link_there links link history item (subst (λ (k : ℕ). AreOf k now) many after.links) in
+      let holds : Holds now new.present = held_item link history old new n s h in
+      let there : link < links = link_there links link history item (subst (λ (k : ℕ). AreOf k now) holds.as_many holds.after.links) in
       let limit = limit_on link own first links history in
       let more = added_on link own first links history item in
       let reads : ItemAt s.one.bytes old.port.place item s.one.next = subst (ItemAt s.one.bytes old.port.place item) s.next s.by.reads in
@@ -86,7 +97,7 @@ module _ (own links : ℕ) (first : Files) where
         items = item ∷ [];
         now = now;
         is = refl;
-        holds = record { after = after; is_own = serves.same_own ∙ h.is_own; as_many = many };
+        holds = holds;
         left = left;
         passed = handed;
         packets = all;
@@ -150,7 +161,7 @@ module _ (own links : ℕ) (first : Files) where
 
   pub record NetworkStands (history : List Event) (net : Network) : Type 0 where
     pub holds : Holds history net.node.noted.shared
-    pub each : (link : ℕ) (port : PortValue) (peer : Peer) → HasPort link net.node port → slice_get net.peers link ≡ Some peer → Linked link history port peer
+    pub each : (link : ℕ) (port : PortValue) (peer : Peer) → HasPort link net.node port → slice_get net.peers link ≡ Some (Some peer) → Linked link history port peer
 
   -- a link that has the same items and answers
   still : (link : ℕ) (old new : List Event) (port : PortValue) (peer : Peer) → IsSame own links first link old new → Linked link old port peer → Linked link new port peer
@@ -163,14 +174,14 @@ module _ (own links : ℕ) (first : Files) where
     ports : (other : ℕ) → other ≢ link → slice_get new.node.ports other ≡ slice_get old.node.ports other
     peers : (other : ℕ) → other ≢ link → slice_get new.peers other ≡ slice_get old.peers other
     others : (other : ℕ) → other ≢ link → IsSame own links first other history now
-    here : (port : PortValue) (peer : Peer) → HasPort link new.node port → slice_get new.peers link ≡ Some peer → Linked link now port peer
+    here : (port : PortValue) (peer : Peer) → HasPort link new.node port → slice_get new.peers link ≡ Some (Some peer) → Linked link now port peer
 
   moved : (link : ℕ) (history now : List Event) (old new : Network) → Moved link history now old new → NetworkStands history old → NetworkStands now new
   moved link history now old new m h =
       record {
         holds = m.holds;
         each = λ j port peer at with_peer. elim (cases_eq j link) [
-          | inl is ↦ subst (λ (k : ℕ). Linked k now port peer) (sym is) (m.here port peer (subst (λ (k : ℕ). HasPort k new.node port) is at) (subst (λ (k : ℕ). slice_get new.peers k ≡ Some peer) is with_peer))
+          | inl is ↦ subst (λ (k : ℕ). Linked k now port peer) (sym is) (m.here port peer (subst (λ (k : ℕ). HasPort k new.node port) is at) (subst (λ (k : ℕ). slice_get new.peers k ≡ Some (Some peer)) is with_peer))
           | inr apart ↦ still j history now port peer (m.others j apart) (h.each j port peer (sym (m.ports j apart) ∙ at) (sym (m.peers j apart) ∙ with_peer))
         ];
       }
@@ -188,22 +199,23 @@ module _ (own links : ℕ) (first : Files) where
     abbrev peer_then : Peer
     peer_then = record s.peer { from_node = s.peer.from_node ++ more }
 
-    before_it : Linked link history s.before s.peer
-    before_it = h.each link s.before s.peer s.there s.with_peer
+    before_it : Linked link history s.stepped.before s.peer
+    before_it = h.each link s.stepped.before s.peer s.stepped.there s.with_peer
 
     -- the link moved so
-    stepped : (now : List Event) → Holds now new.node.noted.shared → ((other : ℕ) → other ≢ link → IsSame own links first other history now) → Linked link now s.after peer_then → NetworkStands now new
+    stepped : (now : List Event) → Holds now new.node.noted.shared → ((other : ℕ) → other ≢ link → IsSame own links first other history now) → Linked link now s.stepped.after peer_then → NetworkStands now new
     stepped now holds others here =
         moved link history now old new
         (record {
           holds = holds;
-          ports = λ j apart. ap (λ (l : List (Option PortValue)). slice_get l j) s.ports ∙ set_other old.node.ports link j (Some s.after) apart;
-          peers = λ j apart. ap (λ (l : List Peer). slice_get l j) s.peers ∙ set_other old.peers link j peer_then apart;
+          ports = λ j apart. ap (λ (l : List (Option PortValue)). slice_get l j) s.stepped.ports ∙ set_other old.node.ports link j (Some s.stepped.after) apart;
+          peers = λ j apart. ap (λ (l : List (Option Peer)). slice_get l j) s.peers ∙ set_other old.peers link j (Some peer_then) apart;
           others = others;
-          here = λ port peer at with_peer. (let p : Some port ≡ Some s.after = set_there old.node.ports link (Some s.after) (Some port) (sym (ap (λ (l : List (Option PortValue)). slice_get l link) s.ports) ∙ at) in
-              let q : peer ≡ peer_then = set_there old.peers link peer_then peer (sym (ap (λ (l : List Peer). slice_get l link) s.peers) ∙ with_peer) in
-              let same_port : s.after ≡ port = cc in
-              subst (λ (x : PortValue). Linked link now x peer) same_port (subst (Linked link now s.after) (sym q) here));
+          here = λ port peer at with_peer. (let p : Some port ≡ Some s.stepped.after = set_there old.node.ports link (Some s.stepped.after) (Some port) (sym (ap (λ (l : List (Option PortValue)). slice_get l link) s.stepped.ports) ∙ at) in
+              let q : Some peer ≡ Some peer_then = set_there old.peers link (Some peer_then) (Some peer) (sym (ap (λ (l : List (Option Peer)). slice_get l link) s.peers) ∙ with_peer) in
+              let same_port : s.stepped.after ≡ port = cc in
+              let same_peer : peer_then ≡ peer = cc in
+              subst (λ (x : PortValue). Linked link now x peer) same_port (subst (Linked link now s.stepped.after) same_peer here));
         })
         h
 
@@ -212,14 +224,14 @@ module _ (own links : ℕ) (first : Files) where
     same_shared e = subst (Holds history) (sym e) h.holds
 
   -- a packet is written again, or an acknowledgement
-  again : (link : ℕ) (history : List Event) (old new : Network) (event : EndEvent) (more : List Written) → (s : SteppedOn link old event more new) → NetworkStands history old → Tells (AtNode link event) [] → (w : Written) (k : Option ℕ) → WroteOne s.before.link k w
-      → IfSome k (λ n. n ≤ s.before.link.sent) → link_of s.after new.node ≡ link_of s.before old.node → more ≡ w ∷ [] → Next (AtNode link event) history new
+  again : (link : ℕ) (history : List Event) (old new : Network) (event : EndEvent) (more : List Written) → (s : SteppedOn link old event more new) → NetworkStands history old → Tells (AtNode link event) [] → (w : Written) (k : Option ℕ) → WroteOne s.stepped.before.link k w
+      → IfSome k (λ n. n ≤ s.stepped.before.link.sent) → link_of s.stepped.after new.node ≡ link_of s.stepped.before old.node → more ≡ w ∷ [] → Next (AtNode link event) history new
   again link history old new event more s h tells w k one was kept_so only =
       let before = before_it link history old new event more s h in
-      let wrote = packet_again (items_on link history) (AnswersOn link own first links history) s.before s.peer before k w one was in
-      let port : s.after ≡ s.before = ap (λ (v : EndValue SharedValue). v.port) kept_so in
+      let wrote = packet_again (items_on link history) (AnswersOn link own first links history) s.stepped.before s.peer before k w one was in
+      let port : s.stepped.after ≡ s.stepped.before = ap (λ (v : EndValue SharedValue). v.port) kept_so in
       let here = subst (λ (p : PortValue). Linked link history p (record s.peer { from_node = s.peer.from_node ++ more })) (sym port)
-      (subst (λ (l : List Written). Linked link history s.before (record s.peer { from_node = s.peer.from_node ++ l })) (sym only) wrote) in
+      (subst (λ (l : List Written). Linked link history s.stepped.before (record s.peer { from_node = s.peer.from_node ++ l })) (sym only) wrote) in
       record {
         told = [];
         tells = tells;
@@ -228,15 +240,15 @@ module _ (own links : ℕ) (first : Files) where
         stands = stepped link history old new event more s h history (same_shared link history old new event more s h (ap (λ (v : EndValue SharedValue). v.present) kept_so)) (λ j apart. same own links first j history) here;
       }
 
-  -- each event on a link
+  -- each event on a link of a client
   on_link : (link : ℕ) (history : List Event) (old new : Network) (event : EndEvent) (more : List Written) → SteppedOn link old event more new → NetworkStands history old → Next (AtNode link event) history new
   on_link link history old new (Came bytes) more s h =
-      let t = s.steps in
-      let same_ports : s.after ≡ with_link s.before t.1 = ap (λ (v : EndValue SharedValue). v.port) t.3 in
+      let t = s.stepped.steps in
+      let same_ports : s.stepped.after ≡ with_link s.stepped.before t.1 = ap (λ (v : EndValue SharedValue). v.port) t.3 in
       let before = before_it link history old new (Came bytes) more s h in
-      let came = packet_came (items_on link history) (AnswersOn link own first links history) s.before s.peer before t.1 bytes t.0 t.2 t.6 in
+      let came = packet_came (items_on link history) (AnswersOn link own first links history) s.stepped.before s.peer before t.1 bytes t.0 t.2 t.6 in
       let wire : s.peer.from_node ++ more ≡ s.peer.from_node = ap (λ (l : List Written). s.peer.from_node ++ l) t.4 ∙ append-nil s.peer.from_node in
-      let here = subst (λ (p : PortValue). Linked link history p (record s.peer { from_node = s.peer.from_node ++ more })) (sym same_ports) (subst (λ (l : List Written). Linked link history (with_link s.before t.1) (record s.peer { from_node = l })) (sym wire) came) in
+      let here = subst (λ (p : PortValue). Linked link history p (record s.peer { from_node = s.peer.from_node ++ more })) (sym same_ports) (subst (λ (l : List Written). Linked link history (with_link s.stepped.before t.1) (record s.peer { from_node = l })) (sym wire) came) in
       record {
         told = [];
         tells = refl;
@@ -245,11 +257,11 @@ module _ (own links : ℕ) (first : Files) where
         stands = stepped link history old new (Came bytes) more s h history (same_shared link history old new (Came bytes) more s h (ap (λ (v : EndValue SharedValue). v.present) t.3)) (λ j apart. same own links first j history) here;
       }
   on_link link history old new GoesOn more s h =
-      let t = s.steps in
+      let t = s.stepped.steps in
       let before = before_it link history old new GoesOn more s h in
-      let w = worked link history before.given before.handed before.packets (link_of s.before old.node) t.0 t.2 h.holds before.stands in
-      let went = link_went (items_on link history) (AnswersOn link own first links history) s.before s.peer before w.left w.passed w.packets (items_on link w.now) (AnswersOn link own first links w.now) t.0.port s.after t.1 w.stands w.grew t.3 in
-      let here = subst (λ (l : List Written). Linked link w.now s.after (record s.peer { from_node = s.peer.from_node ++ l })) (sym t.5) went in
+      let w = worked link history before.given before.handed before.packets (link_of s.stepped.before old.node) t.0 t.2 h.holds before.stands in
+      let went = link_went (items_on link history) (AnswersOn link own first links history) s.stepped.before s.peer before w.left w.passed w.packets (items_on link w.now) (AnswersOn link own first links w.now) t.0.port s.stepped.after t.1 w.stands w.grew t.3 in
+      let here = subst (λ (l : List Written). Linked link w.now s.stepped.after (record s.peer { from_node = s.peer.from_node ++ l })) (sym t.5) went in
       let holds : Holds w.now new.node.noted.shared = subst (Holds w.now) (sym (ap (λ (v : EndValue SharedValue). v.present) t.4)) w.holds in
       record {
         told = map (Serves link) w.items;
@@ -259,13 +271,62 @@ module _ (own links : ℕ) (first : Files) where
         stands = stepped link history old new GoesOn more s h w.now holds (λ j apart. subst (IsSame own links first j history) (sym w.is) (others_serve own links first j link history w.items apart)) here;
       }
   on_link link history old new (Repeats (Some i)) more s h =
-      let t = s.steps in again link history old new (Repeats (Some i)) more s h refl t.0 (Some (s.before.link.acked + 1 + i)) t.2 (again_sent s.before.link i t.1) t.3 t.4
-  on_link link history old new (Repeats None) more s h = let t = s.steps in again link history old new (Repeats None) more s h refl t.0 None t.2 tt t.3 t.4
+      let t = s.stepped.steps in again link history old new (Repeats (Some i)) more s h refl t.0 (Some (s.stepped.before.link.acked + 1 + i)) t.2 (again_sent s.stepped.before.link i t.1) t.3 t.4
+  on_link link history old new (Repeats None) more s h = let t = s.stepped.steps in again link history old new (Repeats None) more s h refl t.0 None t.2 tt t.3 t.4
+
+  -- ---- Of a stranger.
+
+  no_peer : {A : Type 0} (o : Option (Option A)) (a : A) → o ≡ Some None → o ≡ Some (Some a) → ⊥
+  no_peer o a e f = cc
+
+  beside : (link : ℕ) (history now : List Event) (old new : Network) (event : EndEvent) (more : List Written) → SteppedBefore link old event more new → NetworkStands history old → Holds now new.node.noted.shared
+      → ((other : ℕ) → other ≢ link → IsSame own links first other history now) → NetworkStands now new
+  beside link history now old new event more s h holds others =
+      moved link history now old new
+      (record {
+        holds = holds;
+        ports = λ j apart. ap (λ (l : List (Option PortValue)). slice_get l j) s.stepped.ports ∙ set_other old.node.ports link j (Some s.stepped.after) apart;
+        peers = λ j apart. ap (λ (l : List (Option Peer)). slice_get l j) s.peers;
+        others = others;
+        here = λ port peer at with_peer. absurd (no_peer (slice_get old.peers link) peer s.stranger (sym (ap (λ (l : List (Option Peer)). slice_get l link) s.peers) ∙ with_peer));
+      })
+      h
+
+  quiet_beside : (link : ℕ) (history : List Event) (old new : Network) (event : EndEvent) (more : List Written) → SteppedBefore link old event more new → NetworkStands history old → Tells (AtNode link event) [] → new.node.noted.shared ≡ old.node.noted.shared
+      → Next (AtNode link event) history new
+  quiet_beside link history old new event more s h tells is_same =
+      record {
+        told = [];
+        tells = tells;
+        now = history;
+        is = sym (append-nil history);
+        stands = beside link history history old new event more s h (subst (Holds history) (sym is_same) h.holds) (λ j apart. same own links first j history);
+      }
+
+  -- each event on a link of a stranger
+  on_stranger : (link : ℕ) (history : List Event) (old new : Network) (event : EndEvent) (more : List Written) → SteppedBefore link old event more new → NetworkStands history old → Next (AtNode link event) history new
+  on_stranger link history old new (Came bytes) more s h =
+      let t = s.stepped.steps in quiet_beside link history old new (Came bytes) more s h refl (ap (λ (v : EndValue SharedValue). v.present) t.3)
+  on_stranger link history old new GoesOn more s h =
+      let t = s.stepped.steps in
+      let w = any_worked link history (link_of s.stepped.before old.node) t.0 t.2 h.holds in
+      let now = history ++ map (Serves link) w.0 in
+      record {
+        told = map (Serves link) w.0;
+        tells = (w.0, refl);
+        now = now;
+        is = refl;
+        stands = beside link history now old new GoesOn more s h (subst (Holds now) (sym (ap (λ (v : EndValue SharedValue). v.present) t.4)) w.1) (λ j apart. others_serve own links first j link history w.0 apart);
+      }
+  on_stranger link history old new (Repeats k) more s h =
+      let t = s.stepped.steps in quiet_beside link history old new (Repeats k) more s h refl (ap (λ (v : EndValue SharedValue). v.present) t.3)
+
+  -- ---- The peer of a link is called.
 
   on_peer : (link : ℕ) (history : List Event) (old new : Network) (event : AskingEvent) (more : List Written) → PeerStepped link old event more new → NetworkStands history old → Next (AtPeer link event) history new
   on_peer link history old new event more s h =
       let nodes : new.node ≡ old.node = ap (λ (n : Network). n.node) s.is in
-      let peers : new.peers ≡ set old.peers link s.then = ap (λ (n : Network). n.peers) s.is in
+      let peers : new.peers ≡ set old.peers link (Some s.then) = ap (λ (n : Network). n.peers) s.is in
       record {
         told = [];
         tells = refl;
@@ -275,11 +336,12 @@ module _ (own links : ℕ) (first : Files) where
             (record {
               holds = subst (λ (n : NodeValue). Holds history n.noted.shared) (sym nodes) h.holds;
               ports = λ j apart. ap (λ (n : NodeValue). slice_get n.ports j) nodes;
-              peers = λ j apart. ap (λ (l : List Peer). slice_get l j) peers ∙ set_other old.peers link j s.then apart;
+              peers = λ j apart. ap (λ (l : List (Option Peer)). slice_get l j) peers ∙ set_other old.peers link j (Some s.then) apart;
               others = λ j apart. same own links first j history;
-              here = λ port peer at with_peer. (let q : peer ≡ s.then = set_there old.peers link s.then peer (sym (ap (λ (l : List Peer). slice_get l link) peers) ∙ with_peer) in
+              here = λ port peer at with_peer. (let q : Some peer ≡ Some s.then = set_there old.peers link (Some s.then) (Some peer) (sym (ap (λ (l : List (Option Peer)). slice_get l link) peers) ∙ with_peer) in
+                  let same_peer : s.then ≡ peer = cc in
                   let before = h.each link port s.peer (sym (ap (λ (n : NodeValue). slice_get n.ports link) nodes) ∙ at) s.with_peer in
-                  subst (Linked link history port) (sym q) (peer_called (items_on link history) (AnswersOn link own first links history) port s.peer before s.then event more s.steps s.requests s.same));
+                  subst (Linked link history port) same_peer (peer_called (items_on link history) (AnswersOn link own first links history) port s.peer before s.then event more s.steps s.requests s.same));
             })
             h;
       }
@@ -307,12 +369,13 @@ module _ (own links : ℕ) (first : Files) where
             (record {
               holds = held_on link history old.node.noted.shared new.node.noted.shared b.shared h.holds;
               ports = λ j apart. ap (λ (l : List (Option PortValue)). slice_get l j) b.ports ∙ set_other old.node.ports link j (Some (new_port setup)) apart;
-              peers = λ j apart. ap (λ (l : List Peer). slice_get l j) s.peers ∙ set_other old.peers link j s.peer apart;
+              peers = λ j apart. ap (λ (l : List (Option Peer)). slice_get l j) s.peers ∙ set_other old.peers link j s.peer apart;
               others = λ j apart. another_begins own links first j link history apart;
               here = λ port peer at with_peer. (let p : Some port ≡ Some (new_port setup) = set_there old.node.ports link (Some (new_port setup)) (Some port) (sym (ap (λ (l : List (Option PortValue)). slice_get l link) b.ports) ∙ at) in
-                  let q : peer ≡ s.peer = set_there old.peers link s.peer peer (sym (ap (λ (l : List Peer). slice_get l link) s.peers) ∙ with_peer) in
+                  let q : Some peer ≡ s.peer = set_there old.peers link s.peer (Some peer) (sym (ap (λ (l : List (Option Peer)). slice_get l link) s.peers) ∙ with_peer) in
+                  let is_new : IsNewPeer setup peer = subst (λ (o : Option Peer). IfSome o (IsNewPeer setup)) (sym q) s.is_new in
                   let same_port : new_port setup ≡ port = cc in
-                  began link history port peer (subst (λ (x : PortValue). LinkStands [] [] x peer) same_port (subst (LinkStands [] [] (new_port setup)) (sym q) (link_new setup s.peer s.is_new))));
+                  began link history port peer (subst (λ (x : PortValue). LinkStands [] [] x peer) same_port (link_new setup peer is_new)));
             })
             h;
       }
@@ -329,7 +392,7 @@ module _ (own links : ℕ) (first : Files) where
             (record {
               holds = held_on link history old.node.noted.shared new.node.noted.shared e.shared h.holds;
               ports = λ j apart. ap (λ (l : List (Option PortValue)). slice_get l j) e.ports ∙ set_other old.node.ports link j None apart;
-              peers = λ j apart. ap (λ (l : List Peer). slice_get l j) peers;
+              peers = λ j apart. ap (λ (l : List (Option Peer)). slice_get l j) peers;
               others = λ j apart. another_begins own links first j link history apart;
               here = λ port peer at with_peer. (let p : Some port ≡ None = set_there old.node.ports link None (Some port) (sym (ap (λ (l : List (Option PortValue)). slice_get l link) e.ports) ∙ at) in
                   let none : ⊥ = cc in absurd none);
@@ -351,7 +414,7 @@ module _ (own links : ℕ) (first : Files) where
         stands = record {
           holds = record { after = g.stands first history h.holds.after; is_own = g.same_own ∙ h.holds.is_own; as_many = ap (λ (l : List SessionValue). length l) g.same_sessions ∙ h.holds.as_many };
           each = λ j port peer at with_peer. still j history now port peer (all j)
-              (h.each j port peer (sym (ap (λ (l : List (Option PortValue)). slice_get l j) ports) ∙ at) (sym (ap (λ (l : List Peer). slice_get l j) peers) ∙ with_peer));
+              (h.each j port peer (sym (ap (λ (l : List (Option PortValue)). slice_get l j) ports) ∙ at) (sym (ap (λ (l : List (Option Peer)). slice_get l j) peers) ∙ with_peer));
         };
       }
 
@@ -359,7 +422,8 @@ module _ (own links : ℕ) (first : Files) where
 
   next : (event : NetworkEvent) (history : List Event) (old new : Network) (more : List Written) → NetworkStepped old event more new → NetworkStands history old → Next event history new
   next (AtPeer link event) history old new more s h = on_peer link history old new event more s h
-  next (AtNode link event) history old new more s h = on_link link history old new event more s h
+  next (AtNode link event) history old new more (inl s) h = on_link link history old new event more s h
+  next (AtNode link event) history old new more (inr s) h = on_stranger link history old new event more s h
   next (LinkBegins link setup) history old new more s h = on_begin link setup history old new s.0 h
   next (LinkEnds link) history old new more s h = on_end link history old new s.0 s.1 h
   next (FileGiven name shape) history old new more s h = on_given (FileGiven name shape) (Gives name shape) history old new refl (λ link. file_given own links first link history name shape) s.0 s.1 s.2 h

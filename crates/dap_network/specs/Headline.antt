@@ -23,12 +23,12 @@ pub record LinkHeadline (link own : ℕ) (first : Files) (links : ℕ) (history 
   pub reports_told : peer.reports ≡ Told peer.requests (map Whole read)
 
 -- There is one history of these events, in their order. The files are those after it, and of each link that is there the
--- headline holds.
+-- headline holds, whatever strangers send on others.
 pub record NetworkHeadline (first : Files) (events : List NetworkEvent) (net : Network) : Type 0 where
   pub history : List Event
   pub in_order : IsHistory events history
   pub files_after :
       let v = net.node.noted.shared in
       v.files ≡ FilesAfter v.own first (length v.sessions) history
-  pub links : (link : ℕ) (port : PortValue) (peer : Peer) → HasPort link net.node port → slice_get net.peers link ≡ Some peer
+  pub links : (link : ℕ) (port : PortValue) (peer : Peer) → HasPort link net.node port → slice_get net.peers link ≡ Some (Some peer)
       → LinkHeadline link net.node.noted.shared.own first (length net.node.noted.shared.sessions) history peer

@@ -1,9 +1,9 @@
 -- A serving node, the peer of each of its links, and a network that loses, repeats and reorders packets. The headline is
--- the law `many_links_keep_the_headline`.
-use Rattle.std.specs.Prelude.{◌≡◌, ℕ, List, [], ◌∷◌, ◌++◌, set, Option, Some, None, slice_get}
+-- the law `many_links_keep_the_headline`. A peer is a client of this implementation, or a stranger, which may send anything.
+use Rattle.std.specs.Prelude.{◌≡◌, ◌⊎◌, ℕ, List, [], ◌∷◌, ◌++◌, set, IfSome, Option, Some, None, slice_get}
 use Rattle.rec_file.specs.declared.shapes.Shape.{Shape}
 use Rattle.nsp_link.specs.declared.link.LinkSetup.{LinkSetup}
-use Rattle.nsp_link.specs.Link.{IsSetup}
+use Rattle.nsp_link.specs.Link.{IsSetup, LinkValue}
 use Rattle.dap_accessed.specs.Standing.{Files}
 use Rattle.dap_accessing.specs.Request.{Request}
 use Rattle.dap_accessing.specs.declared.report.Report.{Report}
@@ -28,15 +28,15 @@ pub record Peer : Type 0 where
   pub requests : List Request
   pub reports : List Report
 
--- a node, and the peer of each link
+-- a node, and the peer of each link; none where it is a stranger
 pub record Network : Type 0 where
   pub node : NodeValue
-  pub peers : List Peer
+  pub peers : List (Option Peer)
 
 -- ---- Events.
 
--- The peer of a link is called. Or the node is called on a link; it begins a link with a setup, and a new peer, or ends one;
--- it is given a file without records, or a record of the newest file.
+-- The peer of a link is called. Or the node is called on a link; it begins a link with a setup, and another peer, or ends
+-- one; it is given a file without records, or a record of the newest file.
 pub data NetworkEvent : Type 0 where
   AtPeer : (link : ℕ) → AskingEvent → NetworkEvent
   AtNode : (link : ℕ) → EndEvent → NetworkEvent
@@ -55,28 +55,38 @@ pub data WorkedBy {P : Type 0} (serves : ServesAt P) : EndValue P → EndValue P
 abbrev pub link_of : PortValue → NodeValue → EndValue SharedValue
 link_of port node = end_with port node.noted.shared
 
--- On a link there is an event of the node, and its packets follow those before. No other port moves. What comes is a packet
--- that the link's peer wrote, unaltered and not more than 2,047 numbers old.
-pub record SteppedOn (link : ℕ) (old : Network) (event : EndEvent) (more : List Written) (new : Network) : Type 0 where
-  pub peer : Peer
-  pub with_peer : slice_get old.peers link ≡ Some peer
+-- On a link there is an event of the node, and it writes these packets. No other port moves. What comes, comes so.
+pub record LinkStepped (link : ℕ) (comes : LinkValue → List ℕ → Type 0) (old : NodeValue) (event : EndEvent) (more : List Written) (new : NodeValue) : Type 0 where
   pub before : PortValue
   pub after : PortValue
-  pub there : HasPort link old.node before
-  pub steps : EndStepped (Unit {0}) (WorkedBy (SharedServed link)) (IsBrought peer.from_peer) (link_of before old.node) event (link_of after new.node) more
-  pub ports : new.node.ports ≡ set old.node.ports link (Some after)
-  pub peers : new.peers ≡ set old.peers link (record peer { from_node = peer.from_node ++ more })
+  pub there : HasPort link old before
+  pub steps : EndStepped (Unit {0}) (WorkedBy (SharedServed link)) comes (link_of before old) event (link_of after new) more
+  pub ports : new.ports ≡ set old.ports link (Some after)
+
+-- The packets follow those that the node wrote on the link before. What comes is a packet that the link's peer wrote,
+-- unaltered and not more than 2,047 numbers old.
+pub record SteppedOn (link : ℕ) (old : Network) (event : EndEvent) (more : List Written) (new : Network) : Type 0 where
+  pub peer : Peer
+  pub with_peer : slice_get old.peers link ≡ Some (Some peer)
+  pub stepped : LinkStepped link (IsBrought peer.from_peer) old.node event more new.node
+  pub peers : new.peers ≡ set old.peers link (Some (record peer { from_node = peer.from_node ++ more }))
+
+-- The peer is a stranger: anything comes.
+pub record SteppedBefore (link : ℕ) (old : Network) (event : EndEvent) (more : List Written) (new : Network) : Type 0 where
+  pub stranger : slice_get old.peers link ≡ Some None
+  pub stepped : LinkStepped link (λ _ _. Unit {0}) old.node event more new.node
+  pub peers : new.peers ≡ old.peers
 
 -- There is an event of the peer of a link, and its packets and reports follow those before. What comes is a packet that
 -- the node wrote on the link, unaltered and not more than 2,047 numbers old.
 pub record PeerStepped (link : ℕ) (old : Network) (event : AskingEvent) (more : List Written) (new : Network) : Type 0 where
   pub peer : Peer
-  pub with_peer : slice_get old.peers link ≡ Some peer
+  pub with_peer : slice_get old.peers link ≡ Some (Some peer)
   pub then : Peer
   pub steps : AskingStepped (IsBrought peer.from_node) (peer.client, peer.reports, peer.from_peer) event more (then.client, then.reports, then.from_peer)
   pub requests : then.requests ≡ peer.requests ++ requests_in (event ∷ [])
   pub same : then.from_node ≡ peer.from_node
-  pub is : new ≡ record old { peers = set old.peers link then }
+  pub is : new ≡ record old { peers = set old.peers link (Some then) }
 
 -- The setup of a peer: but for segments and windows it is the node's, with the addresses exchanged.
 pub record AreFacing (node peer : LinkSetup) : Type 0 where
@@ -92,17 +102,17 @@ pub record IsNewPeer (setup : LinkSetup) (peer : Peer) : Type 0 where
   pub asking : HasAsked nothing_asked peer.client
   pub none : peer ≡ record { client = peer.client; from_peer = []; from_node = []; requests = []; reports = [] }
 
--- a link began, with a new peer
+-- a link began, with a new peer, or a stranger
 pub record LinkBegan (link : ℕ) (setup : LinkSetup) (old new : Network) : Type 0 where
   pub began : BeganOn link setup old.node new.node
-  pub peer : Peer
-  pub is_new : IsNewPeer setup peer
+  pub peer : Option Peer
+  pub is_new : IfSome peer (IsNewPeer setup)
   pub peers : new.peers ≡ set old.peers link peer
 
 -- what each event does, and the packets that it writes
 abbrev pub NetworkStepped : Network → NetworkEvent → List Written → Network → Type 0
 NetworkStepped old (AtPeer link event) more new = PeerStepped link old event more new
-NetworkStepped old (AtNode link event) more new = SteppedOn link old event more new
+NetworkStepped old (AtNode link event) more new = SteppedOn link old event more new ⊎ SteppedBefore link old event more new
 NetworkStepped old (LinkBegins link setup) more new = LinkBegan link setup old new × (more ≡ [])
 NetworkStepped old (LinkEnds link) more new = EndedOn link old.node new.node × (new.peers ≡ old.peers) × (more ≡ [])
 NetworkStepped old (FileGiven name shape) more new =

@@ -1,11 +1,14 @@
 //! Laws over the definitions alone. Each function does nothing: its contract is the law.
 
-ghost use Rattle.std.specs.Prelude.{◌≡◌, ◌+◌, ◌-◌, ◌<◌, ◌++◌, ◌∷◌, [], ℕ, List, None, Option, Result, Some, slice_get};
+ghost use Rattle.std.specs.Prelude.{◌≡◌, ◌+◌, ◌-◌, ◌<◌, ◌++◌, ◌∷◌, [], ℕ, List, None, Option, Result, Some, map, slice_get};
 ghost use Rattle.std.specs.List.{AllByRecursion};
 ghost use Rattle.nsp_link.specs.declared.link.Got.{Got as TheGot};
 ghost use Rattle.nsp_link.specs.Link.{IsSpelling};
 ghost use Rattle.nsp_link.specs.Sending.{WritesSent, ack_packet_of};
+ghost use Rattle.dap_msg.specs.declared.items.Item.{Item};
 ghost use Rattle.dap_accessed.specs.Standing.{Files};
+ghost use Rattle.dap_accessed.specs.Groups.{After, Answers};
+ghost use Rattle.dap_shared.specs.Nodes.{AnswersOn, Begins, FilesAfter, Serves, items_on};
 ghost use Rattle.dap_accessing.specs.Request.{Request as TheRequest};
 ghost use Rattle.dap_accessing.specs.declared.report.Report.{Report as TheReport};
 ghost use Rattle.dap_end.specs.declared.fault.EndFault.{EndFault as TheEndFault};
@@ -31,13 +34,26 @@ pub fn many_links_keep_the_headline()
         → IsNew first old → NetworkRuns old events new → NetworkHeadline first events new }
 {}
 
+/// With one link that began once, the history is what was served on it, and its files and answers are those of a server of one
+/// link. So the headline is that of two ends (`two_ends_keep_the_headline` of `dap_end`).
+pub fn one_link_is_as_before()
+    ensures items { (items : List Item)
+        → items_on 0 (Begins 0 ∷ map (Serves 0) items) ≡ items }
+    ensures files { (own : ℕ) (first : Files) (items : List Item)
+        → FilesAfter own first 1 (Begins 0 ∷ map (Serves 0) items) ≡ After own first items }
+    ensures answers { (own : ℕ) (first : Files) (items : List Item)
+        → AnswersOn 0 own first 1 (Begins 0 ∷ map (Serves 0) items) ≡ Answers own first items }
+{
+    dap_shared::one_link_is_as_before();
+}
+
 /// Each call of a node on a link, refused or not, is some events of the network: where the packet that comes is one that the
 /// link's peer wrote, and not more than 2,047 numbers old. The calls by which a link begins or ends, and by which a file or a
 /// record is given, are events as they are.
 pub fn node_calls_are_events()
     ensures take { (link most : ℕ) (old : Network) (node : NodeValue) (peer : Peer)
         (bytes : List ℕ) (out all : List (List ℕ)) (r : Result TheGot TheTakeFault)
-        → slice_get old.peers link ≡ Some peer
+        → slice_get old.peers link ≡ Some (Some peer)
         → ((p : PortValue) → HasPort link old.node p → IsBrought peer.from_peer p.link bytes)
         → OnLink link (λ before after. Takes (serves_on link most) before after bytes out all r)
         old.node node
@@ -45,13 +61,13 @@ pub fn node_calls_are_events()
         × (all ≡ out ++ bytes_of wrote) }
     ensures go_on { (link most : ℕ) (old : Network) (node : NodeValue) (peer : Peer)
         (out all : List (List ℕ)) (r : Result (Unit {0}) TheEndFault)
-        → slice_get old.peers link ≡ Some peer
+        → slice_get old.peers link ≡ Some (Some peer)
         → OnLink link (λ before after. WentOn (serves_on link most) before after out all r)
         old.node node
         → (wrote : List Written) × Leads old (node_then old node link peer wrote)
         × (all ≡ out ++ bytes_of wrote) }
     ensures resend { (link i : ℕ) (old : Network) (peer : Peer) (p : PortValue) (bytes : List ℕ)
-        → slice_get old.peers link ≡ Some peer → HasPort link old.node p
+        → slice_get old.peers link ≡ Some (Some peer) → HasPort link old.node p
         → i < p.link.sent - p.link.acked
         → WritesSent p.link (Some (p.link.acked + 1 + i)) bytes
         → Leads old (node_then old old.node link peer (record {
@@ -60,7 +76,7 @@ pub fn node_calls_are_events()
           acks = p.link.coming.received;
         } ∷ [])) }
     ensures ack { (link : ℕ) (old : Network) (peer : Peer) (p : PortValue) (bytes : List ℕ)
-        → slice_get old.peers link ≡ Some peer → HasPort link old.node p
+        → slice_get old.peers link ≡ Some (Some peer) → HasPort link old.node p
         → IsSpelling (ack_packet_of p.link) bytes
         → Leads old (node_then old old.node link peer (record {
           bytes = bytes;
@@ -71,12 +87,29 @@ pub fn node_calls_are_events()
     ensures more { (old mid new : Network) → Leads old mid → Leads mid new → Leads old new }
 {}
 
+/// Each call of a node on a link whose peer is a stranger, refused or not, is some events of the network, whatever comes. What
+/// doesn't change the node, `resend` and `ack`, is nothing to a stranger's network.
+pub fn strangers_are_taken()
+    ensures take { (link most : ℕ) (old : Network) (node : NodeValue) (bytes : List ℕ)
+        (out all : List (List ℕ)) (r : Result TheGot TheTakeFault)
+        → slice_get old.peers link ≡ Some None
+        → OnLink link (λ before after. Takes (serves_on link most) before after bytes out all r)
+        old.node node
+        → Leads old (record old { node = node }) }
+    ensures go_on { (link most : ℕ) (old : Network) (node : NodeValue)
+        (out all : List (List ℕ)) (r : Result (Unit {0}) TheEndFault)
+        → slice_get old.peers link ≡ Some None
+        → OnLink link (λ before after. WentOn (serves_on link most) before after out all r)
+        old.node node
+        → Leads old (record old { node = node }) }
+{}
+
 /// Each run of calls of a link's peer is some events of the network, where the packets that come are those that the node
 /// wrote on the link, and not more than 2,047 numbers old.
 pub fn peer_calls_are_events()
     ensures { (link : ℕ) (old : Network) (peer : Peer) (client : AskingValue)
         (came : List Arrival) (requests : List TheRequest) (reports : List TheReport)
-        (wrote : List Written) → slice_get old.peers link ≡ Some peer
+        (wrote : List Written) → slice_get old.peers link ≡ Some (Some peer)
         → AllByRecursion (λ c. IsBrought peer.from_node c.0 c.1) came
         → AskingRuns came requests peer.client client reports wrote
         → Leads old (peer_then old link peer client requests reports wrote) }

@@ -4,4 +4,7 @@
 
 mod laws;
 
-pub use laws::{many_links_keep_the_headline, node_calls_are_events, peer_calls_are_events};
+pub use laws::{
+    many_links_keep_the_headline, node_calls_are_events, one_link_is_as_before,
+    peer_calls_are_events, strangers_are_taken,
+};
