@@ -1,5 +1,5 @@
 -- What the program's command line makes of words, and what holds where a reader's bytes are known.
-use Rattle.std.proofs.Common.{◌≡◌, ◌∙◌, refl, inr, ap, sym, subst, absurd, ℕ, List, [], ◌∷◌, true, false, codes, Ok, Err}
+use Rattle.std.proofs.Common.{◌≡◌, ◌∙◌, refl, inr, ap, sym, subst, ℕ, List, [], ◌∷◌, true, false, codes, Ok, Err}
 use Rattle.std.specs.Prelude.{Option, Some, None, IfSome, IsErrAnd, Result, fold, option_map}
 use Rattle.std.specs.Fmt.{digits}
 use Rattle.std.specs.Io.KnownBytes.{Keeps}
@@ -50,8 +50,8 @@ is_free_line = refl
 
 -- what two functions give of one thing
 pub both_mapped : {B : Type 0} (o : Option B) (f : B → Text) (g : B → List Row) (name : Text) (rows : List Row)
-    → Some name ≡ option_map f o → Some rows ≡ option_map (λ (p : Text × List Row). p.1) (option_map (λ b. (f b, g b)) o)
-    → option_map (λ b. (f b, g b)) o ≡ Some (name, rows)
+    → Some name ≡ option_map f o → Some rows ≡ option_map (λ (p : Text × List Row). p.1) (option_map {U = Text × List Row} (λ b. (f b, g b)) o)
+    → option_map {U = Text × List Row} (λ b. (f b, g b)) o ≡ Some (name, rows)
 both_mapped None f g name rows named rowed = cc
 both_mapped (Some b) f g name rows named rowed = cc
 
