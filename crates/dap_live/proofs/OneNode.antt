@@ -86,8 +86,8 @@ node-parts one two noted ports = ap (λ (n : NotedValue). record one { noted = n
 -- one link moved
 on-link : (link : ℕ) (old one two : NodeValue) (Goes Went : LinkValue → LinkValue → Type 0) (Told : Type 0) → HasRun old
     → OnLink link Goes old one → OnLink link Went old two
-    → ((before a b : LinkValue) → HasCarried before → Goes before a → Went before b → (a ≡ b) × HasCarried a × Told)
-    → (one ≡ two) × HasRun one × Told
+    → ((before a b : LinkValue) → HasCarried before → Goes before a → Went before b → (a ≡ b) × Told × HasCarried a)
+    → (one ≡ two) × Told × HasRun one
 on-link link old one two Goes Went Told h x y f =
     let before : y.before ≡ x.before = one-port old.ports link y.before x.before y.there x.there in
     let went : Went (record { port = x.before; present = forgotten old.noted }) (record { port = y.after; present = two.noted }) =
@@ -98,13 +98,13 @@ on-link link old one two Goes Went Told h x y f =
     let port : x.after ≡ y.after = ap (λ (v : LinkValue). v.port) t.0 in
     let ports : one.ports ≡ two.ports = x.ports ∙ ap (λ (p : PortValue). set old.ports link (Some p)) port ∙ sym y.ports in (
       node-parts one two noted ports,
+      t.1,
       (
-        t.1.0,
-        t.1.1,
-        t.1.2,
-        subst AllSent (sym x.ports) (set-sent old.ports link (Some x.after) (λ q is. subst (λ (p : PortValue). HasSent p.link) (some-port x.after q is) t.1.3) h.3),
+        t.2.0,
+        t.2.1,
+        t.2.2,
+        subst AllSent (sym x.ports) (set-sent old.ports link (Some x.after) (λ q is. subst (λ (p : PortValue). HasSent p.link) (some-port x.after q is) t.2.3) h.3),
       ),
-      t.2,
     )
 
 -- ---- A packet.
@@ -124,15 +124,15 @@ take-one link old one two bytes said more b c fits h nb nc x y =
     let t = on-link link old.node one.node two.node _ _ ((x.taken ≡ y.taken) × (x.packets ≡ y.packets)) h x.took y.took
     (λ before p q k u v.
     let s = taking_same link old.most_waiting before p q bytes x.taken y.taken x.packets y.packets fits k (taken-wants x.taken one.node.noted.locked x.packets (λ e. nb (x.ended ∙ e)))
-    (taken-wants y.taken two.node.noted.locked y.packets (λ e. nc (y.ended ∙ e))) u v in (s.0, s.3, (s.1, s.2))) in
+    (taken-wants y.taken two.node.noted.locked y.packets (λ e. nc (y.ended ∙ e))) u v in (s.0, (s.1, s.2), s.3)) in
     let says : node_taken_said x.taken one.node.noted.locked x.packets ≡ node_taken_said y.taken two.node.noted.locked y.packets =
-    ap (λ (r : Result Got TakeFault). node_taken_said r one.node.noted.locked x.packets) t.2.0
-    ∙ ap (λ (l : List (List ℕ)). node_taken_said y.taken one.node.noted.locked l) t.2.1
+    ap (λ (r : Result Got TakeFault). node_taken_said r one.node.noted.locked x.packets) t.1.0
+    ∙ ap (λ (l : List (List ℕ)). node_taken_said y.taken one.node.noted.locked l) t.1.1
     ∙ ap (λ (n : NodeValue). node_taken_said y.taken n.noted.locked y.packets) t.0 in (
       x.rest ∙ ap (λ (n : NodeValue). record (about link old) { node = n }) t.0 ∙ sym y.rest,
       x.says ∙ ap (λ (k : LineAnswer). k.0) says ∙ sym y.says,
       x.ended ∙ ap (λ (k : LineAnswer). k.1) says ∙ sym y.ended,
-      t.1,
+      t.2,
     )
 
 says-one : (answer : LineAnswer) (then one two : Node) (said more : List ℕ) (b c : Became) → HasRun then.node → Says answer then one said b → Says answer then two more c → Same one two said more b c
@@ -156,7 +156,12 @@ found-one ports bytes (Ok i) (Err g) fits x (inr y) =
     let there = subst (λ (p : Packet). position (is_between (receiver_of p) (sender_of p)) ports ≡ None) packet y.2 in
     let none : ⊥ = (let both = sym x.2 ∙ there in cc) in
     absurd none
-found-one ports bytes (Err f) (Ok j) fits x y = sym (found-one ports bytes (Ok j) (Err f) fits y x)
+found-one ports bytes (Err f) (Ok j) fits (inl x) y = absurd (spells-apart y.0 x.0 bytes fits y.1 x.1)
+found-one ports bytes (Err f) (Ok j) fits (inr x) y =
+    let packet : x.0 ≡ y.0 = spells-one x.0 y.0 bytes x.1 y.1 in
+    let there = subst (λ (p : Packet). position (is_between (receiver_of p) (sender_of p)) ports ≡ None) packet x.2 in
+    let none : ⊥ = (let both = sym y.2 ∙ there in cc) in
+    absurd none
 found-one ports bytes (Err f) (Err g) fits (inl x) (inl y) =
     ap missed_by (x.2 ∙ ap (λ (k : SegFault). fault.Malformed k) (fault-one x.0 y.0 bytes fits x.1 y.1) ∙ sym y.2)
 found-one ports bytes (Err f) (Err g) fits (inl x) (inr y) = absurd (spells-apart y.0 x.0 bytes fits y.1 x.1)
@@ -184,15 +189,15 @@ gone-one link old one two front said more b c h nb nc x y =
     let t = on-link link old.node one.node two.node _ _ ((x.gone ≡ y.gone) × (x.packets ≡ y.packets)) h x.went y.went
     (λ before p q k u v.
     let s = going_same link old.most_waiting before p q x.packets y.packets x.gone y.gone k (gone-wants x.gone one.node.noted.locked x.packets (λ e. nb (x.ended ∙ e)))
-    (gone-wants y.gone two.node.noted.locked y.packets (λ e. nc (y.ended ∙ e))) u v in (s.0, s.3, (s.1, s.2))) in
+    (gone-wants y.gone two.node.noted.locked y.packets (λ e. nc (y.ended ∙ e))) u v in (s.0, (s.1, s.2), s.3)) in
     let says : served_said one.node.noted.locked x.packets x.gone ≡ served_said two.node.noted.locked y.packets y.gone =
-    ap (λ (r : Result (Unit {0}) EndFault). served_said one.node.noted.locked x.packets r) t.2.0
-    ∙ ap (λ (l : List (List ℕ)). served_said one.node.noted.locked l y.gone) t.2.1
+    ap (λ (r : Result (Unit {0}) EndFault). served_said one.node.noted.locked x.packets r) t.1.0
+    ∙ ap (λ (l : List (List ℕ)). served_said one.node.noted.locked l y.gone) t.1.1
     ∙ ap (λ (n : NodeValue). served_said n.noted.locked y.packets y.gone) t.0 in (
       x.rest ∙ ap (λ (n : NodeValue). record (about link old) { node = n }) t.0 ∙ sym y.rest,
       x.says ∙ ap (λ (k : LineAnswer). front ++ k.0) says ∙ sym y.says,
       x.ended ∙ ap (λ (k : LineAnswer). k.1) says ∙ sym y.ended,
-      t.1,
+      t.2,
     )
 
 gone-if : (left : Bool) (link : ℕ) (old one two : Node) (packets : List (List ℕ)) (said more : List ℕ) (b c : Became) → HasRun old.node → b ≢ NoMemory → c ≢ NoMemory

@@ -29,7 +29,7 @@ use Rattle.dap_end.specs.Taking.{HasRoom}
 use Rattle.dap_end.specs.Turns.{DidAll, WentOn, Takes}
 use Rattle.dap_end.specs.Inner.Wanting.{went_wanting, took_wanting}
 use Rattle.dap_end.proofs.ForCallers.{DoAlike, may_or_not, no_want, refused_one, took_same, went_same}
-use Rattle.dap_live.specs.Inner.OneText.{HasCarried, HasSent}
+use Rattle.dap_live.specs.Inner.OneText.{HasCarried}
 
 -- ---- One item.
 
@@ -81,7 +81,7 @@ item_one link old one two n m k a b =
     let same = one_item a.one.bytes old.port.place a.by.item b.by.item a.served.next b.served.next a.one.fits a.by.reads (subst (λ (l : List ℕ). ItemAt l old.port.place b.by.item b.served.next) bytes b.by.reads) in
     let other : NotedServes link a.by.item old.present two.present b.served.answers = subst (λ (i : Item). NotedServes link i old.present two.present b.served.answers) same.0 b.by.serves in
     let both = noted_one link a.by.item old.present one.present two.present a.served.answers b.served.answers k.0 k.1 k.2 a.by.serves other in
-    let next : a.one.next ≡ b.one.next = sym a.next ∙ same.1 ∙ b.next in
+    let next : a.one.next ≡ b.one.next = sym a.next ∙ sym same.1 ∙ b.next in
     let port : one.port ≡ two.port =
     a.port ∙ ap (λ (l : List (List ℕ)). record (gone_on old.port a.one.bytes a.one.later a.one.next) { outbox = l }) both.1
     ∙ ap (λ (i : ℕ). record (gone_on old.port a.one.bytes a.one.later i) { outbox = bodies b.served.answers.items }) next

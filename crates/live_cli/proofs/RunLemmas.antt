@@ -1,10 +1,15 @@
 -- What the program's command line makes of words, and what holds where a reader's bytes are known.
-use Rattle.std.proofs.Common.{◌≡◌, ◌∙◌, refl, inr, ℕ, List, [], ◌∷◌, true, false, codes, Err}
-use Rattle.std.specs.Prelude.{Option, Some, None, IfSome, fold}
+use Rattle.std.proofs.Common.{◌≡◌, ◌∙◌, refl, inr, ap, sym, subst, ℕ, List, [], ◌∷◌, true, false, codes, Ok, Err}
+use Rattle.std.specs.Prelude.{Option, Some, None, IfSome, IsErrAnd, Result, fold, option_map}
 use Rattle.std.specs.Fmt.{digits}
 use Rattle.std.specs.Io.KnownBytes.{Keeps}
 use Rattle.hex.specs.Hex.{decode_pairs}
-use Rattle.clap.specs.Words.{Text, fault_of, is_simple, is_simple_and_free, with_subcommand}
+use Rattle.clap.specs.Words.{App, FailsBy, HasKind, HasMatchesOf, Kinds, Row, Text, app_of, fault_of, is_simple, is_simple_and_free}
+use Rattle.clap.specs.Words.{subcommand_name_of, subcommand_of, subcommand_rows_of, with_subcommand}
+use Rattle.clap.specs.declared.builder.command.Command.{Command}
+use Rattle.clap.specs.declared.error.Error.{Error}
+use Rattle.clap.specs.declared.parser.matches.ArgMatches.{ArgMatches}
+use Rattle.clap.specs.declared.parser.matches.ArgMatches.TheViews.{out-ArgMatches}
 use Rattle.cli_faults.specs.Programs.{new_program}
 use Rattle.clap.proofs.OnLiterals.{clap_on_literals}
 use Rattle.live_cli.specs.declared.words.Role.{Role}
@@ -42,6 +47,27 @@ is_simple_line = refl
 pub is_free_line : is_simple_and_free daplive ≡ true
 unfolding clap_on_literals digits
 is_free_line = refl
+
+-- what two functions give of one thing
+pub both_mapped : {B : Type 0} (o : Option B) (f : B → Text) (g : B → List Row) (name : Text) (rows : List Row)
+    → Some name ≡ option_map f o → Some rows ≡ option_map (λ (p : Text × List Row). p.1) (option_map {U = Text × List Row} (λ b. (f b, g b)) o)
+    → option_map {U = Text × List Row} (λ b. (f b, g b)) o ≡ Some (name, rows)
+both_mapped None f g name rows named rowed = cc
+both_mapped (Some b) f g name rows named rowed = cc
+
+-- the subcommand of the words, by the name and the rows that were found
+pub subcommand_is : (command : Command) (m : ArgMatches) (words : List Text) (name : Text) (rows : List Row) → app_of command ≡ daplive
+    → HasMatchesOf (app_of command) words m → Some name ≡ subcommand_name_of m
+    → Some rows ≡ option_map (λ (p : Text × List Row). p.1) (subcommand_rows_of m) → subcommand_of daplive words ≡ Some (name, rows)
+subcommand_is command m words name rows app has named rowed =
+    let same = (has (ap is_simple app ∙ is_simple_line)).1 in
+    ap (λ (a : App). subcommand_of a words) (sym app) ∙ sym same
+    ∙ both_mapped (out-ArgMatches m).subcommand _ _ name rows named rowed
+
+-- a failure has the kind of the error that is passed on
+pub fails_with : {T : Type 0} (r : Result T Error) (kinds : Kinds) (e : Error) → IsErrAnd r (λ x. x ≡ e) → HasKind kinds e → FailsBy kinds r
+fails_with (Ok a) kinds e is has = absurd is
+fails_with (Err x) kinds e is has = subst (HasKind kinds) (sym is) has
 
 -- on the word of an end alone
 pub no_fault : (program : Text) (role : Role) → fault_of daplive (program ∷ (usual role).0 ∷ []) ≡ []

@@ -12,7 +12,7 @@ returns-in-Ok g c =
       record {
         stands = new.stands;
         own = new.own;
-        links = new.links;
+        sessions = new.sessions;
         locked = new.locked;
         addresses = new.addresses;
         ports = new.ports;
