@@ -1,12 +1,14 @@
 """Runs both live ends where growths are refused and where standard input and output fail: a part of hostile/check.
 
-A talk is the lines that one end is told (docs/LIVE.md): those of serve.talk and ask.talk, and one that this file makes.
+A talk is the lines that one end is told (docs/LIVE.md): those of serve.talk, ask.talk and links.talk, a server's of several
+links, and one that this file makes.
 With one growth refused an end is told line by line, and a line whose answer says 'refused no-memory' is said again:
 
 - the first answer has a front of the plain answer before 'refused no-memory';
 - the second one has the words of the plain answer, or those that a repeated line has in their place, as 'repeat' for
   'accepted'; both together have its reports, each once and in order, and none of its segments twice;
-- 'resend', and 'files' where the end serves, are answered as in the plain talk: what waits and what is stored is that;
+- 'resend', and 'files' where the end serves, are answered as in the plain talk: what waits and what is stored is that.
+  Who locks a file is told once, or not at all where memory is refused then;
 - all other answers, before and after, are those of the plain talk, and so is the exit status; each bad line is told.
 
 With all growths refused from one on, each line has one answer, those before the first refusal are the plain talk's,
@@ -34,8 +36,11 @@ AFTER = {
     b"refused message-too-long": b"refused failed",
     b"refused unexpected-answer": b"refused ask-failed",
 }
+# the words of each end; `links` serves several
+WORDS = {"serve": ["serve"], "ask": ["ask"], "links": ["serve", "--links", "3"]}
 # lines that change nothing, and show what waits and what is stored
-PROBES = {"serve": [b"resend", b"files"], "ask": [b"resend"]}
+PROBES = {"serve": [b"resend", b"files"], "ask": [b"resend"], "links": [b"resend 0202", b"resend 0303", b"files"]}
+ALONE = ("serve", "ask")  # ends of one link
 # A talk of each end whose last line has packets in its answer. Nothing else comes of itself where none of them could be
 # written: the asking end was asked, and the packet to the serving end opened its window, and acknowledges all before.
 LAST = {
@@ -74,6 +79,7 @@ REFUSED = {
     "bytes that are no packet": b"> 60",
     "a request that doesn't fit": b"ask hello",
 }
+LAST["links"] = LAST["serve"]
 # What is asked over a line that loses packets, while the serving end is refused a growth; the words of both ends, and
 # the loss in percent.
 ASKED = ["hello", "create 46 16 2 0 0 15", "connect", "put 4142", "put " + "43" * 150, "rewind", "fetch", "close"]
@@ -92,6 +98,8 @@ SHORT = {
     b"> 60020201010080010001020a00040703050600000000\nfiles\nresend",
     "ask": b"ask hello\nresend\r\n?\n#\n\n"
     b"> 60010102020180010001020a00040703050600000000\nask connect\nack",
+    "links": b"file 46 rel variable 0 3\nnew 0202 0101\n?\r\n#\n\n"
+    b"> 60020201010080010001020a00040703050600000000\nresend 0303\nfiles\nresend 0202",
 }
 # An end may have so many bytes of memory, whatever line it is told: twice the longest line that is kept, and 8 MiB.
 MOST_MEMORY = 2 * 16_777_216 + 8 * 1_048_576
@@ -104,8 +112,9 @@ def too_long():
 
 
 def kinds(answer):
-    """The words, the reports and the packets of an answer, without its last line and the want of memory before it."""
-    lines = [line for line in answer[:-1] if line != NO_MEMORY]
+    """The words, the reports and the packets of an answer, without its last line, the want of memory before it, and who
+    locks a file."""
+    lines = [line for line in answer[:-1] if line != NO_MEMORY and not line.startswith(b"locked ")]
     reports = [line for line in lines if line.startswith(b"report ")]
     packets = [line for line in lines if line.startswith(b"< ")]
     return [line for line in lines if line not in reports and line not in packets], reports, packets
@@ -231,7 +240,7 @@ class Talk:
         self.made, self.program, self.role, self.text = made, program, role, text
         numbered = [(number, line) for number, line in enumerate(text.splitlines(), 1) if line and line[:1] != b"#"]
         self.numbers, self.lines = zip(*numbered)
-        end = End(made, program, role)
+        end = End(made, program, *WORDS[role])
         self.answers, self.probes = [], []
         for line in self.lines:
             self.answers.append(end.tell(line))
@@ -242,7 +251,7 @@ class Talk:
 
     def said_again(self, at):
         """The talk with one growth refused; what is wrong stands in 'wrong'."""
-        end = End(self.made, self.program, self.role, REFUSE_GROWTH=at)
+        end = End(self.made, self.program, *WORDS[self.role], REFUSE_GROWTH=at)
         end.wrong = None
         for line, plain, probes in zip(self.lines, self.answers, self.probes):
             answer = end.tell(line)
@@ -311,7 +320,7 @@ class LiveEnds:
             talk = Talk(self.suite.made, self.program, role, text)
             self.count(f"daplive {role}, {name}", talk.is_whole, f"{len(talk.lines)} lines, status {talk.status}")
             self.suite.until_none(f"daplive {role}, {name}, one growth refused", talk.said_again, talk.is_right)
-            run = lambda at: self.suite.ran([self.program, role], text, REFUSE_GROWTH=f"{at}..")
+            run = lambda at: self.suite.ran([self.program, *WORDS[role]], text, REFUSE_GROWTH=f"{at}..")
             self.suite.until_none(f"daplive {role}, {name}, all growths refused from one on", run, talk.is_answered)
 
     def resent(self, role):
@@ -319,10 +328,10 @@ class LiveEnds:
         and the other end answers it."""
 
         def run(at):
-            end = End(self.suite.made, self.program, role, REFUSE_GROWTH=at)
+            end = End(self.suite.made, self.program, *WORDS[role], REFUSE_GROWTH=at)
             answer = [end.tell(line) for line in LAST[role]][-1]
             end.is_lost = NO_MEMORY in answer and answer[:-2] and not kinds(answer)[2]
-            end.wrong = end.is_lost and not kinds(end.tell(b"resend"))[2] and f"{answer}, and resend writes nothing"
+            end.wrong = end.is_lost and not kinds(end.tell(PROBES[role][0]))[2] and f"{answer}, and resend writes nothing"
             end.close()
             return end
 
@@ -410,7 +419,7 @@ class LiveEnds:
     def fail(self, role):
         """An end whose standard input or output fails, gives little or takes little: a front of the text is written, of
         whole answers, but of the last bytes that a failing device takes."""
-        given, words = SHORT[role], [self.program, role]
+        given, words = SHORT[role], [self.program, *WORDS[role]]
         plain = self.suite.ran(words, given)
         whole = (plain.status, plain.written, plain.told)
         # how many bytes of the text answer the first 0, 1, 2 .. lines, and all
@@ -458,7 +467,7 @@ class LiveEnds:
 
     def unwritten(self, role):
         """An end whose standard output is closed, is full or has no reader, which last ends it silently as SIGPIPE would."""
-        words, given = [self.program, role], SHORT[role]
+        words, given = [self.program, *WORDS[role]], SHORT[role]
         reader, writer = os.pipe()
         os.close(reader)
         with open("/dev/full", "wb") as full, open(writer, "wb") as alone:
@@ -511,9 +520,10 @@ class LiveEnds:
             self.resent(role)
             self.fail(role)
             self.unwritten(role)
+        for role in ALONE:
             self.endless(role)
         # last: what this script keeps in memory counts for the memory of a program that it starts
-        for role in PROBES:
+        for role in ALONE:
             told, wrong = altered_packets(self.program, role)
             self.count(f"daplive {role}, packets that were altered or cut", not wrong, f"{told} told, {wrong} answered wrongly")
 
