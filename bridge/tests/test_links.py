@@ -27,7 +27,8 @@ class Hub:
     def __init__(self):
         self.sockets, self.lock = [], threading.Lock()
         self.reading, self.writing = pair()
-        threading.Thread(target=self.carry, daemon=True).start()
+        self.thread = threading.Thread(target=self.carry, daemon=True)
+        self.thread.start()
 
     def port(self):
         """A socket for one more node."""
@@ -44,7 +45,7 @@ class Hub:
                 sockets = list(self.sockets)
             ready, _, _ = select.select([self.reading, *sockets], [], [])
             for one in ready:
-                data = one.recv(FRAME)
+                data = received(one)
                 if one is self.reading and data != b"+":
                     return
                 if one is not self.reading:
@@ -54,6 +55,7 @@ class Hub:
         if not frame:
             with self.lock:
                 self.sockets.remove(sender)
+            sender.close()
             return
         for one in self.sockets:
             if one is not sender:
@@ -64,6 +66,17 @@ class Hub:
 
     def close(self):
         self.writing.send(b"-")
+        self.thread.join()
+        for one in (self.reading, self.writing, *self.sockets):
+            one.close()
+
+
+def received(one):
+    """A frame; nothing where who had the other end is gone."""
+    try:
+        return one.recv(FRAME)
+    except ConnectionResetError:
+        return b""
 
 
 class LinksCase(PairCase):
@@ -164,9 +177,9 @@ class SharedTest(LinksCase):
 
     def test_a_link_that_is_closed_lets_its_file_go_and_its_place(self):
         server = self.server(*self.words)
-        for _ in range(3):
+        for number in range(3):
             near = self.far_station("1.9")
-            near.connect(0x0111)
+            near.connect(0x0111 + number)
             near.say(segment(near.remote, near.local, 1, CONFIGURATION))
             near.hear_segments(1)
             near.say(segment(near.remote, near.local, 2, ACCESS))
@@ -216,7 +229,7 @@ class StoreTest(LinksCase):
                 self.say(child, f"put 4{number}", f"report done {number}")
             server.finish(signal.SIGKILL)
             server = self.server("--store", self.path)
-            self.assertEqual(server.told().count("goes on as it was"), 2)
+            until(lambda: server.told().count("goes on as it was") == 2, "both links again")
         for child in askers:
             self.say(child, "close", "report closed")
             self.finish_asking(child)
@@ -235,6 +248,7 @@ class StoreTest(LinksCase):
         time.sleep(0.5)
         server.finish(signal.SIGKILL)
         server = self.server("--store", self.path)
+        until(lambda: server.told().count("goes on as it was"), "a link again")
         self.assertEqual(server.told().count("goes on as it was"), 1)
         self.say(asking, "put 41", "report done 1", "close", "report closed")
         self.finish_asking(asking)
