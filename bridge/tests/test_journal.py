@@ -284,7 +284,7 @@ class StoredEndTest(JournalCase):
         end.remark("link -")
         self.assertEqual(Parsed("store", self.path.read_bytes()).told, [], "what follows a line that isn't there is no good")
         self.assertEqual([str(fault) for fault in faults], [f"{self.path}: No space left on device"])
-        store.link_closed(is_last=False)
+        store.links_closed(is_last=False)
         while store.is_busy:
             if end.is_busy:
                 end.turn()
@@ -296,10 +296,10 @@ class StoredEndTest(JournalCase):
 
     def test_want_of_memory_makes_it_anew(self):
         end, store = self.stored("return ['refused no-memory'] if line[0] == '>' else []")
-        store.link_closed(is_last=False)
+        store.links_closed(is_last=False)
         self.assertFalse(store.is_busy)
         end.say("> 00")
-        store.link_closed(is_last=False)
+        store.links_closed(is_last=False)
         self.assertTrue(store.is_busy)
         while end.is_busy:
             end.turn()

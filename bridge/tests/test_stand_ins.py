@@ -114,7 +114,7 @@ class ChangeTest(PairCase):
     def test_a_link_that_changed_nothing_writes_nothing(self):
         for local in range(1, 20):
             self.talk(local, CONFIGURATION, *map(bytes.fromhex, ("0300010001460200", "040002", "070001")))
-        self.near.refused(nsp.connect(9, 512, b"\0\x12\0\0\0"))
+        self.near.refused(nsp.connect(99, 512, b"\0\x12\0\0\0"))
         self.stop(self.child)
         self.assertEqual((self.count(), self.path.stat().st_size), (0, 0))
 
