@@ -8,7 +8,7 @@ use Rattle.dap_msg.specs.declared.message.Message.{Message}
 use Rattle.dap_msg.specs.declared.message.AccessFields.{AccessFields}
 use Rattle.dap_msg.specs.declared.message.ControlFields.{ControlFields}
 use Rattle.dap_msg.specs.declared.message.Message.TheVariants.{Config, Attrib, Access, Control, Contran, Accomp, Filedata, Other}
-use Rattle.dap_msg.specs.BothEnds.{config_of, limit_of, is_too_small}
+use Rattle.dap_msg.specs.BothEnds.{limit_of, is_too_small}
 use Rattle.dap_msg.specs.declared.items.Item.{Item}
 use Rattle.dap_msg.specs.declared.items.Item.TheVariants.{Whole, Malformed}
 use Rattle.rec_file.specs.declared.picks.Pick.{Pick}
@@ -131,7 +131,7 @@ is_storing _ = false
 
 silent : (phase : Phase) (p : Present) (item : Item) → (move_in phase p item).answers ≡ [] → (is_filedata item ≡ true → is_storing phase ≡ false) → is_silent phase item ≡ true
 silent phases.Fresh p (Malformed fault) e h = cc
-silent phases.Fresh p (Whole (Config c)) e h = absurd (either (is_too_small c.bufsiz) (enters (scene_in p) Fresh (bare_status (codes.invalid codes.types.config) ∷ [])) (enters (record (scene_in p) { limit = limit_of c.bufsiz }) Ready (config_of p.own ∷ [])) (λ f. cc) (λ f. cc) e)
+silent phases.Fresh p (Whole (Config c)) e h = absurd (either (is_too_small c.bufsiz) (enters (scene_in p) Fresh (bare_status (codes.invalid codes.types.config) ∷ [])) (enters (record (scene_in p) { limit = limit_of c.bufsiz }) Ready (Config p.setup.identity ∷ [])) (λ f. cc) (λ f. cc) e)
 silent phases.Fresh p (Whole (Other _ _)) e h = refl
 silent phases.Fresh p (Whole message) e h = cc
 silent phases.Ready p (Malformed fault) e h = cc
@@ -188,11 +188,11 @@ drops : (standing : Standing) (begun : Option Begun) → is_dropping standing.pa
 drops standing None e = drops-at standing.place standing.past e
 drops standing (Some b) e = drops-within b.change b.opened b.stream
 
-pub silent-in : (old : Present) (c : Grouped) (item : Item) → IsIn c old → IsSilentIn old.own c item → is_silent old.phase item ≡ true
+pub silent-in : (old : Present) (c : Grouped) (item : Item) → IsIn c old → IsSilentIn old.setup c item → is_silent old.phase item ≡ true
 silent-in old c item h none =
     silent old.phase old item (answers-in old item c h ∙ none.0)
     (λ f. ap (λ (p : Present). is_storing p.phase) h ∙ drops c.standing c.begun (none.1 f))
 
-pub silent-is : (old : Present) (first : Files) (items : List Item) (item : Item) → StandsAfter first items old → IsSilent old.own first items item → is_silent old.phase item ≡ true
+pub silent-is : (old : Present) (first : Files) (items : List Item) (item : Item) → StandsAfter first items old → IsSilent old.setup first items item → is_silent old.phase item ≡ true
 silent-is old first items item h none =
-    silent old.phase old item (answers-are old item first items h ∙ none.0) (λ f. ap (λ (p : Present). is_storing p.phase) h ∙ (let c = stands_after old.own first items in drops c.standing c.begun (none.1 f)))
+    silent old.phase old item (answers-are old item first items h ∙ none.0) (λ f. ap (λ (p : Present). is_storing p.phase) h ∙ (let c = stands_after old.setup first items in drops c.standing c.begun (none.1 f)))

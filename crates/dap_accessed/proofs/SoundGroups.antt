@@ -1,5 +1,6 @@
 -- Every group leaves an end sound.
 use Rattle.std.proofs.Common.{◌≡◌, ℕ, ◌+◌, ◌<◌, ◌≤◌, Bool, true, false, List, [], ◌∷◌, length, Option, Some, None, Result, Ok, Err, refl, ap, subst, inl, inr, arith, lit≤}
+use Rattle.dap_accessed.specs.declared.setup.ServerSetup.{ServerSetup}
 use Rattle.std.specs.Prelude.{IfSome, IsTrue, if◌then◌else◌}
 use Rattle.std.specs.FinMap as map
 use Rattle.dap_msg.specs.declared.message.Message.{Message}
@@ -32,7 +33,6 @@ use Rattle.dap_accessed.specs.declared.verbs.Verb.TheVariants as verbs
 use Rattle.std.specs.Prelude.{◌==◌, take_while, drop}
 use Rattle.std.specs.List.{prefix_len, remove}
 use Rattle.dap_msg.specs.Codes as codes
-use Rattle.dap_msg.specs.BothEnds.{config_of}
 use Rattle.dap_accessed.specs.Replies.{bare_status}
 use Rattle.dap_accessed.specs.Standing.{Files, place_of, with_file, the_file, Place, Fresh, Ready, Opened, Connected, Store, Stopped, Group, Standing, Scene, Effect, start, enters}
 use Rattle.dap_accessed.specs.Past.{asked_shape, kept_attributes, is_dropping, ordinal_so_far}
@@ -231,12 +231,12 @@ module _ (scene : Scene) (files : AreFiles scene.files) (least : 64 ≤ scene.li
     with-second change s (Whole (Filedata r body)) = second change s body
     with-second change s (Whole message) = entering (Connected o s) h
 
-  configuring : (small : Bool) (bufsiz : ℕ) → is_too_small bufsiz ≡ small → (own : ℕ) → Leaves (if small then enters scene Fresh (bare_status (codes.invalid codes.types.config) ∷ []) else enters (record scene { limit = limit_of bufsiz }) Ready (config_of own ∷ []))
+  configuring : (small : Bool) (bufsiz : ℕ) → is_too_small bufsiz ≡ small → (own : ServerSetup) → Leaves (if small then enters scene Fresh (bare_status (codes.invalid codes.types.config) ∷ []) else enters (record scene { limit = limit_of bufsiz }) Ready (Config own.identity ∷ []))
   configuring true bufsiz e own = entering Fresh tt
   configuring false bufsiz e own =
       record { files = files; opened = tt; least = limit-least bufsiz e; most = limit-most bufsiz }
 
-  of-message : (own : ℕ) (past : List Group) (place : Place) → IsOpenAt scene.files place → (m : Message) → IsSoundTurn scene (turn_in own scene past place m)
+  of-message : (own : ServerSetup) (past : List Group) (place : Place) → IsOpenAt scene.files place → (m : Message) → IsSoundTurn scene (turn_in own scene past place m)
   of-message own past Fresh h (Config c) = configuring (is_too_small c.bufsiz) c.bufsiz refl own
   of-message own past Fresh h m = entering Fresh tt
   of-message own past Ready h (Access a) = accessing a (asked_shape (kept_attributes past)) (good-shape (kept_attributes past))
@@ -255,7 +255,7 @@ module _ (scene : Scene) (files : AreFiles scene.files) (least : 64 ≤ scene.li
   of-message own past (Stopped o s) h (Accomp c) = completed-soundly c.func o (Stopped o s) h h
   of-message own past (Stopped o s) h m = entering (Stopped o s) h
 
-  pub of-item : (own : ℕ) (past : List Group) (place : Place) → IsOpenAt scene.files place → (item : Item) → IsSoundTurn scene (turn_of own (record { scene = scene; place = place; past = past }) item)
+  pub of-item : (own : ServerSetup) (past : List Group) (place : Place) → IsOpenAt scene.files place → (item : Item) → IsSoundTurn scene (turn_of own (record { scene = scene; place = place; past = past }) item)
   of-item own past place h (Malformed fault) = entering place h
   of-item own past place h (Whole m) = of-message own past place h m
 
@@ -267,7 +267,7 @@ module _ (scene : Scene) (files : AreFiles scene.files) (least : 64 ≤ scene.li
 pub start-sound : (first : Files) → AreFiles first → IsSound (record { standing = start first; begun = None })
 start-sound first good = record { standing = record { files = good; opened = tt; least = lit≤ tt; most = lit≤ tt }; begun = tt }
 
-one-sound : (own : ℕ) (s : Standing) (item : Item) → IsSoundAt s.scene s.place → IsSoundTurn s.scene (turn_of own s item)
+one-sound : (own : ServerSetup) (s : Standing) (item : Item) → IsSoundAt s.scene s.place → IsSoundTurn s.scene (turn_of own s item)
 one-sound own s item h =
     of-item s.scene h.files h.least h.most own s.past s.place h.opened item
 
@@ -278,6 +278,6 @@ next-sound : (s : Standing) (item : Item) (t : Turn) → IsSoundAt s.scene s.pla
 next-sound s item (Does e) h sound = record { standing = sound; begun = tt }
 next-sound s item (Begins b) h there = record { standing = h; begun = there }
 
-pub more-sound : (own : ℕ) (s : Standing) (b : Option Begun) (item : Item) → IsSound (record { standing = s; begun = b }) → IsSound (more_after own s b item)
+pub more-sound : (own : ServerSetup) (s : Standing) (b : Option Begun) (item : Item) → IsSound (record { standing = s; begun = b }) → IsSound (more_after own s b item)
 more-sound own s None item h = next-sound s item (turn_of own s item) h.standing (one-sound own s item h.standing)
 more-sound own s (Some b) item h = record { standing = two-sound s b item h.standing h.begun; begun = tt }

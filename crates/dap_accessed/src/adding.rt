@@ -20,6 +20,7 @@ impl Accessed {
     /// or an UPDATE that waits for its record is dropped.
     pub fn renew(&mut self)
         ensures own { self.new.own ≡ self.old.own }
+        ensures setup { self.new.setup ≡ self.old.setup }
         ensures stands { StandsAfter self.old.files [] self.new }
     {
         self.session.renew();
@@ -37,6 +38,7 @@ impl Accessed {
         ensures stands { OnOk result ((first : Files) (items : List TheItem)
             → StandsAfter first items self.old → StandsAfter self.new.files items self.new) }
         ensures own { self.new.own ≡ self.old.own }
+        ensures setup { self.new.setup ≡ self.old.setup }
         ensures refused { IfErr result (λ f. AddRefused self.old name.now f) }
         ensures unchanged { OnErr result (self.new ≡ self.old) }
     {
@@ -61,6 +63,7 @@ impl Accessed {
         ensures stands { OnOk result ((first : Files) (items : List TheItem)
             → StandsAfter first items self.old → StandsAfter self.new.files items self.new) }
         ensures own { self.new.own ≡ self.old.own }
+        ensures setup { self.new.setup ≡ self.old.setup }
         ensures refused { IfErr result (λ f. RecordRefused self.old number body.now f) }
         ensures unchanged { OnErr result (self.new ≡ self.old) }
     {

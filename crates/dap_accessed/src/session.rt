@@ -11,7 +11,8 @@ ghost use Rattle.dap_accessed.specs.Accesses.{fac_or, rights_of};
 ghost use Rattle.dap_accessed.specs.Groups.{Grouped};
 ghost use Rattle.dap_accessed.specs.Replies.{bare_status, refused_access};
 ghost use Rattle.dap_accessed.specs.Served.{Answered};
-ghost use Rattle.dap_accessed.specs.Sessions.{IsIn, IsOpenIn, IsSilentIn, ServesItem, asked_in, joined, new_session, open_at, phase_moved_up, refused_session, there_at, would_open};
+ghost use Rattle.dap_accessed.specs.Sessions.{IsIn, IsOpenIn, IsSilentIn, ServesItem, asked_in, joined, new_session, open_at, phase_moved_up, refused_session, session_with, there_at, would_open};
+ghost use Rattle.dap_accessed.specs.Setup.{IsServerSetup};
 ghost use Rattle.dap_accessed.specs.Inner.Sessions.{Enters};
 ghost use Rattle.dap_accessed.specs.Inner.Moves.{Makes, Moves, creates, is_silent, move, opens, opens_nothing};
 ghost use Rattle.dap_accessed.specs.Inner.Steps.{CanDo, done, is_quiet};
@@ -23,6 +24,7 @@ use crate::answers::{Answer, one, opening};
 use crate::fault::NoMemory;
 use crate::phase::{OpenFile, Phase};
 use crate::served::Served;
+use crate::setup::ServerSetup;
 use crate::step::Step;
 use crate::table::FileTable;
 use dap_msg::codes::{
@@ -38,8 +40,7 @@ use std::marker::Model;
 #[derive(Drop)]
 pub struct Session {
     pub(crate) alloc: Global,
-    /// The BUFSIZ of its own Config.
-    bufsiz: u16,
+    setup: ServerSetup,
     /// How long a message the peer takes.
     pub(crate) limit: u16,
     /// The shape that an Access would give a new file.
@@ -56,9 +57,15 @@ impl Model for Session {
 
     ghost coded = { session_code };
 
-    ghost view = { λ a. record { own = a.bufsiz; limit = a.limit; kept = a.kept; phase = a.phase } };
+    ghost view = { λ a. record {
+      own = a.setup.identity.bufsiz;
+      setup = a.setup;
+      limit = a.limit;
+      kept = a.kept;
+      phase = a.phase;
+    } };
 
-    ghost invariant = { λ a. IsGood a.limit a.kept };
+    ghost invariant = { λ a. IsGood a.setup a.limit a.kept };
 }
 
 /// The shape of a file of which no Attributes message says anything.
@@ -125,9 +132,17 @@ impl Session {
         requires low { least_buffer ≤ bufsiz }
         ensures { result ≡ new_session bufsiz }
     {
+        Session::with_setup(alloc, ServerSetup::plain(bufsiz))
+    }
+
+    /// The same of a server that is set up so. It takes no memory.
+    pub fn with_setup(alloc: Global, setup: ServerSetup) -> Session
+        requires { IsServerSetup setup }
+        ensures { result ≡ session_with setup }
+    {
         Session {
             alloc,
-            bufsiz,
+            setup,
             limit: LEAST_BUFFER,
             kept: Some(PLAIN),
             phase: Phase::Fresh,
@@ -136,7 +151,8 @@ impl Session {
 
     /// The same for another link: the open file is closed, and a PUT or an UPDATE that waits for its record is dropped.
     pub fn renew(&mut self)
-        ensures { self.new ≡ new_session self.old.own }
+        ensures session { self.new ≡ session_with self.old.setup }
+        ensures own { self.new.own ≡ self.old.own }
     {
         self.limit = LEAST_BUFFER;
         self.kept = Some(PLAIN);
@@ -245,7 +261,7 @@ impl Session {
         ensures there { OnOk result (IsOpenIn files.now self.new.phase) }
         ensures err { OnErr result (joined files.now self.new ≡ joined files.now self.old) }
     {
-        let answers = self.reply(Answer::Config(self.bufsiz), Phase::Ready)?;
+        let answers = self.reply(Answer::Config(self.setup.identity), Phase::Ready)?;
         self.limit = limit;
         Ok(answers)
     }
@@ -379,7 +395,7 @@ impl Session {
         ensures there { IsOpenIn files.new self.new.phase }
         ensures no_memory { OnErr result ((files.new ≡ files.old) × (self.new ≡ self.old)) }
         ensures unrefused { (c : Grouped) → IsIn c (joined files.old self.old)
-            → IsSilentIn self.old.own c item.entry → IsOk result }
+            → IsSilentIn self.old.setup c item.entry → IsOk result }
     {
         let answers = self.answer_item(files, item)?;
         Ok(Served { answers, next })
