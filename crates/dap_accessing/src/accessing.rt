@@ -2,7 +2,9 @@
 
 ghost use Rattle.std.specs.Prelude.{◌≡◌, ◌≢◌, ◌≤◌, ◌<◌, List, [], ◌++◌, true, false, length, map, Some, IfOk, IfErr, OnOk, OnErr};
 ghost use Rattle.dap_accessing.specs.declared.fault.AskFault.TheVariants.{NoMemory};
-ghost use Rattle.dap_msg.specs.BothEnds.{four_bytes, greatest_message, least_buffer};
+ghost use Rattle.dap_msg.specs.BothEnds.{four_bytes, greatest_message, least_buffer, plain_identity};
+ghost use Rattle.dap_msg.specs.Fitting.{FieldsFit};
+ghost use Rattle.dap_msg.specs.declared.message.Message.TheVariants.{Config};
 ghost use Rattle.dap_msg.specs.declared.items.Item.{Item as TheItem};
 ghost use Rattle.dap_msg.specs.declared.items.Item.TheVariants.{Whole};
 ghost use Rattle.dap_msg.specs.Blocked.{bodies};
@@ -25,7 +27,7 @@ use crate::pending::{Heard, Pending};
 use crate::phase::Phase;
 use crate::report::Report;
 use crate::request::Request;
-use dap_msg::{GREATEST_MESSAGE, Item, MessageValue, item_at, limit_of};
+use dap_msg::{Configuration, GREATEST_MESSAGE, Item, MessageValue, item_at, limit_of};
 use std::alloc::Global;
 use std::marker::Model;
 
@@ -34,7 +36,7 @@ use std::marker::Model;
 #[derive(Drop)]
 pub struct Accessing {
     alloc: Global,
-    bufsiz: u16,
+    identity: Configuration,
     failed: bool,
     phase: Phase,
     limit: u16,
@@ -47,7 +49,8 @@ impl Model for Accessing {
     ghost Value = { Present };
 
     ghost view = { λ a. record {
-      own = a.bufsiz;
+      own = a.identity.bufsiz;
+      identity = a.identity;
       failed = a.failed;
       phase = a.phase;
       limit = a.limit;
@@ -61,11 +64,23 @@ impl Accessing {
         requires low { least_buffer ≤ bufsiz }
         requires high { bufsiz ≤ greatest_message }
         ensures own { result.own ≡ bufsiz }
+        ensures identity { result.identity ≡ plain_identity bufsiz }
+        ensures stands { StandsAfter [] [] result }
+    {
+        Accessing::with_identity(alloc, Configuration::plain(bufsiz))
+    }
+
+    /// The same end, which says this of itself in its Configuration, with a BUFSIZ of at least 64. It takes no memory.
+    pub fn with_identity(alloc: Global, identity: Configuration) -> Accessing
+        requires low { least_buffer ≤ identity.bufsiz }
+        requires fits { FieldsFit (Config identity) }
+        ensures identity { result.identity ≡ identity }
+        ensures own { result.own ≡ identity.bufsiz }
         ensures stands { StandsAfter [] [] result }
     {
         Accessing {
             alloc,
-            bufsiz,
+            identity,
             failed: false,
             phase: Phase::Fresh,
             limit: GREATEST_MESSAGE,
@@ -76,6 +91,7 @@ impl Accessing {
     /// The same end for another link: nothing was asked of it.
     pub fn renew(&mut self)
         ensures own { self.new.own ≡ self.old.own }
+        ensures identity { self.new.identity ≡ self.old.identity }
         ensures stands { StandsAfter [] [] self.new }
     {
         self.failed = false;
@@ -95,6 +111,7 @@ impl Accessing {
         ensures refused { IfErr result (λ f. AskRefused request.now self.old f) }
         ensures unchanged { OnErr result (self.new ≡ self.old) }
         ensures own { self.new.own ≡ self.old.own }
+        ensures identity { self.new.identity ≡ self.old.identity }
     {
         let number = request.number();
         let prepared = self.prepare(request, &number)?;
@@ -135,7 +152,7 @@ impl Accessing {
         if !self.phase.fits(request) {
             return Err(AskFault::WrongPhase);
         }
-        let outgoing = Outgoing::of(self.bufsiz, request, number);
+        let outgoing = Outgoing::of(self.identity, request, number);
         match outgoing.count(self.limit) {
             Some(counts) => Ok(Prepared { outgoing, counts }),
             None => Err(AskFault::TooLarge),
@@ -155,6 +172,7 @@ impl Accessing {
         ensures refused { IfErr result (λ f. f ≡ NoMemory) }
         ensures unchanged { OnErr result (self.new ≡ self.old) }
         ensures own { self.new.own ≡ self.old.own }
+        ensures identity { self.new.identity ≡ self.old.identity }
     {
         let Prepared { outgoing, counts } = prepared;
         let Ok(messages) = outgoing.blocked(self.alloc, self.limit, counts) else {
@@ -169,6 +187,7 @@ impl Accessing {
         requires short { HasShortNumbers message.now }
         ensures takes { Takes (Whole message.now) self.old self.new result }
         ensures own { self.new.own ≡ self.old.own }
+        ensures identity { self.new.identity ≡ self.old.identity }
     {
         let Some(pending) = self.pending.take() else {
             self.failed = true;
@@ -208,6 +227,7 @@ impl Accessing {
         ensures within { IfOk result (λ read. read.next ≤ length nsp_message.now) }
         ensures further { at < length nsp_message.now → IfOk result (λ read. at < read.next) }
         ensures own { self.new.own ≡ self.old.own }
+        ensures identity { self.new.identity ≡ self.old.identity }
     {
         if self.failed {
             return Err(ReadFault::Failed);
@@ -231,6 +251,7 @@ impl Accessing {
         requires { IsPlace at nsp_message.now }
         ensures refused { ReadRefused nsp_message.now at self.old self.new result }
         ensures own { self.new.own ≡ self.old.own }
+        ensures identity { self.new.identity ≡ self.old.identity }
     {
         if self.failed {
             return ReadFault::Failed;
@@ -266,11 +287,11 @@ pub fn reports_grow()
         × (Told requests (answers ++ more) ≡ Told requests answers ++ reports) }
 {}
 
-/// What an end keeps follows from the requests and answers that it is after, and from its own buffer; and it works.
+/// What an end keeps follows from the requests and answers that it is after, and from its own Configuration; and it works.
 pub fn standing_is_one()
     ensures one { (requests : List TheRequest) (answers : List TheItem) (one two : Present)
         → StandsAfter requests answers one → StandsAfter requests answers two
-        → one.own ≡ two.own → one ≡ two }
+        → one.identity ≡ two.identity → one ≡ two }
     ensures works { (requests : List TheRequest) (answers : List TheItem) (end : Present)
         → StandsAfter requests answers end → end.failed ≡ false }
 {}
