@@ -55,10 +55,7 @@ impl Accessed {
         ensures setup { result.setup ≡ plain_setup bufsiz }
         ensures stands { StandsAfter [] [] result }
     {
-        Accessed {
-            files: FileTable::new(alloc),
-            session: Session::new(alloc, bufsiz),
-        }
+        Accessed::with_setup(alloc, ServerSetup::plain(bufsiz))
     }
 
     /// The same end, set up so. It takes no memory.
