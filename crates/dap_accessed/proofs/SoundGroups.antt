@@ -48,7 +48,7 @@ use Rattle.dap_accessed.specs.Sound.{AreFiles, IsOpenAt, IsSoundAt, IsSound}
 use Rattle.dap_accessed.specs.Groups.{next_group, more_after}
 use Rattle.dap_accessed.proofs.Tables.{length-with}
 use Rattle.dap_accessed.proofs.Kept.{act-keeps, both}
-use Rattle.dap_accessed.proofs.SoundTables.{file-there, files-with, files-more, all-without, distinct-without, none-exact}
+use Rattle.dap_accessed.proofs.SoundTables.{file-there, files-with, files-more, all-without, distinct-without, none_exact}
 
 -- ---- Shapes, limits and places.
 
@@ -154,7 +154,7 @@ module _ (scene : Scene) (files : AreFiles scene.files) (least : 64 ≤ scene.li
   creating : (own : ServerSetup) (name : List ℕ) (fac : ℕ) (at : Option ℕ) (shape : Option Shape) → place_by own.names name scene.files ≡ at → Good shape → Leaves (create_file own scene name fac at shape)
   creating own name fac (Some at) shape e g = entering Ready tt
   creating own name fac None shape e g =
-      either (lacks own.most (rights_to_create fac)) _ _ (entering Ready tt) (making name fac shape (none-exact own.names name scene.files e) g)
+      either (lacks own.most (rights_to_create fac)) _ _ (entering Ready tt) (making name fac shape (none_exact own.names name scene.files e) g)
 
   accessing : (own : ServerSetup) (a : AccessFields) (shape : Option Shape) → Good shape → Leaves (access_file own scene a shape)
   accessing own a shape g =

@@ -143,13 +143,13 @@ module _ {X : Type 0} (q : X → Bool) where
 
   all-passed : (xs : List X) → AllByRecursion (λ x. q x ≡ false) xs → prefix_len (λ x. not (q x)) xs ≡ length xs
   all-passed [] h = refl
-  all-passed (x ∷ xs) h = ap (λ b. cond (not b) (1 + prefix_len (λ y. not (q y)) xs) 0) h.0 ∙ ap suc (all-passed xs h.1)
+  all-passed (x ∷ xs) h = let one = ap (λ b. cond (not b) (1 + prefix_len (λ y. not (q y)) xs) 0) h.0 in let more = all-passed xs h.1 in omega (arith, one, more)
 
   pub none-there : (xs : List X) → AllByRecursion (λ x. q x ≡ false) xs → position q xs ≡ None
   none-there xs h =
       let n = prefix_len (λ x. not (q x)) xs in
       let e = all-passed xs h in
-      ap (λ b. cond b (Some n) None) (le-ltb (length xs) n (omega (arith, e)))
+      ap (λ b. cond b (Some n) None) (le-ltb n (length xs) (omega (arith, e)))
 
 -- a name that isn't one by its fold isn't one byte by byte
 other-bytes : (one other : List ℕ) → bytes_eq (fold one) (fold other) ≡ false → bytes_eq one other ≡ false
@@ -164,7 +164,7 @@ all-other-bytes : (name : List ℕ) (files : Files) → AllByRecursion (λ f. by
 all-other-bytes name [] h = tt
 all-other-bytes name (f ∷ files) h = (other-bytes f.0 name h.0, all-other-bytes name files h.1)
 
-pub none-exact : (names : Names) (name : List ℕ) (files : Files) → place_by names name files ≡ None → place_of name files ≡ None
-none-exact Exact name files e = e
-none-exact Folded name files e =
+pub none_exact : (names : Names) (name : List ℕ) (files : Files) → place_by names name files ≡ None → place_of name files ≡ None
+none_exact Exact name files e = e
+none_exact Folded name files e =
     none-there (λ (f : List ℕ × FileVal). bytes_eq f.0 name) files (all-other-bytes name files (none-passes (λ (f : List ℕ × FileVal). bytes_eq (fold f.0) (fold name)) files e))
