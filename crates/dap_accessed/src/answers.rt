@@ -16,8 +16,8 @@ use dap_msg::codes::{
     RFM_FIXED, RFM_VARIABLE, SUCCESS,
 };
 use dap_msg::{
-    Attributes, Bytes, Configuration, LEAST_BUFFER, MessageValue, StatusFields, append_message, encode_value,
-    encoded_len,
+    Attributes, Bytes, Configuration, LEAST_BUFFER, MessageValue, StatusFields, append_message,
+    encode_value, encoded_len,
 };
 use rec_file::{Format, Org, Shape};
 use std::alloc::Global;

@@ -126,11 +126,7 @@ fn there_at(at: usize, fac: u32) -> OpenFile
 }
 
 /// The file that an Access would open, where it names one that is there, and asks for no right too many.
-fn would_open(
-    setup: &ServerSetup,
-    files: &FileTable,
-    access: &AccessFields<'_>,
-) -> Option<OpenFile>
+fn would_open(setup: &ServerSetup, files: &FileTable, access: &AccessFields<'_>) -> Option<OpenFile>
     ensures { result ≡ would_open setup.now files.now access.now }
 {
     if access.func != ACCFUNC_OPEN {
