@@ -1,5 +1,6 @@
 -- Where a Config was served, no later item takes the end back; and before that nothing depends on the files that it has.
 use Rattle.std.proofs.Common.{◌≡◌, ℕ, ◌+◌, Bool, true, false, List, [], ◌∷◌, ◌++◌, Option, Some, None, Result, Ok, Err, refl, ap, sym, subst, ◌∙◌, append_assoc}
+use Rattle.dap_accessed.specs.Setup.{lacks}
 use Rattle.dap_accessed.specs.declared.setup.ServerSetup.{ServerSetup}
 use Rattle.std.specs.Prelude.{if◌then◌else◌, ◌==◌, take_while, drop, unwrap_or}
 use Rattle.std.specs.FinMap as map
@@ -21,10 +22,10 @@ use Rattle.rec_file.specs.Acts.{StreamVal, act, get_record}
 use Rattle.dap_accessed.specs.declared.phase.OpenFile.{OpenFile}
 use Rattle.dap_accessed.specs.declared.verbs.Verb.{Verb}
 use Rattle.dap_accessed.specs.declared.verbs.Verb.TheVariants as verbs
-use Rattle.dap_accessed.specs.Standing.{Files, place_of, the_file, Place, Fresh, Ready, Opened, Connected, Store, Stopped, Group, Standing, Scene, Effect, start, enters}
-use Rattle.dap_accessed.specs.Past.{asked_shape, kept_attributes, is_dropping}
+use Rattle.dap_accessed.specs.Standing.{Files, place_by, the_file, Place, Fresh, Ready, Opened, Connected, Store, Stopped, Group, Standing, Scene, Effect, start, enters}
+use Rattle.dap_accessed.specs.Past.{asked_shape, kept_attributes, is_dropping, ordinal_so_far}
 use Rattle.dap_accessed.specs.Replies.{bare_status, too_large}
-use Rattle.dap_accessed.specs.Accesses.{open_file, create_file, access_file, end_stream, complete}
+use Rattle.dap_accessed.specs.Accesses.{permitted, rights_to_create, rights_to_open, make_file, open_file, create_file, access_file, end_stream, complete}
 use Rattle.dap_accessed.specs.Records.{verb_of, get_pick, got, record_got, at_number, filedata_of, fits_limit, uncurrent, Change, Putting, Updating, changed}
 use Rattle.dap_accessed.specs.Transfers.{fetch, fetch_ends, continue_fetch}
 use Rattle.dap_accessed.specs.Effects.{Begun, Turn, Does, Begins, control_opened, control_connected, turn_in, turn_of, effect_with}
@@ -49,19 +50,23 @@ module _ (scene : Scene) where
   either true one two h k = h
   either false one two h k = k
 
-  opening : (fac : ℕ) (at : Option ℕ) → Late (open_file scene fac at)
-  opening fac None = refl
-  opening fac (Some at) = refl
+  opening : (own : ServerSetup) (fac : ℕ) (at : Option ℕ) → Late (open_file own scene fac at)
+  opening own fac None = refl
+  opening own fac (Some at) = either (lacks own.most (rights_to_open fac)) _ _ refl refl
 
-  creating : (name : List ℕ) (fac : ℕ) (at : Option ℕ) (shape : Option Shape) → Late (create_file scene name fac at shape)
-  creating name fac (Some at) shape = refl
-  creating name fac None None = refl
-  creating name fac None (Some shape) = refl
+  making : (name : List ℕ) (fac : ℕ) (shape : Option Shape) → Late (make_file scene name fac shape)
+  making name fac None = refl
+  making name fac (Some shape) = refl
 
-  accessing : (a : AccessFields) (shape : Option Shape) → Late (access_file scene a shape)
-  accessing a shape =
-      either (a.func == codes.accfunc.opening) _ _ (opening a.fac (place_of a.name scene.files))
-      (either (a.func == codes.accfunc.creating) _ _ (creating a.name a.fac (place_of a.name scene.files) shape) refl)
+  creating : (own : ServerSetup) (name : List ℕ) (fac : ℕ) (at : Option ℕ) (shape : Option Shape) → Late (create_file own scene name fac at shape)
+  creating own name fac (Some at) shape = refl
+  creating own name fac None shape = either (lacks own.most (rights_to_create fac)) _ _ refl (making name fac shape)
+
+  accessing : (own : ServerSetup) (a : AccessFields) (shape : Option Shape) → Late (access_file own scene a shape)
+  accessing own a shape =
+      let found = place_by own.names a.name scene.files in
+      either (a.func == codes.accfunc.opening) _ _ (opening own a.fac found)
+      (either (a.func == codes.accfunc.creating) _ _ (creating own a.name a.fac found shape) refl)
 
   ended : (o : OpenFile) (place : Place) → Late (end_stream scene o place)
   ended o (Opened p) = refl
@@ -128,7 +133,7 @@ module _ (scene : Scene) where
 
   of-message : (own : ServerSetup) (past : List Group) (place : Place) → is_late place ≡ true → (m : Message) → LateTurn (turn_in own scene past place m)
   of-message own past Fresh h m = cc
-  of-message own past Ready h (Access a) = accessing a (asked_shape (kept_attributes past))
+  of-message own past Ready h (Access a) = accessing own a (asked_shape (kept_attributes past))
   of-message own past Ready h m = refl
   of-message own past (Opened o) h (Control c) = opened-control o (verb_of c)
   of-message own past (Opened o) h (Accomp c) = completing c.func o (Opened o) refl

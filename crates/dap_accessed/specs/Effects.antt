@@ -69,11 +69,11 @@ effect_fresh own scene message = sync scene Fresh message
 
 -- Attributes have no answer, an Access opens or makes a file of the given shape, and messages of types 10 to 16 are
 -- ignored.
-abbrev pub effect_ready : Scene → Option Shape → Message → Effect
-effect_ready scene shape (Other _ _) = enters scene Ready []
-effect_ready scene shape (Attrib _) = enters scene Ready []
-effect_ready scene shape (Access access) = access_file scene access shape
-effect_ready scene shape message = sync scene Ready message
+abbrev pub effect_ready : (own : ServerSetup) → Scene → Option Shape → Message → Effect
+effect_ready own scene shape (Other _ _) = enters scene Ready []
+effect_ready own scene shape (Attrib _) = enters scene Ready []
+effect_ready own scene shape (Access access) = access_file own scene access shape
+effect_ready own scene shape message = sync scene Ready message
 
 -- ---- Opened.
 
@@ -139,7 +139,7 @@ effect_stopped scene opened stream message = common_effect scene opened (Stopped
 -- what a message does in a place
 abbrev pub turn_in : (own : ServerSetup) → Scene → (past : List Group) → Place → Message → Turn
 turn_in own scene past Fresh message = Does (effect_fresh own scene message)
-turn_in own scene past Ready message = Does (effect_ready scene (asked_shape (kept_attributes past)) message)
+turn_in own scene past Ready message = Does (effect_ready own scene (asked_shape (kept_attributes past)) message)
 turn_in own scene past (Opened opened) message = Does (effect_opened scene opened message)
 turn_in own scene past (Connected opened stream) message = turn_connected scene opened stream message
 turn_in own scene past (Store opened stream) message =

@@ -1,5 +1,5 @@
 -- What a server keeps of one link, but for the files: several links may have one table of files.
-use Rattle.std.specs.Prelude.{ℕ, ◌≡◌, ◌<◌, ◌≤◌, ◌==◌, ◌-◌, nat_lt, if◌then◌else◌, true, false, [], length, Option, Some, None, option_map}
+use Rattle.std.specs.Prelude.{ℕ, ◌≡◌, ◌<◌, ◌≤◌, ◌==◌, ◌-◌, nat_lt, if◌then◌else◌, true, false, List, [], length, Option, Some, None, option_map}
 use Rattle.std.specs.Global.{Vec}
 use Rattle.dap_msg.specs.BothEnds.{greatest_message, least_buffer}
 use Rattle.dap_msg.specs.Blocked.{bodies}
@@ -14,10 +14,10 @@ use Rattle.dap_accessed.specs.declared.setup.ServerSetup.{ServerSetup}
 use Rattle.dap_accessed.specs.declared.phase.OpenFile.{OpenFile}
 use Rattle.dap_accessed.specs.declared.phase.Phase.{Phase}
 use Rattle.dap_accessed.specs.declared.phase.Phase.TheVariants as phases
-use Rattle.dap_accessed.specs.Setup.{plain_setup}
-use Rattle.dap_accessed.specs.Standing.{Files, place_of, plain_shape}
+use Rattle.dap_accessed.specs.Setup.{lacks, plain_setup}
+use Rattle.dap_accessed.specs.Standing.{Files, place_by, plain_shape}
 use Rattle.dap_accessed.specs.Past.{is_filedata, is_dropping}
-use Rattle.dap_accessed.specs.Accesses.{rights_of, fac_or}
+use Rattle.dap_accessed.specs.Accesses.{rights_to_open}
 use Rattle.dap_accessed.specs.Groups.{Grouped, one_more, answers_of}
 use Rattle.dap_accessed.specs.Present.{Present, present_of}
 use Rattle.dap_accessed.specs.Served.{AllAtMost, Answered}
@@ -95,19 +95,21 @@ phase_moved_up r (phases.Stopped o s) = phases.Stopped (moved_up r o) s
 
 -- a file that is there, as an Access with this FAC opens it
 abbrev pub there_at : (fac at : ℕ) → OpenFile
-there_at fac at = record { at = at; is_new = false; rights = rights_of (fac_or fac codes.fac_bits.get) }
+there_at fac at = record { at = at; is_new = false; rights = rights_to_open fac }
 
--- what an Access would open, where it names a file that is there
-abbrev pub would_open : Files → AccessFields → Option OpenFile
-would_open files access =
-    if access.func == codes.accfunc.opening
-    then option_map (there_at access.fac) (place_of access.name files)
-    else None
+-- the same, unless it asks for a right that the server doesn't give
+abbrev pub there_if : (own : ServerSetup) → (fac : ℕ) → Option ℕ → Option OpenFile
+there_if own fac found = if lacks own.most (rights_to_open fac) then None else option_map (there_at fac) found
+
+-- what an Access would open, where it names a file that is there, and asks for no right too many
+abbrev pub would_open : (own : ServerSetup) → Files → AccessFields → Option OpenFile
+would_open own files access =
+    if access.func == codes.accfunc.opening then there_if own access.fac (place_by own.names access.name files) else None
 
 -- what an item asks to open: only an Access in Ready does
-abbrev pub asked_in : Files → Phase → Item → Option OpenFile
-asked_in files phases.Ready (Whole (Access access)) = would_open files access
-asked_in files phase item = None
+abbrev pub asked_in : (own : ServerSetup) → Files → Phase → Item → Option OpenFile
+asked_in own files phases.Ready (Whole (Access access)) = would_open own files access
+asked_in own files phase item = None
 
 -- ---- One item.
 

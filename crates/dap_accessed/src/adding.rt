@@ -29,7 +29,7 @@ impl Accessed {
     /// A file without records after the others, before the peer's Config was served. Its shape is one that
     /// [`Shape::check`] gives.
     ///
-    /// Refusals in order: Busy, FileExists, NoMemory; each leaves the end unchanged.
+    /// Refusals in order: Busy; FileExists, as the end compares names; NoMemory. Each leaves the end unchanged.
     pub fn add(&mut self, name: &[u8], shape: Shape) -> Result<(), AddFault>
         requires { IsTrue (is_shape shape) }
         ensures may { OnOk result (MayAdd self.old name.now) }
@@ -45,7 +45,7 @@ impl Accessed {
         if !self.is_fresh() {
             return Err(AddFault::Busy);
         }
-        if self.files.find(name).is_some() {
+        if self.files.find_by(self.session.setup.names, name).is_some() {
             return Err(AddFault::FileExists);
         }
         self.files.make(self.session.alloc, name, shape)?;

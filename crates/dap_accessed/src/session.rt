@@ -7,7 +7,7 @@ ghost use Rattle.dap_msg.specs.declared.message.Message.{Message as TheMessage};
 ghost use Rattle.dap_msg.specs.Codes as codes;
 ghost use Rattle.dap_msg.specs.Decoding.{IsSpelled};
 ghost use Rattle.dap_msg.specs.Items.{ItemFits};
-ghost use Rattle.dap_accessed.specs.Accesses.{fac_or, rights_of};
+ghost use Rattle.dap_accessed.specs.Accesses.{fac_or, rights_of, rights_to_create};
 ghost use Rattle.dap_accessed.specs.Groups.{Grouped};
 ghost use Rattle.dap_accessed.specs.Replies.{bare_status, refused_access};
 ghost use Rattle.dap_accessed.specs.Served.{Answered};
@@ -29,7 +29,7 @@ use crate::step::Step;
 use crate::table::FileTable;
 use dap_msg::codes::{
     ACCESS_REFUSED, ACCFUNC_CREATE, ACCFUNC_OPEN, FILE_NOT_FOUND, REASON_BAD_ATTRIBUTES,
-    REASON_FILE_EXISTS, TYPE_ACCESS, unsupported,
+    REASON_FILE_EXISTS, REASON_NOT_PERMITTED, TYPE_ACCESS, unsupported,
 };
 use dap_msg::{AccessFields, FileAccess, Item, LEAST_BUFFER, MessageValue};
 use rec_file::{Format, Org, RecordFile, Rights, Shape};
@@ -40,7 +40,7 @@ use std::marker::Model;
 #[derive(Drop)]
 pub struct Session {
     pub(crate) alloc: Global,
-    setup: ServerSetup,
+    pub(crate) setup: ServerSetup,
     /// How long a message the peer takes.
     pub(crate) limit: u16,
     /// The shape that an Access would give a new file.
@@ -93,6 +93,16 @@ fn rights_for(fac: u32, usual: FileAccess) -> Rights
     }
 }
 
+/// The rights that an Access to create a file asks for: PUT too.
+fn rights_to_create(fac: u32) -> Rights
+    ensures { result ≡ rights_to_create fac }
+{
+    Rights {
+        put: true,
+        ..rights_for(fac, FileAccess::PUT)
+    }
+}
+
 /// The answer to an Access that opens nothing.
 fn refused_access<'a>(reason: u8) -> Answer<'a>
     ensures message { message_of result ≡ refused_access reason }
@@ -115,14 +125,17 @@ fn there_at(at: usize, fac: u32) -> OpenFile
     }
 }
 
-/// The file that an Access would open, where it names one that is there.
-fn would_open(files: &FileTable, access: &AccessFields<'_>) -> Option<OpenFile>
-    ensures { result ≡ would_open files.now access.now }
+/// The file that an Access would open, where it names one that is there, and asks for no right too many.
+fn would_open(setup: &ServerSetup, files: &FileTable, access: &AccessFields<'_>) -> Option<OpenFile>
+    ensures { result ≡ would_open setup.now files.now access.now }
 {
     if access.func != ACCFUNC_OPEN {
         return None;
     }
-    let at = files.find(access.name.0)?;
+    if setup.lacks(rights_for(access.fac, FileAccess::GET)) {
+        return None;
+    }
+    let at = files.find_by(setup.names, access.name.0)?;
     Some(there_at(at, access.fac))
 }
 
@@ -175,12 +188,15 @@ impl Session {
         }
     }
 
-    /// The file that an item would open: an Access, while none is open, that names a file which is there.
+    /// The file that an item would open: an Access, while none is open, that names a file which is there, and asks for no
+    /// right too many.
     pub fn asked(&self, files: &FileTable, item: &Item<'_>) -> Option<OpenFile>
-        ensures { result ≡ asked_in files.now self.now.phase item.now }
+        ensures { result ≡ asked_in self.now.setup files.now self.now.phase item.now }
     {
         match (self.phase, item) {
-            (Phase::Ready, Item::Whole(MessageValue::Access(access))) => would_open(files, access),
+            (Phase::Ready, Item::Whole(MessageValue::Access(access))) => {
+                would_open(&self.setup, files, access)
+            }
             _ => None,
         }
     }
@@ -314,7 +330,7 @@ impl Session {
         Ok(answers)
     }
 
-    /// Answers an Access that opens a file.
+    /// Answers an Access that opens a file. It is refused where there is none, and then where it asks for a right too many.
     fn open(
         &mut self,
         files: &mut FileTable,
@@ -326,16 +342,20 @@ impl Session {
         ensures there { OnOk result (IsOpenIn files.new self.new.phase) }
         ensures err { OnErr result (joined files.new self.new ≡ joined files.old self.old) }
     {
-        let Some(at) = files.find(name) else {
+        let Some(at) = files.find_by(self.setup.names, name) else {
             return self.refuse_access(files, Answer::Status(FILE_NOT_FOUND));
         };
+        if self.setup.lacks(rights_for(fac, FileAccess::GET)) {
+            return self.refuse_access(files, refused_access(REASON_NOT_PERMITTED));
+        }
         let answers = opening(self.alloc, self.limit, files.file(at).shape())?;
         self.kept = Some(PLAIN);
         self.phase = Phase::Opened(there_at(at, fac));
         Ok(answers)
     }
 
-    /// Answers an Access that creates a file.
+    /// Answers an Access that creates a file. It is refused where there is one, then where it asks for a right too many, and
+    /// then where its attributes are bad.
     fn create(
         &mut self,
         files: &mut FileTable,
@@ -347,8 +367,11 @@ impl Session {
         ensures there { OnOk result (IsOpenIn files.new self.new.phase) }
         ensures err { OnErr result (joined files.new self.new ≡ joined files.old self.old) }
     {
-        if files.find(name).is_some() {
+        if files.find_by(self.setup.names, name).is_some() {
             return self.refuse_access(files, refused_access(REASON_FILE_EXISTS));
+        }
+        if self.setup.lacks(rights_to_create(fac)) {
+            return self.refuse_access(files, refused_access(REASON_NOT_PERMITTED));
         }
         let Some(shape) = self.kept else {
             return self.refuse_access(files, refused_access(REASON_BAD_ATTRIBUTES));

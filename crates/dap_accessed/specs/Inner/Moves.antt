@@ -1,12 +1,15 @@
 -- What an item does to what an end keeps, and its answers.
-use Rattle.std.specs.Prelude.{ℕ, ◌≡◌, Bool, true, false, not, ◌==◌, nat_lt, List, [], ◌∷◌, length, Option, Result, IfOk}
+use Rattle.std.specs.Prelude.{ℕ, ◌≡◌, ◌<◌, ◌≤◌, Bool, true, false, not, ◌==◌, nat_lt, List, [], ◌∷◌, length, Option, IfSome, IsTrue, Result, IfOk}
 use Rattle.std.specs.Global.{Vec}
 use Rattle.dap_msg.specs.Codes as codes
 use Rattle.dap_msg.specs.declared.message.Message.{Message}
 use Rattle.dap_msg.specs.declared.message.Message.TheVariants.{Attrib, Access, Control, Contran, Filedata, Other}
 use Rattle.dap_msg.specs.declared.items.Item.{Item}
 use Rattle.dap_msg.specs.declared.items.Item.TheVariants.{Whole, Malformed}
+use Rattle.dap_msg.specs.BothEnds.{least_buffer}
 use Rattle.rec_file.specs.declared.shapes.Shape.{Shape}
+use Rattle.rec_file.specs.Limits.{greatest_number}
+use Rattle.rec_file.specs.Shapes.{is_shape}
 use Rattle.rec_file.specs.Acts.{StreamVal}
 use Rattle.rec_file.specs.declared.refusals.Refusal.{Refusal}
 use Rattle.dap_accessed.specs.declared.fault.NoMemory.{NoMemory}
@@ -16,7 +19,7 @@ use Rattle.dap_accessed.specs.declared.phase.Phase.{Phase}
 use Rattle.dap_accessed.specs.declared.phase.Phase.TheVariants as phases
 use Rattle.dap_accessed.specs.declared.verbs.Verb.{Verb}
 use Rattle.dap_accessed.specs.declared.verbs.Verb.TheVariants as verbs
-use Rattle.dap_accessed.specs.Standing.{place_of, Place, Scene, Effect, enters, Fresh, Ready, Opened, Connected, Store, Stopped}
+use Rattle.dap_accessed.specs.Standing.{Files, place_by, Place, Scene, Effect, enters, Fresh, Ready, Opened, Connected, Store, Stopped}
 use Rattle.dap_msg.specs.BothEnds.{no_attributes}
 use Rattle.dap_accessed.specs.Past.{asked_shape, next_ordinal}
 use Rattle.dap_accessed.specs.Accesses.{refuse_access, open_file, create_file}
@@ -97,7 +100,7 @@ turns (Begins begun) p memory place item = begins p (phase_within begun.change b
 abbrev pub turn_by : (own : ServerSetup) → Scene → Memory → Place → Item → Turn
 turn_by own scene memory place (Malformed fault) = Does (enters scene place (bare_status (codes.status_code_for fault.message_type) ∷ []))
 turn_by own scene memory Fresh (Whole message) = Does (effect_fresh own scene message)
-turn_by own scene memory Ready (Whole message) = Does (effect_ready scene memory.shape message)
+turn_by own scene memory Ready (Whole message) = Does (effect_ready own scene memory.shape message)
 turn_by own scene memory (Opened opened) (Whole message) = Does (effect_opened scene opened message)
 turn_by own scene memory (Connected opened stream) (Whole message) = turn_connected scene opened stream message
 turn_by own scene memory (Store opened stream) (Whole message) =
@@ -165,10 +168,10 @@ abbrev pub opens_nothing : Present → Message → Move
 opens_nothing p status = accesses p (refuse_access (scene_in p) status)
 
 abbrev pub opens : Present → (name : List ℕ) → (fac : ℕ) → Move
-opens p name fac = accesses p (open_file (scene_in p) fac (place_of name p.files))
+opens p name fac = accesses p (open_file p.setup (scene_in p) fac (place_by p.setup.names name p.files))
 
 abbrev pub creates : Present → (name : List ℕ) → (fac : ℕ) → Move
-creates p name fac = accesses p (create_file (scene_in p) name fac (place_of name p.files) p.kept)
+creates p name fac = accesses p (create_file p.setup (scene_in p) name fac (place_by p.setup.names name p.files) p.kept)
 
 abbrev pub refuses : Present → OpenFile → StreamVal → Refusal → Move
 refuses p opened stream refusal = does p (refused (scene_in p) opened stream refusal)

@@ -9,12 +9,13 @@ use Rattle.dap_msg.specs.Canon.{canon}
 use Rattle.dap_msg.specs.Sizes.{file_data_size}
 use Rattle.dap_msg.specs.BothEnds.{four_bytes, least_buffer}
 use Rattle.dap_msg.specs.Fitting.{FieldsFit}
+use Rattle.dap_msg.specs.Blocked.{Blocked, all_joined, bodies, AllFit}
 use Rattle.rec_file.specs.Limits.{longest_record}
 use Rattle.dap_accessed.specs.declared.answers.Answer.{Answer}
 use Rattle.dap_accessed.specs.declared.answers.Answer.TheVariants as answer
 use Rattle.dap_accessed.specs.declared.fault.NoMemory.{NoMemory}
 use Rattle.dap_accessed.specs.Replies.{attributes_for, completed, status, bare_status}
-use Rattle.dap_accessed.specs.Served.{Answered}
+use Rattle.dap_accessed.specs.Served.{AllAtMost, Answered}
 
 abbrev pub message_of : Answer → Message
 message_of (answer.Config own) = Config own

@@ -1,7 +1,7 @@
 use Rattle.std.proofs.Common.{ℕ, List, ap, sym, subst, ◌≡◌, [], ◌∷◌, ◌++◌, ◌+◌, ◌≤◌, arith, map, length, ◌∙◌, ◌<◌}
 use Rattle.std.proofs.lemmas.Bool.{le-leb, lt-leb}
 use Rattle.dap_accessed.specs.declared.phase.Phase.TheVariants as phases
-use Rattle.dap_accessed.specs.Standing.{Effect}
+use Rattle.dap_accessed.specs.Standing.{Effect, the_file}
 use Rattle.dap_msg.specs.Codes as codes
 use Rattle.dap_accessed.specs.Replies.{bare_status, too_large}
 use Rattle.dap_accessed.specs.Present.{phase_at}
