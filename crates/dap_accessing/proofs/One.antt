@@ -62,7 +62,7 @@ or-none : {A : Type 0} (o : Option A) → option_or o None ≡ o
 or-none None = refl
 or-none (Some a) = refl
 
-probed-is : (p : Pending) → probed p ≡ p
+pub probed-is : (p : Pending) → probed p ≡ p
 probed-is pending.Config = refl
 probed-is pending.Attributes = refl
 probed-is (pending.Opened org rfm mrs mrn) = refl
@@ -73,7 +73,7 @@ probed-is (pending.Batch records) = ap pending.Batch (append-nil records)
 probed-is (pending.Stored first) = ap pending.Stored (or-none first)
 probed-is pending.Closed = refl
 
-same-probes : (p q : Pending) → ((more : List Item) → hear_from p more ≡ hear_from q more) → probed p ≡ probed q
+pub same-probes : (p q : Pending) → ((more : List Item) → hear_from p more ≡ hear_from q more) → probed p ≡ probed q
 same-probes p q same =
     let c = same config in
     let a = same ack in

@@ -1,6 +1,6 @@
 //! The accessing end.
 
-ghost use Rattle.std.specs.Prelude.{◌≡◌, ◌≢◌, ◌≤◌, ◌<◌, List, [], ◌++◌, true, false, length, map, Some, IfOk, IfErr, OnOk, OnErr};
+ghost use Rattle.std.specs.Prelude.{◌≡◌, ◌≢◌, ◌≤◌, ◌<◌, ℕ, List, [], ◌∷◌, ◌++◌, true, false, length, map, Some, IfOk, IfErr, OnOk, OnErr};
 ghost use Rattle.dap_accessing.specs.declared.fault.AskFault.TheVariants.{NoMemory};
 ghost use Rattle.dap_msg.specs.BothEnds.{four_bytes, greatest_message, least_buffer, plain_identity};
 ghost use Rattle.dap_msg.specs.Fitting.{FieldsFit};
@@ -15,13 +15,18 @@ ghost use Rattle.dap_msg.specs.Decoding.{IsSpelled};
 ghost use Rattle.dap_accessing.specs.Present.{Present, StandsAfter};
 ghost use Rattle.dap_msg.specs.Items.{IsPlace};
 ghost use Rattle.dap_accessing.specs.Calls.{Asks, AskRefused, IsAdmittedBy, Reads, ReadRefused};
+ghost use Rattle.dap_accessing.specs.Each.{ReadsOn, none_kept, put_back, records_kept};
 ghost use Rattle.dap_accessing.specs.Told.{Told};
+ghost use Rattle.dap_accessing.specs.Asked.{messages_of};
 ghost use Rattle.dap_accessing.specs.Outgoing.{number_carried};
+ghost use Rattle.dap_msg.specs.declared.message.Configuration.{Configuration as Own};
+ghost use Rattle.dap_accessing.specs.declared.request.Request.TheVariants.{Hello};
 ghost use Rattle.dap_accessing.specs.Prepared.{IsPrepared};
 ghost use Rattle.dap_accessing.specs.Request.{Request as TheRequest};
 ghost use Rattle.dap_accessing.specs.declared.report.Report.{Report as TheReport};
 
 use crate::asking::{Outgoing, Prepared};
+use crate::bytes::Numbered;
 use crate::fault::{AskFault, ReadFault, ReadStep};
 use crate::pending::{Heard, Pending};
 use crate::phase::Phase;
@@ -30,6 +35,7 @@ use crate::request::Request;
 use dap_msg::{Configuration, GREATEST_MESSAGE, Item, MessageValue, item_at, limit_of};
 use std::alloc::Global;
 use std::marker::Model;
+use std::mem;
 
 /// The client. It keeps no list of what was asked or answered: it is as after any requests
 /// and answers that leave what it keeps.
@@ -223,6 +229,9 @@ impl Accessing {
     pub fn read(&mut self, nsp_message: &[u8], at: usize) -> Result<ReadStep, ReadFault>
         requires { IsPlace at nsp_message.now }
         ensures reads { IfOk result (λ read. Reads nsp_message.now at self.old self.new read) }
+        // The same where records were taken out of the batch that is under way.
+        ensures reads_on { IfOk result
+            (λ read. ReadsOn nsp_message.now at self.old self.new read) }
         ensures refused { IfErr result (λ f. ReadRefused nsp_message.now at self.old self.new f) }
         ensures within { IfOk result (λ read. read.next ≤ length nsp_message.now) }
         ensures further { at < length nsp_message.now → IfOk result (λ read. at < read.next) }
@@ -241,6 +250,20 @@ impl Accessing {
         match self.take(&message) {
             Ok(report) => Ok(ReadStep { report, next }),
             Err(fault) => Err(fault),
+        }
+    }
+
+    /// Takes the records out that are kept of a batch under way: those that came since the last call. The report of the batch
+    /// has the others alone. None where no batch is under way. It takes no memory.
+    pub fn take_records(&mut self) -> Numbered
+        ensures records { result ≡ records_kept self.old.pending }
+        ensures rest { self.new ≡ record self.old { pending = none_kept self.old.pending } }
+        ensures told { (told : List (ℕ × List ℕ))
+            → put_back (told ++ result) self.new ≡ put_back told self.old }
+    {
+        match &mut self.pending {
+            Some(Pending::Batch(records)) => mem::replace(records, Numbered(Vec::new(self.alloc))),
+            _ => Numbered(Vec::new(self.alloc)),
         }
     }
 
@@ -285,6 +308,13 @@ pub fn reports_grow()
     ensures { (requests : List TheRequest) (answers more : List TheItem)
         → (reports : List TheReport)
         × (Told requests (answers ++ more) ≡ Told requests answers ++ reports) }
+{}
+
+/// What is asked depends on the client's Configuration only where that is sent.
+pub fn identity_is_told_by_hello()
+    ensures hello { (own : Own) → messages_of own Hello ≡ Config own ∷ [] }
+    ensures others { (one two : Own) (request : TheRequest) → request ≢ Hello
+        → messages_of one request ≡ messages_of two request }
 {}
 
 /// What an end keeps follows from the requests and answers that it is after, and from its own Configuration; and it works.
