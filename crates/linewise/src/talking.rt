@@ -45,8 +45,8 @@ pub trait Answers {
     /// Where an answer that is said piece by piece goes on.
     type Place: Copy;
 
-    // What it may come to by a line, the text of its answer, and what became of the line. `None` is a line that wasn't read
-    // whole.
+    // What it may come to by a line, the text of its answer, and what became of the line. `None` is a line that it missed,
+    // since it wasn't read whole.
     ghost answered: { Self → Option (List ℕ) → Self → List ℕ → Became → Type 0 };
 
     // How many packets it waits to be acknowledged, and one more where it has something left to do; or that its answers have
@@ -61,9 +61,9 @@ pub trait Answers {
         requires { text.old.items ≡ [] }
         ensures { Begins answered pieces self.old (Some line.now) self.new text.new.items result };
 
-    /// Learns of a line that it isn't given: the line is too long, or memory was refused while it was read. What is answered
-    /// to it is that alone, and how many packets the end waits for then.
-    fn pass(&mut self)
+    /// Misses a line, which is too long, or to which memory was refused while it was read. The answer is that, and how many
+    /// packets the end waits for then.
+    fn miss(&mut self)
         ensures { (became : Became) → answered self.old None self.new [] became };
 
     /// The next piece of an answer, and where it goes on after that; nothing where all is said. The text comes
@@ -145,12 +145,12 @@ fn is_given(waits: Option<usize>, line: &[u8]) -> bool
     }
 }
 
-/// Passes a line that wasn't read whole, of which this became.
-fn pass<E: Answers>(end: &mut E, became: Became) -> Answer<E::Place>
-    ensures passed { E.answered end.old None end.new [] became }
+/// The answer to a line that wasn't read whole, which the end misses.
+fn miss<E: Answers>(end: &mut E, became: Became) -> Answer<E::Place>
+    ensures missed { E.answered end.old None end.new [] became }
     ensures whole { result ≡ TheAnswer.Whole became }
 {
-    end.pass();
+    end.miss();
     Answer::Whole(became)
 }
 
@@ -164,7 +164,7 @@ fn answer_whole<E: Answers>(
     ensures { BeginsLine E.answered E.waiting E.pieces end.old line.now end.new text.new.items result }
 {
     if line.len() > LONGEST {
-        return Some(pass(end, Became::BadLine));
+        return Some(miss(end, Became::BadLine));
     }
     if !is_given(end.waits(), line) {
         return None;
@@ -180,8 +180,8 @@ fn answer_read<E: Answers>(end: &mut E, line: &Line, text: &mut Vec<u8>) -> Opti
 {
     match line.kept {
         Kept::All => answer_whole(end, without_end(&line.bytes), text),
-        Kept::TooLong => Some(pass(end, Became::BadLine)),
-        Kept::NoMemory => Some(pass(end, Became::NoMemory)),
+        Kept::TooLong => Some(miss(end, Became::BadLine)),
+        Kept::NoMemory => Some(miss(end, Became::NoMemory)),
     }
 }
 
