@@ -20,7 +20,7 @@ ghost use Rattle.dap_live.specs.Sending.{SaysAck, UnlessFailed};
 ghost use Rattle.dap_live.specs.Texts.{LineAnswer, add_refusal};
 ghost use Rattle.dap_live.specs.Inner.NodeReaching.{Done, NodeReaches};
 ghost use Rattle.dap_live.specs.NodeOrders.{setup_beside};
-ghost use Rattle.dap_live.specs.Node.{AddsFileTo, AddsLink, AddsRecordTo, BeginsOn, Does, DoesNodeOrder, FindsLink, GivenTo, GoesOnWith, IsNew, IsNotDone, NoLink, ResendsOn, TakesOn, about, is_behind_at, pieces, receiver_of, sender_of, waits_on as waits_by};
+ghost use Rattle.dap_live.specs.Node.{AddsFileTo, AddsLink, AddsRecordTo, BeginsOn, Does, DoesNodeOrder, FindsLink, GivenTo, GoesOnWith, IsNew, IsNotDone, NoLink, ResendsOn, TakesOn, about, is_behind_at, of_none, pieces, receiver_of, sender_of, waits_on as waits_by};
 
 use crate::node_orders::{NodeOrder, read_node_order, set_up_beside};
 use crate::sending::{has_message, is_left, push_again, say_ack, waits};
@@ -505,15 +505,17 @@ fn answer_one(node: &mut Node, order: NodeOrder<'_>, text: &mut Vec<u8>) -> Answ
     }
 }
 
-/// Answers what a line says.
+/// Answers what a line says, which concerns no link so far.
 fn answer_order(
     node: &mut Node,
     order: Option<NodeOrder<'_>>,
     text: &mut Vec<u8>,
 ) -> Answer<FilesPlace>
     requires { text.old.items ≡ [] }
-    ensures { Begins DoesNodeOrder pieces node.old order.entry node.new text.new.items result }
+    ensures { Begins DoesNodeOrder pieces (of_none node.old) order.entry
+        node.new text.new.items result }
 {
+    node.last = None;
     match order {
         Some(order) => answer_one(node, order, text),
         None => Answer::Whole(Became::BadLine),
@@ -545,8 +547,11 @@ impl Answers for Node {
     ghost pieces = { pieces };
 
     fn answer(&mut self, line: &[u8], text: &mut Vec<u8>) -> Answer<FilesPlace> {
-        self.last = None;
         answer_order(self, read_node_order(line), text)
+    }
+
+    fn miss(&mut self) {
+        self.last = None;
     }
 
     fn more(
