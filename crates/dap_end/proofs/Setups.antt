@@ -12,7 +12,7 @@ use Rattle.dap_end.specs.declared.fault.TakeFault.TheVariants as take_fault
 use Rattle.dap_end.specs.Ports.{HandsOver, PortValue}
 use Rattle.dap_end.specs.By.{HaltsBy, TurnsBy, begins, goes}
 use Rattle.dap_end.specs.Node.{LinkValue, serves_on}
-use Rattle.dap_end.specs.Turns.{Answered, DidAll, Takes, TookIn, WroteThen}
+use Rattle.dap_end.specs.Turns.{Answered, DidAll, Takes, TookIn}
 use Rattle.dap_end.specs.Writing.{WroteMore}
 use Rattle.dap_end.proofs.Taking.{grown}
 

@@ -1,6 +1,6 @@
 -- The table of the own addresses of a node.
-use Rattle.std.proofs.Common.{◌≡◌, ◌≢◌, ◌⊎◌, inl, inr, ℕ, zero, suc, ◌<◌, ◌≤◌, arith, Bool, true, false, List, [], ◌∷◌, length, get_or, Option, Some, None, refl, ap, sym, subst, ◌∙◌, lt-ltb, eq-eqb}
-use Rattle.std.specs.Prelude.{◌==◌, ◌&&◌, cond, nat_lt, replicate, set, slice_get}
+use Rattle.std.proofs.Common.{◌≡◌, ◌≢◌, ◌⊎◌, inl, inr, ℕ, zero, suc, ◌<◌, arith, Bool, true, false, List, [], ◌∷◌, length, get_or, Option, Some, None, refl, ap, sym, subst, ◌∙◌, lt-ltb, eq-eqb}
+use Rattle.std.specs.Prelude.{◌==◌, ◌&&◌, IfErr, Result, Ok, Err, cond, nat_lt, replicate, set, slice_get}
 use Rattle.std.specs.List.{position, position_or_len}
 use Rattle.std.proofs.lemmas.Bool.{eqb-true}
 use Rattle.std.proofs.lemmas.Bool.Decides.{eqb_tells}
@@ -279,9 +279,12 @@ none-listed zero local link e = let none : ⊥ = cc in none
 none-listed (suc n) zero link e = let none : ⊥ = cc in none
 none-listed (suc n) (suc local) link e = none-listed n local link e
 
+whole-new : (n : ℕ) (o : Option ℕ) → length (replicate n o) ≡ n
+whole-new n o = length-replicate n o
+
 pub table-new : (table : List (Option ℕ)) (links : ℕ) → table ≡ replicate 65536 None → IsTable table (replicate links None)
 table-new table links is = record {
-  whole = ap (λ (l : List (Option ℕ)). length l) is ∙ length-replicate 65536 None;
+  whole = ap (λ (l : List (Option ℕ)). length l) is ∙ whole-new 65536 None;
   listed = λ link p e. absurd (none-there links link p e);
   there = λ local link e. absurd (none-listed 65536 local link (sym (ap (λ (l : List (Option ℕ)). slice_get l local) is) ∙ e));
 }
@@ -293,6 +296,11 @@ taken table v link local h t = let s = h.there local t.0 t.1 in (t.0, s.0, s.1, 
 
 pub untaken : (table : List (Option ℕ)) (v : NodeValue) (link local : ℕ) → IsTable table v.ports → ((other : ℕ) → slice_get table local ≡ Some (Some other) → other ≡ link) → IsTaken link local v → ⊥
 untaken table v link local h alone t = t.4 (alone t.0 (subst (λ (l : ℕ). slice_get table l ≡ Some (Some t.0)) t.3 (h.listed t.0 t.1 t.2)))
+
+-- what is true of a refusal
+pub err-from : {A E : Type 0} {P Q : E → Type 0} (r : Result A E) → IfErr r P → ((e : E) → P e → Q e) → IfErr r Q
+err-from (Ok a) h next = tt
+err-from (Err e) h next = next e h
 
 -- why a port isn't made is why the link doesn't begin
 pub port-refused : (v : NodeValue) (link : ℕ) (setup : LinkSetup) (f : LinkFault) → (IsTaken link setup.local v → ⊥) → SetupFault setup f → NotBegun link setup v f

@@ -110,7 +110,7 @@ fn has_come(ports: &[Option<Port>]) -> bool
 
 impl ServingNode {
     /// A node with no files, with a buffer of this many bytes, at least 64, and room for so many links, of which none
-    /// is there.
+    /// is there. However many it is, the table by which they are found has a place for each of the 65,536 addresses.
     pub fn new(alloc: Global, bufsiz: u16, links: usize) -> Result<ServingNode, NoMemory>
         requires { least_buffer ≤ bufsiz }
         ensures stands { IfOk result (λ node. SharedAfter [] [] node.noted.shared) }

@@ -1,12 +1,13 @@
-use Rattle.std.proofs.Common.{rules, ◌≡◌, ◌≢◌, ◌<◌, ◌∙◌, Some, ap, subst, sym, length, List, Option, ℕ, refl}
-use Rattle.std.specs.Prelude.{set, slice_get}
+use Rattle.std.proofs.Common.{rules, ◌≡◌, ◌<◌, ◌∙◌, Some, ap, subst, sym, length, List, Option, ℕ, refl}
+use Rattle.std.specs.Prelude.{IfErr, set, slice_get}
 use Rattle.std.proofs.lemmas.Option.{slice_get_read}
+use Rattle.nsp_link.specs.Link.{SetupFault}
 use Rattle.dap_end.specs.Ports.{PortValue, new_port}
 use Rattle.dap_end.specs.Inner.Kept.{IsPort}
 use Rattle.dap_end.specs.Inner.NodeInside.{IsTable}
 use Rattle.dap_end.specs.Node.{IsTaken, NodeValue}
 use Rattle.dap_end.proofs.Ports.{node-set, port-new}
-use Rattle.dap_end.proofs.Tables.{port-refused, table-begun, taken, untaken}
+use Rattle.dap_end.proofs.Tables.{err-from, port-refused, table-begun, untaken}
 use Rattle.dap_end.proofs.node.ServingNode.begin.Goals as goal
 
 pub is_taken-requires : goal.is_taken-requires
@@ -16,7 +17,14 @@ pub list_anew-requires : goal.list_anew-requires
 list_anew-requires c = c.self.invariant.table.whole
 
 pub returns-in_err-port-clause-err : goal.returns-in_err-port-clause-err
-returns-in_err-port-clause-err c = ?
+returns-in_err-port-clause-err c =
+    let v : NodeValue = record { noted = c.self.inside.noted; ports = c.self.inside.ports.items } in
+    let free : (other : ℕ) → slice_get c.self.inside.by_local.items c.args.setup.local ≡ Some (Some other) → other ≡ c.args.link =
+    subst (λ (l : List (Option ℕ)). (other : ℕ) → slice_get l c.args.setup.local ≡ Some (Some other) → other ≡ c.args.link) c.deref.ensures.value (c.is_taken.ensures.no c.if-is_taken.false) in
+    let alone : IsTaken c.args.link c.args.setup.local c.args.self.now → ⊥ =
+    subst (λ (w : NodeValue). IsTaken c.args.link c.args.setup.local w → ⊥) c.self.view_is (untaken c.self.inside.by_local.items v c.args.link c.args.setup.local c.self.invariant.table free) in
+    let why : IfErr c.from_residual.result (λ f. SetupFault c.args.setup f) = search rules in
+    err-from c.from_residual.result why (λ f h. (refl, port-refused c.args.self.now c.args.link c.args.setup f alone h))
 
 pub returns-clause-alone : goal.returns-clause-alone
 returns-clause-alone c =

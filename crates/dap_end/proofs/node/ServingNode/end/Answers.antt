@@ -1,5 +1,5 @@
-use Rattle.std.proofs.Common.{None, Option, ◌≡◌, ◌<◌, Some, subst, sym, refl, length, List, ℕ}
-use Rattle.std.specs.Prelude.{set, slice_get}
+use Rattle.std.proofs.Common.{None, Option, ◌<◌, subst, sym, refl, length, List, ℕ}
+use Rattle.std.specs.Prelude.{set}
 use Rattle.std.proofs.lemmas.Option.{slice_get_read}
 use Rattle.dap_end.specs.Inner.NodeInside.{IsTable}
 use Rattle.dap_end.specs.Node.{NodeValue}

@@ -12,7 +12,7 @@ use Rattle.dap_end.specs.Turns.{WentOn}
 use Rattle.dap_end.specs.By.{end_with}
 use Rattle.dap_end.specs.Ports.{PortValue}
 use Rattle.dap_end.specs.Inner.NodeInside.{IsNode}
-use Rattle.dap_end.specs.Node.{NodeValue, forgotten, serves_on}
+use Rattle.dap_end.specs.Node.{NodeValue, serves_on}
 use Rattle.dap_end.proofs.Links.{by-answered, addresses-of, keeps-addresses, keeps-links, links-of}
 use Rattle.dap_end.proofs.Ports.{node-again, set-again}
 use Rattle.dap_end.proofs.Setups as setups

@@ -1,4 +1,4 @@
-use Rattle.std.proofs.Common.{None, List, Option, ◌∙◌, ap, sym, subst, length, ℕ}
+use Rattle.std.proofs.Common.{None, List, Option, ◌∙◌, sym, subst}
 use Rattle.std.proofs.lemmas.List.{length-replicate}
 use Rattle.dap_end.specs.Ports.{PortValue}
 use Rattle.dap_end.specs.Inner.NodeInside.{IsNode}
