@@ -1,6 +1,6 @@
 -- What is done on a link of a node, by what its calls say.
-use Rattle.std.proofs.Common.{◌≡◌, ◌⊎◌, inl, inr, ℕ, Bool, true, false, List, [], Some, refl, ap, sym, subst, ◌∙◌}
-use Rattle.std.specs.Prelude.{IfErr, MatchBool, MatchOption, Option, None, Ok, Err, Result}
+use Rattle.std.proofs.Common.{◌≡◌, ◌⊎◌, inl, inr, ℕ, true, false, List, Some, refl, ap, sym, subst, ◌∙◌}
+use Rattle.std.specs.Prelude.{IfErr, MatchOption, Option, None, Ok, Err, Result}
 use Rattle.std.specs.List.{position}
 use Rattle.nsp_link.specs.Link.{IsSetup, LinkValue, SetupFault}
 use Rattle.nsp_link.specs.declared.link.LinkSetup.{LinkSetup}

@@ -1,4 +1,4 @@
-use Rattle.std.proofs.Common.{◌∙◌, ap, sym}
+use Rattle.std.proofs.Common.{◌∙◌, ap}
 use Rattle.nsp_link.specs.declared.link.LinkSetup.{LinkSetup}
 use Rattle.dap_live.proofs.NodeLemmas.{beside-local, no-link, only-link}
 use Rattle.dap_live.proofs.node.renew.Goals as goal
