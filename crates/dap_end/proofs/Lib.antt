@@ -18,6 +18,8 @@ pub mod Turning
 pub mod ByTurns
 pub mod Did
 pub mod Ports
+pub mod Tables
+pub mod Setups
 pub mod Came
 pub mod Links
 pub mod Giving

@@ -7,7 +7,7 @@ use Rattle.nsp_link.specs.declared.link.LinkSetup.{LinkSetup}
 use Rattle.dap_end.specs.Ports.{PortValue, new_port}
 use Rattle.dap_end.specs.Node.{NodeValue}
 use Rattle.dap_end.specs.Inner.Kept.{IsPort}
-use Rattle.dap_end.specs.Inner.NodeInside.{IsNode}
+use Rattle.dap_end.specs.Inner.NodeInside.{IsNode, IsTable}
 
 abbrev pub ArePorts : List (Option PortValue) → Type 0
 ArePorts ports = (link : ℕ) (p : PortValue) → slice_get ports link ≡ Some (Some p) → IsPort p
@@ -29,7 +29,7 @@ set-get (x ∷ xs) (suc i) (suc j) a p P n h e = set-get xs i j a p P n h e
 pub set-ports : (ports : List (Option PortValue)) (link : ℕ) (a : Option PortValue) → ((q : PortValue) → a ≡ Some q → IsPort q) → ArePorts ports → ArePorts (set ports link a)
 set-ports ports link a n h = λ j p e. set-get ports link j a p IsPort n (h j p) e
 
-none-there : (links j : ℕ) (p : PortValue) → slice_get (replicate links None) j ≡ Some (Some p) → ⊥
+pub none-there : (links j : ℕ) (p : PortValue) → slice_get (replicate links None) j ≡ Some (Some p) → ⊥
 none-there zero j p e = cc
 none-there (suc links) zero p e = cc
 none-there (suc links) (suc j) p e = none-there links j p e
@@ -39,18 +39,18 @@ no-ports links = λ j p e. absurd (none-there links j p e)
 
 -- ---- A node.
 
--- one port was set, or the link is no longer there
-pub node-set : (v : NodeValue) (link : ℕ) (noted : NotedValue) (o : Option PortValue) → IsNode v → length noted.shared.sessions ≡ length v.noted.shared.sessions → ((q : PortValue) → o ≡ Some q → IsPort q)
-    → IsNode (record { noted = noted; ports = set v.ports link o })
-node-set v link noted o h many new =
-    record { links = length-set v.ports link o ∙ h.links ∙ sym many; ports = set-ports v.ports link o new h.ports }
+-- one port was set, or the link is no longer there, and the table is right again
+pub node-set : (before after : List (Option ℕ)) (v : NodeValue) (link : ℕ) (noted : NotedValue) (o : Option PortValue) → IsNode before v → length noted.shared.sessions ≡ length v.noted.shared.sessions
+    → ((q : PortValue) → o ≡ Some q → IsPort q) → IsTable after (set v.ports link o) → IsNode after (record { noted = noted; ports = set v.ports link o })
+node-set before after v link noted o h many new right =
+    record { links = length-set v.ports link o ∙ h.links ∙ sym many; ports = set-ports v.ports link o new h.ports; table = right }
 
 -- a port was taken out, and another put back
-pub node-again : (v : NodeValue) (link : ℕ) (noted : NotedValue) (p : PortValue) → IsNode v → length noted.shared.sessions ≡ length v.noted.shared.sessions → IsPort p
-    → IsNode (record { noted = noted; ports = set (set v.ports link None) link (Some p) })
-node-again v link noted p h many new =
-    subst (λ (l : List (Option PortValue)). IsNode (record { noted = noted; ports = l })) (sym (set-again v.ports link None (Some p)))
-    (node-set v link noted (Some p) h many (λ q is. subst IsPort (let same : p ≡ q = cc in same) new))
+pub node-again : (table : List (Option ℕ)) (v : NodeValue) (link : ℕ) (noted : NotedValue) (p : PortValue) → IsNode table v → length noted.shared.sessions ≡ length v.noted.shared.sessions → IsPort p
+    → IsTable table (set v.ports link (Some p)) → IsNode table (record { noted = noted; ports = set (set v.ports link None) link (Some p) })
+node-again table v link noted p h many new right =
+    subst (λ (l : List (Option PortValue)). IsNode table (record { noted = noted; ports = l })) (sym (set-again v.ports link None (Some p)))
+    (node-set table table v link noted (Some p) h many (λ q is. subst IsPort (let same : p ≡ q = cc in same) new) right)
 
 -- a new port
 pub port-new : (setup : LinkSetup) (p : PortValue) → p ≡ new_port setup → IsPort p

@@ -1,6 +1,9 @@
 -- A node: several links, each with its port, before one table of files.
-use Rattle.std.specs.Prelude.{◌≡◌, ℕ, ◌==◌, ◌&&◌, Bool, true, false, List, [], set, slice_get, Option, Some, None}
+use Rattle.std.specs.Prelude.{◌≡◌, ◌≢◌, ◌⊎◌, ℕ, ◌==◌, ◌&&◌, Bool, true, false, List, [], set, slice_get, Option, Some, None}
 use Rattle.nsp_link.specs.declared.link.LinkSetup.{LinkSetup}
+use Rattle.nsp_link.specs.declared.fault.LinkFault.{LinkFault}
+use Rattle.nsp_link.specs.declared.fault.LinkFault.TheVariants.{BadSetup, NoMemory}
+use Rattle.nsp_link.specs.Link.{IsSetup}
 use Rattle.dap_shared.specs.Shared.{SharedBegins}
 use Rattle.dap_shared.specs.Noted.{NotedServed, NotedValue}
 use Rattle.dap_accessed.specs.declared.fault.AddFault.{AddFault}
@@ -42,6 +45,10 @@ abbrev pub is_between : (local remote : ℕ) → Option PortValue → Bool
 is_between local remote None = false
 is_between local remote (Some p) = (p.link.setup.local == local) && (p.link.setup.remote == remote)
 
+-- another link has this own address
+abbrev pub IsTaken : (link local : ℕ) → NodeValue → Type 0
+IsTaken link local v = (other : ℕ) × (p : PortValue) × HasPort other v p × (p.link.setup.local ≡ local) × (other ≢ link)
+
 -- the link isn't there
 abbrev pub is_free : Option PortValue → Bool
 is_free None = true
@@ -71,6 +78,13 @@ pub record BeganOn (link : ℕ) (setup : LinkSetup) (old new : NodeValue) : Type
   pub shared : SharedBegins link old.noted.shared new.noted.shared
   pub address : HasAddress link setup.local old.noted new.noted
   pub ports : new.ports ≡ set old.ports link (Some (new_port setup))
+
+-- Why a link doesn't begin: a limit of its setup isn't in its range, or another link has its own address; or memory is
+-- refused.
+abbrev pub NotBegun : (link : ℕ) → LinkSetup → NodeValue → LinkFault → Type 0
+NotBegun link setup v f =
+    ((f ≡ BadSetup) × ((IsSetup setup → ⊥) ⊎ IsTaken link setup.local v))
+    ⊎ ((f ≡ NoMemory) × IsSetup setup × (IsTaken link setup.local v → ⊥))
 
 -- The link ended, and every other port stayed. The address of a link that isn't there is 0.
 pub record EndedOn (link : ℕ) (old new : NodeValue) : Type 0 where

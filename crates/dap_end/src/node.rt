@@ -4,7 +4,7 @@ ghost use Rattle.std.specs.Prelude.{◌≡◌, ◌≤◌, ◌<◌, ◌+◌, ◌-
 ghost use Rattle.dap_msg.specs.BothEnds.{least_buffer};
 ghost use Rattle.dap_msg.specs.Blocked.{bodies};
 ghost use Rattle.rec_file.specs.Shapes.{is_shape};
-ghost use Rattle.nsp_link.specs.Link.{IsSetup, IsSpelling, SetupFault};
+ghost use Rattle.nsp_link.specs.Link.{IsSetup, IsSpelling};
 ghost use Rattle.nsp_link.specs.Sending.{WritesSent, ack_packet_of};
 ghost use Rattle.nsp_link.specs.declared.fault.LinkFault.TheVariants.{Failed, NoSuchSegment};
 ghost use Rattle.nsp_link.specs.declared.fault.LinkFault.TheVariants as fault;
@@ -15,7 +15,7 @@ ghost use Rattle.dap_accessed.specs.Standing.{place_of};
 ghost use Rattle.dap_end.specs.Ports.{PortValue};
 ghost use Rattle.std.specs.List.{list_any, position};
 ghost use Rattle.dap_end.specs.Inner.Come.{come_on};
-ghost use Rattle.dap_end.specs.Node.{AtPort, BeganOn, EndedOn, HasPort, NodeNotGiven, NoneHasCome, OnLink, SomeHasCome, has_local, is_between, is_free, serves_on};
+ghost use Rattle.dap_end.specs.Node.{AtPort, BeganOn, EndedOn, HasPort, IsTaken, NodeNotGiven, NoneHasCome, NotBegun, OnLink, SomeHasCome, has_local, is_between, is_free, serves_on};
 ghost use Rattle.dap_end.specs.Turns.{Takes, WentOn};
 ghost use Rattle.dap_end.specs.declared.fault.EndFault.TheVariants as end_fault;
 ghost use Rattle.std.specs.Result.{result_map_both};
@@ -30,11 +30,14 @@ use rec_file::Shape;
 use std::alloc::Global;
 use std::marker::Model;
 
-/// A server of several links. A link is a number from 0, and is there or not.
+/// A server of several links. A link is a number from 0, and is there or not. No two links have one own address, and a
+/// link is found by its own address in as many steps as if it were alone.
 #[derive(Drop)]
 pub struct ServingNode {
     noted: NotedFiles,
     ports: Vec<Option<Port>>,
+    /// At each own address the link that has it.
+    by_local: Vec<Option<usize>>,
 }
 
 impl Model for ServingNode {
@@ -47,7 +50,8 @@ impl Model for ServingNode {
 
     ghost view = { λ a. record { noted = a.noted; ports = a.ports.items } };
 
-    ghost invariant = { λ a. IsNode (record { noted = a.noted; ports = a.ports.items }) };
+    ghost invariant = { λ a. IsNode a.by_local.items
+        (record { noted = a.noted; ports = a.ports.items }) };
 }
 
 /// The address of a link that isn't there.
@@ -106,7 +110,7 @@ fn has_come(ports: &[Option<Port>]) -> bool
 
 impl ServingNode {
     /// A node with no files, with a buffer of this many bytes, at least 64, and room for so many links, of which none
-    /// is there.
+    /// is there. However many it is, the table by which they are found has a place for each of the 65,536 addresses.
     pub fn new(alloc: Global, bufsiz: u16, links: usize) -> Result<ServingNode, NoMemory>
         requires { least_buffer ≤ bufsiz }
         ensures stands { IfOk result (λ node. SharedAfter [] [] node.noted.shared) }
@@ -118,7 +122,12 @@ impl ServingNode {
     {
         let noted = NotedFiles::new(alloc, bufsiz, links)?;
         let ports = no_ports(alloc, links)?;
-        Ok(ServingNode { noted, ports })
+        let by_local = places::no_links(alloc)?;
+        Ok(ServingNode {
+            noted,
+            ports,
+            by_local,
+        })
     }
 
     /// The files, in the order in which they were made: what all messages so far, of all links, have made of them.
@@ -155,18 +164,20 @@ impl ServingNode {
         }
     }
 
-    /// The first link that has this own address, where one is there.
+    /// The link that has this own address, where one is there: it is the only one.
     pub fn find_local(&self, local: u16) -> Option<usize>
-        ensures { result ≡ position (has_local local) self.now.ports }
+        ensures found { result ≡ position (has_local local) self.now.ports }
+        ensures only { (link : ℕ) (p : PortValue) → HasPort link self.now p
+            → p.link.setup.local ≡ local → result ≡ Some link }
     {
-        places::find_local(&self.ports, local)
+        places::find_local(&self.by_local, local)
     }
 
-    /// The first link that has this own address and this peer, where one is there.
+    /// The link that has this own address and this peer, where one is there.
     pub fn find_between(&self, local: u16, remote: u16) -> Option<usize>
         ensures { result ≡ position (is_between local remote) self.now.ports }
     {
-        places::find_between(&self.ports, local, remote)
+        places::find_between(&self.by_local, &self.ports, local, remote)
     }
 
     /// The first link that isn't there; none where all are.
@@ -178,14 +189,19 @@ impl ServingNode {
 
     /// Begins a link, or begins it anew, with the own address of the setup: what was open on it is closed, a PUT or an
     /// UPDATE that waits for its record is dropped, and so is all that waits. Refused, with nothing changed: `BadSetup`
-    /// where a limit of the setup isn't in its range; `NoMemory`.
+    /// where a limit of the setup isn't in its range, or another link has its own address; `NoMemory`.
     pub fn begin(&mut self, alloc: Global, link: usize, setup: LinkSetup) -> Result<(), LinkFault>
         requires { link < length self.old.ports }
         ensures ok { OnOk result (BeganOn link setup self.old self.new) }
         ensures setup { OnOk result (IsSetup setup) }
-        ensures err { IfErr result (λ f. (self.new ≡ self.old) × SetupFault setup f) }
+        ensures alone { OnOk result (IsTaken link setup.local self.old → ⊥) }
+        ensures err { IfErr result (λ f. (self.new ≡ self.old) × NotBegun link setup self.old f) }
     {
+        if places::is_taken(&self.by_local, link, setup.local) {
+            return Err(LinkFault::BadSetup);
+        }
         let port = Port::new(alloc, setup)?;
+        places::list_anew(&mut self.by_local, &self.ports[link], link, setup.local);
         self.ports[link] = Some(port);
         self.noted.begin(link, setup.local);
         Ok(())
@@ -196,6 +212,7 @@ impl ServingNode {
         requires { link < length self.old.ports }
         ensures { EndedOn link self.old self.new }
     {
+        places::unlist(&mut self.by_local, &self.ports[link]);
         self.ports[link] = None;
         self.noted.begin(link, NO_ADDRESS);
     }

@@ -1,15 +1,18 @@
 -- What is done on a link of a node, by what its calls say.
-use Rattle.std.proofs.Common.{◌≡◌, ◌⊎◌, inl, inr, ℕ, Bool, true, false, List, [], Some, refl, ap, sym, subst, ◌∙◌}
-use Rattle.std.specs.Prelude.{MatchBool, MatchOption, Option, None, Ok}
+use Rattle.std.proofs.Common.{◌≡◌, ◌⊎◌, inl, inr, ℕ, true, false, List, Some, refl, ap, sym, subst, ◌∙◌}
+use Rattle.std.specs.Prelude.{IfErr, MatchOption, Option, None, Ok, Err, Result}
 use Rattle.std.specs.List.{position}
-use Rattle.nsp_link.specs.Link.{LinkValue}
-use Rattle.nsp_link.specs.declared.fault.LinkFault.TheVariants.{Failed}
+use Rattle.nsp_link.specs.Link.{IsSetup, LinkValue, SetupFault}
+use Rattle.nsp_link.specs.declared.link.LinkSetup.{LinkSetup}
+use Rattle.nsp_link.specs.declared.fault.LinkFault.{LinkFault}
+use Rattle.nsp_link.specs.declared.fault.LinkFault.TheVariants.{BadSetup, Failed}
 use Rattle.dap_end.specs.Ports.{PortValue}
-use Rattle.dap_end.specs.Node.{AtPort, HasPort, has_local}
+use Rattle.dap_end.specs.Node.{AtPort, HasPort, IsTaken, NodeValue, NotBegun, has_local}
 use Rattle.linewise.specs.declared.talking.Became.{Became}
 use Rattle.linewise.specs.declared.talking.Became.TheVariants as became_of
 use Rattle.dap_live.specs.declared.node.Node.{Node}
 use Rattle.dap_live.specs.Both.{Stays}
+use Rattle.dap_live.specs.NodeOrders.{setup_beside}
 use Rattle.dap_live.specs.Sending.{AllAgain, UnlessFailed}
 use Rattle.dap_live.specs.Texts.{link_refusal, packets_text}
 use Rattle.dap_live.specs.declared.node_orders.NodeOrder.TheVariants as order
@@ -79,3 +82,31 @@ reaches-resend local link old new found (inr done) = inr (done.0, done.1, on-som
 -- and a packet
 pub reaches-packet : (link : ℕ) (old new : Node) (bytes : List ℕ) → FindsLink old.node.ports bytes (Ok link) → Done (TakesOn link old bytes new) → NodeReaches old (order.Packet bytes) new
 reaches-packet link old new bytes found done = inr (done.0, done.1, (Ok link, found, done.2))
+
+-- ---- A link begins whose own address no other link has.
+
+fault-of : (link : ℕ) (setup : LinkSetup) (v : NodeValue) (f : LinkFault) → (IsTaken link setup.local v → ⊥) → (f ≡ BadSetup) × ((IsSetup setup → ⊥) ⊎ IsTaken link setup.local v) → SetupFault setup f
+fault-of link setup v f alone (is, inl bad) = inl (is, bad)
+fault-of link setup v f alone (is, inr taken) = absurd (alone taken)
+
+not-begun : (link : ℕ) (setup : LinkSetup) (v : NodeValue) (f : LinkFault) → (IsTaken link setup.local v → ⊥) → NotBegun link setup v f → SetupFault setup f
+not-begun link setup v f alone (inl h) = fault-of link setup v f alone h
+not-begun link setup v f alone (inr h) = inr (h.0, h.1)
+
+pub begun-err : (link : ℕ) (setup : LinkSetup) (old new : NodeValue) (r : Result (Unit {0}) LinkFault) → ((other : ℕ) (p : PortValue) → HasPort other old p → p.link.setup.local ≡ setup.local → other ≡ link)
+    → IfErr r (λ f. (new ≡ old) × NotBegun link setup old f) → IfErr r (λ f. (new ≡ old) × SetupFault setup f)
+begun-err link setup old new (Ok u) alone h = tt
+begun-err link setup old new (Err f) alone h = (h.0, not-begun link setup old f (λ taken. taken.4 (alone taken.0 taken.1 taken.2 taken.3)) h.1)
+
+-- the own address of such a setup
+pub beside-local : (setup : LinkSetup) (local remote : ℕ) (segment : Option ℕ) → (setup_beside setup local remote segment).local ≡ local
+beside-local setup local remote None = refl
+beside-local setup local remote (Some n) = refl
+
+-- the link that was found is the only one
+pub only-link : (o : Option ℕ) (i j : ℕ) → o ≡ Some i → o ≡ Some j → j ≡ i
+only-link o i j e f = let same : Some j ≡ Some i = sym f ∙ e in (let is : j ≡ i = cc in is)
+
+-- and where none was found, there is none
+pub no-link : (o : Option ℕ) (j : ℕ) → o ≡ None → o ≡ Some j → ⊥
+no-link o j e f = let same : Some j ≡ None = sym f ∙ e in (let none : ⊥ = cc in none)

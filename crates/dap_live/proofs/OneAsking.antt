@@ -41,7 +41,7 @@ use Rattle.dap_live.specs.Asking.{GoesOn, Resends, AsksNot, Asks, IsNew, OnEnd, 
 use Rattle.dap_live.specs.Both.{DoesOrder, DoneOr, Stays, TakesPacket}
 use Rattle.dap_live.specs.Inner.Saying.{front_text}
 use Rattle.dap_live.specs.Inner.OneText.{AreSameAsking}
-use Rattle.dap_live.proofs.OneLine.{Fits, line_fits, all_again, ack_one, taken_wants, setup_apart, setup_one, one_answer, gone_wants}
+use Rattle.dap_live.proofs.OneLine.{Fits, line_fits, all_again, ack_one, taken_wants, setup_apart, setup_one, one_answer, stays_alike, gone_wants}
 
 -- what became of a line
 abbrev outcome : Came → Became
@@ -61,7 +61,7 @@ abbrev Two : (one two : Asking) → (said more : List ℕ) → (m n : Came) → 
 Two one two said more m n = AreSameAsking one two × (said ≡ more) × (m ≡ n)
 
 stay : (old other one two : Asking) → AreSameAsking old other → one ≡ old → two ≡ other → AreSameAsking one two
-stay old other one two same e f = subst (λ (a : Asking). AreSameAsking a two) (sym e) (subst (λ (a : Asking). AreSameAsking old a) (sym f) same)
+stay = stays_alike AreSameAsking
 
 on_end : (old other one two : Asking) (said more : List ℕ) (m n : Came) → AreSameAsking old other → OnEnd old one → OnEnd other two → One one two said more m n → Two one two said more m n
 on_end old other one two said more m n same x y h =
@@ -352,7 +352,7 @@ order_one old other one two (Some o) said more b c fits same nb nc (inl x) (inl 
 order_one old other one two (Some o) said more b c fits same nb nc (inl x) (inr y) = absurd (nc y.3)
 order_one old other one two (Some o) said more b c fits same nb nc (inr x) y = absurd (nb x.3)
 
-asking_answers : (one other new end : Asking) (line said more : List ℕ) (b c : Became) → AreSameAsking one other → b ≢ NoMemory → c ≢ NoMemory → answered one line new said b → answered other line end more c
+asking_answers : (one other new end : Asking) (line said more : List ℕ) (b c : Became) → AreSameAsking one other → b ≢ NoMemory → c ≢ NoMemory → answered one (Some line) new said b → answered other (Some line) end more c
     → AreSameAsking new end × (said ≡ more) × (b ≡ c)
 asking_answers one other new end line said more b c same nb nc x y = order_one one other new end (order_of line) said more b c (line_fits line) same nb nc x y
 
@@ -363,7 +363,7 @@ asking_waits one other same = ap (λ (n : ℕ). Some n)
     ∙ ap (λ (l : List Report). waits_of other.end.port.link (goes_on other.end || nat_lt 0 (length l))) same.2)
 
 pub asking_text : HaveOneText answered waiting AreSameAsking
-asking_text = one_text answered waiting AreSameAsking (one_answer answered waiting AreSameAsking asking_answers asking_waits)
+asking_text = one_text answered waiting AreSameAsking (one_answer answered waiting AreSameAsking asking_answers (λ one other new end said more b c. stay one other new end) asking_waits)
 
 -- new ends that are set up alike
 pub new_asking : (one other : Asking) → HasAsked nothing_asked one.end → HasAsked nothing_asked other.end → one.end.port ≡ other.end.port

@@ -165,13 +165,16 @@ unread_bad : (line : List ℕ) (b : Became) → b ≢ NoMemory → ((b ≡ BadLi
 unread_bad line b want (inl h) = h
 unread_bad line b want (inr none) = absurd (want none)
 
+-- ends that are as they were are alike still
+pub stays_alike : {E : Type 0} (AreSame : E → E → Type 0) (one other new end : E) → AreSame one other → new ≡ one → end ≡ other → AreSame new end
+stays_alike {E} AreSame one other new end same e f = subst (λ (x : E). AreSame x end) (sym e) (subst (λ (x : E). AreSame one x) (sym f) same)
+
 module _ {E : Type 0} (answered : Answering E) (waiting : E → Option ℕ) (AreSame : E → E → Type 0)
     (answers : (one other new end : E) (line said more : List ℕ) (b c : Became) → AreSame one other → b ≢ NoMemory → c ≢ NoMemory
-    → answered one line new said b → answered other line end more c → AreSame new end × (said ≡ more) × (b ≡ c))
+    → answered one (Some line) new said b → answered other (Some line) end more c → AreSame new end × (said ≡ more) × (b ≡ c))
+    (misses : (one other new end : E) (said more : List ℕ) (b c : Became) → AreSame one other
+    → answered one None new said b → answered other None end more c → AreSame new end)
     (waits : (one other : E) → AreSame one other → waiting one ≡ waiting other) where
-  stay : (one other new end : E) → AreSame one other → new ≡ one → end ≡ other → AreSame new end
-  stay one other new end same e f = subst (λ (x : E). AreSame x end) (sym e) (subst (λ (x : E). AreSame one x) (sym f) same)
-
   -- ends that wait for as many are given a line, or aren't
   ungiven_apart : (one other new end : E) (line text : List ℕ) (b : Became) → waiting one ≡ waiting other → b ≢ NoMemory → is_given (waiting other) line ≡ false → length line ≤ longest
       → AnswersLine answered waiting one line new text (Some b) → ⊥
@@ -183,7 +186,7 @@ module _ {E : Type 0} (answered : Answering E) (waiting : E → Option ℕ) (Are
       → AnswersLine answered waiting one line new text (Some b) → AnswersLine answered waiting other line end told (Some c)
       → AreSame new end × (text ≡ told) × (became_by b ≡ became_by c)
   some_line one other new end line text told b c same nb nc (inl x) (inl y) =
-      (stay one other new end same x.1 y.1, x.2 ∙ sym y.2, ap became_by ((unread_bad line b nb x.0).0 ∙ sym (unread_bad line c nc y.0).0))
+      (misses one other new end text told b c same x.1 y.1, x.2 ∙ sym y.2, ap became_by ((unread_bad line b nb x.0).0 ∙ sym (unread_bad line c nc y.0).0))
   some_line one other new end line text told b c same nb nc (inl x) (inr y) = let bad = unread_bad line b nb x.0 in absurd (omega (arith, bad.1, y.1))
   some_line one other new end line text told b c same nb nc (inr x) (inl y) = let bad = unread_bad line c nc y.0 in absurd (omega (arith, bad.1, x.1))
   some_line one other new end line text told b c same nb nc (inr x) (inr y) =
@@ -191,7 +194,7 @@ module _ {E : Type 0} (answered : Answering E) (waiting : E → Option ℕ) (Are
 
   any_line : (one other new end : E) (line text told : List ℕ) (b c : Option Became) → AreSame one other → b ≢ Some NoMemory → c ≢ Some NoMemory
       → AnswersLine answered waiting one line new text b → AnswersLine answered waiting other line end told c → AreSame new end × (text ≡ told) × (b ≡ c)
-  any_line one other new end line text told None None same nb nc x y = (stay one other new end same x.2 y.2, x.3 ∙ sym y.3, refl)
+  any_line one other new end line text told None None same nb nc x y = (stays_alike AreSame one other new end same x.2 y.2, x.3 ∙ sym y.3, refl)
   any_line one other new end line text told None (Some c) same nb nc x y =
       absurd (ungiven_apart other one end new line told c (sym (waits one other same)) (λ e. nc (ap became_by e)) x.0 x.1 y)
   any_line one other new end line text told (Some b) None same nb nc x y =

@@ -50,7 +50,7 @@ use Rattle.dap_live.specs.Texts.{LineAnswer, add_refusal, end_refusal, link_refu
 use Rattle.dap_live.specs.Both.{DoneOr, Stays}
 use Rattle.dap_live.specs.Node.{AddsFileTo, AddsLink, AddsRecordTo, BeginsOn, Does, DoesNodeOrder, EndsOn, FindsLink, GivenTo, GoesOnWith, HasRun, HasSent, IsNew, NoLink, OnLocal, OnNode, Refuses, Renews, ResendsOn, Says, TakesOn, TakesPacketOf, about, answered, is_behind_at, node_taken_said, of_none, receiver_of, sender_of, served_said, waiting, waits_on}
 use Rattle.dap_live.specs.Inner.OneText.{AreSameNodes, HasCarried}
-use Rattle.dap_live.proofs.OneLine.{ack_one, all_again, end_wants, hex_fits, HexFits, one_answer, setup_apart, setup_one}
+use Rattle.dap_live.proofs.OneLine.{ack_one, all_again, end_wants, hex_fits, HexFits, one_answer, setup_apart, setup_one, stays_alike}
 use Rattle.dap_live.proofs.Forms.{all_fit, also, ends_fit, field_fits, form_fits, none_fit}
 use Rattle.dap_live.proofs.OneTurn.{going_same, noted_parts, shared_one, taking_same}
 
@@ -495,12 +495,17 @@ begun-one one other same =
     ∙ ap (λ (s : LinkSetup). record (of_none one) { node = other.node; usual = s }) same.1
     ∙ ap (λ (n : ℕ). record (of_none one) { node = other.node; usual = other.usual; most_waiting = n }) same.2
 
-node-answers : (one other new end : Node) (line said more : List ℕ) (b c : Became) → AreSameNodes one other → b ≢ NoMemory → c ≢ NoMemory → answered one line new said b → answered other line end more c
+node-answers : (one other new end : Node) (line said more : List ℕ) (b c : Became) → AreSameNodes one other → b ≢ NoMemory → c ≢ NoMemory → answered one (Some line) new said b → answered other (Some line) end more c
     → AreSameNodes new end × (said ≡ more) × (b ≡ c)
 node-answers one other new end line said more b c same nb nc x y =
     let there = subst (λ (n : Node). DoesNodeOrder n (node_order_of line) end more c) (sym (begun-one one other same)) y in
     let t = order-one (node_order_of line) (of_none one) new end said more b c (line-fits line) same.4 nb nc x there in
     ((ap (λ (n : Node). n.node) t.0, ap (λ (n : Node). n.usual) t.0, ap (λ (n : Node). n.most_waiting) t.0, ap (λ (n : Node). n.last) t.0, t.3), t.1, t.2)
+
+-- and behind a line that they miss
+node-misses : (one other new end : Node) (said more : List ℕ) (b c : Became) → AreSameNodes one other → answered one None new said b → answered other None end more c → AreSameNodes new end
+node-misses one other new end said more b c same x y =
+    stays_alike AreSameNodes (of_none one) (of_none other) new end (same.0, same.1, same.2, refl, same.4) x y
 
 -- both wait for as many packets
 waits-one : (one other : Node) → AreSameNodes one other → waiting one ≡ waiting other
@@ -510,7 +515,7 @@ waits-one one other same =
     ∙ ap (λ (l : Option ℕ). waits_on other.most_waiting l other.node) same.3)
 
 pub node_text : HaveOneText answered waiting AreSameNodes
-node_text = one_text answered waiting AreSameNodes (one_answer answered waiting AreSameNodes node-answers waits-one)
+node_text = one_text answered waiting AreSameNodes (one_answer answered waiting AreSameNodes node-answers node-misses waits-one)
 
 -- ---- A new node.
 

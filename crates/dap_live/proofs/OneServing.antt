@@ -39,7 +39,7 @@ use Rattle.dap_live.specs.Serving.{Resends, is_behind, IsNew, Added, AddsFile, A
 use Rattle.dap_live.specs.Both.{DoesOrder, DoneOr, SaysGone, Stays, TakesPacket}
 use Rattle.dap_live.specs.Inner.Saying.{AddsShaped}
 use Rattle.dap_live.specs.Inner.OneText.{HasServed, AreSameServing}
-use Rattle.dap_live.proofs.OneLine.{Fits, line_fits, all_again, ack_one, gone_wants, taken_wants, setup_apart, setup_one, one_answer}
+use Rattle.dap_live.proofs.OneLine.{Fits, line_fits, all_again, ack_one, gone_wants, taken_wants, setup_apart, setup_one, one_answer, stays_alike}
 
 -- what a call leaves and says: one end, which did something through its calls, one text, and one outcome
 abbrev One : (one two : ServingValue) → (said more : List ℕ) → (b c : Became) → Type 0
@@ -105,7 +105,7 @@ abbrev Two : (one two : Serving) → (said more : List ℕ) → (b c : Became) �
 Two one two said more b c = AreSameServing one two × (said ≡ more) × (b ≡ c)
 
 stay : (old other one two : Serving) → AreSameServing old other → one ≡ old → two ≡ other → AreSameServing one two
-stay old other one two same e f = subst (λ (s : Serving). AreSameServing s two) (sym e) (subst (λ (s : Serving). AreSameServing old s) (sym f) same)
+stay = stays_alike AreSameServing
 
 -- over the same files
 abbrev NewBy : Serving → Anew → Serving → Type 0
@@ -305,14 +305,14 @@ order_one old other one two (Some o) said more b c fits same nb nc (inl x) (inl 
 order_one old other one two (Some o) said more b c fits same nb nc (inl x) (inr y) = absurd (nc y.3)
 order_one old other one two (Some o) said more b c fits same nb nc (inr x) y = absurd (nb x.3)
 
-serving_answers : (one other new end : Serving) (line said more : List ℕ) (b c : Became) → AreSameServing one other → b ≢ NoMemory → c ≢ NoMemory → answered one line new said b → answered other line end more c
+serving_answers : (one other new end : Serving) (line said more : List ℕ) (b c : Became) → AreSameServing one other → b ≢ NoMemory → c ≢ NoMemory → answered one (Some line) new said b → answered other (Some line) end more c
     → AreSameServing new end × (said ≡ more) × (b ≡ c)
 serving_answers one other new end line said more b c same nb nc x y = order_one one other new end (order_of line) said more b c (line_fits line) same nb nc x y
 
 pub serving_text : HaveOneText answered waiting AreSameServing
 serving_text =
     one_text answered waiting AreSameServing
-    (one_answer answered waiting AreSameServing serving_answers (λ one other same. ap (λ (n : ℕ). Some n)
+    (one_answer answered waiting AreSameServing serving_answers (λ one other new end said more b c. stay one other new end) (λ one other same. ap (λ (n : ℕ). Some n)
     (ap (λ (v : ServingValue). waits_of v.port.link (is_behind one.most_waiting v)) same.0
     ∙ ap (λ (n : ℕ). waits_of other.end.port.link (is_behind n other.end)) same.2)))
 

@@ -1,5 +1,5 @@
 -- What a client does by a line, and what it answers.
-use Rattle.std.specs.Prelude.{false, ◌≡◌, ◌⊎◌, ℕ, ◌++◌, Bool, MatchBool, not, ◌&&◌, ◌||◌, nat_lt, length, List, [], ◌∷◌, codes, Option, Some, Result, Err}
+use Rattle.std.specs.Prelude.{false, ◌≡◌, ◌⊎◌, ℕ, ◌++◌, Bool, MatchBool, not, ◌&&◌, ◌||◌, nat_lt, length, List, [], ◌∷◌, codes, Option, Some, None, Result, Err}
 use Rattle.std.specs.List.{concat}
 use Rattle.std.specs.Fmt.{decimal}
 use Rattle.nsp_link.specs.declared.link.Got.{Got}
@@ -106,9 +106,11 @@ IsForAsking (order.File file) = ⊥
 IsForAsking (order.Record r) = ⊥
 IsForAsking _ = Unit {0}
 
--- What a client does by a line. Where memory is refused to the answer, the reports still wait.
-abbrev pub answered : Asking → List ℕ → Asking → List ℕ → Became → Type 0
-answered old line new text became = DoesOrder IsForAsking Does DoesAll old (order_of line) new text became
+-- What a client does by a line; one that it misses changes nothing. Where memory is refused to the answer, the reports still
+-- wait.
+abbrev pub answered : Asking → Option (List ℕ) → Asking → List ℕ → Became → Type 0
+answered old None new text became = new ≡ old
+answered old (Some line) new text became = DoesOrder IsForAsking Does DoesAll old (order_of line) new text became
 
 -- the packets that aren't acknowledged, and one more where going on would do something, or reports wait
 abbrev pub waiting : Asking → Option ℕ

@@ -256,9 +256,10 @@ DoesNodeOrder old (Some o) new text became =
     Does old o new text became
     ⊎ ((IsNotDone old o new ⊎ ((said : List ℕ) × (came : Became) × Does old o new said came)) × (text ≡ []) × (became ≡ NoMemory))
 
--- what a node does by a line
-abbrev pub answered : Node → List ℕ → Node → List ℕ → Became → Type 0
-answered old line new text became = DoesNodeOrder (of_none old) (node_order_of line) new text became
+-- what a node does by a line; one that it misses concerns no link, and changes nothing else
+abbrev pub answered : Node → Option (List ℕ) → Node → List ℕ → Became → Type 0
+answered old None new text became = new ≡ of_none old
+answered old (Some line) new text became = DoesNodeOrder (of_none old) (node_order_of line) new text became
 
 -- the lines of the files from a place on
 abbrev pub pieces : Node → FilesPlace → List (List ℕ)

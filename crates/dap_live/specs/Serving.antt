@@ -1,5 +1,5 @@
 -- What a server does by a line, and what it answers.
-use Rattle.std.specs.Prelude.{◌≡◌, Bool, ℕ, MatchBool, List, [], MatchOption, Option, Some}
+use Rattle.std.specs.Prelude.{◌≡◌, Bool, ℕ, MatchBool, List, [], MatchOption, Option, Some, None}
 use Rattle.rec_file.specs.Shapes.{checked_shape}
 use Rattle.dap_msg.specs.Codes.{stscode, reasons}
 use Rattle.dap_accessed.specs.Standing.{Files}
@@ -93,9 +93,10 @@ abbrev pub IsForServing : Order → Type 0
 IsForServing (order.Ask request) = ⊥
 IsForServing _ = Unit {0}
 
--- what a server does by a line
-abbrev pub answered : Serving → List ℕ → Serving → List ℕ → Became → Type 0
-answered old line new text became = DoesOrder IsForServing Does Does old (order_of line) new text became
+-- what a server does by a line; one that it misses changes nothing
+abbrev pub answered : Serving → Option (List ℕ) → Serving → List ℕ → Became → Type 0
+answered old None new text became = new ≡ old
+answered old (Some line) new text became = DoesOrder IsForServing Does Does old (order_of line) new text became
 
 -- the lines of the files from a place on
 abbrev pub pieces : Serving → FilesPlace → List (List ℕ)

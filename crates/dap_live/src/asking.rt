@@ -368,6 +368,8 @@ impl Answers for Asking {
         Answer::Whole(answer_order(self, read_order(line), text))
     }
 
+    fn miss(&mut self) {}
+
     fn more(&self, _place: (), _text: &mut Vec<u8>) -> Result<Option<()>, AllocError> {
         Ok(None)
     }

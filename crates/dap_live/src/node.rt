@@ -9,8 +9,9 @@ ghost use Rattle.dap_accessed.specs.Adding.{with_new_file};
 ghost use Rattle.dap_accessed.specs.Standing.{place_of};
 ghost use Rattle.dap_shared.specs.Nodes.{Gives};
 ghost use Rattle.dap_shared.specs.Shared.{NotAdded};
+ghost use Rattle.nsp_link.specs.Link.{IsSetup, SetupFault};
 ghost use Rattle.dap_end.specs.Ports.{PortValue};
-ghost use Rattle.dap_end.specs.Node.{AtPort, HasPort, NodeNotGiven, OnLink, has_local, serves_on};
+ghost use Rattle.dap_end.specs.Node.{AtPort, BeganOn, HasPort, NodeNotGiven, OnLink, has_local, serves_on};
 ghost use Rattle.dap_end.specs.Turns.{Takes, WentOn};
 ghost use Rattle.linewise.specs.Talks.{Begins};
 ghost use Rattle.linewise.specs.declared.talking.Became.{Became as TheBecame};
@@ -20,7 +21,7 @@ ghost use Rattle.dap_live.specs.Sending.{SaysAck, UnlessFailed};
 ghost use Rattle.dap_live.specs.Texts.{LineAnswer, add_refusal};
 ghost use Rattle.dap_live.specs.Inner.NodeReaching.{Done, NodeReaches};
 ghost use Rattle.dap_live.specs.NodeOrders.{setup_beside};
-ghost use Rattle.dap_live.specs.Node.{AddsFileTo, AddsLink, AddsRecordTo, BeginsOn, Does, DoesNodeOrder, FindsLink, GivenTo, GoesOnWith, IsNew, IsNotDone, NoLink, ResendsOn, TakesOn, about, is_behind_at, pieces, receiver_of, sender_of, waits_on as waits_by};
+ghost use Rattle.dap_live.specs.Node.{AddsFileTo, AddsLink, AddsRecordTo, BeginsOn, Does, DoesNodeOrder, FindsLink, GivenTo, GoesOnWith, IsNew, IsNotDone, NoLink, ResendsOn, TakesOn, about, is_behind_at, of_none, pieces, receiver_of, sender_of, waits_on as waits_by};
 
 use crate::node_orders::{NodeOrder, read_node_order, set_up_beside};
 use crate::sending::{has_message, is_left, push_again, say_ack, waits};
@@ -80,6 +81,8 @@ fn find(node: &ServingNode, local: u16) -> Option<usize>
     ensures found { result ≡ position (has_local local) node.now.ports }
     ensures there { IfSome result (λ link. (p : PortValue) × HasPort link node.now p) }
     ensures within { IfSome result (λ link. link < length node.now.ports) }
+    ensures only { (link : ℕ) (p : PortValue) → HasPort link node.now p
+        → p.link.setup.local ≡ local → result ≡ Some link }
 {
     node.find_local(local)
 }
@@ -300,7 +303,24 @@ fn close(node: &mut Node, local: u16, text: &mut Vec<u8>) -> Result<Became, Allo
     }
 }
 
-/// Begins a link with this setup, which the line concerns then.
+/// Begins a link whose own address no other link has.
+fn begin(
+    node: &mut ServingNode,
+    alloc: Global,
+    link: usize,
+    setup: LinkSetup,
+) -> Result<(), LinkFault>
+    requires link { link < length node.old.ports }
+    requires alone { (other : ℕ) (p : PortValue) → HasPort other node.old p
+        → p.link.setup.local ≡ setup.local → other ≡ link }
+    ensures ok { OnOk result (BeganOn link setup node.old node.new) }
+    ensures setup { OnOk result (IsSetup setup) }
+    ensures err { IfErr result (λ f. (node.new ≡ node.old) × SetupFault setup f) }
+{
+    node.begin(alloc, link, setup)
+}
+
+/// Begins a link with this setup, which the line concerns then. No other link has its own address.
 fn begin_on(
     node: &mut Node,
     link: usize,
@@ -308,11 +328,13 @@ fn begin_on(
     text: &mut Vec<u8>,
 ) -> Result<Became, AllocError>
     requires link { link < length node.old.node.ports }
+    requires alone { (other : ℕ) (p : PortValue) → HasPort other node.old.node p
+        → p.link.setup.local ≡ setup.local → other ≡ link }
     requires text { text.old.items ≡ [] }
     ensures ok { IfOk result (BeginsOn link setup node.old node.new text.new.items) }
     ensures err { OnErr result (node.new ≡ node.old) }
 {
-    match node.node.begin(node.alloc, link, setup) {
+    match begin(&mut node.node, node.alloc, link, setup) {
         Ok(()) => {
             node.last = Some(link);
             Ok(Became::Done)
@@ -335,9 +357,11 @@ fn refuse_link(setup: LinkSetup, text: &mut Vec<u8>) -> Result<Became, AllocErro
     }
 }
 
-/// Adds a link with this setup.
+/// Adds a link with this setup, whose own address no link has.
 fn add_link(node: &mut Node, setup: LinkSetup, text: &mut Vec<u8>) -> Result<Became, AllocError>
-    requires { text.old.items ≡ [] }
+    requires unused { (other : ℕ) (p : PortValue) → HasPort other node.old.node p
+        → p.link.setup.local ≡ setup.local → ⊥ }
+    requires text { text.old.items ≡ [] }
     ensures ok { IfOk result (AddsLink setup node.old node.new text.new.items) }
     ensures err { OnErr result (node.new ≡ node.old) }
 {
@@ -347,7 +371,7 @@ fn add_link(node: &mut Node, setup: LinkSetup, text: &mut Vec<u8>) -> Result<Bec
     }
 }
 
-/// Renews a link, with its own address and this peer.
+/// Renews a link, with its own address, which no other link has, and this peer.
 fn renew_on(
     node: &mut Node,
     link: usize,
@@ -358,6 +382,8 @@ fn renew_on(
 ) -> Result<Became, AllocError>
     requires there { (p : PortValue) × HasPort link node.old.node p }
     requires within { link < length node.old.node.ports }
+    requires alone { (other : ℕ) (p : PortValue) → HasPort other node.old.node p
+        → p.link.setup.local ≡ local → other ≡ link }
     requires text { text.old.items ≡ [] }
     ensures ok { IfOk result (λ became. AtPort link node.old.node (λ p. BeginsOn link
         (setup_beside p.link.setup local remote segment) (about link node.old) node.new
@@ -505,15 +531,17 @@ fn answer_one(node: &mut Node, order: NodeOrder<'_>, text: &mut Vec<u8>) -> Answ
     }
 }
 
-/// Answers what a line says.
+/// Answers what a line says, which concerns no link so far.
 fn answer_order(
     node: &mut Node,
     order: Option<NodeOrder<'_>>,
     text: &mut Vec<u8>,
 ) -> Answer<FilesPlace>
     requires { text.old.items ≡ [] }
-    ensures { Begins DoesNodeOrder pieces node.old order.entry node.new text.new.items result }
+    ensures { Begins DoesNodeOrder pieces (of_none node.old) order.entry
+        node.new text.new.items result }
 {
+    node.last = None;
     match order {
         Some(order) => answer_one(node, order, text),
         None => Answer::Whole(Became::BadLine),
@@ -545,8 +573,11 @@ impl Answers for Node {
     ghost pieces = { pieces };
 
     fn answer(&mut self, line: &[u8], text: &mut Vec<u8>) -> Answer<FilesPlace> {
-        self.last = None;
         answer_order(self, read_node_order(line), text)
+    }
+
+    fn miss(&mut self) {
+        self.last = None;
     }
 
     fn more(

@@ -366,6 +366,8 @@ impl Answers for Serving {
         answer_order(self, read_order(line), text)
     }
 
+    fn miss(&mut self) {}
+
     fn more(
         &self,
         place: FilesPlace,

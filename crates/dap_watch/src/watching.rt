@@ -197,6 +197,8 @@ impl Answers for Watching {
         }
     }
 
+    fn miss(&mut self) {}
+
     fn more(&self, _place: (), _text: &mut Vec<u8>) -> Result<Option<()>, AllocError> {
         Ok(None)
     }

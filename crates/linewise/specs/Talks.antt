@@ -48,9 +48,10 @@ abbrev pub said_of : List ℕ → Option Became → Option ℕ → List ℕ
 said_of text None count = []
 said_of text (Some became) count = text ++ ending_of became count
 
--- what an end does by a line: the end then, its text, and what became of the line
+-- What an end does by a line: the end then, its text, and what became of the line. `None` is a line that it missed, since it
+-- wasn't read whole.
 abbrev pub Answering : Type 0 → Type 1
-Answering E = E → List ℕ → E → List ℕ → Became → Type 0
+Answering E = E → Option (List ℕ) → E → List ℕ → Became → Type 0
 
 -- An answer that is given in pieces: all of them, or those before the first one to which memory was refused.
 abbrev pub ComesIn : List (List ℕ) → List ℕ → Became → Type 0
@@ -71,14 +72,14 @@ abbrev pub GivesPiece : {P : Type 0} → (pieces : P → List (List ℕ)) → P 
 GivesPiece pieces place text None = (pieces place ≡ []) × (text ≡ [])
 GivesPiece pieces place text (Some next) = pieces place ≡ text ∷ pieces next
 
--- What comes of a line. A line that is too long is a bad line. The end isn't given it, nor a line to which memory was
--- refused.
+-- What comes of a line. A line that is too long is a bad line. The end misses it, and a line to which memory was refused:
+-- it learns that there was one, and has no text.
 abbrev pub AnswersLine : {E : Type 0} → Answering E → (E → Option ℕ) → E → List ℕ → E → List ℕ → Option Became → Type 0
 AnswersLine answered waiting old line new text None =
     (is_given (waiting old) line ≡ false) × (length line ≤ longest) × (new ≡ old) × (text ≡ [])
 AnswersLine answered waiting old line new text (Some became) =
-    ((((became ≡ BadLine) × (longest < length line)) ⊎ (became ≡ NoMemory)) × (new ≡ old) × (text ≡ []))
-    ⊎ ((is_given (waiting old) line ≡ true) × (length line ≤ longest) × answered old line new text became)
+    ((((became ≡ BadLine) × (longest < length line)) ⊎ (became ≡ NoMemory)) × answered old None new text became × (text ≡ []))
+    ⊎ ((is_given (waiting old) line ≡ true) × (length line ≤ longest) × answered old (Some line) new text became)
 
 -- what is answered to a line
 pub record SaysTo {E : Type 0} (answered : Answering E) (waiting : E → Option ℕ) (old : E) (line : List ℕ) (new : E) (said : List ℕ) (became : Option Became) : Type 0 where

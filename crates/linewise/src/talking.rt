@@ -6,6 +6,7 @@ ghost use Rattle.std.specs.Io.KnownBytes.{Appends, Keeps, IsAtEnd};
 ghost use Rattle.std.specs.Io.BufRead.{first_line, drop_through, strip_last};
 ghost use Rattle.linewise.specs.Output.{WritesFront};
 ghost use Rattle.linewise.specs.Talks.{ComesIn, Fails, IsUnbroken, Talked, is_bad as is_bad_line, is_given as given_by, is_skipped as says_nothing};
+ghost use Rattle.linewise.specs.declared.talking.Answer.{Answer as TheAnswer};
 ghost use Rattle.linewise.specs.declared.talking.Became.{Became as TheBecame};
 ghost use Rattle.linewise.specs.Inner.Kept.{Holds, without_end as ended};
 ghost use Rattle.linewise.specs.Inner.Steps.{BeginsLine, Breaks, Completes, Ends, Goes, Says};
@@ -44,8 +45,9 @@ pub trait Answers {
     /// Where an answer that is said piece by piece goes on.
     type Place: Copy;
 
-    // What it may come to by a line, the text of its answer, and what became of the line.
-    ghost answered: { Self → List ℕ → Self → List ℕ → Became → Type 0 };
+    // What it may come to by a line, the text of its answer, and what became of the line. `None` is a line that it missed,
+    // since it wasn't read whole.
+    ghost answered: { Self → Option (List ℕ) → Self → List ℕ → Became → Type 0 };
 
     // How many packets it waits to be acknowledged, and one more where it has something left to do; or that its answers have
     // no ending.
@@ -57,7 +59,12 @@ pub trait Answers {
     /// Answers a line, which comes without its end, or begins to. The text comes empty.
     fn answer(&mut self, line: &[u8], text: &mut Vec<u8>) -> Answer<Self::Place>
         requires { text.old.items ≡ [] }
-        ensures { Begins answered pieces self.old line.now self.new text.new.items result };
+        ensures { Begins answered pieces self.old (Some line.now) self.new text.new.items result };
+
+    /// Misses a line, which is too long, or to which memory was refused while it was read. The answer is that, and how many
+    /// packets the end waits for then.
+    fn miss(&mut self)
+        ensures { (became : Became) → answered self.old None self.new [] became };
 
     /// The next piece of an answer, and where it goes on after that; nothing where all is said. The text comes
     /// empty.
@@ -138,6 +145,15 @@ fn is_given(waits: Option<usize>, line: &[u8]) -> bool
     }
 }
 
+/// The answer to a line that wasn't read whole, which the end misses.
+fn miss<E: Answers>(end: &mut E, became: Became) -> Answer<E::Place>
+    ensures missed { E.answered end.old None end.new [] became }
+    ensures whole { result ≡ TheAnswer.Whole became }
+{
+    end.miss();
+    Answer::Whole(became)
+}
+
 /// Answers a line, of which nothing is left out, or begins to; nothing where the end isn't given it.
 fn answer_whole<E: Answers>(
     end: &mut E,
@@ -148,7 +164,7 @@ fn answer_whole<E: Answers>(
     ensures { BeginsLine E.answered E.waiting E.pieces end.old line.now end.new text.new.items result }
 {
     if line.len() > LONGEST {
-        return Some(Answer::Whole(Became::BadLine));
+        return Some(miss(end, Became::BadLine));
     }
     if !is_given(end.waits(), line) {
         return None;
@@ -164,8 +180,8 @@ fn answer_read<E: Answers>(end: &mut E, line: &Line, text: &mut Vec<u8>) -> Opti
 {
     match line.kept {
         Kept::All => answer_whole(end, without_end(&line.bytes), text),
-        Kept::TooLong => Some(Answer::Whole(Became::BadLine)),
-        Kept::NoMemory => Some(Answer::Whole(Became::NoMemory)),
+        Kept::TooLong => Some(miss(end, Became::BadLine)),
+        Kept::NoMemory => Some(miss(end, Became::NoMemory)),
     }
 }
 

@@ -62,13 +62,14 @@ pub record PassesBy (line : List ℕ) (old new : Watching) : Type 0 where
   pub streams : new.streams ≡ old.streams
   pub before : frame_words new.before.items ≡ frame_words line
 
--- A line's packet is listed, and goes to those that are kept.
-abbrev pub answered : Watching → List ℕ → Watching → List ℕ → Became → Type 0
-answered old line new text Done =
+-- A line's packet is listed, and goes to those that are kept. A line that is missed changes nothing.
+abbrev pub answered : Watching → Option (List ℕ) → Watching → List ℕ → Became → Type 0
+answered old None new text became = new ≡ old
+answered old (Some line) new text Done =
     ((line_of packet_limit line ≡ Ok None) × PassesBy line old new × (text ≡ []))
     ⊎ ((capture : Capture) × (line_of packet_limit line ≡ Ok (Some capture)) × GoesOn capture old new text)
-answered old line new text BadLine = (is_err (line_of packet_limit line) ≡ true) × PassesBy line old new × (text ≡ [])
-answered old line new text NoMemory = text ≡ []
+answered old (Some line) new text BadLine = (is_err (line_of packet_limit line) ≡ true) × PassesBy line old new × (text ≡ [])
+answered old (Some line) new text NoMemory = text ≡ []
 
 -- its answers have no ending
 abbrev pub waiting : Watching → Option ℕ

@@ -3,6 +3,7 @@ use Rattle.std.specs.Prelude.{set}
 use Rattle.std.proofs.lemmas.Option.{slice_get_within}
 use Rattle.std.proofs.lemmas.List.{length-set}
 use Rattle.nsp_link.specs.declared.link.Got.TheVariants.{AckOnly}
+use Rattle.nsp_link.specs.declared.link.LinkSetup.{LinkSetup}
 use Rattle.dap_msg.specs.Blocked.{bodies}
 use Rattle.dap_shared.specs.Noted.{NotedValue}
 use Rattle.std.specs.Result.{result_map_both}
@@ -11,9 +12,11 @@ use Rattle.dap_end.specs.Turns.{WentOn}
 use Rattle.dap_end.specs.By.{end_with}
 use Rattle.dap_end.specs.Ports.{PortValue}
 use Rattle.dap_end.specs.Inner.NodeInside.{IsNode}
-use Rattle.dap_end.specs.Node.{NodeValue, forgotten, serves_on}
+use Rattle.dap_end.specs.Node.{NodeValue, serves_on}
 use Rattle.dap_end.proofs.Links.{by-answered, addresses-of, keeps-addresses, keeps-links, links-of}
 use Rattle.dap_end.proofs.Ports.{node-again, set-again}
+use Rattle.dap_end.proofs.Setups as setups
+use Rattle.dap_end.proofs.Tables.{table-kept}
 use Rattle.dap_end.proofs.node.ServingNode.go_on.Goals as goal
 
 pub go_on-result-requires-clause-kept : goal.go_on-result-requires-clause-kept
@@ -36,8 +39,10 @@ pub invariant_of-self : goal.invariant_of-self
 invariant_of-self c =
     let v : NodeValue = record { noted = c.self.inside.noted; ports = c.self.inside.ports.items } in
     let many = by-answered ℕ links-of keeps-links c.args.link c.args.most_waiting (end_with c.take_port-port.result c.forget.new.self) (end_with c.go_on-result.new.port c.go_on-result.new.server) AckOnly _ _ _ c.go_on-result.ensures.went ∙ ap links-of c.forget.ensures in
-    subst (λ (l : List (Option PortValue)). IsNode (record { noted = c.go_on-result.new.server; ports = set l c.args.link (Some c.go_on-result.new.port) })) (sym c.take_port-port.ensures.rest)
-    (node-again v c.args.link c.go_on-result.new.server c.go_on-result.new.port c.self.invariant many c.go_on-result.ensures.kept)
+    let setup = setups.by-answered c.args.link c.args.most_waiting (end_with c.take_port-port.result c.forget.new.self) (end_with c.go_on-result.new.port c.go_on-result.new.server) AckOnly _ _ _ c.go_on-result.ensures.went in
+    let right = table-kept c.self.inside.by_local.items v.ports c.args.link c.self.invariant.table c.go_on-result.new.port c.take_port-port.result c.take_port-port.ensures.port (ap (λ (s : LinkSetup). s.local) setup) in
+    subst (λ (l : List (Option PortValue)). IsNode c.self.inside.by_local.items (record { noted = c.go_on-result.new.server; ports = set l c.args.link (Some c.go_on-result.new.port) })) (sym c.take_port-port.ensures.rest)
+    (node-again c.self.inside.by_local.items v c.args.link c.go_on-result.new.server c.go_on-result.new.port c.self.invariant many c.go_on-result.ensures.kept right)
 
 pub returns-clause-went : goal.returns-clause-went
 returns-clause-went c =
