@@ -41,6 +41,13 @@ WORDS = {"serve": ["serve"], "ask": ["ask"], "links": ["serve", "--links", "3"]}
 # lines that change nothing, and show what waits and what is stored
 PROBES = {"serve": [b"resend", b"files"], "ask": [b"resend"], "links": [b"resend 0202", b"resend 0303", b"files"]}
 ALONE = ("serve", "ask")  # ends of one link
+# what each end is told before a line that is too long, and behind it, so that it answers alike; of the end of
+# several links a packet waits then to be acknowledged, but the line is of no link
+AROUND = {
+    "serve": [b"ack"],
+    "ask": [b"ack"],
+    "links": [b"new 0202 0101", b"> 60020201010080010001020a00040703050600000000", b"resend 0202"],
+}
 # A talk of each end whose last line has packets in its answer. Nothing else comes of itself where none of them could be
 # written: the asking end was asked, and the packet to the serving end opened its window, and acknowledges all before.
 LAST = {
@@ -484,13 +491,14 @@ class LiveEnds:
 
     def endless(self, role):
         """A line without an end, of several lengths: it is bad, isn't kept, and the next one is answered."""
+        words, before = [self.program, *WORDS[role]], AROUND[role]
         for size in (16_777_217, 20_000_000, 200_000_000):
             with tempfile.TemporaryFile() as output, tempfile.TemporaryFile() as told:
-                process = subprocess.Popen([self.program, role], stdin=subprocess.PIPE, stdout=output, stderr=told)
-                process.stdin.write(b"ack\n")
+                process = subprocess.Popen(words, stdin=subprocess.PIPE, stdout=output, stderr=told)
+                process.stdin.write(b"".join(line + b"\n" for line in before))
                 for at in range(0, size, 1 << 20):
                     process.stdin.write(b"a" * min(1 << 20, size - at))
-                process.stdin.write(b"\nack\n")
+                process.stdin.write(b"\n" + before[-1] + b"\n")
                 process.stdin.close()
                 _process, status, used = os.wait4(process.pid, 0)
                 process.returncode = os.waitstatus_to_exitcode(status)
@@ -498,10 +506,11 @@ class LiveEnds:
                 told.seek(0)
                 answers, said = answers_of(output.read()), told.read()
             is_right = (
-                (process.returncode, said) == (1, b"bad line 2\n")
-                and len(answers) == 3
-                and answers[0] == answers[2]
-                and answers[1] == [BAD_LINE, b"waits 0"]
+                (process.returncode, said) == (1, b"bad line %d\n" % (len(before) + 1))
+                and len(answers) == len(before) + 2
+                and answers[-3] == answers[-1]
+                and answers[-2] == [BAD_LINE, b"waits 0"]
+                and (role != "links" or answers[-1][-1] == b"waits 1")
                 and used.ru_maxrss * 1024 <= MOST_MEMORY
             )
             self.count(
@@ -520,7 +529,7 @@ class LiveEnds:
             self.resent(role)
             self.fail(role)
             self.unwritten(role)
-        for role in ALONE:
+        for role in PROBES:
             self.endless(role)
         # last: what this script keeps in memory counts for the memory of a program that it starts
         for role in ALONE:
