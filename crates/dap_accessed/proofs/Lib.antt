@@ -1,4 +1,5 @@
 pub mod Tables
+pub mod Finding
 pub mod Entries
 pub mod Opens
 pub mod Writing

@@ -1,3 +1,4 @@
+pub mod Setup
 pub mod Standing
 pub mod Replies
 pub mod Past

@@ -8,6 +8,8 @@ ghost use Rattle.dap_msg.specs.Blocked.{AllFit};
 ghost use Rattle.dap_msg.specs.Sendable.{AreSendable};
 ghost use Rattle.std.specs.List.{AllByRecursion};
 ghost use Rattle.dap_accessed.specs.Sound.{AreFiles, IsSound};
+ghost use Rattle.dap_accessed.specs.Setup.{IsServerSetup};
+ghost use Rattle.dap_accessed.specs.declared.setup.ServerSetup.{ServerSetup};
 ghost use Rattle.dap_accessed.specs.Standing.{Files, place_of, file_at};
 ghost use Rattle.dap_accessed.specs.Adding.{MayStore, newest, with_new_file, with_record};
 ghost use Rattle.rec_file.specs.Shapes.{is_shape};
@@ -16,7 +18,7 @@ ghost use Rattle.dap_accessed.specs.Groups.{Answers, added, limit_for, stands_af
 
 /// One message more adds its own answers to those of the messages before it, and no others.
 pub fn answers_grow()
-    ensures { (own : ℕ) (first : Files) (items : List TheItem) (item : TheItem)
+    ensures { (own : ServerSetup) (first : Files) (items : List TheItem) (item : TheItem)
         → Answers own first (items ++ item ∷ [])
         ≡ Answers own first items ++ added own first items item }
 {}
@@ -25,20 +27,20 @@ pub fn answers_grow()
 /// is one that `Shape::check` gives, the file that is open is in the table, and what the peer takes is 64 to 65,535
 /// bytes.
 pub fn stays_sound()
-    ensures { (own : ℕ) (first : Files) (items : List TheItem)
+    ensures { (own : ServerSetup) (first : Files) (items : List TheItem)
         → AreFiles first → IsSound (stands_after own first items) }
 {}
 
 /// Each answer to one message more that was read has a spelling, and none is longer than the peer takes.
 pub fn answers_are_sendable()
-    ensures { (own : ℕ) → own < 2 ^ 16 → (first : Files) (items : List TheItem)
+    ensures { (own : ServerSetup) → IsServerSetup own → (first : Files) (items : List TheItem)
         (item : TheItem) → AreFiles first → IsRead item
         → AreSendable (limit_for own first items) (added own first items item) }
 {}
 
 /// All answers to messages that were read have spellings.
 pub fn answers_fit()
-    ensures { (own : ℕ) → own < 2 ^ 16 → (first : Files) (items : List TheItem)
+    ensures { (own : ServerSetup) → IsServerSetup own → (first : Files) (items : List TheItem)
         → AreFiles first → AllByRecursion IsRead items → AllFit (Answers own first items) }
 {}
 

@@ -21,7 +21,7 @@ pub record HasAsked (past : AskingPast) (v : AskingValue) : Type 0 where
   pub asking : StandsAfter past.requests past.answers v.present
   pub gone : GoneThrough past.given v.port.link.coming.inbox v.port.place past.answers
   pub sends : Sends v.port.link past.handed
-  pub messages : messages_in past.asked ≡ Asked v.present.own past.requests
+  pub messages : messages_in past.asked ≡ Asked v.present.identity past.requests
   pub waiting : past.handed ++ v.port.outbox ≡ all_joined past.asked
   -- each message has a spelling, and no NSP message is without one
   pub fit : AllFit (messages_in past.asked)
@@ -40,6 +40,7 @@ pub record AskedOne (request : Request) (old new : AskingValue) (n : ℕ) : Type
   pub messages : List (List ℕ)
   pub asks : Asks request old.present new.present messages
   pub own : new.present.own ≡ old.present.own
+  pub identity : new.present.identity ≡ old.present.identity
   pub port : new.port ≡ record old.port { outbox = old.port.outbox ++ messages }
   pub count : n ≡ length messages
 
@@ -52,6 +53,7 @@ pub record ReadOne (old new : AskingValue) (report : Option Report) : Type 0 whe
   pub one : NextItem old.port
   pub port : new.port ≡ gone_on old.port one.bytes one.later one.next
   pub own : new.present.own ≡ old.present.own
+  pub identity : new.present.identity ≡ old.present.identity
   pub expected : (past : AskingPast) → HasAsked past old → is_unexpected past.requests past.answers one.item ≡ false
   pub past : (past : AskingPast) → HasAsked past old → HasAsked (record past { given = given_then past.given one.bytes one.next; answers = past.answers ++ one.item ∷ [] }) new
   pub told : (past : AskingPast) → HasAsked past old → Told past.requests (past.answers ++ one.item ∷ []) ≡ Told past.requests past.answers ++ option_to_list report
@@ -63,4 +65,5 @@ pub record ReadNone (old new : AskingValue) (f : ReadFault) : Type 0 where
   pub came : old.port.link.coming.inbox ≡ bytes ∷ later
   pub port : new.port ≡ old.port
   pub own : new.present.own ≡ old.present.own
+  pub identity : new.present.identity ≡ old.present.identity
   pub refused : ReadRefused bytes old.port.place old.present new.present f

@@ -2,6 +2,9 @@
 
 ghost use Rattle.std.specs.Prelude.{◌≡◌, ◌≢◌, ◌≤◌, ◌<◌, ◌+◌, ◌-◌, ℕ, [], ◌∷◌, Ok, Err, Some, None, true, false, length, IfOk, IfErr, IfSome, OnOk, OnErr, IsErrOf, IsTrue, ◌++◌, option_to_list, vec_len, vec_capacity};
 ghost use Rattle.dap_msg.specs.BothEnds.{four_bytes, least_buffer};
+ghost use Rattle.dap_msg.specs.Fitting.{FieldsFit};
+ghost use Rattle.dap_msg.specs.declared.message.Configuration.{Configuration as Own};
+ghost use Rattle.dap_msg.specs.declared.message.Message.TheVariants.{Config};
 ghost use Rattle.dap_msg.specs.Blocked.{bodies};
 ghost use Rattle.nsp_link.specs.Limits.{largest_limit};
 ghost use Rattle.nsp_link.specs.Link.{IsSetup, SetupFault, may_send, IsSpelling};
@@ -33,6 +36,7 @@ ghost use Rattle.dap_end.specs.Inner.AskingView.{asking_of};
 use crate::fault::{EndFault, TakeFault};
 use crate::port::{Port, is_end};
 use dap_accessing::{Accessing, AskFault, Prepared, ReadFault, Report, Request};
+use dap_msg::Configuration;
 use nsp_link::{Got, LinkEnd, LinkFault, LinkSetup};
 use std::alloc::Global;
 use std::marker::Model;
@@ -85,12 +89,33 @@ impl AskingEnd {
         })
     }
 
+    /// The same of a client that says this of itself, with a BUFSIZ of at least 64.
+    pub fn with_identity(
+        alloc: Global,
+        identity: Configuration,
+        setup: LinkSetup,
+    ) -> Result<AskingEnd, LinkFault>
+        requires low { least_buffer ≤ identity.bufsiz }
+        requires fits { FieldsFit (Config identity) }
+        ensures ok { IfOk result (λ end. HasAsked nothing_asked end
+            × (end.port ≡ new_port setup) × (end.present.identity ≡ identity)) }
+        ensures setup { OnOk result (IsSetup setup) }
+        ensures err { IfErr result (SetupFault setup) }
+    {
+        let port = Port::new(alloc, setup)?;
+        Ok(AskingEnd {
+            port,
+            accessing: Accessing::with_identity(alloc, identity),
+        })
+    }
+
     /// The same end for another link: nothing was asked of it, and all that waits is dropped. Refused, with nothing
     /// changed: `BadSetup` where a limit of the setup isn't in its range; `NoMemory`.
     pub fn renew(&mut self, alloc: Global, setup: LinkSetup) -> Result<(), LinkFault>
         ensures ok { OnOk result (HasAsked nothing_asked self.new
             × (self.new.port ≡ new_port setup)
             × (self.new.present.own ≡ self.old.present.own)) }
+        ensures identity { OnOk result (self.new.present.identity ≡ self.old.present.identity) }
         ensures setup { OnOk result (IsSetup setup) }
         ensures err { IfErr result (λ f. (self.new ≡ self.old) × SetupFault setup f) }
     {
@@ -432,7 +457,7 @@ fn keep(reports: &mut Vec<Report>, report: Option<Report>)
 
 /// How many messages a request has at most.
 fn most_messages(request: &Request) -> usize
-    ensures { (own : ℕ) → length (messages_of own request.now) ≤ result }
+    ensures { (own : Own) → length (messages_of own request.now) ≤ result }
 {
     match request {
         Request::Store(bodies) => bodies.0.len().saturating_add(2),

@@ -14,6 +14,7 @@ ghost use Rattle.dap_msg.specs.declared.message.Message.{Message};
 ghost use Rattle.dap_msg.specs.declared.items.Item.TheVariants.{Whole};
 ghost use Rattle.dap_msg.specs.declared.items.Item.{Item};
 ghost use Rattle.dap_msg.specs.Items.{ItemsFrom};
+ghost use Rattle.dap_accessed.specs.declared.setup.ServerSetup.{ServerSetup};
 ghost use Rattle.dap_accessed.specs.Standing.{Files};
 ghost use Rattle.dap_accessed.specs.Groups.{After, Answers};
 ghost use Rattle.dap_accessed.specs.Present.{StandsAfter};
@@ -50,7 +51,7 @@ ghost use Rattle.dap_end.specs.Calls.{AskingRuns, PairRuns, Runs};
 /// over once it was; and what was served on comes after what was served before.
 pub fn serving_ends_stand()
     ensures files { (past : Past) (v : ServingValue) → IsAfter past v
-        → v.present.files ≡ After v.present.own past.first past.items }
+        → v.present.files ≡ After v.present.setup past.first past.items }
     ensures front { (past : Past) (v : ServingValue) → IsAfter past v
         → AreFrontOf (past.given ++ v.port.link.coming.inbox) past.items }
     // The next item is the one at the port's place.
@@ -76,7 +77,7 @@ pub fn serving_ends_stand()
           queue = new.port.link.queue;
         }) }
     // What is joined to NSP messages are all answers, in order.
-    ensures joined { (own : ℕ) (first : Files) (items : List Item)
+    ensures joined { (own : ServerSetup) (first : Files) (items : List Item)
         → messages_in (answers_to own first [] items) ≡ Answers own first items }
 {}
 
@@ -95,7 +96,7 @@ pub fn asking_ends_stand()
         → HasAsked past old → AskedOne request old new n → HasAsked (record past {
           requests = past.requests ++ request ∷ [];
           asked = past.asked ++ Blocked (limit_after (Told past.requests past.answers))
-              (messages_of old.present.own request);
+              (messages_of old.present.identity request);
         }) new }
     ensures posted { (past : AskingPast) (old new : AskingValue) (n : ℕ) → HasAsked past old
         → HandsOver old new n
@@ -218,7 +219,7 @@ pub fn every_run_is_served()
     ensures { (came : List Arrival) (first : Files) (old new : ServingValue)
         (wrote : List Written) → IsAfter (nothing_yet first) old → Runs came old new wrote
         → (past : Past) × IsAfter past new × (past.first ≡ first)
-        × (new.present.files ≡ After new.present.own past.first past.items)
+        × (new.present.files ≡ After new.present.setup past.first past.items)
         × AreWrittenOf new.port.link past.handed wrote }
 {}
 
@@ -343,13 +344,13 @@ pub fn a_peer_is_heard_in_order()
         → (past : AskingPast) × HasAsked past new × AreFrontOf messages past.answers }
 {}
 
-/// What an end holds follows from what it did, from its port, and from its own BUFSIZ. So whatever a call leaves by which an
+/// What an end holds follows from what it did, from its port, and from its setup or its Configuration. So whatever a call leaves by which an
 /// end is as after something known, as those do that make it, renew it or give it files, is determined.
 pub fn ends_are_one()
     ensures serving { (past : Past) (one two : ServingValue) → IsAfter past one → IsAfter past two
-        → one.port ≡ two.port → one.present.own ≡ two.present.own → one ≡ two }
+        → one.port ≡ two.port → one.present.setup ≡ two.present.setup → one ≡ two }
     ensures asking { (past : AskingPast) (one two : AskingValue) → HasAsked past one
-        → HasAsked past two → one.port ≡ two.port → one.present.own ≡ two.present.own
+        → HasAsked past two → one.port ≡ two.port → one.present.identity ≡ two.present.identity
         → one ≡ two }
 {}
 
@@ -430,9 +431,9 @@ pub fn two_ends_keep_the_headline()
           requests = [];
           reports = [];
         }) new → (taken more read rest : List Message)
-        × (taken ++ more ≡ Asked new.a.present.own new.requests)
-        × (new.b.present.files ≡ After new.b.present.own first (map Whole taken))
-        × (read ++ rest ≡ Answers new.b.present.own first (map Whole taken))
+        × (taken ++ more ≡ Asked new.a.present.identity new.requests)
+        × (new.b.present.files ≡ After new.b.present.setup first (map Whole taken))
+        × (read ++ rest ≡ Answers new.b.present.setup first (map Whole taken))
         × (new.reports ≡ Told new.requests (map Whole read)) }
 {}
 

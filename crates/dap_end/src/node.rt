@@ -9,6 +9,7 @@ ghost use Rattle.nsp_link.specs.Sending.{WritesSent, ack_packet_of};
 ghost use Rattle.nsp_link.specs.declared.fault.LinkFault.TheVariants.{Failed, NoSuchSegment};
 ghost use Rattle.nsp_link.specs.declared.fault.LinkFault.TheVariants as fault;
 ghost use Rattle.dap_accessed.specs.Adding.{with_new_file, with_record};
+ghost use Rattle.dap_accessed.specs.Setup.{IsServerSetup};
 ghost use Rattle.dap_shared.specs.Nodes.{Gives, GivesRecord};
 ghost use Rattle.dap_shared.specs.Shared.{MayGiveRecord, NotAdded, RecordNotAdded, SharedAfter, SharedGiven};
 ghost use Rattle.dap_accessed.specs.Standing.{place_of};
@@ -23,7 +24,7 @@ ghost use Rattle.std.specs.Result.{result_map_both};
 use crate::fault::TakeFault;
 use crate::port::Port;
 use crate::{places, turns};
-use dap_accessed::{AddFault, FileTable, NoMemory};
+use dap_accessed::{AddFault, FileTable, NoMemory, ServerSetup};
 use dap_shared::NotedFiles;
 use nsp_link::{Got, LinkEnd, LinkFault, LinkSetup};
 use rec_file::Shape;
@@ -120,7 +121,24 @@ impl ServingNode {
         ensures locked { IfOk result (λ node. node.noted.locked ≡ []) }
         ensures ports { IfOk result (λ node. node.ports ≡ replicate links None) }
     {
-        let noted = NotedFiles::new(alloc, bufsiz, links)?;
+        ServingNode::with_setup(alloc, ServerSetup::plain(bufsiz), links)
+    }
+
+    /// The same of a node that is set up so.
+    pub fn with_setup(
+        alloc: Global,
+        own: ServerSetup,
+        links: usize,
+    ) -> Result<ServingNode, NoMemory>
+        requires { IsServerSetup own }
+        ensures stands { IfOk result (λ node. SharedAfter [] [] node.noted.shared) }
+        ensures setup { IfOk result (λ node. node.noted.shared.setup ≡ own) }
+        ensures own { IfOk result (λ node. node.noted.shared.own ≡ own.identity.bufsiz) }
+        ensures addresses { IfOk result (λ node. node.noted.addresses ≡ replicate links 0) }
+        ensures locked { IfOk result (λ node. node.noted.locked ≡ []) }
+        ensures ports { IfOk result (λ node. node.ports ≡ replicate links None) }
+    {
+        let noted = NotedFiles::with_setup(alloc, own, links)?;
         let ports = no_ports(alloc, links)?;
         let by_local = places::no_links(alloc)?;
         Ok(ServingNode {
@@ -316,7 +334,7 @@ impl ServingNode {
         ensures ports { self.new.ports ≡ self.old.ports }
         ensures notes { self.new.noted ≡ record self.old.noted { shared = self.new.noted.shared } }
         ensures refused { IfErr result
-            (NodeNotGiven self.old (NotAdded self.old.noted.shared.files name.now)) }
+            (NodeNotGiven self.old (NotAdded self.old.noted.shared.setup.names self.old.noted.shared.files name.now)) }
         ensures unchanged { OnErr result (self.new ≡ self.old) }
     {
         if has_come(&self.ports) {

@@ -5,6 +5,7 @@ use Rattle.std.specs.List.{list_any}
 use Rattle.std.proofs.lemmas.Bool.{cases_eq, ne_eqb}
 use Rattle.std.proofs.lemmas.List.{get_or-set_same, get_or-set_other, length-append, length-map, length-set, length-replicate}
 use Rattle.std.proofs.Math.ListN.{get_or-map}
+use Rattle.dap_accessed.specs.declared.setup.ServerSetup.{ServerSetup}
 use Rattle.dap_msg.specs.declared.items.Item.{Item}
 use Rattle.dap_accessed.specs.declared.phase.OpenFile.{OpenFile}
 use Rattle.dap_accessed.specs.Replies.{bare_status}
@@ -105,7 +106,7 @@ nothing (Some o) = tt
 
 -- ---- An item.
 
-module _ (own : ℕ) (node : Node) (link : ℕ) (item : Item) (there : link < length node.exchanges) (h : IsShared node) where
+module _ (own : ServerSetup) (node : Node) (link : ℕ) (item : Item) (there : link < length node.exchanges) (h : IsShared node) where
   abbrev old : Grouped
   old = end_at link node
 
@@ -122,7 +123,7 @@ module _ (own : ℕ) (node : Node) (link : ℕ) (item : Item) (there : link < le
   removed = removed_by old new
 
   abbrev asked : Option OpenFile
-  asked = asks_to_open node.files old.standing.place item
+  asked = asks_to_open own node.files old.standing.place item
 
   abbrev asks : Bool → Option OpenFile
   asks locked = if locked then None else asked
@@ -243,7 +244,7 @@ still-within : (o : Option OpenFile) (few many : ℕ) → few ≤ many → IfSom
 still-within None few many le h = tt
 still-within (Some p) few many le h = omega (arith, le, h)
 
-begin-shares : (own : ℕ) (node : Node) (link : ℕ) → IsShared node → IsShared (after_event own node (Begins link))
+begin-shares : (own : ServerSetup) (node : Node) (link : ℕ) → IsShared node → IsShared (after_event own node (Begins link))
 begin-shares own node link h =
     record {
       steady = λ j. one-new node.exchanges link j IsSteadyExchange (record { rights = tt; begun = tt }) (h.steady j);
@@ -260,13 +261,13 @@ given-shares node files le h =
       apart = h.apart;
     }
 
-pub count-item : (own : ℕ) (node : Node) (link : ℕ) (item : Item) → length (after_event own node (Serves link item)).exchanges ≡ length node.exchanges
+pub count-item : (own : ServerSetup) (node : Node) (link : ℕ) (item : Item) → length (after_event own node (Serves link item)).exchanges ≡ length node.exchanges
 count-item own node link item =
     let c = end_at link node in
     let d = more_beside own (open_beside link node.exchanges) c item in
     length-set (map (exchange_moved_up (removed_by c d)) node.exchanges) link (exchange_of d) ∙ length-map node.exchanges (exchange_moved_up (removed_by c d))
 
-pub all-share : (own : ℕ) (links : ℕ) (node : Node) (events : List Event) → length node.exchanges ≡ links → AreOf links events → IsShared node → IsShared (after_all own node events) × (length (after_all own node events).exchanges ≡ links)
+pub all-share : (own : ServerSetup) (links : ℕ) (node : Node) (events : List Event) → length node.exchanges ≡ links → AreOf links events → IsShared node → IsShared (after_all own node events) × (length (after_all own node events).exchanges ≡ links)
 all-share own links node [] n o h = (h, n)
 all-share own links node (Serves link item ∷ events) n o h =
     all-share own links (after_event own node (Serves link item)) events (count-item own node link item ∙ n) o.1 (item-shares own node link item (omega (arith, n, o.0)) h)
@@ -292,5 +293,5 @@ new-shares first links =
       apart = λ one two d. subst (λ (exchange : Exchange). AreApart (open_on exchange) (open_on (exchange_at two (new_node first links)))) (sym (all-new links one)) (none-first (open_on (exchange_at two (new_node first links))));
     }
 
-pub history-shares : (own : ℕ) (first : Files) (links : ℕ) (events : List Event) → AreOf links events → IsShared (node_after own first links events) × (length (node_after own first links events).exchanges ≡ links)
+pub history-shares : (own : ServerSetup) (first : Files) (links : ℕ) (events : List Event) → AreOf links events → IsShared (node_after own first links events) × (length (node_after own first links events).exchanges ≡ links)
 history-shares own first links events o = all-share own links (new_node first links) events (length-replicate links new_exchange) o (new-shares first links)

@@ -5,6 +5,7 @@ use Rattle.dap_msg.specs.BothEnds.{config_of, complete_with}
 use Rattle.dap_msg.specs.declared.message.Message.TheVariants.{Access}
 use Rattle.dap_msg.specs.declared.items.Item.{Item}
 use Rattle.dap_msg.specs.declared.items.Item.TheVariants.{Whole}
+use Rattle.dap_accessed.specs.Setup.{plain_setup}
 use Rattle.dap_accessed.specs.declared.phase.OpenFile.{OpenFile}
 use Rattle.dap_accessed.specs.Standing.{plain_shape}
 use Rattle.dap_accessed.specs.Replies.{bare_status, refused_access, opened_with, completed}
@@ -28,17 +29,17 @@ both events = Serves 0 hello ∷ Serves 1 hello ∷ events
 abbrev locked : List Event
 locked = both (Serves 0 (accesses 2 65 0) ∷ Serves 1 (accesses 1 65 2) ∷ Serves 1 (accesses 2 65 0) ∷ Serves 0 (ends 1) ∷ Serves 1 (accesses 1 65 2) ∷ [])
 
-b-is-told : AnswersOn 1 1024 [] 2 locked ≡ config_of 1024 ∷ bare_status 0x4030 ∷ refused_access 1 ∷ opened_with plain_shape
+b-is-told : AnswersOn 1 (plain_setup 1024) [] 2 locked ≡ config_of 1024 ∷ bare_status 0x4030 ∷ refused_access 1 ∷ opened_with plain_shape
 b-is-told = refl
 
 -- two that read share it; one that would write is kept out till both closed it
 abbrev readers : List Event
 readers = both (Serves 0 (accesses 2 65 0) ∷ Serves 0 (ends 1) ∷ Serves 0 (accesses 1 65 2) ∷ Serves 1 (accesses 1 65 0) ∷ Serves 0 (ends 1) ∷ Serves 0 (accesses 1 65 9) ∷ Serves 1 (ends 1) ∷ Serves 0 (accesses 1 65 9) ∷ [])
 
-readers-share : AnswersOn 1 1024 [] 2 readers ≡ config_of 1024 ∷ (opened_with plain_shape ++ completed ∷ [])
+readers-share : AnswersOn 1 (plain_setup 1024) [] 2 readers ≡ config_of 1024 ∷ (opened_with plain_shape ++ completed ∷ [])
 readers-share = refl
 
-writer-waits : AnswersOn 0 1024 [] 2 readers ≡ config_of 1024 ∷ (opened_with plain_shape ++ completed ∷ (opened_with plain_shape ++ completed ∷ bare_status 0x4030 ∷ opened_with plain_shape))
+writer-waits : AnswersOn 0 (plain_setup 1024) [] 2 readers ≡ config_of 1024 ∷ (opened_with plain_shape ++ completed ∷ (opened_with plain_shape ++ completed ∷ bare_status 0x4030 ∷ opened_with plain_shape))
 writer-waits = refl
 
 -- A makes 65, B makes 66 behind it; A purges its file: B's is the first then, and still open
@@ -55,5 +56,5 @@ one-left = refl
 abbrev gone : List Event
 gone = both (Serves 0 (accesses 2 65 0) ∷ Begins 0 ∷ Serves 1 (accesses 1 65 2) ∷ [])
 
-b-opens-it : AnswersOn 1 1024 [] 2 gone ≡ config_of 1024 ∷ opened_with plain_shape
+b-opens-it : AnswersOn 1 (plain_setup 1024) [] 2 gone ≡ config_of 1024 ∷ opened_with plain_shape
 b-opens-it = refl

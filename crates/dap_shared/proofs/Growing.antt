@@ -3,6 +3,7 @@ use Rattle.std.proofs.Common.{◌≡◌, ◌≢◌, ℕ, ◌<◌, Bool, true, fa
 use Rattle.std.specs.Prelude.{if◌then◌else◌, get_or}
 use Rattle.std.proofs.lemmas.List.{get_or-set_same, get_or-set_other, length-map, length-set, length-replicate}
 use Rattle.std.proofs.Math.ListN.{get_or-map}
+use Rattle.dap_accessed.specs.declared.setup.ServerSetup.{ServerSetup}
 use Rattle.dap_msg.specs.declared.items.Item.{Item}
 use Rattle.dap_accessed.specs.declared.phase.OpenFile.{OpenFile}
 use Rattle.dap_accessed.specs.Standing.{Files}
@@ -15,19 +16,19 @@ use Rattle.dap_shared.proofs.Events.{new-stays, count-item}
 use Rattle.dap_shared.proofs.Stepping.{all-more, locked_group}
 
 -- there are as many links after any events
-count-all : (own : ℕ) (node : Node) (events : List Event) → length (after_all own node events).exchanges ≡ length node.exchanges
+count-all : (own : ServerSetup) (node : Node) (events : List Event) → length (after_all own node events).exchanges ≡ length node.exchanges
 count-all own node [] = refl
 count-all own node (Serves link item ∷ events) = count-all own (after_event own node (Serves link item)) events ∙ count-item own node link item
 count-all own node (Begins link ∷ events) = count-all own (after_event own node (Begins link)) events ∙ length-set node.exchanges link new_exchange
 count-all own node (Gives name shape ∷ events) = count-all own (after_event own node (Gives name shape)) events
 count-all own node (GivesRecord number body ∷ events) = count-all own (after_event own node (GivesRecord number body)) events
 
-by-lock : (own : ℕ) (c : Grouped) (item : Item) (locked : Bool) →
+by-lock : (own : ServerSetup) (c : Grouped) (item : Item) (locked : Bool) →
     answers_in (if locked then locked_group c.standing item else one_more own c item).standing.past ≡ answers_in c.standing.past ++ (if locked then bare_status file_locked ∷ [] else answers_of own c item)
 by-lock own c item true = refl
 by-lock own c item false = answers_after-more own c.standing c.begun item
 
-module _ (own : ℕ) (node : Node) (link : ℕ) (item : Item) where
+module _ (own : ServerSetup) (node : Node) (link : ℕ) (item : Item) where
   abbrev before : Grouped
   before = end_at link node
 
@@ -43,7 +44,7 @@ module _ (own : ℕ) (node : Node) (link : ℕ) (item : Item) where
   pub grows : link < length node.exchanges → answers_in (exchange_at link (after_event own node (Serves link item))).past ≡ answers_in (exchange_at link node).past ++ answers_beside own others before item
   grows there =
       ap (λ (e : Exchange). answers_in e.past) (get_or-set_same (map (exchange_moved_up removed) node.exchanges) link (exchange_of after) new_exchange (omega (arith, there, length-map node.exchanges (exchange_moved_up removed))))
-      ∙ by-lock own before item (is_locked others (asks_to_open node.files before.standing.place item))
+      ∙ by-lock own before item (is_locked others (asks_to_open own node.files before.standing.place item))
 
   same-past : (r : Option OpenFile) (e : Exchange) → answers_in (exchange_moved_up r e).past ≡ answers_in e.past
   same-past None e = refl
@@ -57,14 +58,14 @@ module _ (own : ℕ) (node : Node) (link : ℕ) (item : Item) where
       ∙ get_or-map (exchange_moved_up removed) node.exchanges other new_exchange)
       ∙ same-past removed (exchange_at other node)
 
-pub answers-grow : (own : ℕ) (first : Files) (links : ℕ) (events : List Event) (link : ℕ) (item : Item) → link < links →
+pub answers-grow : (own : ServerSetup) (first : Files) (links : ℕ) (events : List Event) (link : ℕ) (item : Item) → link < links →
     AnswersOn link own first links (events ++ Serves link item ∷ []) ≡ AnswersOn link own first links events ++ added_on link own first links events item
 answers-grow own first links events link item lt =
     let n = count-all own (new_node first links) events in let m = length-replicate links new_exchange in
     ap (λ (node : Node). answers_in (exchange_at link node).past) (all-more own (new_node first links) events (Serves link item))
     ∙ grows own (node_after own first links events) link item (omega (arith, n, m, lt))
 
-pub answers-stay : (own : ℕ) (first : Files) (links : ℕ) (events : List Event) (link other : ℕ) (item : Item) → other ≢ link →
+pub answers-stay : (own : ServerSetup) (first : Files) (links : ℕ) (events : List Event) (link other : ℕ) (item : Item) → other ≢ link →
     AnswersOn other own first links (events ++ Serves link item ∷ []) ≡ AnswersOn other own first links events
 answers-stay own first links events link other item d =
     ap (λ (node : Node). answers_in (exchange_at other node).past) (all-more own (new_node first links) events (Serves link item))

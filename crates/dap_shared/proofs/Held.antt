@@ -5,7 +5,8 @@ use Rattle.std.specs.Global.{Vec}
 use Rattle.std.proofs.lemmas.Bool.{cases_eq}
 use Rattle.std.proofs.lemmas.List.{get_or-set_same, get_or-set_other, length-map, length-set}
 use Rattle.std.proofs.Math.ListN.{get_or-map}
-use Rattle.dap_msg.specs.BothEnds.{least_buffer}
+use Rattle.dap_accessed.specs.declared.setup.ServerSetup.{ServerSetup}
+use Rattle.dap_accessed.specs.Setup.{IsServerSetup}
 use Rattle.dap_msg.specs.declared.items.Item.{Item}
 use Rattle.rec_file.specs.declared.shapes.Shape.{Shape}
 use Rattle.rec_file.specs.Files.{FileVal, stored}
@@ -18,7 +19,7 @@ use Rattle.dap_accessed.specs.declared.phase.Phase.TheVariants as phases
 use Rattle.dap_accessed.specs.Standing.{Files, file_at, with_file}
 use Rattle.dap_accessed.specs.Adding.{newest, with_new_file, with_record}
 use Rattle.dap_accessed.specs.Storing.{Stores}
-use Rattle.dap_accessed.specs.Sessions.{SessionValue, IsOpenIn, new_session, open_at, phase_moved_up}
+use Rattle.dap_accessed.specs.Sessions.{SessionValue, IsOpenIn, session_with, open_at, phase_moved_up}
 use Rattle.dap_shared.specs.Nodes.{Event, Serves, Begins, Gives, GivesRecord, new_exchange, exchange_at, open_on, node_after}
 use Rattle.dap_shared.specs.Shared.{SharedValue, SharedGiven, SharedServes, kept_of}
 use Rattle.dap_shared.specs.Inner.Beside.{gone_by, session_moved_up}
@@ -63,83 +64,83 @@ moved-number : (r : Option OpenFile) (s : SessionValue) → HasNumber s.phase �
 moved-number None s h = h
 moved-number (Some removed) s h = phase-number removed.at s.phase h
 
-new-moved : (r : Option OpenFile) (own : ℕ) → session_moved_up r (new_session own) ≡ new_session own
+new-moved : (r : Option OpenFile) (own : ServerSetup) → session_moved_up r (session_with own) ≡ session_with own
 new-moved None own = refl
 new-moved (Some removed) own = refl
 
 -- the file that a link has open is in the table
-pub held-open : (v : SharedValue) (link : ℕ) → IsHeld v → IsOpenIn v.files (session_at v.own link v.sessions).phase
+pub held-open : (v : SharedValue) (link : ℕ) → IsHeld v → IsOpenIn v.files (session_at v.setup link v.sessions).phase
 held-open v link h =
-    let node = node_after v.own h.first (length v.sessions) h.events in
-    let shares = (history-shares v.own h.first (length v.sessions) h.events h.after.links).0 in
-    let kept : session_at v.own link v.sessions ≡ kept_of v.own node.files (exchange_at link node) =
-    ap (λ (w : SharedValue). session_at v.own link w.sessions) h.after.stands ∙ get_or-map (kept_of v.own node.files) node.exchanges link new_exchange in
+    let node = node_after v.setup h.first (length v.sessions) h.events in
+    let shares = (history-shares v.setup h.first (length v.sessions) h.events h.after.links).0 in
+    let kept : session_at v.setup link v.sessions ≡ kept_of v.setup node.files (exchange_at link node) =
+    ap (λ (w : SharedValue). session_at v.setup link w.sessions) h.after.stands ∙ get_or-map (kept_of v.setup node.files) node.exchanges link new_exchange in
     let files : node.files ≡ v.files = sym (ap (λ (w : SharedValue). w.files) h.after.stands) in
-    let held : open_at (session_at v.own link v.sessions).phase ≡ open_on (exchange_at link node) =
-    ap (λ (s : SessionValue). open_at s.phase) kept ∙ open-kept v.own node.files (exchange_at link node) (shares.steady link) in
-    is-open v.files (session_at v.own link v.sessions).phase
+    let held : open_at (session_at v.setup link v.sessions).phase ≡ open_on (exchange_at link node) =
+    ap (λ (s : SessionValue). open_at s.phase) kept ∙ open-kept v.setup node.files (exchange_at link node) (shares.steady link) in
+    is-open v.files (session_at v.setup link v.sessions).phase
     (subst (λ (x : Option OpenFile). IfSome x (λ o. o.at < length v.files)) (sym held) (subst (λ (l : Files). IfSome (open_on (exchange_at link node)) (λ o. o.at < length l)) files (shares.within link)))
     (h.numbers link)
 
 -- one session was put back, and the others have moved up
-pub numbers-then : (own : ℕ) (sessions : List SessionValue) (link : ℕ) (r : Option OpenFile) (rest : List SessionValue) (s : SessionValue) → link < length sessions
-    → rest ≡ map (session_moved_up r) (set sessions link (new_session own)) → HasNumber s.phase → ((i : ℕ) → HasNumber (session_at own i sessions).phase)
+pub numbers-then : (own : ServerSetup) (sessions : List SessionValue) (link : ℕ) (r : Option OpenFile) (rest : List SessionValue) (s : SessionValue) → link < length sessions
+    → rest ≡ map (session_moved_up r) (set sessions link (session_with own)) → HasNumber s.phase → ((i : ℕ) → HasNumber (session_at own i sessions).phase)
     → (i : ℕ) → HasNumber (session_at own i (set rest link s)).phase
 numbers-then own sessions link r rest s lt e n h i =
-    let many : link < length rest = (let a = ap (λ (l : List SessionValue). length l) e in let b = length-map (set sessions link (new_session own)) (session_moved_up r) in let d = length-set sessions link (new_session own) in omega (arith, a, b, d, lt)) in
+    let many : link < length rest = (let a = ap (λ (l : List SessionValue). length l) e in let b = length-map (set sessions link (session_with own)) (session_moved_up r) in let d = length-set sessions link (session_with own) in omega (arith, a, b, d, lt)) in
     elim (cases_eq i link) [
-      | inl same ↦ subst (λ (k : ℕ). HasNumber (session_at own k (set rest link s)).phase) (sym same) (subst (λ (t : SessionValue). HasNumber t.phase) (sym (get_or-set_same rest link s (new_session own) many)) n)
+      | inl same ↦ subst (λ (k : ℕ). HasNumber (session_at own k (set rest link s)).phase) (sym same) (subst (λ (t : SessionValue). HasNumber t.phase) (sym (get_or-set_same rest link s (session_with own) many)) n)
       | inr other ↦
           let is : session_at own i (set rest link s) ≡ session_moved_up r (session_at own i sessions) =
-          get_or-set_other rest link i s (new_session own) other
-          ∙ ap (λ (l : List SessionValue). get_or l i (new_session own)) e
-          ∙ ap (get_or (map (session_moved_up r) (set sessions link (new_session own))) i) (sym (new-moved r own))
-          ∙ get_or-map (session_moved_up r) (set sessions link (new_session own)) i (new_session own)
-          ∙ ap (session_moved_up r) (get_or-set_other sessions link i (new_session own) (new_session own) other) in
+          get_or-set_other rest link i s (session_with own) other
+          ∙ ap (λ (l : List SessionValue). get_or l i (session_with own)) e
+          ∙ ap (get_or (map (session_moved_up r) (set sessions link (session_with own))) i) (sym (new-moved r own))
+          ∙ get_or-map (session_moved_up r) (set sessions link (session_with own)) i (session_with own)
+          ∙ ap (session_moved_up r) (get_or-set_other sessions link i (session_with own) (session_with own) other) in
           subst (λ (t : SessionValue). HasNumber t.phase) (sym is) (moved-number r (session_at own i sessions) (h i))
     ]
 
-all-same : (own links i : ℕ) → session_at own i (replicate links (new_session own)) ≡ new_session own
+all-same : (own : ServerSetup) (links i : ℕ) → session_at own i (replicate links (session_with own)) ≡ session_with own
 all-same own zero i = refl
 all-same own (suc links) zero = refl
 all-same own (suc links) (suc i) = all-same own links i
 
 -- ---- The calls.
 
-pub on-shared : (v : SharedValue) (link : ℕ) (item : Item) (files : Files) (sessions : List SessionValue) (answers : Vec (Vec ℕ)) → IsHeld v → link < length v.sessions → MovesOn v.own link item v.files v.sessions files sessions answers
-    → SharedServes link item v (record { own = v.own; files = files; sessions = sessions }) answers
+pub on-shared : (v : SharedValue) (link : ℕ) (item : Item) (files : Files) (sessions : List SessionValue) (answers : Vec (Vec ℕ)) → IsHeld v → link < length v.sessions → MovesOn v.setup link item v.files v.sessions files sessions answers
+    → SharedServes link item v (record { own = v.own; setup = v.setup; files = files; sessions = sessions }) answers
 on-shared v link item files sessions answers h lt m =
-    subst (λ (l : List SessionValue). SharedServes link item v (record { own = v.own; files = files; sessions = l }) answers) (sym m.back)
+    subst (λ (l : List SessionValue). SharedServes link item v (record { own = v.own; setup = v.setup; files = files; sessions = l }) answers) (sym m.back)
     (serves-shared v link item files m.others m.session answers lt m.moves h.first h.events h.after (short-answers v link item files m.others m.session answers lt m.moves h.first h.events h.after))
 
-pub on-held : (v : SharedValue) (link : ℕ) (item : Item) (files : Files) (sessions : List SessionValue) (answers : Vec (Vec ℕ)) → IsHeld v → link < length v.sessions → MovesOn v.own link item v.files v.sessions files sessions answers
-    → IsHeld (record { own = v.own; files = files; sessions = sessions })
+pub on-held : (v : SharedValue) (link : ℕ) (item : Item) (files : Files) (sessions : List SessionValue) (answers : Vec (Vec ℕ)) → IsHeld v → link < length v.sessions → MovesOn v.setup link item v.files v.sessions files sessions answers
+    → IsHeld (record { own = v.own; setup = v.setup; files = files; sessions = sessions })
 on-held v link item files sessions answers h lt m =
     record {
-      low = h.low;
+      setup = h.setup;
       first = h.first;
       events = h.events ++ Serves link item ∷ [];
       after = (on-shared v link item files sessions answers h lt m).stands h.first h.events h.after;
-      numbers = λ i. subst (λ (l : List SessionValue). HasNumber (session_at v.own i l).phase) (sym m.back)
-          (numbers-then v.own v.sessions link (gone_by v.files files (session_at v.own link v.sessions).phase) m.others m.session lt m.moves.moved (has-number files m.session.phase m.moves.there) h.numbers i);
+      numbers = λ i. subst (λ (l : List SessionValue). HasNumber (session_at v.setup i l).phase) (sym m.back)
+          (numbers-then v.setup v.sessions link (gone_by v.files files (session_at v.setup link v.sessions).phase) m.others m.session lt m.moves.moved (has-number files m.session.phase m.moves.there) h.numbers i);
     }
 
 pub served-held : (v : SharedValue) (link : ℕ) (item : Item) (files : Files) (sessions : List SessionValue) (r : Result Served NoMemory) → IsHeld v → link < length v.sessions
-    → IfOk r (λ served. MovesOn v.own link item v.files v.sessions files sessions served.answers) → OnErr r ((files ≡ v.files) × (sessions ≡ v.sessions))
-    → IsHeld (record { own = v.own; files = files; sessions = sessions })
+    → IfOk r (λ served. MovesOn v.setup link item v.files v.sessions files sessions served.answers) → OnErr r ((files ≡ v.files) × (sessions ≡ v.sessions))
+    → IsHeld (record { own = v.own; setup = v.setup; files = files; sessions = sessions })
 served-held v link item files sessions (Ok served) h lt ok err = on-held v link item files sessions served.answers h lt ok
 served-held v link item files sessions (Err f) h lt ok err =
-    subst (λ (l : List SessionValue). IsHeld (record { own = v.own; files = files; sessions = l })) (sym err.1)
-    (subst (λ (t : Files). IsHeld (record { own = v.own; files = t; sessions = v.sessions })) (sym err.0) h)
+    subst (λ (l : List SessionValue). IsHeld (record { own = v.own; setup = v.setup; files = files; sessions = l })) (sym err.1)
+    (subst (λ (t : Files). IsHeld (record { own = v.own; setup = v.setup; files = t; sessions = v.sessions })) (sym err.0) h)
 
-pub begins-held : (v : SharedValue) (link : ℕ) → IsHeld v → link < length v.sessions → IsHeld (record { own = v.own; files = v.files; sessions = set v.sessions link (new_session v.own) })
+pub begins-held : (v : SharedValue) (link : ℕ) → IsHeld v → link < length v.sessions → IsHeld (record { own = v.own; setup = v.setup; files = v.files; sessions = set v.sessions link (session_with v.setup) })
 begins-held v link h lt =
     record {
-      low = h.low;
+      setup = h.setup;
       first = h.first;
       events = h.events ++ Begins link ∷ [];
       after = (begins-shared v link lt).stands h.first h.events h.after;
-      numbers = λ i. one-fresh v.own v.sessions link i (λ s. HasNumber s.phase) tt (h.numbers i);
+      numbers = λ i. one-fresh v.setup v.sessions link i (λ s. HasNumber s.phase) tt (h.numbers i);
     }
 
 pub gives-shared : (v : SharedValue) (name : List ℕ) (shape : Shape) (files : Files) → files ≡ with_new_file name shape v.files → SharedGiven (Gives name shape) v (record v { files = files })
@@ -152,7 +153,7 @@ gives-record v number body files e =
 
 pub given-held : (v : SharedValue) (event : Event) (files : Files) → IsHeld v → SharedGiven event v (record v { files = files }) → IsHeld (record v { files = files })
 given-held v event files h g =
-    record { low = h.low; first = h.first; events = h.events ++ event ∷ []; after = g.stands h.first h.events h.after; numbers = h.numbers }
+    record { setup = h.setup; first = h.first; events = h.events ++ event ∷ []; after = g.stands h.first h.events h.after; numbers = h.numbers }
 
 pub recorded : (files after : Files) (at number : ℕ) (body : List ℕ) (r : Result (Unit {0}) AddFault) → at ≡ newest files → after ≡ with_file at (file_at at after) files → Stores number body (file_at at files) (file_at at after) r
     → OnOk r (after ≡ with_record number body files)
@@ -164,10 +165,10 @@ pub record-held : (v : SharedValue) (number : ℕ) (body : List ℕ) (files : Fi
 record-held v number body files (Ok u) h ok err = given-held v (GivesRecord number body) files h (gives-record v number body files ok)
 record-held v number body files (Err f) h ok err = subst (λ (t : Files). IsHeld (record v { files = t })) (sym err) h
 
-pub new-held : (own links : ℕ) (sessions : List SessionValue) → least_buffer ≤ own → sessions ≡ replicate links (new_session own) → IsHeld (record { own = own; files = []; sessions = sessions })
+pub new-held : (own : ServerSetup) (links : ℕ) (sessions : List SessionValue) → IsServerSetup own → sessions ≡ replicate links (session_with own) → IsHeld (record { own = own.identity.bufsiz; setup = own; files = []; sessions = sessions })
 new-held own links sessions low e =
     record {
-      low = low;
+      setup = low;
       first = [];
       events = [];
       after = new-shared own links sessions e;

@@ -6,6 +6,7 @@ use Rattle.std.proofs.lemmas.Bool.{cases_eq, eq-eqb}
 use Rattle.std.proofs.lemmas.List.{get_or-set_same, get_or-set_other, length-map, length-set, set-get_or, map-set}
 use Rattle.std.proofs.lemmas.List.Folds.{list_any_at}
 use Rattle.std.proofs.Math.ListN.{get_or-map}
+use Rattle.dap_accessed.specs.declared.setup.ServerSetup.{ServerSetup}
 use Rattle.dap_msg.specs.declared.items.Item.{Item}
 use Rattle.dap_accessed.specs.declared.phase.OpenFile.{OpenFile}
 use Rattle.dap_accessed.specs.Standing.{Files, Place, Fresh, Ready, Opened, Connected, Store, Stopped}
@@ -50,8 +51,8 @@ holder-of node link (Some o) e =
           (f.0, lt, ap (λ (b : Bool). not b && bars o (open_on (exchange_at f.0 node))) (ne_eqb f.0 link apart) ∙ ap (λ (x : Exchange). bars o (open_on x)) (sym other) ∙ here)
     ]
 
-pub has-holder : (node : Node) (link : ℕ) (item : Item) → is_locked_out link node item ≡ true → (other : ℕ) × (other < length node.exchanges) × (locks_out other link node item ≡ true)
-has-holder node link item e = holder-of node link (asked_on link node item) e
+pub has-holder : (own : ServerSetup) (node : Node) (link : ℕ) (item : Item) → is_locked_out own link node item ≡ true → (other : ℕ) × (other < length node.exchanges) × (locks_out own other link node item ≡ true)
+has-holder own node link item e = holder-of node link (asked_on own link node item) e
 
 locked-by : (node : Node) (link other : ℕ) (asked : Option OpenFile) (b : Bool) → (other == link) ≡ b → other < length node.exchanges → (not b && barred_by asked (open_on (exchange_at other node))) ≡ true → is_locked (open_beside link node.exchanges) asked ≡ true
 locked-by node link other asked true is lt e = absurd (let none : ⊥ = cc in none)
@@ -63,18 +64,18 @@ locked-by node link other (Some o) false is lt e =
     list_any_at (bars o) (open_beside link node.exchanges) other None (omega (arith, lt, many))
     (ap (bars o) (beside-at link node.exchanges other) ∙ ap (λ (x : Exchange). bars o (open_on x)) at ∙ e)
 
-pub is-holder : (node : Node) (link other : ℕ) (item : Item) → other < length node.exchanges → locks_out other link node item ≡ true → is_locked_out link node item ≡ true
-is-holder node link other item lt e = locked-by node link other (asked_on link node item) (other == link) refl lt e
+pub is-holder : (own : ServerSetup) (node : Node) (link other : ℕ) (item : Item) → other < length node.exchanges → locks_out own other link node item ≡ true → is_locked_out own link node item ≡ true
+is-holder own node link other item lt e = locked-by node link other (asked_on own link node item) (other == link) refl lt e
 
 -- ---- Beside the link's own: it has nothing open where it asks to open.
 
-ready-or-none : (files : Files) (place : Place) (item : Item) → (open_in place ≡ None) ⊎ (asks_to_open files place item ≡ None)
-ready-or-none files Fresh item = inl refl
-ready-or-none files Ready item = inl refl
-ready-or-none files (Opened opened) item = inr refl
-ready-or-none files (Connected opened stream) item = inr refl
-ready-or-none files (Store opened stream) item = inr refl
-ready-or-none files (Stopped opened stream) item = inr refl
+ready-or-none : (own : ServerSetup) (files : Files) (place : Place) (item : Item) → (open_in place ≡ None) ⊎ (asks_to_open own files place item ≡ None)
+ready-or-none own files Fresh item = inl refl
+ready-or-none own files Ready item = inl refl
+ready-or-none own files (Opened opened) item = inr refl
+ready-or-none own files (Connected opened stream) item = inr refl
+ready-or-none own files (Store opened stream) item = inr refl
+ready-or-none own files (Stopped opened stream) item = inr refl
 
 -- a place that has this already
 beside-all : (link : ℕ) (exchanges : List Exchange) → open_on (get_or exchanges link new_exchange) ≡ None → open_beside link exchanges ≡ map open_on exchanges
@@ -85,9 +86,9 @@ beside-all link exchanges none =
     ∙ set-get_or (map open_on exchanges) link None
 
 -- so it may be asked of all links
-pub locked-by-all : (node : Node) (link : ℕ) (item : Item) → is_locked (map open_on node.exchanges) (asked_on link node item) ≡ is_locked_out link node item
-locked-by-all node link item =
-    elim (ready-or-none node.files (exchange_at link node).place item) [
-      | inl none ↦ ap (λ (l : List (Option OpenFile)). is_locked l (asked_on link node item)) (sym (beside-all link node.exchanges none))
+pub locked-by-all : (own : ServerSetup) (node : Node) (link : ℕ) (item : Item) → is_locked (map open_on node.exchanges) (asked_on own link node item) ≡ is_locked_out own link node item
+locked-by-all own node link item =
+    elim (ready-or-none own node.files (exchange_at link node).place item) [
+      | inl none ↦ ap (λ (l : List (Option OpenFile)). is_locked l (asked_on own link node item)) (sym (beside-all link node.exchanges none))
       | inr none ↦ ap (is_locked (map open_on node.exchanges)) none ∙ sym (ap (is_locked (open_beside link node.exchanges)) none)
     ]

@@ -2,6 +2,7 @@
 use Rattle.std.proofs.Common.{◌≡◌, ℕ, Bool, false, List, [], ◌∷◌, ◌++◌, Option, Some, None, map, refl, ap, sym, ◌∙◌, append_assoc}
 use Rattle.std.specs.Prelude.{if◌then◌else◌}
 use Rattle.std.proofs.lemmas.List.{append-nil}
+use Rattle.dap_accessed.specs.declared.setup.ServerSetup.{ServerSetup}
 use Rattle.dap_msg.specs.declared.items.Item.{Item}
 use Rattle.dap_accessed.specs.declared.phase.OpenFile.{OpenFile}
 use Rattle.dap_accessed.specs.Replies.{bare_status}
@@ -22,12 +23,12 @@ none-locked : (asked : Option OpenFile) → is_locked (None ∷ []) asked ≡ fa
 none-locked None = refl
 none-locked (Some asked) = refl
 
-module _ (own : ℕ) where
+module _ (own : ServerSetup) where
   pub alone : (c : Grouped) (item : Item) → more_beside own (None ∷ []) c item ≡ one_more own c item
   alone c item =
       let s = c.standing in
       ap (λ (b : Bool). if b then next_group s item (Does (refuse_access s.scene (bare_status file_locked))) else one_more own c item)
-      (none-locked (asks_to_open s.scene.files s.place item))
+      (none-locked (asks_to_open own s.scene.files s.place item))
 
   one-served : (c : Grouped) (item : Item) → after_event own (node_of c) (Serves 0 item) ≡ node_of (one_more own c item)
   one-served c item = ap (λ (d : Grouped). after_more 0 c d (exchange_of c ∷ [])) (alone c item)

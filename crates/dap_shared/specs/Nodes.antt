@@ -2,6 +2,7 @@
 -- another. Each does what it would do at a server of one link that stands where its link stands, before the files as
 -- they then are; but an Access to a file that is locked is refused.
 use Rattle.std.specs.Prelude.{ℕ, Bool, not, ◌&&◌, ◌==◌, nat_lt, if◌then◌else◌, List, [], ◌∷◌, ◌++◌, length, map, replicate, get_or, set, Option, Some, None, option_map}
+use Rattle.dap_accessed.specs.declared.setup.ServerSetup.{ServerSetup}
 use Rattle.dap_msg.specs.BothEnds.{least_buffer}
 use Rattle.dap_msg.specs.declared.message.Message.{Message}
 use Rattle.dap_msg.specs.declared.items.Item.{Item}
@@ -64,17 +65,17 @@ abbrev pub open_beside : ℕ → List Exchange → List (Option OpenFile)
 open_beside link exchanges = map open_on (set exchanges link new_exchange)
 
 -- one item more; an Access to a file that is locked is refused, and is a group as any other
-abbrev pub more_beside : (own : ℕ) → (others : List (Option OpenFile)) → Grouped → Item → Grouped
+abbrev pub more_beside : (own : ServerSetup) → (others : List (Option OpenFile)) → Grouped → Item → Grouped
 more_beside own others c item =
     let s = c.standing in
-    if is_locked others (asks_to_open s.scene.files s.place item)
+    if is_locked others (asks_to_open own s.scene.files s.place item)
     then next_group s item (Does (refuse_access s.scene (bare_status file_locked)))
     else one_more own c item
 
 -- its answers
-abbrev pub answers_beside : (own : ℕ) → (others : List (Option OpenFile)) → Grouped → Item → List Message
+abbrev pub answers_beside : (own : ServerSetup) → (others : List (Option OpenFile)) → Grouped → Item → List Message
 answers_beside own others c item =
-    if is_locked others (asks_to_open c.standing.scene.files c.standing.place item)
+    if is_locked others (asks_to_open own c.standing.scene.files c.standing.place item)
     then bare_status file_locked ∷ []
     else answers_of own c item
 
@@ -96,16 +97,16 @@ removed_by before after =
 -- ---- Which link locks a file.
 
 -- what an item asks to open on a link
-abbrev pub asked_on : (link : ℕ) → Node → Item → Option OpenFile
-asked_on link node item = asks_to_open node.files (exchange_at link node).place item
+abbrev pub asked_on : (own : ServerSetup) → (link : ℕ) → Node → Item → Option OpenFile
+asked_on own link node item = asks_to_open own node.files (exchange_at link node).place item
 
 -- the item is an Access on a link, and what another link has open forbids it
-abbrev pub locks_out : (other link : ℕ) → Node → Item → Bool
-locks_out other link node item = not (other == link) && barred_by (asked_on link node item) (open_on (exchange_at other node))
+abbrev pub locks_out : (own : ServerSetup) → (other link : ℕ) → Node → Item → Bool
+locks_out own other link node item = not (other == link) && barred_by (asked_on own link node item) (open_on (exchange_at other node))
 
 -- the item is an Access on a link that is refused, as the file is locked
-abbrev pub is_locked_out : (link : ℕ) → Node → Item → Bool
-is_locked_out link node item = is_locked (open_beside link node.exchanges) (asked_on link node item)
+abbrev pub is_locked_out : (own : ServerSetup) → (link : ℕ) → Node → Item → Bool
+is_locked_out own link node item = is_locked (open_beside link node.exchanges) (asked_on own link node item)
 
 -- ---- A history.
 
@@ -126,7 +127,7 @@ after_more link before after exchanges =
     }
 
 -- after one event
-abbrev pub after_event : (own : ℕ) → Node → Event → Node
+abbrev pub after_event : (own : ServerSetup) → Node → Event → Node
 after_event own node (Serves link item) =
     let c = end_at link node in
     after_more link c (more_beside own (open_beside link node.exchanges) c item) node.exchanges
@@ -135,32 +136,32 @@ after_event own node (Gives name shape) = record node { files = with_new_file na
 after_event own node (GivesRecord number body) = record node { files = with_record number body node.files }
 
 -- after these events, in order
-abbrev pub after_all : (own : ℕ) → Node → List Event → Node
+abbrev pub after_all : (own : ServerSetup) → Node → List Event → Node
 after_all own node [] = node
 after_all own node (event ∷ events) = after_all own (after_event own node event) events
 
--- where a node of so many links, with this BUFSIZ, which had these files at first, stands after these events
-abbrev pub node_after : (own : ℕ) → Files → (links : ℕ) → List Event → Node
+-- where a node of so many links, with this setup, which had these files at first, stands after these events
+abbrev pub node_after : (own : ServerSetup) → Files → (links : ℕ) → List Event → Node
 node_after own first links events = after_all own (new_node first links) events
 
 -- ---- What it comes to.
 
 -- the files after all that was served, in the order in which it was
-abbrev pub FilesAfter : ℕ → Files → ℕ → List Event → Files
+abbrev pub FilesAfter : (own : ServerSetup) → Files → ℕ → List Event → Files
 FilesAfter own first links events = (node_after own first links events).files
 
 -- the answers on a link since it began, in order
-abbrev pub AnswersOn : (link : ℕ) → ℕ → Files → ℕ → List Event → List Message
+abbrev pub AnswersOn : (link : ℕ) → (own : ServerSetup) → Files → ℕ → List Event → List Message
 AnswersOn link own first links events = answers_in (exchange_at link (node_after own first links events)).past
 
 -- the answers that an item on a link adds
-abbrev pub added_on : (link : ℕ) → ℕ → Files → ℕ → List Event → Item → List Message
+abbrev pub added_on : (link : ℕ) → (own : ServerSetup) → Files → ℕ → List Event → Item → List Message
 added_on link own first links events item =
     let node = node_after own first links events in
     answers_beside own (open_beside link node.exchanges) (end_at link node) item
 
 -- how long a message its peer takes then
-abbrev pub limit_on : (link : ℕ) → ℕ → Files → ℕ → List Event → ℕ
+abbrev pub limit_on : (link : ℕ) → (own : ServerSetup) → Files → ℕ → List Event → ℕ
 limit_on link own first links events = (exchange_at link (node_after own first links events)).limit
 
 -- what was served on a link since it began, after this

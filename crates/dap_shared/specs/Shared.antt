@@ -1,14 +1,16 @@
 -- What is kept of a node's links and files. It is as after any history that leaves this.
 use Rattle.std.specs.Prelude.{ℕ, ◌≡◌, ◌<◌, List, [], ◌∷◌, ◌++◌, length, map, None}
 use Rattle.std.specs.Global.{Vec}
+use Rattle.dap_accessed.specs.declared.setup.ServerSetup.{ServerSetup}
 use Rattle.dap_msg.specs.BothEnds.{greatest_message}
 use Rattle.dap_msg.specs.Blocked.{bodies}
 use Rattle.dap_msg.specs.Items.{ItemAt}
 use Rattle.dap_msg.specs.declared.items.Item.{Item}
+use Rattle.dap_accessed.specs.declared.setup.Names.{Names}
 use Rattle.dap_accessed.specs.declared.served.Served.{Served}
 use Rattle.dap_accessed.specs.declared.fault.AddFault.{AddFault}
 use Rattle.dap_accessed.specs.declared.fault.AddFault.TheVariants as fault
-use Rattle.dap_accessed.specs.Standing.{Files, file_at, place_of}
+use Rattle.dap_accessed.specs.Standing.{Files, file_at, place_by}
 use Rattle.dap_accessed.specs.Adding.{MayStore, newest}
 use Rattle.dap_accessed.specs.Storing.{StoreRefused}
 use Rattle.dap_accessed.specs.Present.{present_of}
@@ -21,23 +23,25 @@ use Rattle.dap_shared.specs.Keeping.{AreOf}
 pub record SharedValue : Type 0 where
   -- the node's BUFSIZ
   pub own : ℕ
+  -- what it is set up with, this BUFSIZ too
+  pub setup : ServerSetup
   pub files : Files
   -- of each link
   pub sessions : List SessionValue
 
 -- what is kept of an exchange
-abbrev pub kept_of : (own : ℕ) → Files → Exchange → SessionValue
+abbrev pub kept_of : (own : ServerSetup) → Files → Exchange → SessionValue
 kept_of own files exchange = session_of (present_of own (before_files files exchange))
 
 -- what is kept of a node
-abbrev pub shared_of : (own : ℕ) → Node → SharedValue
+abbrev pub shared_of : (own : ServerSetup) → Node → SharedValue
 shared_of own node =
-    record { own = own; files = node.files; sessions = map (kept_of own node.files) node.exchanges }
+    record { own = own.identity.bufsiz; setup = own; files = node.files; sessions = map (kept_of own node.files) node.exchanges }
 
--- the node is as one with its BUFSIZ, these files at first and as many links, after these events
+-- the node is as one with its setup, these files at first and as many links, after these events
 pub record SharedAfter (first : Files) (events : List Event) (v : SharedValue) : Type 0 where
   pub links : AreOf (length v.sessions) events
-  pub stands : v ≡ shared_of v.own (node_after v.own first (length v.sessions) events)
+  pub stands : v ≡ shared_of v.setup (node_after v.setup first (length v.sessions) events)
 
 -- An item of a link was served. Whatever history left the node before, it is as after that and this item, and the
 -- answers are those that the item adds on its link, joined within the limit of the link's peer.
@@ -45,10 +49,11 @@ pub record SharedServes (link : ℕ) (item : Item) (old new : SharedValue) (answ
   pub stands : (first : Files) (events : List Event) → SharedAfter first events old →
       SharedAfter first (events ++ Serves link item ∷ []) new
   pub answered : (first : Files) (events : List Event) → SharedAfter first events old →
-      Answered (limit_on link old.own first (length old.sessions) events)
-      (added_on link old.own first (length old.sessions) events item) answers
+      Answered (limit_on link old.setup first (length old.sessions) events)
+      (added_on link old.setup first (length old.sessions) events item) answers
   pub within : AllAtMost greatest_message (bodies answers.items)
   pub same_own : new.own ≡ old.own
+  pub same_setup : new.setup ≡ old.setup
   pub same_links : length new.sessions ≡ length old.sessions
 
 -- the same of the item at this offset of an NSP message
@@ -63,6 +68,7 @@ pub record SharedBegins (link : ℕ) (old new : SharedValue) : Type 0 where
       SharedAfter first (events ++ Begins link ∷ []) new
   pub same_files : new.files ≡ old.files
   pub same_own : new.own ≡ old.own
+  pub same_setup : new.setup ≡ old.setup
   pub same_links : length new.sessions ≡ length old.sessions
 
 -- ---- Files that a node is given.
@@ -73,12 +79,13 @@ pub record SharedGiven (event : Event) (old new : SharedValue) : Type 0 where
       SharedAfter first (events ++ event ∷ []) new
   pub same_sessions : new.sessions ≡ old.sessions
   pub same_own : new.own ≡ old.own
+  pub same_setup : new.setup ≡ old.setup
 
 -- why a file isn't added, the first reason in this order
-abbrev pub NotAdded : Files → (name : List ℕ) → AddFault → Type 0
-NotAdded files name fault.FileExists = place_of name files ≡ None → ⊥
-NotAdded files name fault.NoMemory = place_of name files ≡ None
-NotAdded files name _ = ⊥
+abbrev pub NotAdded : (names : Names) → Files → (name : List ℕ) → AddFault → Type 0
+NotAdded names files name fault.FileExists = place_by names name files ≡ None → ⊥
+NotAdded names files name fault.NoMemory = place_by names name files ≡ None
+NotAdded names files name _ = ⊥
 
 -- there is a file, and the newest one takes the record under this number
 abbrev pub MayGiveRecord : Files → (number : ℕ) → (body : List ℕ) → Type 0

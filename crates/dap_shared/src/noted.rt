@@ -4,6 +4,7 @@ ghost use Rattle.std.specs.Prelude.{◌≡◌, ◌⊎◌, ◌≤◌, ◌<◌, �
 ghost use Rattle.dap_msg.specs.BothEnds.{least_buffer};
 ghost use Rattle.rec_file.specs.Shapes.{is_shape};
 ghost use Rattle.dap_accessed.specs.Adding.{with_new_file, with_record};
+ghost use Rattle.dap_accessed.specs.Setup.{IsServerSetup, plain_setup};
 ghost use Rattle.dap_accessed.specs.Standing.{Files, place_of};
 ghost use Rattle.dap_shared.specs.Nodes.{Event, Gives, GivesRecord, node_after};
 ghost use Rattle.dap_shared.specs.Noted.{IsLowest, NotedServed};
@@ -12,7 +13,7 @@ ghost use Rattle.dap_shared.specs.Shared.{MayGiveRecord, NotAdded, RecordNotAdde
 
 use crate::server::Serving;
 use crate::shared::SharedFiles;
-use dap_accessed::{AddFault, FileTable, NoMemory, Served};
+use dap_accessed::{AddFault, FileTable, NoMemory, Served, ServerSetup};
 use dap_msg::Item;
 use rec_file::Shape;
 use std::alloc::Global;
@@ -71,8 +72,8 @@ fn lowest_of(shared: &SharedFiles, addresses: &[u16], link: usize, item: &Item<'
     requires link { link < length shared.now.sessions }
     requires all { length addresses.now ≡ length shared.now.sessions }
     ensures { (first : Files) (events : List Event) → SharedAfter first events shared.now
-        → IsLowest addresses.now link
-        (node_after shared.now.own first (length shared.now.sessions) events) item.now result }
+        → IsLowest shared.now.setup addresses.now link
+        (node_after shared.now.setup first (length shared.now.sessions) events) item.now result }
 {
     let mut lowest = None;
     for other in 0..addresses.len() {
@@ -90,8 +91,8 @@ fn locking(shared: &SharedFiles, addresses: &[u16], link: usize, item: &Item<'_>
     requires link { link < length shared.now.sessions }
     requires all { length addresses.now ≡ length shared.now.sessions }
     ensures { (first : Files) (events : List Event) → SharedAfter first events shared.now
-        → IsLowest addresses.now link
-        (node_after shared.now.own first (length shared.now.sessions) events) item.now result }
+        → IsLowest shared.now.setup addresses.now link
+        (node_after shared.now.setup first (length shared.now.sessions) events) item.now result }
 {
     if shared.is_locked_out(link, item) {
         lowest_of(shared, addresses, link, item)
@@ -118,11 +119,29 @@ impl NotedFiles {
         requires { least_buffer ≤ bufsiz }
         ensures stands { IfOk result (λ noted. SharedAfter [] [] noted.shared) }
         ensures own { IfOk result (λ noted. noted.shared.own ≡ bufsiz) }
+        ensures setup { IfOk result (λ noted. noted.shared.setup ≡ plain_setup bufsiz) }
         ensures links { IfOk result (λ noted. length noted.shared.sessions ≡ links) }
         ensures addresses { IfOk result (λ noted. noted.addresses ≡ replicate links 0) }
         ensures locked { IfOk result (λ noted. noted.locked ≡ []) }
     {
-        let shared = SharedFiles::new(alloc, bufsiz, links)?;
+        NotedFiles::with_setup(alloc, ServerSetup::plain(bufsiz), links)
+    }
+
+    /// The same of a node that is set up so.
+    pub fn with_setup(
+        alloc: Global,
+        setup: ServerSetup,
+        links: usize,
+    ) -> Result<NotedFiles, NoMemory>
+        requires { IsServerSetup setup }
+        ensures stands { IfOk result (λ noted. SharedAfter [] [] noted.shared) }
+        ensures setup { IfOk result (λ noted. noted.shared.setup ≡ setup) }
+        ensures own { IfOk result (λ noted. noted.shared.own ≡ setup.identity.bufsiz) }
+        ensures links { IfOk result (λ noted. length noted.shared.sessions ≡ links) }
+        ensures addresses { IfOk result (λ noted. noted.addresses ≡ replicate links 0) }
+        ensures locked { IfOk result (λ noted. noted.locked ≡ []) }
+    {
+        let shared = SharedFiles::with_setup(alloc, setup, links)?;
         let addresses = no_addresses(alloc, links)?;
         Ok(NotedFiles {
             shared,
@@ -173,7 +192,7 @@ impl NotedFiles {
         ensures files { OnOk result (self.new.shared.files
             ≡ with_new_file name.now shape self.old.shared.files) }
         ensures rest { self.new ≡ record self.old { shared = self.new.shared } }
-        ensures refused { IfErr result (NotAdded self.old.shared.files name.now) }
+        ensures refused { IfErr result (NotAdded self.old.shared.setup.names self.old.shared.files name.now) }
         ensures unchanged { OnErr result (self.new ≡ self.old) }
     {
         self.shared.add(name, shape)

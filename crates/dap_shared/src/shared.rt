@@ -8,14 +8,15 @@ ghost use Rattle.dap_msg.specs.declared.message.Message.{Message as TheMessage};
 ghost use Rattle.rec_file.specs.Shapes.{is_shape};
 ghost use Rattle.dap_accessed.specs.Standing.{Files, place_of};
 ghost use Rattle.dap_accessed.specs.Adding.{with_new_file, with_record};
-ghost use Rattle.dap_accessed.specs.Sessions.{IsOpenIn, new_session};
+ghost use Rattle.dap_accessed.specs.Sessions.{IsOpenIn, session_with};
+ghost use Rattle.dap_accessed.specs.Setup.{IsServerSetup, plain_setup};
 ghost use Rattle.dap_shared.specs.Nodes.{Event, FilesAfter, Gives, GivesRecord, is_locked_out, locks_out, node_after};
 ghost use Rattle.dap_shared.specs.Shared.{MayGiveRecord, NotAdded, RecordNotAdded, SharedAfter, SharedBegins, SharedGiven, SharedServes};
 ghost use Rattle.dap_shared.specs.Inner.Beside.{MovesBeside, session_moved_up};
 ghost use Rattle.dap_shared.specs.Inner.Held.{MovesOn, session_at};
 
 use crate::locks::{FILE_LOCKED, is_barred, is_barred_by_file};
-use dap_accessed::{AddFault, FileTable, NoMemory, OpenFile, Served, Session};
+use dap_accessed::{AddFault, FileTable, NoMemory, OpenFile, Served, ServerSetup, Session};
 use dap_msg::Item;
 use rec_file::Shape;
 use std::alloc::Global;
@@ -27,8 +28,7 @@ use std::mem;
 #[derive(Drop)]
 pub struct SharedFiles {
     alloc: Global,
-    /// The BUFSIZ of the node's own Config.
-    bufsiz: u16,
+    setup: ServerSetup,
     files: FileTable,
     sessions: Vec<Session>,
 }
@@ -42,19 +42,29 @@ impl Model for SharedFiles {
 
     ghost coded = { shared_code };
 
-    ghost view = { λ a. record { own = a.bufsiz; files = a.files; sessions = a.sessions.items } };
+    ghost view = { λ a. record {
+      own = a.setup.identity.bufsiz;
+      setup = a.setup;
+      files = a.files;
+      sessions = a.sessions.items;
+    } };
 
-    ghost invariant = { λ a. IsHeld (record { own = a.bufsiz; files = a.files; sessions = a.sessions.items }) };
+    ghost invariant = { λ a. IsHeld (record {
+      own = a.setup.identity.bufsiz;
+      setup = a.setup;
+      files = a.files;
+      sessions = a.sessions.items;
+    }) };
 }
 
 /// So many links on which no Config was served.
-fn new_sessions(alloc: Global, bufsiz: u16, links: usize) -> Result<Vec<Session>, NoMemory>
-    requires { least_buffer ≤ bufsiz }
-    ensures { IfOk result (λ sessions. sessions.items ≡ replicate links (new_session bufsiz)) }
+fn new_sessions(alloc: Global, setup: ServerSetup, links: usize) -> Result<Vec<Session>, NoMemory>
+    requires { IsServerSetup setup }
+    ensures { IfOk result (λ sessions. sessions.items ≡ replicate links (session_with setup)) }
 {
     let mut sessions = Vec::with_capacity(alloc, links)?;
     for _ in 0..links {
-        sessions.push(Session::new(alloc, bufsiz))?;
+        sessions.push(Session::with_setup(alloc, setup))?;
     }
     Ok(sessions)
 }
@@ -118,22 +128,22 @@ fn serve_on(
     files: &mut FileTable,
     sessions: &mut Vec<Session>,
     alloc: Global,
-    bufsiz: u16,
+    setup: ServerSetup,
     link: usize,
     item: Item<'_>,
     next: usize,
 ) -> Result<Served, NoMemory>
     requires link { link < length sessions.old.items }
-    requires low { least_buffer ≤ bufsiz }
+    requires setup { IsServerSetup setup }
     requires spelled { (m : TheMessage) → item ≡ Whole m → IsSpelled m }
-    requires there { IsOpenIn files.old (session_at bufsiz link sessions.old.items).phase }
-    ensures ok { IfOk result (λ served. MovesOn bufsiz link item.entry files.old
+    requires there { IsOpenIn files.old (session_at setup link sessions.old.items).phase }
+    ensures ok { IfOk result (λ served. MovesOn setup link item.entry files.old
         sessions.old.items files.new sessions.new.items served.answers) }
     ensures next { IfOk result (λ served. served.next ≡ next) }
     ensures err { OnErr result ((files.new ≡ files.old)
         × (sessions.new.items ≡ sessions.old.items)) }
 {
-    let mut session = mem::replace(&mut sessions[link], Session::new(alloc, bufsiz));
+    let mut session = mem::replace(&mut sessions[link], Session::with_setup(alloc, setup));
     let served = serve_beside(files, sessions, &mut session, item, next);
     sessions[link] = session;
     served
@@ -145,12 +155,28 @@ impl SharedFiles {
         requires { least_buffer ≤ bufsiz }
         ensures stands { IfOk result (SharedAfter [] []) }
         ensures own { IfOk result (λ shared. shared.own ≡ bufsiz) }
+        ensures setup { IfOk result (λ shared. shared.setup ≡ plain_setup bufsiz) }
         ensures links { IfOk result (λ shared. length shared.sessions ≡ links) }
     {
-        let sessions = new_sessions(alloc, bufsiz, links)?;
+        SharedFiles::with_setup(alloc, ServerSetup::plain(bufsiz), links)
+    }
+
+    /// The same of a node that is set up so.
+    pub fn with_setup(
+        alloc: Global,
+        setup: ServerSetup,
+        links: usize,
+    ) -> Result<SharedFiles, NoMemory>
+        requires { IsServerSetup setup }
+        ensures stands { IfOk result (SharedAfter [] []) }
+        ensures setup { IfOk result (λ shared. shared.setup ≡ setup) }
+        ensures own { IfOk result (λ shared. shared.own ≡ setup.identity.bufsiz) }
+        ensures links { IfOk result (λ shared. length shared.sessions ≡ links) }
+    {
+        let sessions = new_sessions(alloc, setup, links)?;
         Ok(SharedFiles {
             alloc,
-            bufsiz,
+            setup,
             files: FileTable::new(alloc),
             sessions,
         })
@@ -167,7 +193,7 @@ impl SharedFiles {
     pub fn files(&self) -> &FileTable
         ensures held { result.now ≡ self.now.files }
         ensures after { (first : Files) (events : List Event) → SharedAfter first events self.now
-            → result.now ≡ FilesAfter self.now.own first (length self.now.sessions) events }
+            → result.now ≡ FilesAfter self.now.setup first (length self.now.sessions) events }
     {
         &self.files
     }
@@ -177,8 +203,8 @@ impl SharedFiles {
         requires other { other < length self.now.sessions }
         requires link { link < length self.now.sessions }
         ensures { (first : Files) (events : List Event) → SharedAfter first events self.now
-            → result ≡ locks_out other link
-            (node_after self.now.own first (length self.now.sessions) events) item.now }
+            → result ≡ locks_out self.now.setup other link
+            (node_after self.now.setup first (length self.now.sessions) events) item.now }
     {
         let asked = self.sessions[link].asked(&self.files, item);
         other != link && is_barred_by_file(asked, self.sessions[other].open_file())
@@ -188,8 +214,8 @@ impl SharedFiles {
     pub fn is_locked_out(&self, link: usize, item: &Item<'_>) -> bool
         requires { link < length self.now.sessions }
         ensures { (first : Files) (events : List Event) → SharedAfter first events self.now
-            → result ≡ is_locked_out link
-            (node_after self.now.own first (length self.now.sessions) events) item.now }
+            → result ≡ is_locked_out self.now.setup link
+            (node_after self.now.setup first (length self.now.sessions) events) item.now }
     {
         is_barred(&self.sessions, self.sessions[link].asked(&self.files, item))
     }
@@ -216,7 +242,7 @@ impl SharedFiles {
             &mut self.files,
             &mut self.sessions,
             self.alloc,
-            self.bufsiz,
+            self.setup,
             link,
             item,
             next,
@@ -229,7 +255,7 @@ impl SharedFiles {
         requires { link < length self.old.sessions }
         ensures { SharedBegins link self.old self.new }
     {
-        self.sessions[link] = Session::new(self.alloc, self.bufsiz);
+        self.sessions[link] = Session::with_setup(self.alloc, self.setup);
     }
 
     /// A file without records after the others. Its shape is one that [`rec_file::Shape::check`] gives.
@@ -241,10 +267,10 @@ impl SharedFiles {
         ensures given { OnOk result (SharedGiven (Gives name.now shape) self.old self.new) }
         ensures files { OnOk result
             (self.new.files ≡ with_new_file name.now shape self.old.files) }
-        ensures refused { IfErr result (NotAdded self.old.files name.now) }
+        ensures refused { IfErr result (NotAdded self.old.setup.names self.old.files name.now) }
         ensures unchanged { OnErr result (self.new ≡ self.old) }
     {
-        if self.files.find(name).is_some() {
+        if self.files.find_by(self.setup.names, name).is_some() {
             return Err(AddFault::FileExists);
         }
         self.files.make(self.alloc, name, shape)?;

@@ -33,6 +33,6 @@ Does true item files s files' s' answers =
 Does false item files s files' s' answers = ServesItem item (joined files s) (joined files' s') answers
 
 pub record MovesBeside (item : Item) (files : Files) (others : List SessionValue) (s : SessionValue) (files' : Files) (others' : List SessionValue) (s' : SessionValue) (answers : Vec (Vec ℕ)) : Type 0 where
-  pub does : Does (is_barred others (asked_in files s.phase item)) item files s files' s' answers
+  pub does : Does (is_barred others (asked_in s.setup files s.phase item)) item files s files' s' answers
   pub moved : others' ≡ map (session_moved_up (gone_by files files' s.phase)) others
   pub there : IsOpenIn files' s'.phase

@@ -9,13 +9,13 @@ use Rattle.dap_shared.proofs.shared.SharedFiles.begin.Goals as goal
 
 pub invariant_of-self : goal.invariant_of-self
 invariant_of-self c =
-    let v : SharedValue = record { own = c.self.inside.bufsiz; files = c.self.inside.files; sessions = c.self.inside.sessions.items } in
+    let v : SharedValue = record { own = c.self.inside.setup.identity.bufsiz; setup = c.self.inside.setup; files = c.self.inside.files; sessions = c.self.inside.sessions.items } in
     let lt = subst (λ (w : SharedValue). c.args.link < length w.sessions) (sym c.self.view_is) c.requires in
     subst (λ (s : SessionValue). IsHeld (record v { sessions = set v.sessions c.args.link s })) (sym c.new.ensures) (begins-held v c.args.link c.self.invariant lt)
 
 pub returns : goal.returns
 returns c =
-    let v : SharedValue = record { own = c.self.inside.bufsiz; files = c.self.inside.files; sessions = c.self.inside.sessions.items } in
+    let v : SharedValue = record { own = c.self.inside.setup.identity.bufsiz; setup = c.self.inside.setup; files = c.self.inside.files; sessions = c.self.inside.sessions.items } in
     let lt = subst (λ (w : SharedValue). c.args.link < length w.sessions) (sym c.self.view_is) c.requires in
     subst (λ (w : SharedValue). SharedBegins c.args.link w (record v { sessions = set v.sessions c.args.link c.new.result })) c.self.view_is
     (subst (λ (s : SessionValue). SharedBegins c.args.link v (record v { sessions = set v.sessions c.args.link s })) (sym c.new.ensures) (begins-shared v c.args.link lt))
