@@ -28,5 +28,5 @@ pub use phase::OpenFile;
 pub use refusing::reason_number;
 pub use served::Served;
 pub use session::Session;
-pub use setup::{ALL_RIGHTS, Names, ServerSetup};
+pub use setup::{ALL_RIGHTS, Names, ServerSetup, rights_of_fac};
 pub use table::FileTable;

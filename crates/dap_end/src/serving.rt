@@ -31,7 +31,7 @@ use crate::port::Port;
 use crate::turns;
 use dap_accessed::{Accessed, AddFault, FileTable, NoMemory, ServerSetup};
 use nsp_link::{Got, LinkEnd, LinkFault, LinkSetup};
-use rec_file::Shape;
+use rec_file::{Rights, Shape};
 use std::alloc::Global;
 use std::marker::Model;
 
@@ -122,6 +122,26 @@ impl ServingEnd {
         let port = Port::new(alloc, setup)?;
         self.port = port;
         self.accessed.renew();
+        Ok(())
+    }
+
+    /// The same where an Access on the new link may ask for these rights at most.
+    pub fn renew_for(
+        &mut self,
+        alloc: Global,
+        setup: LinkSetup,
+        most: Rights,
+    ) -> Result<(), LinkFault>
+        ensures ok { OnOk result (IsAfter (nothing_yet self.old.present.files) self.new
+            × (self.new.port ≡ new_port setup)) }
+        ensures own { OnOk result
+            (self.new.present.setup ≡ record self.old.present.setup { most = most }) }
+        ensures setup { OnOk result (IsSetup setup) }
+        ensures err { IfErr result (λ f. (self.new ≡ self.old) × SetupFault setup f) }
+    {
+        let port = Port::new(alloc, setup)?;
+        self.port = port;
+        self.accessed.renew_for(most);
         Ok(())
     }
 
