@@ -139,8 +139,8 @@ impl ServingEnd {
         ensures setup { OnOk result (IsSetup setup) }
         ensures err { IfErr result (λ f. (self.new ≡ self.old) × SetupFault setup f) }
     {
-        let port = Port::new(alloc, setup)?;
-        self.port = port;
+        let fresh = Port::new(alloc, setup)?;
+        self.port = fresh;
         self.accessed.renew_for(most);
         Ok(())
     }
