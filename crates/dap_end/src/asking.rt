@@ -1,7 +1,7 @@
 //! The end that asks.
 
 ghost use Rattle.std.specs.Prelude.{◌≡◌, ◌≢◌, ◌≤◌, ◌<◌, ◌+◌, ◌-◌, ℕ, List, [], ◌∷◌, Ok, Err, Some, None, true, false, length, IfOk, IfErr, IfSome, OnOk, OnErr, IsErrOf, IsTrue, ◌++◌, option_to_list, vec_len, vec_capacity};
-ghost use Rattle.dap_msg.specs.BothEnds.{four_bytes, least_buffer};
+ghost use Rattle.dap_msg.specs.BothEnds.{four_bytes, least_buffer, plain_identity};
 ghost use Rattle.dap_msg.specs.Fitting.{FieldsFit};
 ghost use Rattle.dap_msg.specs.declared.message.Configuration.{Configuration as Own};
 ghost use Rattle.dap_msg.specs.declared.message.Message.TheVariants.{Config};
@@ -81,6 +81,7 @@ impl AskingEnd {
         requires { least_buffer ≤ bufsiz }
         ensures ok { IfOk result (λ end. HasAsked nothing_asked end
             × (end.port ≡ new_port setup) × (end.present.own ≡ bufsiz)) }
+        ensures identity { IfOk result (λ end. end.present.identity ≡ plain_identity bufsiz) }
         ensures setup { OnOk result (IsSetup setup) }
         ensures err { IfErr result (SetupFault setup) }
     {

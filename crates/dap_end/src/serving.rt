@@ -10,7 +10,7 @@ ghost use Rattle.nsp_link.specs.Link.{IsSetup, SetupFault, may_send, IsSpelling}
 ghost use Rattle.nsp_link.specs.Sending.{NextFault, may_queue, SendAllFault, WritesSent, ack_packet_of};
 ghost use Rattle.nsp_link.specs.declared.fault.LinkFault.TheVariants.{Failed, NoSuchSegment, MessageTooLong};
 ghost use Rattle.nsp_link.specs.declared.fault.LinkFault.TheVariants as fault;
-ghost use Rattle.dap_accessed.specs.Setup.{IsServerSetup};
+ghost use Rattle.dap_accessed.specs.Setup.{IsServerSetup, plain_setup};
 ghost use Rattle.dap_accessed.specs.Standing.{Files};
 ghost use Rattle.dap_accessed.specs.Groups.{After};
 ghost use Rattle.dap_accessed.specs.Adding.{MayAdd, MayAddRecord, AddRefused, RecordRefused, with_new_file, with_record};
@@ -70,6 +70,7 @@ impl ServingEnd {
         requires { least_buffer ≤ bufsiz }
         ensures ok { IfOk result (λ end. IsAfter (nothing_yet []) end
             × (end.port ≡ new_port setup) × (end.present.own ≡ bufsiz)) }
+        ensures plain { IfOk result (λ end. end.present.setup ≡ plain_setup bufsiz) }
         ensures setup { OnOk result (IsSetup setup) }
         ensures err { IfErr result (SetupFault setup) }
     {
