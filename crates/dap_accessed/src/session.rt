@@ -175,6 +175,13 @@ impl Session {
         self.renew();
     }
 
+    /// The most that an Access may ask for.
+    pub fn rights(&self) -> Rights
+        ensures { result ≡ self.now.setup.most }
+    {
+        self.setup.most
+    }
+
     /// The file that is open, where one is.
     pub fn open_file(&self) -> Option<OpenFile>
         ensures { result ≡ open_at self.now.phase }

@@ -377,7 +377,7 @@ module _ (old : SharedValue) (link : ℕ) (item : Item) (files : Files) (rest : 
         answered = λ f e k. (then-left f e k).answered;
         within = within;
         same_own = refl;
-      same_setup = refl;
+        same_setup = refl;
         same_links = same-links;
       }
 

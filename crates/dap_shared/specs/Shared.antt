@@ -1,6 +1,8 @@
 -- What is kept of a node's links and files. It is as after any history that leaves this.
-use Rattle.std.specs.Prelude.{ℕ, ◌≡◌, ◌<◌, List, [], ◌∷◌, ◌++◌, length, map, None}
+use Rattle.std.specs.Prelude.{ℕ, ◌≡◌, ◌<◌, Bool, true, false, List, [], ◌∷◌, ◌++◌, length, map, get_or, Some, None}
+use Rattle.std.specs.List.{list_any, remove}
 use Rattle.std.specs.Global.{Vec}
+use Rattle.rec_file.specs.declared.picks.Rights.{Rights}
 use Rattle.dap_accessed.specs.declared.setup.ServerSetup.{ServerSetup}
 use Rattle.dap_msg.specs.BothEnds.{greatest_message}
 use Rattle.dap_msg.specs.Blocked.{bodies}
@@ -11,19 +13,22 @@ use Rattle.dap_accessed.specs.declared.served.Served.{Served}
 use Rattle.dap_accessed.specs.declared.fault.AddFault.{AddFault}
 use Rattle.dap_accessed.specs.declared.fault.AddFault.TheVariants as fault
 use Rattle.dap_accessed.specs.Standing.{Files, file_at, place_by}
-use Rattle.dap_accessed.specs.Adding.{MayStore, newest}
+use Rattle.dap_accessed.specs.Adding.{MayStore}
 use Rattle.dap_accessed.specs.Storing.{StoreRefused}
 use Rattle.dap_accessed.specs.Present.{present_of}
 use Rattle.dap_accessed.specs.Served.{AllAtMost, Answered}
-use Rattle.dap_accessed.specs.Sessions.{SessionValue, session_of}
-use Rattle.dap_shared.specs.Nodes.{Exchange, Node, Event, Serves, Begins, before_files, node_after, added_on, limit_on}
+use Rattle.dap_accessed.specs.Sessions.{SessionValue, open_at, phase_moved_up, session_of, session_with}
+use Rattle.dap_shared.specs.declared.fault.RemoveFault.{RemoveFault}
+use Rattle.dap_shared.specs.declared.fault.RemoveFault.TheVariants as removing
+use Rattle.dap_shared.specs.Sharing.{is_file}
+use Rattle.dap_shared.specs.Nodes.{Exchange, Node, Event, Serves, Begins, GivesRecord, Drops, before_files, node_after, added_on, limit_on, setup_with}
 use Rattle.dap_shared.specs.Keeping.{AreOf}
 
 -- what a node keeps
 pub record SharedValue : Type 0 where
   -- the node's BUFSIZ
   pub own : ℕ
-  -- what it is set up with, this BUFSIZ too
+  -- what it is set up with, this BUFSIZ too; a link that never began has its rights
   pub setup : ServerSetup
   pub files : Files
   -- of each link
@@ -31,7 +36,7 @@ pub record SharedValue : Type 0 where
 
 -- what is kept of an exchange
 abbrev pub kept_of : (own : ServerSetup) → Files → Exchange → SessionValue
-kept_of own files exchange = session_of (present_of own (before_files files exchange))
+kept_of own files exchange = session_of (present_of (setup_with exchange.most own) (before_files files exchange))
 
 -- what is kept of a node
 abbrev pub shared_of : (own : ServerSetup) → Node → SharedValue
@@ -62,10 +67,15 @@ pub record SharedServed (link : ℕ) (bytes : List ℕ) (at : ℕ) (old new : Sh
   pub reads : ItemAt bytes at item served.next
   pub serves : SharedServes link item old new served.answers
 
--- a link began anew, or ended
-pub record SharedBegins (link : ℕ) (old new : SharedValue) : Type 0 where
+-- the most that an Access on a link may ask for
+abbrev pub rights_on : (link : ℕ) → SharedValue → Rights
+rights_on link v = (get_or v.sessions link (session_with v.setup)).setup.most
+
+-- a link began anew, with the most that an Access on it may ask for, or ended
+pub record SharedBegins (link : ℕ) (most : Rights) (old new : SharedValue) : Type 0 where
   pub stands : (first : Files) (events : List Event) → SharedAfter first events old →
-      SharedAfter first (events ++ Begins link ∷ []) new
+      SharedAfter first (events ++ Begins link most ∷ []) new
+  pub rights : rights_on link new ≡ most
   pub same_files : new.files ≡ old.files
   pub same_own : new.own ≡ old.own
   pub same_setup : new.setup ≡ old.setup
@@ -87,14 +97,34 @@ NotAdded names files name fault.FileExists = place_by names name files ≡ None 
 NotAdded names files name fault.NoMemory = place_by names name files ≡ None
 NotAdded names files name _ = ⊥
 
--- there is a file, and the newest one takes the record under this number
-abbrev pub MayGiveRecord : Files → (number : ℕ) → (body : List ℕ) → Type 0
-MayGiveRecord files number body = (0 < length files) × MayStore (file_at (newest files) files) number body
+-- a file has this name, as the node compares names, and of its index this is true
+abbrev pub AtFile : (name : List ℕ) → SharedValue → (Says : ℕ → Type 0) → Type 0
+AtFile name v Says = (at : ℕ) × (place_by v.setup.names name v.files ≡ Some at) × Says at
 
--- why a record isn't added, the first reason in this order
-abbrev pub RecordNotAdded : Files → (number : ℕ) → (body : List ℕ) → AddFault → Type 0
-RecordNotAdded files number body fault.NoFile = files ≡ []
-RecordNotAdded files number body fault.Busy = ⊥
-RecordNotAdded files number body fault.FileExists = ⊥
-RecordNotAdded files number body f =
-    (0 < length files) × StoreRefused (file_at (newest files) files) number body f
+-- why a record isn't added to the file of this name, the first reason in this order
+abbrev pub RecordNotAdded : SharedValue → (name : List ℕ) → (number : ℕ) → (body : List ℕ) → AddFault → Type 0
+RecordNotAdded v name number body fault.NoFile = place_by v.setup.names name v.files ≡ None
+RecordNotAdded v name number body fault.Busy = ⊥
+RecordNotAdded v name number body fault.FileExists = ⊥
+RecordNotAdded v name number body f = AtFile name v (λ at. StoreRefused (file_at at v.files) number body f)
+
+-- ---- A file that is dropped.
+
+-- a link has the file at this index open
+abbrev pub is_held : (at : ℕ) → List SessionValue → Bool
+is_held at sessions = list_any (λ s. is_file at (open_at s.phase)) sessions
+
+-- The file at this index was dropped: no link had it open. Those after it moved up.
+pub record SharedDrops (at : ℕ) (old new : SharedValue) : Type 0 where
+  pub closed : is_held at old.sessions ≡ false
+  pub stands : (first : Files) (events : List Event) → SharedAfter first events old →
+      SharedAfter first (events ++ Drops at ∷ []) new
+  pub files : new.files ≡ remove old.files at
+  pub sessions : new.sessions ≡ map (λ s. record s { phase = phase_moved_up at s.phase }) old.sessions
+  pub same_own : new.own ≡ old.own
+  pub same_setup : new.setup ≡ old.setup
+
+-- why a file isn't removed: none has this name, or a link has it open
+abbrev pub NotRemoved : SharedValue → (name : List ℕ) → RemoveFault → Type 0
+NotRemoved v name removing.NoFile = place_by v.setup.names name v.files ≡ None
+NotRemoved v name removing.Busy = AtFile name v (λ at. is_held at v.sessions ≡ true)

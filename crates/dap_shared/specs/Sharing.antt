@@ -31,6 +31,11 @@ has_alone opened = opened.is_new || (opened.rights.put || (opened.rights.upd || 
 abbrev pub are_apart : OpenFile → OpenFile → Bool
 are_apart one two = (one.at == two.at) && (has_alone one || has_alone two)
 
+-- it is the file at this index that is open
+abbrev pub is_file : (at : ℕ) → Option OpenFile → Bool
+is_file at None = false
+is_file at (Some opened) = opened.at == at
+
 -- what an item asks to open: only an Access in Ready does
 abbrev pub asks_to_open : (own : ServerSetup) → Files → Place → Item → Option OpenFile
 asks_to_open own files Ready (Whole (Access access)) = would_open own files access

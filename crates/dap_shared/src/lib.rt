@@ -2,12 +2,14 @@
 //! change is locked for the others.
 #![tactic(auto)]
 
+mod fault;
 mod laws;
 mod locks;
 mod noted;
 mod server;
 mod shared;
 
+pub use fault::RemoveFault;
 pub use laws::{
     a_locked_file_has_a_holder, an_open_file_stays, answers_grow_on, one_link_is_as_before,
     writers_are_alone,

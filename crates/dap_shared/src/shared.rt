@@ -6,19 +6,20 @@ ghost use Rattle.dap_msg.specs.Decoding.{IsSpelled};
 ghost use Rattle.dap_msg.specs.declared.items.Item.TheVariants.{Whole};
 ghost use Rattle.dap_msg.specs.declared.message.Message.{Message as TheMessage};
 ghost use Rattle.rec_file.specs.Shapes.{is_shape};
-ghost use Rattle.dap_accessed.specs.Standing.{Files, place_of};
-ghost use Rattle.dap_accessed.specs.Adding.{with_new_file, with_record};
+ghost use Rattle.dap_accessed.specs.Standing.{Files, file_at, place_by};
+ghost use Rattle.dap_accessed.specs.Adding.{MayStore, with_new_file};
 ghost use Rattle.dap_accessed.specs.Sessions.{IsOpenIn, session_with};
 ghost use Rattle.dap_accessed.specs.Setup.{IsServerSetup, plain_setup};
-ghost use Rattle.dap_shared.specs.Nodes.{Event, FilesAfter, Gives, GivesRecord, is_locked_out, locks_out, node_after};
-ghost use Rattle.dap_shared.specs.Shared.{MayGiveRecord, NotAdded, RecordNotAdded, SharedAfter, SharedBegins, SharedGiven, SharedServes};
-ghost use Rattle.dap_shared.specs.Inner.Beside.{MovesBeside, session_moved_up};
+ghost use Rattle.dap_shared.specs.Nodes.{Event, FilesAfter, Gives, GivesRecord, exchange_at, is_locked_out, locks_out, node_after, with_record_at};
+ghost use Rattle.dap_shared.specs.Shared.{AtFile, NotAdded, NotRemoved, RecordNotAdded, SharedAfter, SharedBegins, SharedDrops, SharedGiven, SharedServes, rights_on};
+ghost use Rattle.dap_shared.specs.Inner.Beside.{MovesBeside, session_moved_up, session_without};
 ghost use Rattle.dap_shared.specs.Inner.Held.{MovesOn, session_at};
 
-use crate::locks::{FILE_LOCKED, is_barred, is_barred_by_file};
+use crate::fault::RemoveFault;
+use crate::locks::{FILE_LOCKED, is_barred, is_barred_by_file, is_held};
 use dap_accessed::{AddFault, FileTable, NoMemory, OpenFile, Served, ServerSetup, Session};
 use dap_msg::Item;
-use rec_file::Shape;
+use rec_file::{Rights, Shape};
 use std::alloc::Global;
 use std::marker::Model;
 use std::mem;
@@ -69,13 +70,13 @@ fn new_sessions(alloc: Global, setup: ServerSetup, links: usize) -> Result<Vec<S
     Ok(sessions)
 }
 
-/// A file was removed: those after it have moved up.
+/// The file at a place of the table was removed: those after it have moved up.
 #[tactic(auto, using(std::proofs::lemmas::List::Edits::map_over_more))]
-fn move_up(sessions: &mut Vec<Session>, removed: OpenFile)
-    ensures { sessions.new.items ≡ map (session_moved_up (Some removed)) sessions.old.items }
+fn move_up(sessions: &mut Vec<Session>, removed: usize)
+    ensures { sessions.new.items ≡ map (session_without removed) sessions.old.items }
 {
     for session in sessions.iter_mut() {
-        session.move_up(removed.at);
+        session.move_up(removed);
     }
 }
 
@@ -84,7 +85,7 @@ fn close_up(sessions: &mut Vec<Session>, gone: Option<OpenFile>)
     ensures { sessions.new.items ≡ map (session_moved_up gone) sessions.old.items }
 {
     if let Some(removed) = gone {
-        move_up(sessions, removed);
+        move_up(sessions, removed.at);
     }
 }
 
@@ -249,13 +250,25 @@ impl SharedFiles {
         )
     }
 
-    /// Another link in this one's place, or none: its open file is closed, and a PUT or an UPDATE that waits for its
-    /// record is dropped.
-    pub fn begin(&mut self, link: usize)
-        requires { link < length self.old.sessions }
-        ensures { SharedBegins link self.old self.new }
+    /// The most that an Access on a link may ask for.
+    pub fn rights(&self, link: usize) -> Rights
+        requires { link < length self.now.sessions }
+        ensures held { result ≡ rights_on link self.now }
+        ensures after { (first : Files) (events : List Event) → SharedAfter first events self.now
+            → result ≡ (exchange_at link
+            (node_after self.now.setup first (length self.now.sessions) events)).most }
     {
-        self.sessions[link] = Session::with_setup(self.alloc, self.setup);
+        self.sessions[link].rights()
+    }
+
+    /// Another link in this one's place, or none: its open file is closed, and a PUT or an UPDATE that waits for its
+    /// record is dropped. An Access on it may ask for so much until it begins again.
+    pub fn begin(&mut self, link: usize, most: Rights)
+        requires { link < length self.old.sessions }
+        ensures { SharedBegins link most self.old self.new }
+    {
+        let setup = ServerSetup { most, ..self.setup };
+        self.sessions[link] = Session::with_setup(self.alloc, setup);
     }
 
     /// A file without records after the others. Its shape is one that [`rec_file::Shape::check`] gives.
@@ -263,7 +276,8 @@ impl SharedFiles {
     /// Refusals in order: FileExists, NoMemory; each leaves all unchanged.
     pub fn add(&mut self, name: &[u8], shape: Shape) -> Result<(), AddFault>
         requires { IsTrue (is_shape shape) }
-        ensures may { OnOk result (place_of name.now self.old.files ≡ None) }
+        ensures may { OnOk result
+            (place_by self.old.setup.names name.now self.old.files ≡ None) }
         ensures given { OnOk result (SharedGiven (Gives name.now shape) self.old self.new) }
         ensures files { OnOk result
             (self.new.files ≡ with_new_file name.now shape self.old.files) }
@@ -277,22 +291,43 @@ impl SharedFiles {
         Ok(())
     }
 
-    /// A record more in the newest file, under its number. In a sequential file the number is the next one.
+    /// A record more in the file of this name, under its number. In a sequential file the number is the next one.
     ///
     /// Refusals in order: NoFile; as of a PUT with this number BadLength, NumberOutOfRange, RecordExists; NoMemory.
     /// Each leaves all unchanged.
-    pub fn add_record(&mut self, number: u32, body: &[u8]) -> Result<(), AddFault>
-        ensures may { OnOk result (MayGiveRecord self.old.files number body.now) }
-        ensures given { OnOk result
-            (SharedGiven (GivesRecord number body.now) self.old self.new) }
-        ensures files { OnOk result (self.new.files ≡ with_record number body.now self.old.files) }
-        ensures refused { IfErr result (RecordNotAdded self.old.files number body.now) }
+    pub fn add_record(&mut self, name: &[u8], number: u32, body: &[u8]) -> Result<(), AddFault>
+        ensures may { OnOk result (AtFile name.now self.old
+            (λ at. MayStore (file_at at self.old.files) number body.now)) }
+        ensures given { OnOk result (AtFile name.now self.old
+            (λ at. SharedGiven (GivesRecord at number body.now) self.old self.new)) }
+        ensures files { OnOk result (AtFile name.now self.old
+            (λ at. self.new.files ≡ with_record_at at number body.now self.old.files)) }
+        ensures refused { IfErr result (RecordNotAdded self.old name.now number body.now) }
         ensures unchanged { OnErr result (self.new ≡ self.old) }
     {
-        let count = self.files.count();
-        if count == 0 {
+        let Some(at) = self.files.find_by(self.setup.names, name) else {
             return Err(AddFault::NoFile);
+        };
+        self.files.add_record(at, number, body)
+    }
+
+    /// Removes the file of this name: those after it move up, also where a link has one of them open. It takes no memory.
+    ///
+    /// Refusals in order: NoFile; Busy where a link has the file open. Each leaves all unchanged.
+    pub fn remove(&mut self, name: &[u8]) -> Result<(), RemoveFault>
+        ensures drops { OnOk result
+            (AtFile name.now self.old (λ at. SharedDrops at self.old self.new)) }
+        ensures refused { IfErr result (NotRemoved self.old name.now) }
+        ensures unchanged { OnErr result (self.new ≡ self.old) }
+    {
+        let Some(at) = self.files.find_by(self.setup.names, name) else {
+            return Err(RemoveFault::NoFile);
+        };
+        if is_held(&self.sessions, at) {
+            return Err(RemoveFault::Busy);
         }
-        self.files.add_record(count - 1, number, body)
+        self.files.remove(at);
+        move_up(&mut self.sessions, at);
+        Ok(())
     }
 }

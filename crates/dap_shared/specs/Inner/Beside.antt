@@ -17,9 +17,14 @@ abbrev pub is_barred : (others : List SessionValue) → Option OpenFile → Bool
 is_barred others None = false
 is_barred others (Some asked) = list_any (λ s. bars asked (open_at s.phase)) others
 
+-- the file at this index was removed: those after it moved up
+abbrev pub session_without : (removed : ℕ) → SessionValue → SessionValue
+session_without removed s = record s { phase = phase_moved_up removed s.phase }
+
+-- the same where a file was removed
 abbrev pub session_moved_up : (removed : Option OpenFile) → SessionValue → SessionValue
 session_moved_up None s = s
-session_moved_up (Some removed) s = record s { phase = phase_moved_up removed.at s.phase }
+session_moved_up (Some removed) s = session_without removed.at s
 
 -- what was open is gone from the table, if there are fewer files
 abbrev pub gone_by : (before after : Files) → Phase → Option OpenFile
