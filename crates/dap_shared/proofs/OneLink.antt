@@ -15,15 +15,15 @@ use Rattle.dap_accessed.proofs.ForCallers.{cut-more}
 use Rattle.dap_shared.specs.Sharing.{is_locked, asks_to_open, file_locked}
 use Rattle.dap_shared.specs.Nodes.{Node, Serves, exchange_of, after_all, after_event, after_more, more_beside, node_after}
 
-abbrev pub node_of : Grouped → Node
-node_of c = record { files = c.standing.scene.files; exchanges = exchange_of c ∷ [] }
-
 -- where no other link has a file open, none is locked
 none-locked : (asked : Option OpenFile) → is_locked (None ∷ []) asked ≡ false
 none-locked None = refl
 none-locked (Some asked) = refl
 
 module _ (own : ServerSetup) where
+  abbrev pub node_of : Grouped → Node
+  node_of c = record { files = c.standing.scene.files; exchanges = exchange_of own.most c ∷ [] }
+
   pub alone : (c : Grouped) (item : Item) → more_beside own (None ∷ []) c item ≡ one_more own c item
   alone c item =
       let s = c.standing in
@@ -31,7 +31,7 @@ module _ (own : ServerSetup) where
       (none-locked (asks_to_open own s.scene.files s.place item))
 
   one-served : (c : Grouped) (item : Item) → after_event own (node_of c) (Serves 0 item) ≡ node_of (one_more own c item)
-  one-served c item = ap (λ (d : Grouped). after_more 0 c d (exchange_of c ∷ [])) (alone c item)
+  one-served c item = ap (λ (d : Grouped). after_more own.most 0 c d (exchange_of own.most c ∷ [])) (alone c item)
 
   served-on : (first : Files) (before more : List Item) →
       after_all own (node_of (stands_after own first before)) (map (Serves 0) more) ≡ node_of (stands_after own first (before ++ more))

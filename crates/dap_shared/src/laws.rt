@@ -6,7 +6,7 @@ ghost use Rattle.dap_accessed.specs.declared.phase.OpenFile.{OpenFile};
 ghost use Rattle.dap_accessed.specs.declared.setup.ServerSetup.{ServerSetup};
 ghost use Rattle.dap_accessed.specs.Standing.{Files};
 ghost use Rattle.dap_accessed.specs.Groups.{After, Answers, stands_after};
-ghost use Rattle.dap_shared.specs.Nodes.{Node, is_locked_out, locks_out, added_on, AnswersOn, Event, FilesAfter, Serves, after_event, end_at, exchange_at, node_after, open_on};
+ghost use Rattle.dap_shared.specs.Nodes.{Node, is_locked_out, is_open, locks_out, added_on, AnswersOn, Drops, Event, FilesAfter, Serves, after_event, end_at, exchange_at, node_after, open_on};
 ghost use Rattle.dap_shared.specs.Keeping.{AreApart, AreOf, HoldsStill};
 
 /// A node of one link is a server of one link: it stands where that stands, its files are those after the items, and
@@ -58,4 +58,19 @@ pub fn answers_grow_on()
         (item : TheItem) → other ≢ link
         → AnswersOn other own first links (events ++ Serves link item ∷ [])
         ≡ AnswersOn other own first links events }
+{}
+
+/// A file that a link has open isn't dropped. Where a file is dropped, each link's open file stays open, under its name
+/// and with its records, and no link has an answer more.
+pub fn a_drop_leaves_what_is_open()
+    ensures busy { (own : ServerSetup) (node : Node) (at : ℕ)
+        → IsTrue (is_open at node) → after_event own node (Drops at) ≡ node }
+    ensures stays { (own : ServerSetup) (first : Files) (links : ℕ) (events : List Event) (link at : ℕ)
+        (held : OpenFile) → AreOf links events
+        → open_on (exchange_at link (node_after own first links events)) ≡ Some held
+        → HoldsStill link (node_after own first links events)
+        (after_event own (node_after own first links events) (Drops at)) held }
+    ensures answers { (own : ServerSetup) (first : Files) (links : ℕ) (events : List Event) (link at : ℕ)
+        → AnswersOn link own first links (events ++ Drops at ∷ [])
+        ≡ AnswersOn link own first links events }
 {}
