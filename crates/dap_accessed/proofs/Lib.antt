@@ -16,3 +16,5 @@ pub mod SoundLists
 pub mod Given
 pub mod Answering
 pub mod ForCallers
+pub mod Apart
+pub mod Twins

@@ -3,7 +3,7 @@ use Rattle.std.proofs.Common.{◌≡◌, ℕ, ◌+◌, ◌<◌, ◌≤◌, Bool,
 use Rattle.dap_accessed.specs.Setup.{lacks}
 use Rattle.dap_accessed.specs.declared.setup.Names.{Names}
 use Rattle.dap_accessed.specs.declared.setup.ServerSetup.{ServerSetup}
-use Rattle.std.specs.Prelude.{IfSome, IsTrue, if◌then◌else◌}
+use Rattle.std.specs.Prelude.{IfSome, IsTrue, bytes_eq, if◌then◌else◌}
 use Rattle.std.specs.FinMap as map
 use Rattle.dap_msg.specs.declared.message.Message.{Message}
 use Rattle.dap_msg.specs.declared.message.AccessFields.{AccessFields}
@@ -163,7 +163,7 @@ module _ (scene : Scene) (files : AreFiles scene.files) (least : 64 ≤ scene.li
       (either (a.func == codes.accfunc.creating) _ _ (creating own a.name a.fac found shape refl g) (entering Ready tt))
 
   purging : (o : OpenFile) (new : Bool) → IsSoundAt (record scene { files = if new then remove scene.files o.at else scene.files }) Ready
-  purging o true = record { files = record { files = all-without scene.files o.at files.files; distinct = distinct-without scene.files o.at files.distinct }; opened = tt; least = least; most = most }
+  purging o true = record { files = record { files = all-without scene.files o.at files.files; distinct = distinct-without bytes_eq scene.files o.at files.distinct }; opened = tt; least = least; most = most }
   purging o false = entering Ready tt
 
   ended-soundly : (o : OpenFile) (place : Place) → o.at < length scene.files → Leaves (end_stream scene o place)

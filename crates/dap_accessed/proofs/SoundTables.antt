@@ -17,13 +17,6 @@ use Rattle.dap_accessed.specs.Sound.{AreFiles}
 abbrev pub AllFiles : Files → Type 0
 AllFiles files = AllByRecursion (λ f. IsFile f.1) files
 
-abbrev AreDistinct : Files → Type 0
-AreDistinct files = IsDistinct (λ (f g : List ℕ × FileVal). bytes_eq f.0 g.0) files
-
--- this name is that of no file
-abbrev IsNone : List ℕ → Files → Type 0
-IsNone name files = AllByRecursion (λ f. bytes_eq name f.0 ≡ false) files
-
 -- no file has this name
 abbrev HasNone : List ℕ → Files → Type 0
 HasNone name files = AllByRecursion (λ f. bytes_eq f.0 name ≡ false) files
@@ -45,17 +38,6 @@ all-with [] at file h k = tt
 all-with (f ∷ files) zero file h k = (k, h.1)
 all-with (f ∷ files) (suc at) file h k = (h.0, all-with files at file h.1 k)
 
-none-with : (name : List ℕ) (files : Files) (at : ℕ) (file : FileVal) → IsNone name files → IsNone name (with_file at file files)
-none-with name [] at file h = tt
-none-with name (f ∷ files) zero file h = h
-none-with name (f ∷ files) (suc at) file h = (h.0, none-with name files at file h.1)
-
-distinct-with : (files : Files) (at : ℕ) (file : FileVal) → AreDistinct files → AreDistinct (with_file at file files)
-unfolding IsDistinct
-distinct-with [] at file h = tt
-distinct-with (f ∷ files) zero file h = h
-distinct-with (f ∷ files) (suc at) file h = (none-with f.0 files at file h.0, distinct-with files at file h.1)
-
 -- ---- A file less.
 
 pub all-without : (files : Files) (at : ℕ) → AllFiles files → AllFiles (remove files at)
@@ -64,33 +46,58 @@ all-without [] (suc at) h = tt
 all-without (f ∷ files) zero h = h.1
 all-without (f ∷ files) (suc at) h = (h.0, all-without files at h.1)
 
-none-without : (name : List ℕ) (files : Files) (at : ℕ) → IsNone name files → IsNone name (remove files at)
-none-without name [] zero h = tt
-none-without name [] (suc at) h = tt
-none-without name (f ∷ files) zero h = h.1
-none-without name (f ∷ files) (suc at) h = (h.0, none-without name files at h.1)
-
-pub distinct-without : (files : Files) (at : ℕ) → AreDistinct files → AreDistinct (remove files at)
-unfolding IsDistinct
-distinct-without [] zero h = tt
-distinct-without [] (suc at) h = tt
-distinct-without (f ∷ files) zero h = h.1
-distinct-without (f ∷ files) (suc at) h = (none-without f.0 files at h.0, distinct-without files at h.1)
-
 -- ---- A file more, of a new name.
 
 all-more : (files : Files) (f : List ℕ × FileVal) → AllFiles files → IsFile f.1 → AllFiles (files ++ f ∷ [])
 all-more [] f h k = (k, tt)
 all-more (e ∷ files) f h k = (h.0, all-more files f h.1 k)
 
-none-more : (name : List ℕ) (files : Files) (f : List ℕ × FileVal) → IsNone name files → bytes_eq name f.0 ≡ false → IsNone name (files ++ f ∷ [])
-none-more name [] f h new = (new, tt)
-none-more name (e ∷ files) f h new = (h.0, none-more name files f h.1 new)
+-- ---- Files of which no two have one name.
 
-distinct-more : (files : Files) (f : List ℕ × FileVal) → AreDistinct files → HasNone f.0 files → AreDistinct (files ++ f ∷ [])
-unfolding IsDistinct
-distinct-more [] f h new = (tt, tt)
-distinct-more (e ∷ files) f h new = (none-more e.0 files f h.0 new.0, distinct-more files f h.1 new.1)
+module _ (eq : (one other : List ℕ) → Bool) where
+  abbrev AreDistinct : Files → Type 0
+  AreDistinct files = IsDistinct (λ (f g : List ℕ × FileVal). eq f.0 g.0) files
+
+  -- this name is that of no file
+  abbrev IsNone : List ℕ → Files → Type 0
+  IsNone name files = AllByRecursion (λ f. eq name f.0 ≡ false) files
+
+  -- no file has this name
+  abbrev HasNo : List ℕ → Files → Type 0
+  HasNo name files = AllByRecursion (λ f. eq f.0 name ≡ false) files
+
+  none-with : (name : List ℕ) (files : Files) (at : ℕ) (file : FileVal) → IsNone name files → IsNone name (with_file at file files)
+  none-with name [] at file h = tt
+  none-with name (f ∷ files) zero file h = h
+  none-with name (f ∷ files) (suc at) file h = (h.0, none-with name files at file h.1)
+
+  pub distinct-with : (files : Files) (at : ℕ) (file : FileVal) → AreDistinct files → AreDistinct (with_file at file files)
+  unfolding IsDistinct
+  distinct-with [] at file h = tt
+  distinct-with (f ∷ files) zero file h = h
+  distinct-with (f ∷ files) (suc at) file h = (none-with f.0 files at file h.0, distinct-with files at file h.1)
+
+  none-without : (name : List ℕ) (files : Files) (at : ℕ) → IsNone name files → IsNone name (remove files at)
+  none-without name [] zero h = tt
+  none-without name [] (suc at) h = tt
+  none-without name (f ∷ files) zero h = h.1
+  none-without name (f ∷ files) (suc at) h = (h.0, none-without name files at h.1)
+
+  pub distinct-without : (files : Files) (at : ℕ) → AreDistinct files → AreDistinct (remove files at)
+  unfolding IsDistinct
+  distinct-without [] zero h = tt
+  distinct-without [] (suc at) h = tt
+  distinct-without (f ∷ files) zero h = h.1
+  distinct-without (f ∷ files) (suc at) h = (none-without f.0 files at h.0, distinct-without files at h.1)
+
+  none-more : (name : List ℕ) (files : Files) (f : List ℕ × FileVal) → IsNone name files → eq name f.0 ≡ false → IsNone name (files ++ f ∷ [])
+  none-more name [] f h new = (new, tt)
+  none-more name (e ∷ files) f h new = (h.0, none-more name files f h.1 new)
+
+  pub distinct-more : (files : Files) (f : List ℕ × FileVal) → AreDistinct files → HasNo f.0 files → AreDistinct (files ++ f ∷ [])
+  unfolding IsDistinct
+  distinct-more [] f h new = (tt, tt)
+  distinct-more (e ∷ files) f h new = (none-more e.0 files f h.0 new.0, distinct-more files f h.1 new.1)
 
 -- ---- A name that is not found is new.
 
@@ -116,11 +123,11 @@ new-name name files none =
 -- ---- Files with different names, each of which obeys its shape.
 
 pub files-with : (files : Files) (at : ℕ) (file : FileVal) → AreFiles files → IsFile file → AreFiles (with_file at file files)
-files-with files at file h k = record { files = all-with files at file h.files k; distinct = distinct-with files at file h.distinct }
+files-with files at file h k = record { files = all-with files at file h.files k; distinct = distinct-with bytes_eq files at file h.distinct }
 
 pub files-more : (files : Files) (name : List ℕ) (shape : Shape) → AreFiles files → IsTrue (is_shape shape) → place_of name files ≡ None → AreFiles (files ++ (name, new_file shape) ∷ [])
 files-more files name shape h good none =
-    record { files = all-more files _ h.files (IsFile-empty shape good); distinct = distinct-more files _ h.distinct (new-name name files none) }
+    record { files = all-more files _ h.files (IsFile-empty shape good); distinct = distinct-more bytes_eq files _ h.distinct (new-name name files none) }
 
 -- ---- A name that no file has by its fold is that of no file.
 

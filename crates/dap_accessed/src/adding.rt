@@ -13,7 +13,7 @@ use crate::accessed::Accessed;
 use crate::fault::AddFault;
 use crate::phase::Phase;
 use dap_msg::LEAST_BUFFER;
-use rec_file::{AnyFile, OneWalk, RecordFile, Refusal, Shape};
+use rec_file::{AnyFile, OneWalk, RecordFile, Refusal, Rights, Shape};
 
 impl Accessed {
     /// The same files for another link: the end waits for a peer's Config again, an open file is closed, and a PUT
@@ -24,6 +24,15 @@ impl Accessed {
         ensures stands { StandsAfter self.old.files [] self.new }
     {
         self.session.renew();
+    }
+
+    /// The same files for another link, on which an Access may ask for these rights at most.
+    pub fn renew_for(&mut self, most: Rights)
+        ensures own { self.new.own ≡ self.old.own }
+        ensures setup { self.new.setup ≡ record self.old.setup { most = most } }
+        ensures stands { StandsAfter self.old.files [] self.new }
+    {
+        self.session.renew_for(most);
     }
 
     /// A file without records after the others, before the peer's Config was served. Its shape is one that

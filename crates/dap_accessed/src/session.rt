@@ -24,7 +24,7 @@ use crate::answers::{Answer, one, opening};
 use crate::fault::NoMemory;
 use crate::phase::{OpenFile, Phase};
 use crate::served::Served;
-use crate::setup::ServerSetup;
+use crate::setup::{ServerSetup, rights_for_access, rights_of_fac};
 use crate::step::Step;
 use crate::table::FileTable;
 use dap_msg::codes::{
@@ -80,16 +80,10 @@ pub(crate) const PLAIN: Shape = Shape {
 fn rights_for(fac: u32, usual: FileAccess) -> Rights
     ensures { result ≡ rights_of (fac_or fac usual.0) }
 {
-    let access = if fac == 0 {
-        usual
+    if fac == 0 {
+        rights_for_access(usual)
     } else {
-        FileAccess::of_fac(fac)
-    };
-    Rights {
-        get: access.allows_get(),
-        put: access.allows_put(),
-        upd: access.allows_update(),
-        del: access.allows_delete(),
+        rights_of_fac(fac)
     }
 }
 
@@ -170,6 +164,15 @@ impl Session {
         self.limit = LEAST_BUFFER;
         self.kept = Some(PLAIN);
         self.phase = Phase::Fresh;
+    }
+
+    /// The same for another link, on which an Access may ask for these rights at most.
+    pub fn renew_for(&mut self, most: Rights)
+        ensures session { self.new ≡ session_with (record self.old.setup { most = most }) }
+        ensures own { self.new.own ≡ self.old.own }
+    {
+        self.setup.most = most;
+        self.renew();
     }
 
     /// The most that an Access may ask for.

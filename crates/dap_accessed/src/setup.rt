@@ -1,9 +1,10 @@
 //! What a server is set up with.
 
 ghost use Rattle.std.specs.Prelude.{◌≡◌};
+ghost use Rattle.dap_accessed.specs.Accesses.{rights_of};
 ghost use Rattle.dap_accessed.specs.Setup.{all_rights, lacks, plain_setup, same_name};
 
-use dap_msg::Configuration;
+use dap_msg::{Configuration, FileAccess};
 use file_names::is_alike;
 use rec_file::Rights;
 
@@ -46,6 +47,26 @@ pub const ALL_RIGHTS: Rights = Rights {
     upd: true,
     del: true,
 };
+
+/// The rights to do these operations.
+pub(crate) fn rights_for_access(access: FileAccess) -> Rights
+    ensures { result ≡ rights_of access.0 }
+{
+    Rights {
+        get: access.allows_get(),
+        put: access.allows_put(),
+        upd: access.allows_update(),
+        del: access.allows_delete(),
+    }
+}
+
+/// The rights for which the bits of a FAC stand: bit 0 PUT, 1 GET, 2 DELETE, 3 UPDATE; none for 0 (DAP 5.6.0, Access
+/// message).
+pub fn rights_of_fac(fac: u32) -> Rights
+    ensures { result ≡ rights_of fac }
+{
+    rights_for_access(FileAccess::of_fac(fac))
+}
 
 impl ServerSetup {
     /// A server with a buffer of this many bytes of which nothing else is asked: names are compared byte by byte, and an

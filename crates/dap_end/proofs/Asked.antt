@@ -1,6 +1,6 @@
 -- What the calls of an asking end leave of what it did.
 use Rattle.std.proofs.Common.{◌≡◌, inl, inr, eq-eqb, ◌-◌, ℕ, ◌+◌, ◌<◌, ◌≤◌, arith, refl, sym, ◌∙◌, subst, ap, append_assoc, true, false, true≢false, List, [], ◌∷◌, ◌++◌, length}
-use Rattle.std.specs.Prelude.{Result, Ok, Err, IfOk, IfErr, ◌==◌, Option, nat_le, if◌then◌else◌, option_to_list}
+use Rattle.std.specs.Prelude.{Result, Ok, Err, IfOk, IfErr, ◌==◌, Option, nat_le, if◌then◌else◌, option_map, option_to_list}
 use Rattle.std.proofs.lemmas.Bool.{cases_eq, ne_eqb}
 use Rattle.std.proofs.lemmas.List.{append-nil, map-append}
 use Rattle.std.proofs.lemmas.List.Elements.{All-append}
@@ -9,11 +9,11 @@ use Rattle.dap_fields.specs.Spelling.{AreBytes}
 use Rattle.dap_msg.specs.declared.message.Message.{Message}
 use Rattle.dap_msg.specs.Canon.{canon}
 use Rattle.dap_msg.specs.declared.items.Item.{Item}
-use Rattle.dap_msg.specs.Items.{IsPlace}
+use Rattle.dap_msg.specs.Items.{IsPlace, ItemAt}
 use Rattle.dap_msg.specs.Sendable.{AreSendable}
 use Rattle.dap_msg.specs.Blocked.{NspMessage, joined, Blocked, blocked_after, all_joined, messages_in, AllFit}
 use Rattle.dap_msg.specs.Inner.Blocked.{IsWithin, AllWithin}
-use Rattle.dap_msg.proofs.ForCallers.{messages_in-Blocked, within_limit}
+use Rattle.dap_msg.proofs.ForCallers.{messages_in-Blocked, within_limit, one_item}
 use Rattle.nsp_link.specs.Link.{LinkValue, Sends, SendsStill, Stands, with_inbox}
 use Rattle.nsp_link.proofs.ForCallers.{sends_all, may_queue_parts}
 use Rattle.dap_accessed.specs.Served.{AllAtMost}
@@ -23,7 +23,8 @@ use Rattle.dap_accessing.specs.declared.fault.ReadStep.{ReadStep}
 use Rattle.dap_accessing.specs.Asked.{Asked, messages_of}
 use Rattle.dap_accessing.specs.Told.{Told}
 use Rattle.dap_accessing.specs.Phase.{limit_after}
-use Rattle.dap_accessing.specs.Present.{Present}
+use Rattle.dap_accessing.specs.Present.{Present, StandsAfter}
+use Rattle.dap_accessing.specs.Each.{ReadsOn, put_back, reported_behind}
 use Rattle.dap_accessing.specs.Calls.{Asks, Reads}
 use Rattle.dap_end.specs.Pasts.{AreFull, asked_one, read_one}
 use Rattle.dap_end.specs.Ports.{HandsOver, PortValue, gone_on}
@@ -200,10 +201,26 @@ few_blocked limit (m ∷ messages) = omega (arith, blocked-few limit (m ∷ []) 
 
 -- ---- An answer.
 
+-- one answer more was read, where the client stands as after it
+read_past : (past : AskingPast) (port new : PortValue) (before after : Present) (bytes : List ℕ) (later : List (List ℕ)) (answer : Item) (next : ℕ) → AreBytes bytes → port.link.coming.inbox ≡ bytes ∷ later
+    → ItemAt bytes port.place answer next → next ≤ length bytes → after.identity ≡ before.identity → new ≡ gone_on port bytes later next → HasAsked past (asking_of port before)
+    → StandsAfter past.requests (past.answers ++ answer ∷ []) after → HasAsked (read_one past bytes answer next) (asking_of new after)
+read_past past port new before after bytes later answer next fits inbox reads within identity is h stands =
+    subst (λ (p : PortValue). HasAsked (read_one past bytes answer next) (asking_of p after)) (sym is) (record {
+      asking = stands;
+      gone = port_gone port bytes later next past.given past.answers answer fits inbox h.gone reads within;
+      sends = record { queue = h.sends.queue; acked = h.sends.acked; part = h.sends.part };
+      messages = h.messages ∙ ap (λ (k : Configuration). Asked k past.requests) (sym identity);
+      waiting = h.waiting;
+      fit = h.fit;
+      full = h.full;
+    })
+
 pub reads_one : (old : AskingValue) (bytes : List ℕ) (later : List (List ℕ)) → AreBytes bytes → (after : Present) (port : PortValue) (step : ReadStep) → old.port.link.coming.inbox ≡ bytes ∷ later → IsPlace old.port.place bytes
-    → (r : Reads bytes old.port.place old.present after step) → step.next ≤ length bytes → after.own ≡ old.present.own → after.identity ≡ old.present.identity
+    → (r : Reads bytes old.port.place old.present after step) → ReadsOn bytes old.port.place old.present after step → step.next ≤ length bytes → after.own ≡ old.present.own → after.identity ≡ old.present.identity
     → port ≡ gone_on old.port bytes later step.next → ReadOne old (asking_of port after) step.report
-reads_one old bytes later fits after port step inbox place r within own identity is =
+reads_one old bytes later fits after port step inbox place r on within own identity is =
+    let same : on.answer ≡ r.answer = (one_item bytes old.port.place r.answer on.answer step.next step.next fits r.reads on.reads).0 in
     record {
       works = r.works;
       goes_on = r.goes_on;
@@ -212,16 +229,12 @@ reads_one old bytes later fits after port step inbox place r within own identity
       own = own;
       identity = identity;
       expected = λ past h. r.expected past.requests past.answers h.asking;
-      past = λ past h. subst (λ (p : PortValue). HasAsked (read_one past bytes r.answer step.next) (asking_of p after)) (sym is) (record {
-        asking = r.stands past.requests past.answers h.asking;
-        gone = port_gone old.port bytes later step.next past.given past.answers r.answer fits inbox h.gone r.reads within;
-        sends = record { queue = h.sends.queue; acked = h.sends.acked; part = h.sends.part };
-        messages = h.messages ∙ ap (λ (k : Configuration). Asked k past.requests) (sym identity);
-        waiting = h.waiting;
-        fit = h.fit;
-        full = h.full;
-      });
+      past = λ past h. read_past past old.port port old.present after bytes later r.answer step.next fits inbox r.reads within identity is h (r.stands past.requests past.answers h.asking);
       told = λ past h. r.told past.requests past.answers h.asking;
+      past_on = λ told past b h. read_past past old.port port (put_back told old.present) (put_back told after) bytes later r.answer step.next fits inbox r.reads within identity is h
+          (subst (λ (i : Item). StandsAfter past.requests (past.answers ++ i ∷ []) (put_back told after)) same (on.stands told past.requests past.answers b h.asking));
+      told_on = λ told past b h. subst (λ (i : Item). Told past.requests (past.answers ++ i ∷ []) ≡ Told past.requests past.answers ++ option_to_list (option_map (reported_behind told) step.report)) same
+          (on.told told past.requests past.answers b h.asking);
     }
 
 pub some_first : (inbox : List (List ℕ)) → 0 < length inbox → (bytes : List ℕ) × (later : List (List ℕ)) × (inbox ≡ bytes ∷ later)

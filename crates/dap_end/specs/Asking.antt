@@ -1,5 +1,5 @@
 -- A client with its link, whatever the peer is.
-use Rattle.std.specs.Prelude.{◌≡◌, ◌≢◌, ◌⊎◌, ℕ, List, [], ◌∷◌, ◌++◌, length, true, false, Option, option_to_list}
+use Rattle.std.specs.Prelude.{◌≡◌, ◌≢◌, ◌⊎◌, ℕ, List, [], ◌∷◌, ◌++◌, length, true, false, Option, option_map, option_to_list}
 use Rattle.std.specs.List.{AllByRecursion}
 use Rattle.dap_msg.specs.Blocked.{AllFit, all_joined, messages_in}
 use Rattle.nsp_link.specs.Link.{Sends}
@@ -12,7 +12,9 @@ use Rattle.dap_accessing.specs.Told.{Told, is_unexpected}
 use Rattle.dap_accessing.specs.Calls.{Asks, ReadRefused}
 use Rattle.dap_end.specs.Ports.{gone_on}
 use Rattle.dap_end.specs.Going.{given_then, NextItem, GoneThrough}
+use Rattle.dap_accessing.specs.Each.{IsBatch, reported_behind}
 use Rattle.dap_end.specs.Done.{AskingValue, AskingPast}
+use Rattle.dap_end.specs.Each.{with_told}
 
 -- The client is as after this history: it waits for what is due after these requests and answers. The answers are
 -- those of the NSP messages that it read, and of a prefix of the next one. What it passed to its link, and what
@@ -57,6 +59,9 @@ pub record ReadOne (old new : AskingValue) (report : Option Report) : Type 0 whe
   pub expected : (past : AskingPast) → HasAsked past old → is_unexpected past.requests past.answers one.item ≡ false
   pub past : (past : AskingPast) → HasAsked past old → HasAsked (record past { given = given_then past.given one.bytes one.next; answers = past.answers ++ one.item ∷ [] }) new
   pub told : (past : AskingPast) → HasAsked past old → Told past.requests (past.answers ++ one.item ∷ []) ≡ Told past.requests past.answers ++ option_to_list report
+  -- The same while a batch is under way of which records were taken out: they count, but the report comes without them.
+  pub past_on : (told : List (ℕ × List ℕ)) (past : AskingPast) → IsBatch old.present → HasAsked past (with_told told old) → HasAsked (record past { given = given_then past.given one.bytes one.next; answers = past.answers ++ one.item ∷ [] }) (with_told told new)
+  pub told_on : (told : List (ℕ × List ℕ)) (past : AskingPast) → IsBatch old.present → HasAsked past (with_told told old) → Told past.requests (past.answers ++ one.item ∷ []) ≡ Told past.requests past.answers ++ option_to_list (option_map (reported_behind told) report)
 
 -- why nothing was read, and the client then: after an unexpected answer it has failed
 pub record ReadNone (old new : AskingValue) (f : ReadFault) : Type 0 where

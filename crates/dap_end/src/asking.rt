@@ -1,7 +1,7 @@
 //! The end that asks.
 
-ghost use Rattle.std.specs.Prelude.{◌≡◌, ◌≢◌, ◌≤◌, ◌<◌, ◌+◌, ◌-◌, ℕ, [], ◌∷◌, Ok, Err, Some, None, true, false, length, IfOk, IfErr, IfSome, OnOk, OnErr, IsErrOf, IsTrue, ◌++◌, option_to_list, vec_len, vec_capacity};
-ghost use Rattle.dap_msg.specs.BothEnds.{four_bytes, least_buffer};
+ghost use Rattle.std.specs.Prelude.{◌≡◌, ◌≢◌, ◌≤◌, ◌<◌, ◌+◌, ◌-◌, ℕ, List, [], ◌∷◌, Ok, Err, Some, None, true, false, length, IfOk, IfErr, IfSome, OnOk, OnErr, IsErrOf, IsTrue, ◌++◌, option_to_list, vec_len, vec_capacity};
+ghost use Rattle.dap_msg.specs.BothEnds.{four_bytes, least_buffer, plain_identity};
 ghost use Rattle.dap_msg.specs.Fitting.{FieldsFit};
 ghost use Rattle.dap_msg.specs.declared.message.Configuration.{Configuration as Own};
 ghost use Rattle.dap_msg.specs.declared.message.Message.TheVariants.{Config};
@@ -12,6 +12,7 @@ ghost use Rattle.nsp_link.specs.Sending.{NextFault, may_queue, SendAllFault, Wri
 ghost use Rattle.nsp_link.specs.declared.fault.LinkFault.TheVariants.{Failed, NoSuchSegment, MessageTooLong};
 ghost use Rattle.nsp_link.specs.declared.fault.LinkFault.TheVariants as fault;
 ghost use Rattle.dap_accessing.specs.Asked.{messages_of};
+ghost use Rattle.dap_accessing.specs.Each.{none_kept, records_kept};
 ghost use Rattle.dap_accessing.specs.Calls.{AskRefused, IsAdmittedBy};
 ghost use Rattle.dap_accessing.specs.Outgoing.{number_carried};
 ghost use Rattle.dap_accessing.specs.Prepared.{IsPrepared};
@@ -24,6 +25,7 @@ ghost use Rattle.dap_end.specs.Going.{oldest};
 ghost use Rattle.nsp_link.specs.Receiving.{Receives};
 ghost use Rattle.dap_end.specs.Writing.{Behind, WroteMore};
 ghost use Rattle.dap_end.specs.Asking.{HasAsked, AskedOne, ReadOne, ReadNone};
+ghost use Rattle.dap_end.specs.Each.{with_told};
 ghost use Rattle.dap_end.specs.Hearing.{ReadOn, ReadsAll, asks};
 ghost use Rattle.dap_end.specs.declared.asking.Heard.TheVariants.{Nothing, Part, Report as Completed};
 ghost use Rattle.dap_accessing.specs.declared.report.Report.{Report as TheReport};
@@ -35,7 +37,7 @@ ghost use Rattle.dap_end.specs.Inner.AskingView.{asking_of};
 
 use crate::fault::{EndFault, TakeFault};
 use crate::port::{Port, is_end};
-use dap_accessing::{Accessing, AskFault, Prepared, ReadFault, Report, Request};
+use dap_accessing::{Accessing, AskFault, Numbered, Prepared, ReadFault, Report, Request};
 use dap_msg::Configuration;
 use nsp_link::{Got, LinkEnd, LinkFault, LinkSetup};
 use std::alloc::Global;
@@ -79,6 +81,7 @@ impl AskingEnd {
         requires { least_buffer ≤ bufsiz }
         ensures ok { IfOk result (λ end. HasAsked nothing_asked end
             × (end.port ≡ new_port setup) × (end.present.own ≡ bufsiz)) }
+        ensures identity { IfOk result (λ end. end.present.identity ≡ plain_identity bufsiz) }
         ensures setup { OnOk result (IsSetup setup) }
         ensures err { IfErr result (SetupFault setup) }
     {
@@ -231,6 +234,21 @@ impl AskingEnd {
         ensures err { IfErr result (λ f. ReadNone self.old self.new f) }
     {
         read_next(&mut self.port, &mut self.accessing)
+    }
+
+    /// Takes out the records that were read so far of a batch under way, and weren't taken: the report of the batch comes
+    /// without them. None where no batch is under way. It takes no memory.
+    pub fn take_records(&mut self) -> Numbered
+        ensures records { result ≡ records_kept self.old.present.pending }
+        ensures rest { self.new ≡ record self.old {
+          present = record self.old.present { pending = none_kept self.old.present.pending };
+        } }
+        ensures none { result ≡ [] → self.new ≡ self.old }
+        // With all that were taken put back, the end is as if none were.
+        ensures told { (told : List (ℕ × List ℕ))
+            → with_told (told ++ result) self.new ≡ with_told told self.old }
+    {
+        self.accessing.take_records()
     }
 
     /// Reads all that came, and adds the reports after those in `reports`. Refused as `read` is; what was read before

@@ -1,6 +1,6 @@
 //! Laws over the definitions alone. Each function does nothing: its contract is the law.
 
-ghost use Rattle.std.specs.Prelude.{◌≡◌, ◌≢◌, ◌⊎◌, ◌+◌, ◌-◌, ◌<◌, ℕ, List, [], ◌∷◌, ◌++◌, map, Option, Some, None, Result, Err, IfErr, false, option_to_list};
+ghost use Rattle.std.specs.Prelude.{◌≡◌, ◌≢◌, ◌⊎◌, ◌+◌, ◌-◌, ◌<◌, ℕ, List, [], ◌∷◌, ◌++◌, map, Option, Some, None, Result, Err, IfErr, false, option_map, option_to_list};
 ghost use Rattle.std.specs.List.{AllByRecursion};
 ghost use Rattle.dap_fields.specs.Spelling.{AreBytes};
 ghost use Rattle.nsp_link.specs.declared.link.LinkSetup.{LinkSetup as TheSetup};
@@ -20,6 +20,7 @@ ghost use Rattle.dap_accessed.specs.Groups.{After, Answers};
 ghost use Rattle.dap_accessed.specs.Present.{StandsAfter};
 ghost use Rattle.dap_accessing.specs.Present.{StandsAfter as WaitsAfter};
 ghost use Rattle.dap_accessing.specs.Asked.{Asked, messages_of};
+ghost use Rattle.dap_accessing.specs.Each.{IsBatch, none_kept, records_kept, reported_behind};
 ghost use Rattle.dap_accessing.specs.Phase.{limit_after};
 ghost use Rattle.dap_accessing.specs.Told.{Told};
 ghost use Rattle.dap_accessing.specs.Request.{Request as TheRequest};
@@ -39,6 +40,7 @@ ghost use Rattle.dap_end.specs.Taking.{IsBounded, ServedInTurn, serves};
 ghost use Rattle.dap_end.specs.Wanting.{is_want, why};
 ghost use Rattle.dap_end.specs.Hearing.{ReadOn, ReadsAll, asks};
 ghost use Rattle.dap_end.specs.Asking.{HasAsked, HasDone, AskedOne, ReadNone, ReadOne};
+ghost use Rattle.dap_end.specs.Each.{with_told};
 ghost use Rattle.dap_end.specs.Agreement.{IsBufsiz};
 ghost use Rattle.dap_accessed.specs.Sound.{AreFiles};
 ghost use Rattle.dap_end.specs.Done.{AskingValue, AskingPast, nothing_asked};
@@ -113,6 +115,35 @@ pub fn asking_ends_stand()
     ensures rest { (old new : AskingValue) (reports : List TheReport) → ReadOn old new reports
         → (new.present.own ≡ old.present.own) × (new.port.outbox ≡ old.port.outbox)
         × (new.port.link ≡ with_inbox old.port.link new.port.link.coming.inbox) }
+{}
+
+/// Records of a batch under way may be taken out as they come. With all that were taken put back, a client stands as one that
+/// keeps them, whatever it does on its link and whatever it reads; but the report of the batch has the others alone.
+pub fn taken_records_count()
+    ensures taken { (told : List (ℕ × List ℕ)) (past : AskingPast) (v : AskingValue)
+        → HasAsked past (with_told told v)
+        → HasAsked past (with_told (told ++ records_kept v.present.pending)
+        (record v { present = record v.present { pending = none_kept v.present.pending } })) }
+    ensures read { (told : List (ℕ × List ℕ)) (past : AskingPast) (old new : AskingValue)
+        (report : Option TheReport) → IsBatch old.present → HasAsked past (with_told told old)
+        → ReadOne old new report → (given : List (List ℕ)) × (answer : Item)
+        × HasAsked (record past {
+          given = given;
+          answers = past.answers ++ answer ∷ [];
+        }) (with_told told new)
+        × (Told past.requests (past.answers ++ answer ∷ []) ≡ Told past.requests past.answers
+        ++ option_to_list (option_map (reported_behind told) report)) }
+    ensures received { (told : List (ℕ × List ℕ)) (past : AskingPast) (old new : AskingValue)
+        (packet : List ℕ) (r : Result TheGot TheFault) → HasAsked past (with_told told old)
+        → TookIn old new packet r → HasAsked past (with_told told new) }
+    ensures posted { (told : List (ℕ × List ℕ)) (past : AskingPast) (old new : AskingValue) (n : ℕ)
+        → HasAsked past (with_told told old) → HandsOver old new n
+        → HasAsked (record past { handed = past.handed ++ old.port.outbox })
+        (with_told told new) }
+    ensures wrote { (told : List (ℕ × List ℕ)) (past : AskingPast) (old new : AskingValue)
+        (packets : List (List ℕ)) → HasAsked past (with_told told old)
+        → new ≡ record old { port = new.port } → WroteMore old.port new.port packets
+        → HasAsked past (with_told told new) }
 {}
 
 /// Each call of a server, refused or not, is a run, with the packet that came in it. No call is one, and two are

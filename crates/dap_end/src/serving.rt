@@ -10,7 +10,7 @@ ghost use Rattle.nsp_link.specs.Link.{IsSetup, SetupFault, may_send, IsSpelling}
 ghost use Rattle.nsp_link.specs.Sending.{NextFault, may_queue, SendAllFault, WritesSent, ack_packet_of};
 ghost use Rattle.nsp_link.specs.declared.fault.LinkFault.TheVariants.{Failed, NoSuchSegment, MessageTooLong};
 ghost use Rattle.nsp_link.specs.declared.fault.LinkFault.TheVariants as fault;
-ghost use Rattle.dap_accessed.specs.Setup.{IsServerSetup};
+ghost use Rattle.dap_accessed.specs.Setup.{IsServerSetup, plain_setup};
 ghost use Rattle.dap_accessed.specs.Standing.{Files};
 ghost use Rattle.dap_accessed.specs.Groups.{After};
 ghost use Rattle.dap_accessed.specs.Adding.{MayAdd, MayAddRecord, AddRefused, RecordRefused, with_new_file, with_record};
@@ -31,7 +31,7 @@ use crate::port::Port;
 use crate::turns;
 use dap_accessed::{Accessed, AddFault, FileTable, NoMemory, ServerSetup};
 use nsp_link::{Got, LinkEnd, LinkFault, LinkSetup};
-use rec_file::Shape;
+use rec_file::{Rights, Shape};
 use std::alloc::Global;
 use std::marker::Model;
 
@@ -70,6 +70,7 @@ impl ServingEnd {
         requires { least_buffer ≤ bufsiz }
         ensures ok { IfOk result (λ end. IsAfter (nothing_yet []) end
             × (end.port ≡ new_port setup) × (end.present.own ≡ bufsiz)) }
+        ensures plain { IfOk result (λ end. end.present.setup ≡ plain_setup bufsiz) }
         ensures setup { OnOk result (IsSetup setup) }
         ensures err { IfErr result (SetupFault setup) }
     {
@@ -122,6 +123,26 @@ impl ServingEnd {
         let port = Port::new(alloc, setup)?;
         self.port = port;
         self.accessed.renew();
+        Ok(())
+    }
+
+    /// The same where an Access on the new link may ask for these rights at most.
+    pub fn renew_for(
+        &mut self,
+        alloc: Global,
+        setup: LinkSetup,
+        most: Rights,
+    ) -> Result<(), LinkFault>
+        ensures ok { OnOk result (IsAfter (nothing_yet self.old.present.files) self.new
+            × (self.new.port ≡ new_port setup)) }
+        ensures own { OnOk result
+            (self.new.present.setup ≡ record self.old.present.setup { most = most }) }
+        ensures setup { OnOk result (IsSetup setup) }
+        ensures err { IfErr result (λ f. (self.new ≡ self.old) × SetupFault setup f) }
+    {
+        let fresh = Port::new(alloc, setup)?;
+        self.port = fresh;
+        self.accessed.renew_for(most);
         Ok(())
     }
 
