@@ -336,14 +336,14 @@ impl SharedFiles {
         ensures refused { IfErr result (NotRemoved self.old name.now) }
         ensures unchanged { OnErr result (self.new ≡ self.old) }
     {
-        let Some(at) = self.files.find_by(self.setup.names, name) else {
+        let Some(removed) = self.files.find_by(self.setup.names, name) else {
             return Err(RemoveFault::NoFile);
         };
-        if is_held(&self.sessions, at) {
+        if is_held(&self.sessions, removed) {
             return Err(RemoveFault::Busy);
         }
-        self.files.remove(at);
-        move_up(&mut self.sessions, at);
+        self.files.remove(removed);
+        move_up(&mut self.sessions, removed);
         Ok(())
     }
 }
