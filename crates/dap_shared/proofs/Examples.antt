@@ -61,7 +61,7 @@ gone = both (Serves 0 (accesses 2 65 0) ∷ Begins 0 all_rights ∷ Serves 1 (ac
 b-opens-it : AnswersOn 1 (plain_setup 1024) [] 2 gone ≡ config_of 1024 ∷ opened_with plain_shape
 b-opens-it = refl
 
--- A may only read: what would write is refused, also a create, and B isn't asked.
+-- A may only read: an Access that would write is refused, a create too; one that only reads isn't.
 abbrev reader : Rights
 reader = record { get = true; put = false; upd = false; del = false }
 

@@ -7,7 +7,7 @@ ghost use Rattle.dap_accessed.specs.declared.phase.OpenFile.{OpenFile};
 ghost use Rattle.dap_accessed.specs.declared.setup.ServerSetup.{ServerSetup};
 ghost use Rattle.dap_accessed.specs.Standing.{Files};
 ghost use Rattle.dap_accessed.specs.Groups.{After, Answers, stands_after};
-ghost use Rattle.dap_shared.specs.Nodes.{Node, is_locked_out, is_open, locks_out, added_on, AnswersOn, Begins, Drops, Event, FilesAfter, Serves, after_event, end_at, exchange_at, node_after, open_on, setup_with};
+ghost use Rattle.dap_shared.specs.Nodes.{Node, is_locked_out, is_open, locks_out, added_on, AnswersOn, Begins, Drops, Event, FilesAfter, Serves, after_event, end_at, exchange_at, most_on, node_after, open_on, setup_with};
 ghost use Rattle.dap_shared.specs.Keeping.{AreApart, AreOf, HoldsStill};
 
 /// A node of one link is a server of one link: it stands where that stands, its files are those after the items, and
@@ -78,4 +78,11 @@ pub fn a_drop_leaves_what_is_open()
     ensures answers { (own : ServerSetup) (first : Files) (links : ℕ) (events : List Event) (link at : ℕ)
         → AnswersOn link own first links (events ++ Drops at ∷ [])
         ≡ AnswersOn link own first links events }
+{}
+
+/// A link has the rights with which it began last, whatever is served and whatever other links do; one that never began
+/// has those of the node's setup.
+pub fn a_link_keeps_its_rights()
+    ensures { (own : ServerSetup) (first : Files) (links : ℕ) (events : List Event) (link : ℕ) → link < links
+        → (exchange_at link (node_after own first links events)).most ≡ most_on link own.most events }
 {}
