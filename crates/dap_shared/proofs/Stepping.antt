@@ -348,7 +348,7 @@ after-more first events event old new h of own links is =
       stands =
           is ∙ ap (shared_of old.setup) (sym (all-more old.setup (new_node old.setup first (length old.sessions)) events event))
           ∙ ap (λ (n : ServerSetup). shared_of n (node_after n first (length old.sessions) (events ++ event ∷ []))) (sym own)
-          ∙ ap (λ (n : ServerSetup). shared_of new.setup (node_after new.setup first n (events ++ event ∷ []))) (sym links);
+          ∙ ap (λ (n : ℕ). shared_of new.setup (node_after new.setup first n (events ++ event ∷ []))) (sym links);
     }
 
 module _ (old : SharedValue) (link : ℕ) (item : Item) (files : Files) (rest : List SessionValue) (s : SessionValue) (answers : Vec (Vec ℕ)) (there : link < length old.sessions)
