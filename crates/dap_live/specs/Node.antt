@@ -362,10 +362,9 @@ DoesNodeOrder old (Some o) new text became =
     Does old o new text became
     ⊎ ((IsNotDone old o new ⊎ ((said : List ℕ) × (came : Became) × Does old o new said came)) × (text ≡ []) × (became ≡ NoMemory))
 
--- What a node does by a line. One that it misses changes nothing else than that no file takes records: it may have been the
--- line of a file.
+-- what a node does by a line; one that it misses changes nothing but what link a line concerns
 abbrev pub answered : Node → Option (List ℕ) → Node → List ℕ → Became → Type 0
-answered old None new text became = new ≡ ungiven (before_line old)
+answered old None new text became = new ≡ before_line old
 answered old (Some line) new text became = DoesNodeOrder (before_line old) (node_order_of (is_alone old.node) line) new text became
 
 -- the lines of the files from a place on

@@ -20,7 +20,7 @@ ghost use Rattle.dap_live.specs.Texts.{LineAnswer};
 ghost use Rattle.dap_live.specs.Inner.NodeReaching.{Done, NodeReaches};
 ghost use Rattle.dap_live.specs.Inner.Filing.{AddsShapedTo, GivesRecordBy, IsEmpty, RecordNotBy};
 ghost use Rattle.dap_live.specs.Orders.{most_anew, most_beside, setup_anew, setup_beside};
-ghost use Rattle.dap_live.specs.Node.{AddsFileTo, AddsLink, AddsRecordTo, BeginsOn, Does, DoesNodeOrder, DropsFile, FindsLink, GoesOnWith, IsNew, IsNotDone, NoLink, ResendsOn, TakesOn, TakesPacketBy, RenewsOn, about, before_line, given_beside, is_alone, is_behind_at, is_used, meant, missed, name_of, one_link, pieces, receiver_of, sender_of, ungiven, used_by, waits_on as waits_by};
+ghost use Rattle.dap_live.specs.Node.{AddsFileTo, AddsLink, AddsRecordTo, BeginsOn, Does, DoesNodeOrder, DropsFile, FindsLink, GoesOnWith, IsNew, IsNotDone, NoLink, ResendsOn, TakesOn, TakesPacketBy, RenewsOn, about, before_line, given_beside, is_alone, is_behind_at, is_used, meant, name_of, one_link, pieces, receiver_of, sender_of, ungiven, used_by, waits_on as waits_by};
 
 use crate::node_orders::{NodeOrder, read_node_order};
 use crate::orders::{Between, set_up_anew, set_up_beside};
@@ -813,7 +813,6 @@ impl Answers for Node {
 
     fn miss(&mut self) {
         self.last = find_one(&self.node);
-        self.given = None;
     }
 
     fn more(

@@ -20,7 +20,7 @@ pub(crate) const ROWS: &[Row] = &[
         b"> 60020201010080010001020a00040703050600000000\n\
 > 60020201010080010001020a00040703050600000000\n> 04020201010180\n> 600202010100800200\n",
         0,
-        b"accepted\n< 60010102020180010001020a00040703050600000000\nwaits 1\n\
+        b"accepted\n< 60010102020180010001020e0004120d0506000000e6e8f08020\nwaits 1\n\
 repeat\n< 04010102020180\nwaits 1\nack-only\nwaits 0\n\
 accepted\n< 6001010202028002000902050080000000\nwaits 1\n",
         b"",
@@ -42,7 +42,7 @@ refused wrong-link\nwaits 0\n",
         0,
         b"refused bad-sequence\nwaits 0\nrefused failed\nwaits 0\nrefused failed\nwaits 0\n\
 refused failed\nwaits 0\nwaits 0\n\
-accepted\n< 60010102020180010001020a00040703050600000000\nwaits 1\n",
+accepted\n< 60010102020180010001020e0004120d0506000000e6e8f08020\nwaits 1\n",
         b"",
     ),
     // Files that the end is given before a packet comes; a new link keeps them.
@@ -54,7 +54,7 @@ file 47 seq variable 0 0\nnew\nfiles\n",
         0,
         b"waits 0\nwaits 0\nfile 46 rel variable 0 3\n  3 41\nwaits 0\nrefused 5000 6\nwaits 0\n\
 refused 5000 5\nwaits 0\nrefused 4000 1\nwaits 0\nrefused 4000 11\nwaits 0\n\
-accepted\n< 60010102020180010001020a00040703050600000000\nwaits 1\nrefused busy\nwaits 1\n\
+accepted\n< 60010102020180010001020e0004120d0506000000e6e8f08020\nwaits 1\nrefused busy\nwaits 1\n\
 waits 0\nfile 46 rel variable 0 3\n  3 41\nwaits 0\n",
         b"",
     ),
@@ -64,8 +64,8 @@ waits 0\nfile 46 rel variable 0 3\n  3 41\nwaits 0\n",
         b"ask hello\nask hello\nresend\n> 60010102020180010001020a00040703050600000000\nask get\n\
 > 600101020201800200060200\nask connect\n",
         0,
-        b"asked 1\n< 60020201010080010001020a00040703050600000000\nwaits 1\n\
-refused ask-busy\nwaits 1\n< 60020201010080010001020a00040703050600000000\nwaits 1\n\
+        b"asked 1\n< 60020201010080010001020e0004120d0506000000e6e8f08020\nwaits 1\n\
+refused ask-busy\nwaits 1\n< 60020201010080010001020e0004120d0506000000e6e8f08020\nwaits 1\n\
 accepted\nreport ready 1024\n< 04020201010180\nwaits 0\nrefused ask-phase\nwaits 0\n\
 accepted\nrefused unexpected-answer\nwaits 0\nrefused ask-failed\nwaits 0\n",
         b"",
@@ -133,7 +133,7 @@ refused bad-line\nwaits 0\nrefused bad-line\nwaits 0\n",
 new 0303 0101\nnew 0404 0101\nclose 0202\n",
         1,
         b"refused bad-line\nwaits 0\nrefused wrong-link\nwaits 0\nwaits 0\n< 04010102020080\nwaits 0\n\
-accepted\n< 20010102020180010001020a00040703050600\n< 400101020201800200000000\nwaits 2\n\
+accepted\n< 20010102020180010001020e0004120d050600\n< 4001010202018002000000e6e8f08020\nwaits 2\n\
 waits 0\nrefused no-links\nwaits 0\nwaits 0\n",
         b"bad line 1\n",
     ),
