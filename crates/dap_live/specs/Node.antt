@@ -1,7 +1,6 @@
 -- What a server does by a line, and what it answers. A line concerns one link, or none; where there is room for one link
 -- alone, that link.
 use Rattle.std.specs.Prelude.{◌≡◌, ◌⊎◌, ◌++◌, ◌==◌, Bool, false, true, ℕ, length, MatchBool, MatchOption, MatchResult, List, [], ◌∷◌, codes, replicate, set, slice_get, if◌then◌else◌, Option, Some, None, option_map, Result, Ok, Err}
-use Rattle.std.specs.Global.{Vec}
 use Rattle.std.specs.List.{list_any, position}
 use Rattle.rec_file.specs.Shapes.{checked_shape}
 use Rattle.rec_file.specs.declared.picks.Rights.{Rights}
@@ -70,7 +69,7 @@ pub record IsNew (own : ServerSetup) (links : ℕ) (usual : LinkSetup) (most : �
   pub usual : node.usual ≡ usual
   pub most_waiting : node.most_waiting ≡ most
   pub last : node.last ≡ (if links == 1 then Some 0 else None)
-  pub used : node.used.items ≡ replicate links false
+  pub used : node.used ≡ replicate links false
   pub given : node.given ≡ None
 
 -- ---- What it came by.
@@ -128,7 +127,7 @@ used_by _ link used = set used link true
 
 -- such a packet came on some link since it began
 abbrev pub is_used : Node → Bool
-is_used node = list_any (λ used. used) node.used.items
+is_used node = list_any (λ used. used) node.used
 
 -- ---- A packet.
 
@@ -155,7 +154,7 @@ pub record TakesOn (link : ℕ) (old : Node) (bytes : List ℕ) (new : Node) (te
   pub packets : List (List ℕ)
   pub took : OnLink link (λ before after. Takes (serves_on link old.most_waiting) before after bytes [] packets taken) old.node new.node
   pub rest : new ≡ record (about link old) { node = new.node; used = new.used }
-  pub used : new.used.items ≡ used_by taken link old.used.items
+  pub used : new.used ≡ used_by taken link old.used
   pub says : text ≡ (taken_said taken (locked_text new.node.noted.locked) packets).0
   pub ended : became ≡ (taken_said taken (locked_text new.node.noted.locked) packets).1
 
@@ -198,7 +197,7 @@ pub record BeginsNow (link : ℕ) (setup : LinkSetup) (most : Rights) (old new :
   pub setup : IsSetup setup
   pub began : BeganOn link setup most old.node new.node
   pub rest : new ≡ record (about link old) { node = new.node; used = new.used }
-  pub used : new.used.items ≡ set old.used.items link false
+  pub used : new.used ≡ set old.used link false
 
 -- it began so, or that is refused
 abbrev pub BeginsOn : (link : ℕ) → LinkSetup → (most : Rights) → Node → Node → List ℕ → Became → Type 0
@@ -232,13 +231,9 @@ Renews b old new text became = MatchOption (position (has_local b.local) old.nod
 pub record EndsOn (link : ℕ) (old new : Node) : Type 0 where
   pub ended : EndedOn link old.node new.node
   pub rest : new ≡ record old { node = new.node; used = new.used }
-  pub used : new.used.items ≡ set old.used.items link false
+  pub used : new.used ≡ set old.used link false
 
 -- ---- Files that it is given.
-
--- the name of the file to which records are added
-abbrev pub name_of : Option (Vec ℕ) → Option (List ℕ)
-name_of given = option_map (λ name. name.items) given
 
 -- no file takes records
 abbrev pub ungiven : Node → Node
@@ -257,7 +252,7 @@ pub record GivesFile (name : List ℕ) (shape : Shape) (old new : Node) : Type 0
   pub idle : is_used old ≡ false
   pub first : place_by old.node.noted.shared.setup.names name old.node.noted.shared.files ≡ None
   pub given : GivenTo (with_new_file name shape old.node.noted.shared.files) (Gives name shape) old.node new.node
-  pub named : name_of new.given ≡ Some name
+  pub named : new.given ≡ Some name
   pub rest : new ≡ record old { node = new.node; given = new.given }
 
 -- why none was: a link is used, or the table refuses it
@@ -281,14 +276,14 @@ GivesRecordTo name number body old new = AtFile name old.noted.shared (λ at.
 pub record GivesNext (r : RecordLine) (old new : Node) : Type 0 where
   pub idle : is_used old ≡ false
   pub name : List ℕ
-  pub named : name_of old.given ≡ Some name
+  pub named : old.given ≡ Some name
   pub given : GivesRecordTo name r.number r.body old.node new.node
   pub rest : new ≡ record old { node = new.node }
 
 -- why it isn't: a link is used, there is no such file, or the table refuses it
 abbrev pub RecordNotGiven : RecordLine → Node → AddFault → Type 0
 RecordNotGiven r node f = MatchBool (is_used node) (f ≡ add.Busy)
-    (MatchOption (name_of node.given) (f ≡ add.NoFile)
+    (MatchOption node.given (f ≡ add.NoFile)
     (λ name. NodeNotGiven node.node (RecordNotAdded node.node.noted.shared name r.number r.body) f))
 
 -- a record is added, or the reason why not is answered
@@ -307,7 +302,7 @@ pub record Dropped (name : List ℕ) (old new : Node) : Type 0 where
   pub drops : AtFile name old.node.noted.shared (λ at. SharedDrops at old.node.noted.shared new.node.noted.shared)
   pub notes : new.node.noted ≡ record old.node.noted { shared = new.node.noted.shared }
   pub ports : new.node.ports ≡ old.node.ports
-  pub given : name_of new.given ≡ given_beside old.own.names name (name_of old.given)
+  pub given : new.given ≡ given_beside old.own.names name old.given
   pub rest : new ≡ record old { node = new.node; given = new.given }
 
 -- it is dropped, or the reason why not is answered

@@ -19,6 +19,5 @@ pub fn inputs_have_one_text()
     ensures node { HaveOneText node.answered node.waiting (λ one other.
         (one.node ≡ other.node) × (one.own ≡ other.own) × (one.usual ≡ other.usual)
         × (one.most_waiting ≡ other.most_waiting) × (one.last ≡ other.last)
-        × (one.used.items ≡ other.used.items)
-        × (node.name_of one.given ≡ node.name_of other.given) × node.HasRun one.node) }
+        × (one.used ≡ other.used) × (one.given ≡ other.given) × node.HasRun one.node) }
 {}

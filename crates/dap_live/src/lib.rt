@@ -9,8 +9,10 @@ mod node_orders;
 mod orders;
 mod sending;
 mod texts;
+mod used;
 
 pub use asking::Asking;
 pub use laws::inputs_have_one_text;
 pub use node::Node;
 pub use orders::read_address;
+pub use used::Used;

@@ -20,7 +20,7 @@ ghost use Rattle.dap_live.specs.Texts.{LineAnswer};
 ghost use Rattle.dap_live.specs.Inner.NodeReaching.{Done, NodeReaches};
 ghost use Rattle.dap_live.specs.Inner.Filing.{AddsShapedTo, GivesRecordBy, IsEmpty, RecordNotBy};
 ghost use Rattle.dap_live.specs.Orders.{most_anew, most_beside, setup_anew, setup_beside};
-ghost use Rattle.dap_live.specs.Node.{AddsFileTo, AddsLink, AddsRecordTo, BeginsOn, Does, DoesNodeOrder, DropsFile, FindsLink, GoesOnWith, IsNew, IsNotDone, NoLink, ResendsOn, TakesOn, TakesPacketBy, RenewsOn, about, before_line, given_beside, is_alone, is_behind_at, is_used, meant, name_of, one_link, pieces, receiver_of, sender_of, ungiven, used_by, waits_on as waits_by};
+ghost use Rattle.dap_live.specs.Node.{AddsFileTo, AddsLink, AddsRecordTo, BeginsOn, Does, DoesNodeOrder, DropsFile, FindsLink, GoesOnWith, IsNew, IsNotDone, NoLink, ResendsOn, TakesOn, TakesPacketBy, RenewsOn, about, before_line, given_beside, is_alone, is_behind_at, is_used, meant, one_link, pieces, receiver_of, sender_of, ungiven, used_by, waits_on as waits_by};
 
 use crate::node_orders::{NodeOrder, read_node_order};
 use crate::orders::{Between, set_up_anew, set_up_beside};
@@ -29,7 +29,9 @@ use crate::texts::{
     push_add_refusal, push_link_refusal, push_node_taken, push_refused, push_remove_refusal,
     push_served, push_status,
 };
+use crate::used::Used;
 use dap_accessed::{ALL_RIGHTS, AddFault, Names, NoMemory, ServerSetup, rights_of_fac};
+use dap_accessing::Octets;
 use dap_end::{EndFault, ServingNode, TakeFault};
 use dap_msg::codes::{ACCESS_REFUSED, REASON_BAD_ATTRIBUTES};
 use dap_text::{FileLine, FilesPlace, RecordLine, Text, push_files_line};
@@ -55,20 +57,9 @@ pub struct Node {
     /// The link that the last line concerns, if it concerns one: its answer ends with what waits there.
     pub last: Option<usize>,
     /// Of each link, whether a packet came on it since it began that wasn't refused.
-    pub used: Vec<bool>,
+    pub used: Used,
     /// The name of the file that the last `file` line added, unless it was dropped: records are added to it.
-    pub given: Option<Vec<u8>>,
-}
-
-/// So many links of which none is used.
-fn none_used(alloc: Global, links: usize) -> Result<Vec<bool>, NoMemory>
-    ensures { IfOk result (λ used. used.items ≡ replicate links false) }
-{
-    let mut used = Vec::with_capacity(alloc, links)?;
-    for _ in 0..links {
-        used.push(false)?;
-    }
-    Ok(used)
+    pub given: Option<Octets>,
 }
 
 /// A node without files and links.
@@ -83,7 +74,7 @@ fn no_links(
     ensures { IfOk result (IsEmpty own links usual most_waiting) }
 {
     let node = ServingNode::with_setup(alloc, own, links)?;
-    let used = none_used(alloc, links)?;
+    let used = Used::none(alloc, links)?;
     Ok(Node {
         alloc,
         node,
@@ -228,22 +219,13 @@ fn take(
     node.take(link, bytes, most_waiting, packets)
 }
 
-/// Notes whether a link is used.
-fn set_used(used: &mut Vec<bool>, link: usize, is_used: bool)
-    ensures { used.new.items ≡ set used.old.items link is_used }
-{
-    if let Some(place) = used.get_mut(link) {
-        *place = is_used;
-    }
-}
-
 /// Notes that a link is used, unless it refused the packet.
-fn use_link(used: &mut Vec<bool>, link: usize, taken: &Result<Got, TakeFault>)
-    ensures { used.new.items ≡ used_by taken.now link used.old.items }
+fn use_link(used: &mut Used, link: usize, taken: &Result<Got, TakeFault>)
+    ensures { used.new ≡ used_by taken.now link used.old }
 {
     match taken {
         Err(TakeFault::Refused(_)) => {}
-        _ => set_used(used, link, true),
+        _ => used.set(link, true),
     }
 }
 
@@ -421,7 +403,7 @@ fn close(node: &mut Node, local: u16, text: &mut Vec<u8>) -> Result<Became, Allo
     match find_local(&node.node, local) {
         Some(link) => {
             node.node.end(link);
-            set_used(&mut node.used, link, false);
+            node.used.set(link, false);
             Ok(Became::Done)
         }
         None => push_link_refusal(text, LinkFault::WrongLink),
@@ -464,7 +446,7 @@ fn begin_on(
     match begin(&mut node.node, node.alloc, link, setup, most) {
         Ok(()) => {
             node.last = Some(link);
-            set_used(&mut node.used, link, false);
+            node.used.set(link, false);
             Ok(Became::Done)
         }
         Err(fault) => push_link_refusal(text, fault),
@@ -579,24 +561,17 @@ fn renew(node: &mut Node, between: Between, text: &mut Vec<u8>) -> Result<Became
     }
 }
 
-/// Whether a link is used.
-fn is_one(used: &bool) -> bool
-    ensures { result ≡ used.now }
-{
-    *used
-}
-
 /// Whether some link is used.
 fn is_in_use(node: &Node) -> bool
     ensures { result ≡ is_used node.now }
 {
-    node.used.iter().any(is_one)
+    node.used.any()
 }
 
 /// Adds a file of a shape, to which the next records belong then.
 fn add_shaped(
     node: &mut Node,
-    name: Vec<u8>,
+    name: Octets,
     shape: Shape,
     text: &mut Vec<u8>,
 ) -> Result<Became, AllocError>
@@ -604,10 +579,10 @@ fn add_shaped(
     requires shape { IsTrue (is_shape shape) }
     requires text { text.old.items ≡ [] }
     ensures ok { IfOk result
-        (AddsShapedTo node.old name.entry.items shape node.new text.new.items) }
+        (AddsShapedTo node.old name.entry shape node.new text.new.items) }
     ensures err { OnErr result (node.new ≡ node.old) }
 {
-    match node.node.add(&name, shape) {
+    match node.node.add(&name.0, shape) {
         Ok(()) => {
             node.given = Some(name);
             Ok(Became::Done)
@@ -637,25 +612,25 @@ fn add_file(
     if is_in_use(node) {
         return push_add_refusal(text, AddFault::Busy);
     }
-    let name = file.name.to_vec(node.alloc)?;
+    let name = Octets(file.name.to_vec(node.alloc)?);
     add_shaped(node, name, shape, text)
 }
 
 /// Adds a record to the file of this name, if there is one.
 fn add_body(
     node: &mut ServingNode,
-    given: &Option<Vec<u8>>,
+    given: &Option<Octets>,
     number: u32,
     body: &[u8],
 ) -> Result<(), AddFault>
-    ensures ok { OnOk result (GivesRecordBy (name_of given.now) number body.now
+    ensures ok { OnOk result (GivesRecordBy given.now number body.now
         node.old node.new) }
     ensures err { IfErr result (λ f. (node.new ≡ node.old)
-        × RecordNotBy (name_of given.now) node.old number body.now f) }
+        × RecordNotBy given.now node.old number body.now f) }
 {
     match given {
         None => Err(AddFault::NoFile),
-        Some(name) => node.add_record(name, number, body),
+        Some(name) => node.add_record(&name.0, number, body),
     }
 }
 
@@ -690,12 +665,12 @@ fn are_same(names: Names, one: &[u8], other: &[u8]) -> bool
 }
 
 /// Where this name was dropped and is the given one, none is given any more.
-fn forget_given(given: &mut Option<Vec<u8>>, names: Names, name: &[u8])
-    ensures { name_of given.new ≡ given_beside names name.now (name_of given.old) }
+fn forget_given(given: &mut Option<Octets>, names: Names, name: &[u8])
+    ensures { given.new ≡ given_beside names name.now given.old }
 {
     let is_dropped = match given {
         None => false,
-        Some(last) => are_same(names, name, last),
+        Some(last) => are_same(names, name, &last.0),
     };
     if is_dropped {
         *given = None;

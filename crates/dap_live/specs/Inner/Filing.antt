@@ -25,7 +25,7 @@ pub record IsEmpty (own : ServerSetup) (links : ℕ) (usual : LinkSetup) (most :
   pub usual : node.usual ≡ usual
   pub most_waiting : node.most_waiting ≡ most
   pub last : node.last ≡ None
-  pub used : node.used.items ≡ replicate links false
+  pub used : node.used ≡ replicate links false
   pub given : node.given ≡ None
 
 -- a file of a shape is added while no link is used, or it is told why not

@@ -8,7 +8,7 @@ use Rattle.dap_end.specs.Asking.{HasDone}
 use Rattle.dap_end.specs.Each.{with_told}
 use Rattle.dap_live.specs.declared.asking.Asking.{Asking}
 use Rattle.dap_live.specs.declared.node.Node.{Node}
-use Rattle.dap_live.specs.Node.{HasRun, HasSent, name_of}
+use Rattle.dap_live.specs.Node.{HasRun, HasSent}
 
 abbrev pub AreSameAsking : Asking → Asking → Type 0
 AreSameAsking one other =
@@ -24,4 +24,4 @@ HasCarried v = (first : Files) × (events : List Event) × SharedAfter first eve
 abbrev pub AreSameNodes : Node → Node → Type 0
 AreSameNodes one other =
     (one.node ≡ other.node) × (one.own ≡ other.own) × (one.usual ≡ other.usual) × (one.most_waiting ≡ other.most_waiting)
-    × (one.last ≡ other.last) × (one.used.items ≡ other.used.items) × (name_of one.given ≡ name_of other.given) × HasRun one.node
+    × (one.last ≡ other.last) × (one.used ≡ other.used) × (one.given ≡ other.given) × HasRun one.node
