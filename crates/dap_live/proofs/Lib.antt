@@ -1,6 +1,5 @@
 mod AgainLemmas
 pub mod OneLine
-pub mod OneServing
 pub mod OneAsking
 mod ReachLemmas
 mod ResultLemmas

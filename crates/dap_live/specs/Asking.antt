@@ -159,6 +159,15 @@ abbrev pub answered : Asking → Option (List ℕ) → Asking → List ℕ → B
 answered old None new text became = new ≡ old
 answered old (Some line) new text became = DoesAskOrder old (ask_order_of line) new text became
 
+-- the line asks that each record is told by itself
+abbrev pub AsksEach : Option (List ℕ) → Type 0
+AsksEach None = ⊥
+AsksEach (Some line) = ask_order_of line ≡ Some order.FetchEach
+
+-- the same of lines of which none asks that
+abbrev pub answered_whole : Asking → Option (List ℕ) → Asking → List ℕ → Became → Type 0
+answered_whole old line new text became = (AsksEach line → ⊥) × answered old line new text became
+
 -- the packets that aren't acknowledged, and one more where going on would do something, or something waits to be told
 abbrev pub waiting : Asking → Option ℕ
 waiting asking = Some (waits_of asking.end.port.link (goes_on asking.end || waits_told asking))

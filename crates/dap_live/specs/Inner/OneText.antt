@@ -1,20 +1,19 @@
 -- Ends that answer each line alike.
-use Rattle.std.specs.Prelude.{◌≡◌, ℕ, List}
+use Rattle.std.specs.Prelude.{◌≡◌, false}
 use Rattle.dap_accessed.specs.Standing.{Files}
 use Rattle.dap_shared.specs.Nodes.{Event}
 use Rattle.dap_shared.specs.Shared.{SharedAfter}
 use Rattle.dap_end.specs.Node.{LinkValue}
 use Rattle.dap_end.specs.Asking.{HasDone}
-use Rattle.dap_end.specs.Each.{with_told}
 use Rattle.dap_live.specs.declared.asking.Asking.{Asking}
 use Rattle.dap_live.specs.declared.node.Node.{Node}
 use Rattle.dap_live.specs.Node.{HasRun, HasSent}
 
+-- both clients are of one value, and none tells each record by itself
 abbrev pub AreSameAsking : Asking → Asking → Type 0
 AreSameAsking one other =
-    (one.end ≡ other.end) × (one.setup ≡ other.setup) × (one.reports.items ≡ other.reports.items)
-    × (one.is_each ≡ other.is_each) × (one.told ≡ other.told)
-    × ((records : List (ℕ × List ℕ)) × HasDone (with_told records one.end))
+    (one.end ≡ other.end) × (one.setup ≡ other.setup) × (one.reports.items ≡ other.reports.items) × (one.told ≡ other.told)
+    × (one.is_each ≡ false) × (other.is_each ≡ false) × HasDone one.end
 
 -- some history left what a link of a node stands before, and the link sends some messages
 abbrev pub HasCarried : LinkValue → Type 0
