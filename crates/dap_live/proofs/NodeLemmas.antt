@@ -1,23 +1,23 @@
 -- What is done on a link of a node, by what its calls say.
 use Rattle.std.proofs.Common.{◌≡◌, ◌⊎◌, inl, inr, ℕ, true, false, List, Some, refl, ap, sym, subst, ◌∙◌}
 use Rattle.std.specs.Prelude.{IfErr, MatchOption, Option, None, Ok, Err, Result}
-use Rattle.std.specs.List.{position}
 use Rattle.nsp_link.specs.Link.{IsSetup, LinkValue, SetupFault}
 use Rattle.nsp_link.specs.declared.link.LinkSetup.{LinkSetup}
 use Rattle.nsp_link.specs.declared.fault.LinkFault.{LinkFault}
 use Rattle.nsp_link.specs.declared.fault.LinkFault.TheVariants.{BadSetup, Failed}
 use Rattle.dap_end.specs.Ports.{PortValue}
-use Rattle.dap_end.specs.Node.{AtPort, HasPort, IsTaken, NodeValue, NotBegun, has_local}
+use Rattle.dap_end.specs.Node.{AtPort, HasPort, IsTaken, NodeValue, NotBegun}
 use Rattle.linewise.specs.declared.talking.Became.{Became}
 use Rattle.linewise.specs.declared.talking.Became.TheVariants as became_of
 use Rattle.dap_live.specs.declared.node.Node.{Node}
 use Rattle.dap_live.specs.Both.{Stays}
-use Rattle.dap_live.specs.NodeOrders.{setup_beside}
+use Rattle.dap_live.specs.declared.orders.Between.{Between}
+use Rattle.dap_live.specs.Orders.{setup_beside}
 use Rattle.dap_live.specs.Sending.{AllAgain, UnlessFailed}
 use Rattle.dap_live.specs.Texts.{link_refusal, packets_text}
 use Rattle.dap_live.specs.declared.node_orders.NodeOrder.TheVariants as order
 use Rattle.dap_live.specs.Inner.NodeReaching.{Done, NodeReaches}
-use Rattle.dap_live.specs.Node.{FindsLink, GoesOnWith, ResendsOn, TakesOn, about, about_any, is_behind_at}
+use Rattle.dap_live.specs.Node.{GoesOnWith, ResendsOn, TakesOn, TakesPacketBy, about, about_any, is_behind_at, meant, one_link}
 use Rattle.dap_live.proofs.ReachLemmas.{unless_failed, unless_runs, where_left, where_none}
 
 module _ (link : ℕ) (old : Node) (l : LinkValue) (at : AtPort link old.node (λ p. l ≡ p.link)) where
@@ -73,15 +73,20 @@ about-none None old new e is = is
 about-none (Some l) old new e is = absurd (let none : ⊥ = cc in none)
 
 -- how far `resend` was done
-pub reaches-resend : (local link : ℕ) (old new : Node) → Some link ≡ position (has_local local) old.node.ports
+pub reaches-resend : (local : Option ℕ) (link : ℕ) (old new : Node) → Some link ≡ meant local old.node.ports
     → ((new ≡ about link old) ⊎ Done (λ said became. AtPort link old.node (λ p. UnlessFailed p.link said (Stays became_of.Done (about link old) new became) (ResendsOn link p old new said became))))
     → NodeReaches old (order.Resend local) new
 reaches-resend local link old new found (inl same) = inl (about-some _ link old new found same)
 reaches-resend local link old new found (inr done) = inr (done.0, done.1, on-some _ link found _ _ done.2)
 
--- and a packet
-pub reaches-packet : (link : ℕ) (old new : Node) (bytes : List ℕ) → FindsLink old.node.ports bytes (Ok link) → Done (TakesOn link old bytes new) → NodeReaches old (order.Packet bytes) new
-reaches-packet link old new bytes found done = inr (done.0, done.1, (Ok link, found, done.2))
+-- and a packet of the only link
+pub reaches-one : (link : ℕ) (old new : Node) (bytes : List ℕ) → Some link ≡ one_link old.node.ports → Done (TakesOn link old bytes new) → NodeReaches old (order.Packet bytes) new
+reaches-one link old new bytes one done = inr (done.0, done.1, on-some _ link one _ _ done.2)
+
+-- and one by its addresses
+pub reaches-by : (old new : Node) (bytes : List ℕ) → None ≡ one_link old.node.ports → (new ≡ old) ⊎ Done (TakesPacketBy old bytes new) → NodeReaches old (order.Packet bytes) new
+reaches-by old new bytes none (inl same) = inl same
+reaches-by old new bytes none (inr done) = inr (done.0, done.1, on-none _ none _ _ done.2)
 
 -- ---- A link begins whose own address no other link has.
 
@@ -99,9 +104,8 @@ begun-err link setup old new (Ok u) alone h = tt
 begun-err link setup old new (Err f) alone h = (h.0, not-begun link setup old f (λ taken. taken.4 (alone taken.0 taken.1 taken.2 taken.3)) h.1)
 
 -- the own address of such a setup
-pub beside-local : (setup : LinkSetup) (local remote : ℕ) (segment : Option ℕ) → (setup_beside setup local remote segment).local ≡ local
-beside-local setup local remote None = refl
-beside-local setup local remote (Some n) = refl
+pub beside-local : (setup : LinkSetup) (b : Between) → (setup_beside setup b).local ≡ b.local
+beside-local setup b = refl
 
 -- the link that was found is the only one
 pub only-link : (o : Option ℕ) (i j : ℕ) → o ≡ Some i → o ≡ Some j → j ≡ i

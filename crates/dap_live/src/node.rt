@@ -136,10 +136,12 @@ fn find_one(node: &ServingNode) -> Option<usize>
     ensures only { IfSome result (λ link. (other : ℕ) (p : PortValue) → HasPort other node.now p
         → other ≡ link) }
 {
-    if node.links() == 1 && node.link(0).is_some() {
-        Some(0)
-    } else {
-        None
+    if node.links() != 1 {
+        return None;
+    }
+    match node.link(0) {
+        Some(_) => Some(0),
+        None => None,
     }
 }
 
