@@ -3,7 +3,7 @@ use Rattle.std.proofs.Common.{subst, ◌≡◌, ℕ, ◌+◌, ◌^◌, ◌<◌, 
 use Rattle.dap_accessed.specs.Setup.{lacks}
 use Rattle.rec_file.specs.declared.picks.Rights.{Rights}
 use Rattle.dap_accessed.specs.declared.setup.ServerSetup.{ServerSetup}
-use Rattle.dap_accessed.specs.Setup.{IsServerSetup}
+use Rattle.dap_msg.specs.Fitting.{FieldsFit}
 use Rattle.std.proofs.lemmas.List.{append-nil}
 use Rattle.dap_accessed.specs.Groups.{next_answers, answers_after}
 use Rattle.dap_accessed.proofs.Cuts.{Answers-more, added-is}
@@ -140,7 +140,7 @@ module _ (limit : ℕ) (least : least_buffer ≤ limit) where
   all_recorded (r ∷ rs) h =
       subst (λ (l : List (ℕ × List ℕ)). AreSendable limit (map filedata_of l)) (sym (take_while-cons (fits_limit limit) r rs)) (leads r rs (fits_limit limit r) refl h.0 (all_recorded rs h.1))
 
-module _ (own : ServerSetup) (small_own : IsServerSetup own) (scene : Scene) (files : AllFiles scene.files) (least : least_buffer ≤ scene.limit) where
+module _ (own : ServerSetup) (small_own : FieldsFit (Config own.identity)) (scene : Scene) (files : AllFiles scene.files) (least : least_buffer ≤ scene.limit) where
   abbrev Sends : Effect → Type 0
   Sends e = AreSendable scene.limit e.answers
 
@@ -275,7 +275,7 @@ module _ (own : ServerSetup) (small_own : IsServerSetup own) (scene : Scene) (fi
 
   configuring : (small : Bool) (bufsiz : ℕ) → AreSendable scene.limit (if small then enters scene Fresh (bare_status (codes.invalid codes.types.config) ∷ []) else enters (record scene { limit = limit_of bufsiz }) Ready (Config own.identity ∷ [])).answers
   configuring true bufsiz = (bare scene.limit least 0x9040 (lit< tt), tt)
-  configuring false bufsiz = (short scene.limit least _ (answers_fit.identity own.identity small_own.fits), tt)
+  configuring false bufsiz = (short scene.limit least _ (answers_fit.identity own.identity small_own), tt)
 
   of-message : (past : List Group) (place : Place) → IsOpenAt scene.files place → (m : Message) → type_of m < 256 → SendsIn (turn_in own scene past place m)
   of-message past Fresh h (Config c) t = configuring (is_too_small c.bufsiz) c.bufsiz
@@ -307,7 +307,7 @@ module _ (own : ServerSetup) (small_own : IsServerSetup own) (scene : Scene) (fi
 
 -- ---- One item more, and every list of items.
 
-module _ (own : ServerSetup) (small : IsServerSetup own) (first : Files) (good : AreFiles first) where
+module _ (own : ServerSetup) (small : FieldsFit (Config own.identity)) (first : Files) (good : AreFiles first) where
   one-sends : (s : Standing) (b : Option Begun) (item : Item) → IsSound (record { standing = s; begun = b }) → HasShortType item → AreSendable s.scene.limit (answers_after own s b item)
   one-sends s None item h t =
       let h = h.standing in
@@ -330,7 +330,7 @@ fit-both : (one two : List Message) → AllFit one → AllFit two → AllFit (on
 fit-both [] two h k = k
 fit-both (m ∷ one) two h k = (h.0, fit-both one two h.1 k)
 
-fit-on : (own : ServerSetup) → IsServerSetup own → (first : Files) → AreFiles first → (before more : List Item) → AllFit (Answers own first before) → AllByRecursion IsRead more → AllFit (Answers own first (before ++ more))
+fit-on : (own : ServerSetup) → FieldsFit (Config own.identity) → (first : Files) → AreFiles first → (before more : List Item) → AllFit (Answers own first before) → AllByRecursion IsRead more → AllFit (Answers own first (before ++ more))
 fit-on own small first good before [] h r = subst (λ (l : List Item). AllFit (Answers own first l)) (sym (append-nil before)) h
 fit-on own small first good before (item ∷ more) h r =
     let here = added own first before item in
@@ -338,5 +338,5 @@ fit-on own small first good before (item ∷ more) h r =
     let one : AllFit (Answers own first (before ++ item ∷ [])) = subst AllFit (sym (Answers-more own first before item)) (fit-both (Answers own first before) here h fit) in
     subst (λ (l : List Item). AllFit (Answers own first l)) (append_assoc before (item ∷ []) more) (fit-on own small first good (before ++ item ∷ []) more one r.1)
 
-pub all-fit : (own : ServerSetup) → IsServerSetup own → (first : Files) → AreFiles first → (items : List Item) → AllByRecursion IsRead items → AllFit (Answers own first items)
+pub all-fit : (own : ServerSetup) → FieldsFit (Config own.identity) → (first : Files) → AreFiles first → (items : List Item) → AllByRecursion IsRead items → AllFit (Answers own first items)
 all-fit own small first good items r = fit-on own small first good [] items tt r

@@ -19,7 +19,8 @@ use Rattle.dap_accessed.specs.declared.phase.Phase.{Phase}
 use Rattle.dap_accessed.specs.declared.phase.Phase.TheVariants as phases
 use Rattle.dap_accessed.specs.Replies.{bare_status}
 use Rattle.dap_accessed.specs.Standing.{Files, Place, Fresh, Ready, Opened, Connected, Store, Stopped, Scene, Effect, enters}
-use Rattle.dap_accessed.specs.Effects.{Turn, Does, Begins, effect_fresh, effect_ready}
+use Rattle.dap_accessed.specs.Records.{Putting, Updating}
+use Rattle.dap_accessed.specs.Effects.{Turn, Does, Begins, effect_fresh, effect_ready, effect_with}
 use Rattle.dap_accessed.specs.Groups.{After, Answers, added, limit_for, stands_after}
 use Rattle.dap_accessed.specs.Present.{Present, Memory, present_of}
 use Rattle.dap_accessed.specs.Twins.{AreTwins, SameMessages}
@@ -108,8 +109,8 @@ module _ (identity : Configuration) where
   follows-in phases.Ready p item = ready-follows p (plain_memory p.kept) item
   follows-in (phases.Opened o) p item = opened-follows o p (plain_memory p.kept) item
   follows-in (phases.Connected o s) p item = connected-follows o s p (plain_memory p.kept) item
-  follows-in (phases.PutDue o s key) p item = record { present = refl; answers = same_all p.setup.identity identity _ }
-  follows-in (phases.UpdateDue o s) p item = record { present = refl; answers = same_all p.setup.identity identity _ }
+  follows-in (phases.PutDue o s key) p item = record { present = refl; answers = same_all p.setup.identity identity (effect_with (Putting key) (scene_in p) o s item).answers }
+  follows-in (phases.UpdateDue o s) p item = record { present = refl; answers = same_all p.setup.identity identity (effect_with Updating (scene_in p) o s item).answers }
   follows-in (phases.Storing o s n) p item = store-follows o s p (store_memory p.kept false n) item
   follows-in (phases.Dropping o s n) p item = store-follows o s p (store_memory p.kept true n) item
   follows-in (phases.Stopped o s) p item = stopped-follows o s p (plain_memory p.kept) item
@@ -120,31 +121,31 @@ module _ (identity : Configuration) where
 -- ---- Every list of items.
 
 module _ (one : ServerSetup) (identity : Configuration) (first : Files) where
-  abbrev other : ServerSetup
-  other = saying identity one
+  abbrev like : ServerSetup
+  like = saying identity one
 
   abbrev kept_by : ServerSetup → List Item → Present
   kept_by own items = present_of own (stands_after own first items)
 
   -- it stands in the same way, and has answered so
   record StandsSo (items : List Item) : Type 0 where
-    present : kept_by other items ≡ twin identity (kept_by one items)
-    answers : SameMessages one.identity identity (Answers one first items) (Answers other first items)
+    present : kept_by like items ≡ twin identity (kept_by one items)
+    answers : SameMessages one.identity identity (Answers one first items) (Answers like first items)
 
-  adds : (items : List Item) (item : Item) → kept_by other items ≡ twin identity (kept_by one items) → SameMessages one.identity identity (added one first items item) (added other first items item)
+  adds : (items : List Item) (item : Item) → kept_by like items ≡ twin identity (kept_by one items) → SameMessages one.identity identity (added one first items item) (added like first items item)
   adds items item h =
-      subst (λ (l : List Message). SameMessages one.identity identity l (added other first items item)) (sym (answers-move one first items item))
-      (subst (SameMessages one.identity identity (move (kept_by one items) item).answers) (sym (answers-move other first items item ∙ ap (λ (p : Present). (move p item).answers) h))
+      subst (λ (l : List Message). SameMessages one.identity identity l (added like first items item)) (sym (answers-move one first items item))
+      (subst (SameMessages one.identity identity (move (kept_by one items) item).answers) (sym (answers-move like first items item ∙ ap (λ (p : Present). (move p item).answers) h))
       (follows identity (kept_by one items) item).answers)
 
   so-more : (items : List Item) (item : Item) → StandsSo items → StandsSo (items ++ item ∷ [])
   so-more items item h =
       record {
-        present = present-moves other first items item ∙ ap (λ (p : Present). (move p item).present) h.present ∙ (follows identity (kept_by one items) item).present
+        present = present-moves like first items item ∙ ap (λ (p : Present). (move p item).present) h.present ∙ (follows identity (kept_by one items) item).present
             ∙ ap (twin identity) (sym (present-moves one first items item));
-        answers = subst (λ (l : List Message). SameMessages one.identity identity l (Answers other first (items ++ item ∷ []))) (sym (Answers-more one first items item))
-            (subst (SameMessages one.identity identity (Answers one first items ++ added one first items item)) (sym (Answers-more other first items item))
-            (same_both one.identity identity (Answers one first items) (Answers other first items) (added one first items item) (added other first items item) h.answers (adds items item h.present)));
+        answers = subst (λ (l : List Message). SameMessages one.identity identity l (Answers like first (items ++ item ∷ []))) (sym (Answers-more one first items item))
+            (subst (SameMessages one.identity identity (Answers one first items ++ added one first items item)) (sym (Answers-more like first items item))
+            (same_both one.identity identity (Answers one first items) (Answers like first items) (added one first items item) (added like first items item) h.answers (adds items item h.present)));
       }
 
   so-on : (before more : List Item) → StandsSo before → StandsSo (before ++ more)

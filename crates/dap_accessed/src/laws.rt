@@ -3,6 +3,8 @@
 
 ghost use Rattle.std.specs.Prelude.{◌≡◌, ◌<◌, ◌^◌, ℕ, List, [], ◌∷◌, ◌++◌, length, None, IsTrue};
 ghost use Rattle.dap_msg.specs.declared.items.Item.{Item as TheItem};
+ghost use Rattle.dap_msg.specs.declared.message.Message.TheVariants.{Config};
+ghost use Rattle.dap_msg.specs.Fitting.{FieldsFit};
 ghost use Rattle.dap_msg.specs.Items.{IsRead};
 ghost use Rattle.dap_msg.specs.Blocked.{AllFit};
 ghost use Rattle.dap_msg.specs.Sendable.{AreSendable};
@@ -10,7 +12,6 @@ ghost use Rattle.std.specs.List.{AllByRecursion};
 ghost use Rattle.dap_accessed.specs.Sound.{AreFiles, IsSound};
 ghost use Rattle.dap_accessed.specs.Apart.{AreApart};
 ghost use Rattle.dap_accessed.specs.Twins.{AreTwins, SameMessages};
-ghost use Rattle.dap_accessed.specs.Setup.{IsServerSetup};
 ghost use Rattle.dap_accessed.specs.declared.setup.ServerSetup.{ServerSetup};
 ghost use Rattle.dap_accessed.specs.Standing.{Files, place_of, file_at};
 ghost use Rattle.dap_accessed.specs.Adding.{MayStore, newest, with_new_file, with_record};
@@ -35,14 +36,16 @@ pub fn stays_sound()
 
 /// Each answer to one message more that was read has a spelling, and none is longer than the peer takes.
 pub fn answers_are_sendable()
-    ensures { (own : ServerSetup) → IsServerSetup own → (first : Files) (items : List TheItem)
+    ensures { (own : ServerSetup) → FieldsFit (Config own.identity)
+        → (first : Files) (items : List TheItem)
         (item : TheItem) → AreFiles first → IsRead item
         → AreSendable (limit_for own first items) (added own first items item) }
 {}
 
 /// All answers to messages that were read have spellings.
 pub fn answers_fit()
-    ensures { (own : ServerSetup) → IsServerSetup own → (first : Files) (items : List TheItem)
+    ensures { (own : ServerSetup) → FieldsFit (Config own.identity)
+        → (first : Files) (items : List TheItem)
         → AreFiles first → AllByRecursion IsRead items → AllFit (Answers own first items) }
 {}
 

@@ -19,6 +19,7 @@ ghost use Rattle.dap_accessing.specs.Each.{ReadsOn, none_kept, put_back, records
 ghost use Rattle.dap_accessing.specs.Told.{Told};
 ghost use Rattle.dap_accessing.specs.Asked.{messages_of};
 ghost use Rattle.dap_accessing.specs.Outgoing.{number_carried};
+ghost use Rattle.dap_accessing.specs.Phase.{IsAdmissible};
 ghost use Rattle.dap_msg.specs.declared.message.Configuration.{Configuration as Own};
 ghost use Rattle.dap_accessing.specs.declared.request.Request.TheVariants.{Hello};
 ghost use Rattle.dap_accessing.specs.Prepared.{IsPrepared};
@@ -320,11 +321,15 @@ pub fn reports_grow()
         × (Told requests (answers ++ more) ≡ Told requests answers ++ reports) }
 {}
 
-/// What is asked depends on the client's Configuration only where that is sent.
+/// What is asked depends on the client's Configuration only where that is sent, and which requests are admissible doesn't
+/// depend on it.
 pub fn identity_is_told_by_hello()
     ensures hello { (own : Own) → messages_of own Hello ≡ Config own ∷ [] }
     ensures others { (one two : Own) (request : TheRequest) → request ≢ Hello
         → messages_of one request ≡ messages_of two request }
+    ensures admissible { (one two : Own) → FieldsFit (Config two)
+        → (requests : List TheRequest) (answers : List TheItem) (request : TheRequest)
+        → IsAdmissible one requests answers request → IsAdmissible two requests answers request }
 {}
 
 /// What an end keeps follows from the requests and answers that it is after, and from its own Configuration; and it works.

@@ -22,7 +22,7 @@ use Rattle.dap_world.specs.Inner.Within.{AreWithin}
 use Rattle.dap_world.specs.Agreement.{IsBufsiz, items_of}
 use Rattle.dap_world.specs.Inner.Agreement.{AnswersWithin}
 use Rattle.dap_accessed.specs.Setup.{plain_setup}
-use Rattle.dap_world.proofs.Plain.{plain_server}
+use Rattle.dap_world.proofs.Plain.{plain_fits}
 use Rattle.dap_world.proofs.Within.{answers-within}
 
 alone : (m : Message) (limit : ℕ) → length (canon m) ≤ limit → length (joined (m ∷ [])) ≤ limit
@@ -102,6 +102,6 @@ short-there (first ∷ front) back item h = short-there front back item h.1
 pub answers-blocked : (own_a own_b : ℕ) → IsBufsiz own_a → IsBufsiz own_b → (rs : List Request) → AnswersWithin own_a own_b rs
 answers-blocked own_a own_b a b rs = λ front back item e.
     let short = short-there front back item (subst AllShort (sym e) (short-asked own_a rs)) in
-    let sends = added-sends (plain_setup own_b) (plain_server own_b b) [] no-files front item short in
+    let sends = added-sends (plain_setup own_b) (plain_fits own_b b) [] no-files front item short in
     blocked-within (limit_for own_b [] front) own_a (added own_b [] front item) (answers-within own_a a own_b rs front (item ∷ back) e)
     (sendable-within (limit_for own_b [] front) (added own_b [] front item) sends)

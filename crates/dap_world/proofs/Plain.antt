@@ -3,7 +3,9 @@ use Rattle.std.proofs.Common.{◌≡◌, ℕ, ◌≤◌, List, [], ◌∷◌, �
 use Rattle.dap_msg.specs.BothEnds.{plain_identity}
 use Rattle.dap_msg.specs.Blocked.{NspMessage}
 use Rattle.dap_msg.specs.declared.items.Item.{Item}
-use Rattle.dap_accessed.specs.Setup.{IsServerSetup, plain_setup}
+use Rattle.dap_msg.specs.Fitting.{FieldsFit}
+use Rattle.dap_msg.specs.declared.message.Message.TheVariants.{Config}
+use Rattle.dap_accessed.specs.Setup.{plain_setup}
 use Rattle.dap_accessed.specs.Standing.{Files}
 use Rattle.dap_accessed.proofs.ForCallers as accessed
 use Rattle.dap_accessing.specs.Request.{Request}
@@ -32,10 +34,6 @@ answers-more own items item = ends.answers-more (plain_setup own) [] items item
 pub answers_full : (own : ℕ) (before items : List Item) → AreFull (answer_packets own before items)
 answers_full own before items = ends.answers_full (plain_setup own) [] before items
 
--- a plain server may be made
-pub plain_server : (own : ℕ) → IsBufsiz own → IsServerSetup (plain_setup own)
-plain_server own b =
-    record {
-      fits = (omega (arith, b.most), lit< tt, lit< tt, lit< tt, lit< tt, lit< tt, lit< tt, lit< tt, lit< tt);
-      least = b.least;
-    }
+-- what a plain end says of itself has a spelling
+pub plain_fits : (own : ℕ) → IsBufsiz own → FieldsFit (Config (plain_identity own))
+plain_fits own b = (omega (arith, b.most), lit< tt, lit< tt, lit< tt, lit< tt, lit< tt, lit< tt, lit< tt, lit< tt)
