@@ -9,7 +9,7 @@ ghost use Rattle.nsp_link.specs.Sending.{WritesSent, ack_packet_of};
 ghost use Rattle.nsp_link.specs.declared.fault.LinkFault.TheVariants.{Failed, NoSuchSegment};
 ghost use Rattle.nsp_link.specs.declared.fault.LinkFault.TheVariants as fault;
 ghost use Rattle.dap_accessed.specs.Adding.{MayStore, with_new_file};
-ghost use Rattle.dap_accessed.specs.Setup.{IsServerSetup};
+ghost use Rattle.dap_accessed.specs.Setup.{IsServerSetup, plain_setup};
 ghost use Rattle.dap_shared.specs.Nodes.{Event, Gives, GivesRecord, exchange_at, node_after, with_record_at};
 ghost use Rattle.dap_shared.specs.Shared.{AtFile, NotAdded, NotRemoved, RecordNotAdded, SharedAfter, SharedDrops, SharedGiven, rights_on};
 ghost use Rattle.dap_accessed.specs.Standing.{Files, file_at, place_by};
@@ -116,6 +116,7 @@ impl ServingNode {
         requires { least_buffer ≤ bufsiz }
         ensures stands { IfOk result (λ node. SharedAfter [] [] node.noted.shared) }
         ensures own { IfOk result (λ node. node.noted.shared.own ≡ bufsiz) }
+        ensures setup { IfOk result (λ node. node.noted.shared.setup ≡ plain_setup bufsiz) }
         ensures links { IfOk result (λ node. length node.noted.shared.sessions ≡ links) }
         ensures addresses { IfOk result (λ node. node.noted.addresses ≡ replicate links 0) }
         ensures locked { IfOk result (λ node. node.noted.locked ≡ []) }
@@ -134,6 +135,7 @@ impl ServingNode {
         ensures stands { IfOk result (λ node. SharedAfter [] [] node.noted.shared) }
         ensures setup { IfOk result (λ node. node.noted.shared.setup ≡ own) }
         ensures own { IfOk result (λ node. node.noted.shared.own ≡ own.identity.bufsiz) }
+        ensures links { IfOk result (λ node. length node.noted.shared.sessions ≡ links) }
         ensures addresses { IfOk result (λ node. node.noted.addresses ≡ replicate links 0) }
         ensures locked { IfOk result (λ node. node.noted.locked ≡ []) }
         ensures ports { IfOk result (λ node. node.ports ≡ replicate links None) }

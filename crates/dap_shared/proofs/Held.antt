@@ -1,5 +1,6 @@
 -- What is kept stays kept.
 use Rattle.std.proofs.Common.{◌≡◌, ℕ, zero, suc, ◌<◌, ◌≤◌, List, [], ◌∷◌, ◌++◌, map, length, Option, Some, None, refl, ap, sym, subst, ◌∙◌, inl, inr, arith}
+use Rattle.std.specs.List.{remove}
 use Rattle.std.specs.Prelude.{IfSome, IfOk, OnOk, OnErr, Result, Ok, Err, get_or, set, replicate}
 use Rattle.std.specs.Global.{Vec}
 use Rattle.std.proofs.lemmas.Bool.{cases_eq}
@@ -9,7 +10,8 @@ use Rattle.dap_accessed.specs.declared.setup.ServerSetup.{ServerSetup}
 use Rattle.dap_accessed.specs.Setup.{IsServerSetup}
 use Rattle.dap_msg.specs.declared.items.Item.{Item}
 use Rattle.rec_file.specs.declared.shapes.Shape.{Shape}
-use Rattle.rec_file.specs.Files.{FileVal, stored}
+use Rattle.rec_file.specs.declared.picks.Rights.{Rights}
+use Rattle.rec_file.specs.Files.{FileVal}
 use Rattle.dap_accessed.specs.declared.fault.AddFault.{AddFault}
 use Rattle.dap_accessed.specs.declared.fault.NoMemory.{NoMemory}
 use Rattle.dap_accessed.specs.declared.served.Served.{Served}
@@ -17,15 +19,15 @@ use Rattle.dap_accessed.specs.declared.phase.OpenFile.{OpenFile}
 use Rattle.dap_accessed.specs.declared.phase.Phase.{Phase}
 use Rattle.dap_accessed.specs.declared.phase.Phase.TheVariants as phases
 use Rattle.dap_accessed.specs.Standing.{Files, file_at, with_file}
-use Rattle.dap_accessed.specs.Adding.{newest, with_new_file, with_record}
+use Rattle.dap_accessed.specs.Adding.{with_new_file}
 use Rattle.dap_accessed.specs.Storing.{Stores}
 use Rattle.dap_accessed.specs.Sessions.{SessionValue, IsOpenIn, session_with, open_at, phase_moved_up}
-use Rattle.dap_shared.specs.Nodes.{Event, Serves, Begins, Gives, GivesRecord, new_exchange, exchange_at, open_on, node_after}
-use Rattle.dap_shared.specs.Shared.{SharedValue, SharedGiven, SharedServes, kept_of}
+use Rattle.dap_shared.specs.Nodes.{Event, Serves, Begins, Gives, GivesRecord, Drops, no_exchange, exchange_at, open_on, node_after, setup_with, with_record_at}
+use Rattle.dap_shared.specs.Shared.{SharedValue, SharedGiven, SharedServes, is_held, kept_of, no_session, session_without}
 use Rattle.dap_shared.specs.Inner.Beside.{gone_by, session_moved_up}
 use Rattle.dap_shared.specs.Inner.Held.{HasNumber, IsHeld, MovesOn, session_at}
 use Rattle.dap_shared.proofs.Events.{history-shares}
-use Rattle.dap_shared.proofs.Stepping.{begins-shared, given-shared, new-shared, one-fresh, open-kept, serves-shared, short-answers}
+use Rattle.dap_shared.proofs.Stepping.{begins-shared, drops-shared, given-shared, new-shared, one-fresh, open-kept, serves-shared, short-answers}
 
 is-open : (files : Files) (phase : Phase) → IfSome (open_at phase) (λ o. o.at < length files) → HasNumber phase → IsOpenIn files phase
 is-open files phases.Fresh h n = tt
@@ -64,7 +66,7 @@ moved-number : (r : Option OpenFile) (s : SessionValue) → HasNumber s.phase �
 moved-number None s h = h
 moved-number (Some removed) s h = phase-number removed.at s.phase h
 
-new-moved : (r : Option OpenFile) (own : ServerSetup) → session_moved_up r (session_with own) ≡ session_with own
+new-moved : (r : Option OpenFile) (own : ServerSetup) → session_moved_up r (no_session own) ≡ no_session own
 new-moved None own = refl
 new-moved (Some removed) own = refl
 
@@ -74,7 +76,7 @@ held-open v link h =
     let node = node_after v.setup h.first (length v.sessions) h.events in
     let shares = (history-shares v.setup h.first (length v.sessions) h.events h.after.links).0 in
     let kept : session_at v.setup link v.sessions ≡ kept_of v.setup node.files (exchange_at link node) =
-    ap (λ (w : SharedValue). session_at v.setup link w.sessions) h.after.stands ∙ get_or-map (kept_of v.setup node.files) node.exchanges link new_exchange in
+    ap (λ (w : SharedValue). session_at v.setup link w.sessions) h.after.stands ∙ get_or-map (kept_of v.setup node.files) node.exchanges link no_exchange in
     let files : node.files ≡ v.files = sym (ap (λ (w : SharedValue). w.files) h.after.stands) in
     let held : open_at (session_at v.setup link v.sessions).phase ≡ open_on (exchange_at link node) =
     ap (λ (s : SessionValue). open_at s.phase) kept ∙ open-kept v.setup node.files (exchange_at link node) (shares.steady link) in
@@ -84,26 +86,26 @@ held-open v link h =
 
 -- one session was put back, and the others have moved up
 pub numbers-then : (own : ServerSetup) (sessions : List SessionValue) (link : ℕ) (r : Option OpenFile) (rest : List SessionValue) (s : SessionValue) → link < length sessions
-    → rest ≡ map (session_moved_up r) (set sessions link (session_with own)) → HasNumber s.phase → ((i : ℕ) → HasNumber (session_at own i sessions).phase)
+    → rest ≡ map (session_moved_up r) (set sessions link (no_session own)) → HasNumber s.phase → ((i : ℕ) → HasNumber (session_at own i sessions).phase)
     → (i : ℕ) → HasNumber (session_at own i (set rest link s)).phase
 numbers-then own sessions link r rest s lt e n h i =
-    let many : link < length rest = (let a = ap (λ (l : List SessionValue). length l) e in let b = length-map (set sessions link (session_with own)) (session_moved_up r) in let d = length-set sessions link (session_with own) in omega (arith, a, b, d, lt)) in
+    let many : link < length rest = (let a = ap (λ (l : List SessionValue). length l) e in let b = length-map (set sessions link (no_session own)) (session_moved_up r) in let d = length-set sessions link (no_session own) in omega (arith, a, b, d, lt)) in
     elim (cases_eq i link) [
-      | inl same ↦ subst (λ (k : ℕ). HasNumber (session_at own k (set rest link s)).phase) (sym same) (subst (λ (t : SessionValue). HasNumber t.phase) (sym (get_or-set_same rest link s (session_with own) many)) n)
+      | inl same ↦ subst (λ (k : ℕ). HasNumber (session_at own k (set rest link s)).phase) (sym same) (subst (λ (t : SessionValue). HasNumber t.phase) (sym (get_or-set_same rest link s (no_session own) many)) n)
       | inr other ↦
           let is : session_at own i (set rest link s) ≡ session_moved_up r (session_at own i sessions) =
-          get_or-set_other rest link i s (session_with own) other
-          ∙ ap (λ (l : List SessionValue). get_or l i (session_with own)) e
-          ∙ ap (get_or (map (session_moved_up r) (set sessions link (session_with own))) i) (sym (new-moved r own))
-          ∙ get_or-map (session_moved_up r) (set sessions link (session_with own)) i (session_with own)
-          ∙ ap (session_moved_up r) (get_or-set_other sessions link i (session_with own) (session_with own) other) in
+          get_or-set_other rest link i s (no_session own) other
+          ∙ ap (λ (l : List SessionValue). get_or l i (no_session own)) e
+          ∙ ap (get_or (map (session_moved_up r) (set sessions link (no_session own))) i) (sym (new-moved r own))
+          ∙ get_or-map (session_moved_up r) (set sessions link (no_session own)) i (no_session own)
+          ∙ ap (session_moved_up r) (get_or-set_other sessions link i (no_session own) (no_session own) other) in
           subst (λ (t : SessionValue). HasNumber t.phase) (sym is) (moved-number r (session_at own i sessions) (h i))
     ]
 
-all-same : (own : ServerSetup) (links i : ℕ) → session_at own i (replicate links (session_with own)) ≡ session_with own
-all-same own zero i = refl
-all-same own (suc links) zero = refl
-all-same own (suc links) (suc i) = all-same own links i
+all-fresh : (own : ServerSetup) (links i : ℕ) → HasNumber (session_at own i (replicate links (session_with own))).phase
+all-fresh own zero i = tt
+all-fresh own (suc links) zero = tt
+all-fresh own (suc links) (suc i) = all-fresh own links i
 
 -- ---- The calls.
 
@@ -133,37 +135,51 @@ served-held v link item files sessions (Err f) h lt ok err =
     subst (λ (l : List SessionValue). IsHeld (record { own = v.own; setup = v.setup; files = files; sessions = l })) (sym err.1)
     (subst (λ (t : Files). IsHeld (record { own = v.own; setup = v.setup; files = t; sessions = v.sessions })) (sym err.0) h)
 
-pub begins-held : (v : SharedValue) (link : ℕ) → IsHeld v → link < length v.sessions → IsHeld (record { own = v.own; setup = v.setup; files = v.files; sessions = set v.sessions link (session_with v.setup) })
-begins-held v link h lt =
+pub is-setup : (most : Rights) (own : ServerSetup) → IsServerSetup own → IsServerSetup (setup_with most own)
+is-setup most own h = record { fits = h.fits; least = h.least }
+
+pub begins-held : (v : SharedValue) (link : ℕ) (most : Rights) → IsHeld v → link < length v.sessions
+    → IsHeld (record { own = v.own; setup = v.setup; files = v.files; sessions = set v.sessions link (session_with (setup_with most v.setup)) })
+begins-held v link most h lt =
     record {
       setup = h.setup;
       first = h.first;
-      events = h.events ++ Begins link ∷ [];
-      after = (begins-shared v link lt).stands h.first h.events h.after;
-      numbers = λ i. one-fresh v.setup v.sessions link i (λ s. HasNumber s.phase) tt (h.numbers i);
+      events = h.events ++ Begins link most ∷ [];
+      after = (begins-shared v link most lt).stands h.first h.events h.after;
+      numbers = λ i. one-fresh v.setup v.sessions link i (session_with (setup_with most v.setup)) (λ s. HasNumber s.phase) tt (h.numbers i);
+    }
+
+pub drops-held : (v : SharedValue) (at : ℕ) → IsHeld v → is_held at v.sessions ≡ false → IsHeld (record { own = v.own; setup = v.setup; files = remove v.files at; sessions = map (session_without at) v.sessions })
+drops-held v at h closed =
+    record {
+      setup = h.setup;
+      first = h.first;
+      events = h.events ++ Drops at ∷ [];
+      after = (drops-shared v at closed).stands h.first h.events h.after;
+      numbers = λ i. subst (λ (s : SessionValue). HasNumber s.phase) (sym (get_or-map (session_without at) v.sessions i (no_session v.setup)))
+          (phase-number at (session_at v.setup i v.sessions).phase (h.numbers i));
     }
 
 pub gives-shared : (v : SharedValue) (name : List ℕ) (shape : Shape) (files : Files) → files ≡ with_new_file name shape v.files → SharedGiven (Gives name shape) v (record v { files = files })
 gives-shared v name shape files e =
     subst (λ (t : Files). SharedGiven (Gives name shape) v (record v { files = t })) (sym e) (given-shared v (Gives name shape) (with_new_file name shape) (λ links. tt) (λ node. refl))
 
-pub gives-record : (v : SharedValue) (number : ℕ) (body : List ℕ) (files : Files) → files ≡ with_record number body v.files → SharedGiven (GivesRecord number body) v (record v { files = files })
-gives-record v number body files e =
-    subst (λ (t : Files). SharedGiven (GivesRecord number body) v (record v { files = t })) (sym e) (given-shared v (GivesRecord number body) (with_record number body) (λ links. tt) (λ node. refl))
+pub gives-record : (v : SharedValue) (at number : ℕ) (body : List ℕ) (files : Files) → files ≡ with_record_at at number body v.files → SharedGiven (GivesRecord at number body) v (record v { files = files })
+gives-record v at number body files e =
+    subst (λ (t : Files). SharedGiven (GivesRecord at number body) v (record v { files = t })) (sym e) (given-shared v (GivesRecord at number body) (with_record_at at number body) (λ links. tt) (λ node. refl))
 
 pub given-held : (v : SharedValue) (event : Event) (files : Files) → IsHeld v → SharedGiven event v (record v { files = files }) → IsHeld (record v { files = files })
 given-held v event files h g =
     record { setup = h.setup; first = h.first; events = h.events ++ event ∷ []; after = g.stands h.first h.events h.after; numbers = h.numbers }
 
-pub recorded : (files after : Files) (at number : ℕ) (body : List ℕ) (r : Result (Unit {0}) AddFault) → at ≡ newest files → after ≡ with_file at (file_at at after) files → Stores number body (file_at at files) (file_at at after) r
-    → OnOk r (after ≡ with_record number body files)
-recorded files after at number body (Ok u) n e s =
-    e ∙ ap (λ (f : FileVal). with_file at f files) s.1 ∙ ap (λ (k : ℕ). with_file k (stored (file_at k files) number body) files) n
-recorded files after at number body (Err f) n e s = tt
+pub recorded : (files after : Files) (at number : ℕ) (body : List ℕ) (r : Result (Unit {0}) AddFault) → after ≡ with_file at (file_at at after) files → Stores number body (file_at at files) (file_at at after) r
+    → OnOk r (after ≡ with_record_at at number body files)
+recorded files after at number body (Ok u) e s = e ∙ ap (λ (f : FileVal). with_file at f files) s.1
+recorded files after at number body (Err f) e s = tt
 
-pub record-held : (v : SharedValue) (number : ℕ) (body : List ℕ) (files : Files) (r : Result (Unit {0}) AddFault) → IsHeld v → OnOk r (files ≡ with_record number body v.files) → OnErr r (files ≡ v.files) → IsHeld (record v { files = files })
-record-held v number body files (Ok u) h ok err = given-held v (GivesRecord number body) files h (gives-record v number body files ok)
-record-held v number body files (Err f) h ok err = subst (λ (t : Files). IsHeld (record v { files = t })) (sym err) h
+pub record-held : (v : SharedValue) (at number : ℕ) (body : List ℕ) (files : Files) (r : Result (Unit {0}) AddFault) → IsHeld v → OnOk r (files ≡ with_record_at at number body v.files) → OnErr r (files ≡ v.files) → IsHeld (record v { files = files })
+record-held v at number body files (Ok u) h ok err = given-held v (GivesRecord at number body) files h (gives-record v at number body files ok)
+record-held v at number body files (Err f) h ok err = subst (λ (t : Files). IsHeld (record v { files = t })) (sym err) h
 
 pub new-held : (own : ServerSetup) (links : ℕ) (sessions : List SessionValue) → IsServerSetup own → sessions ≡ replicate links (session_with own) → IsHeld (record { own = own.identity.bufsiz; setup = own; files = []; sessions = sessions })
 new-held own links sessions low e =
@@ -172,5 +188,5 @@ new-held own links sessions low e =
       first = [];
       events = [];
       after = new-shared own links sessions e;
-      numbers = λ i. subst (λ (l : List SessionValue). HasNumber (session_at own i l).phase) (sym e) (subst (λ (s : SessionValue). HasNumber s.phase) (sym (all-same own links i)) tt);
+      numbers = λ i. subst (λ (l : List SessionValue). HasNumber (session_at own i l).phase) (sym e) (all-fresh own links i);
     }

@@ -213,3 +213,9 @@ served_on link before (event ∷ events) = served_on link before events
 -- what was served on a link since it began
 abbrev pub items_on : ℕ → List Event → List Item
 items_on link events = served_on link [] events
+
+-- the rights of a link after these events, where it had those before: it began with them
+abbrev pub most_on : (link : ℕ) → (before : Rights) → List Event → Rights
+most_on link before [] = before
+most_on link before (Begins other most ∷ events) = most_on link (if other == link then most else before) events
+most_on link before (event ∷ events) = most_on link before events

@@ -13,7 +13,7 @@ use Rattle.dap_accessed.specs.declared.served.Served.{Served}
 use Rattle.dap_accessed.specs.declared.fault.AddFault.{AddFault}
 use Rattle.dap_accessed.specs.declared.fault.AddFault.TheVariants as fault
 use Rattle.dap_accessed.specs.Standing.{Files, file_at, place_by}
-use Rattle.dap_accessed.specs.Adding.{MayStore}
+use Rattle.dap_accessed.specs.Setup.{all_rights}
 use Rattle.dap_accessed.specs.Storing.{StoreRefused}
 use Rattle.dap_accessed.specs.Present.{present_of}
 use Rattle.dap_accessed.specs.Served.{AllAtMost, Answered}
@@ -21,7 +21,7 @@ use Rattle.dap_accessed.specs.Sessions.{SessionValue, open_at, phase_moved_up, s
 use Rattle.dap_shared.specs.declared.fault.RemoveFault.{RemoveFault}
 use Rattle.dap_shared.specs.declared.fault.RemoveFault.TheVariants as removing
 use Rattle.dap_shared.specs.Sharing.{is_file}
-use Rattle.dap_shared.specs.Nodes.{Exchange, Node, Event, Serves, Begins, GivesRecord, Drops, before_files, node_after, added_on, limit_on, setup_with}
+use Rattle.dap_shared.specs.Nodes.{Exchange, Node, Event, Serves, Begins, Drops, before_files, node_after, added_on, limit_on, setup_with}
 use Rattle.dap_shared.specs.Keeping.{AreOf}
 
 -- what a node keeps
@@ -67,9 +67,13 @@ pub record SharedServed (link : ℕ) (bytes : List ℕ) (at : ℕ) (old new : Sh
   pub reads : ItemAt bytes at item served.next
   pub serves : SharedServes link item old new served.answers
 
+-- what is kept of a link where there is none of this number
+abbrev pub no_session : (own : ServerSetup) → SessionValue
+no_session own = session_with (setup_with all_rights own)
+
 -- the most that an Access on a link may ask for
 abbrev pub rights_on : (link : ℕ) → SharedValue → Rights
-rights_on link v = (get_or v.sessions link (session_with v.setup)).setup.most
+rights_on link v = (get_or v.sessions link (no_session v.setup)).setup.most
 
 -- a link began anew, with the most that an Access on it may ask for, or ended
 pub record SharedBegins (link : ℕ) (most : Rights) (old new : SharedValue) : Type 0 where
@@ -114,13 +118,17 @@ RecordNotAdded v name number body f = AtFile name v (λ at. StoreRefused (file_a
 abbrev pub is_held : (at : ℕ) → List SessionValue → Bool
 is_held at sessions = list_any (λ s. is_file at (open_at s.phase)) sessions
 
+-- what is kept of a link, where the file at this index was removed: those after it moved up
+abbrev pub session_without : (removed : ℕ) → SessionValue → SessionValue
+session_without removed s = record s { phase = phase_moved_up removed s.phase }
+
 -- The file at this index was dropped: no link had it open. Those after it moved up.
 pub record SharedDrops (at : ℕ) (old new : SharedValue) : Type 0 where
   pub closed : is_held at old.sessions ≡ false
   pub stands : (first : Files) (events : List Event) → SharedAfter first events old →
       SharedAfter first (events ++ Drops at ∷ []) new
   pub files : new.files ≡ remove old.files at
-  pub sessions : new.sessions ≡ map (λ s. record s { phase = phase_moved_up at s.phase }) old.sessions
+  pub sessions : new.sessions ≡ map (session_without at) old.sessions
   pub same_own : new.own ≡ old.own
   pub same_setup : new.setup ≡ old.setup
 

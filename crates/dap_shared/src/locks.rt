@@ -4,7 +4,6 @@ ghost use Rattle.std.specs.Prelude.{◌≡◌};
 ghost use Rattle.std.specs.List.{list_any};
 ghost use Rattle.dap_accessed.specs.Sessions.{open_at};
 ghost use Rattle.dap_shared.specs.Sharing.{barred_by, bars, has_alone, is_file};
-ghost use Rattle.dap_shared.specs.Shared.{is_held};
 ghost use Rattle.dap_shared.specs.Inner.Beside.{is_barred};
 
 use dap_accessed::{OpenFile, Session};
@@ -71,7 +70,7 @@ fn is_file(held: Option<OpenFile>, at: usize) -> bool
 
 /// Whether a link has the file at this place of the table open.
 pub(crate) fn is_held(sessions: &[Session], at: usize) -> bool
-    ensures { result ≡ is_held at sessions.now }
+    ensures { result ≡ list_any (λ s. is_file at (open_at s.phase)) sessions.now }
 {
     sessions
         .iter()

@@ -11,13 +11,15 @@ ghost use Rattle.dap_accessed.specs.Adding.{MayStore, with_new_file};
 ghost use Rattle.dap_accessed.specs.Sessions.{IsOpenIn, session_with};
 ghost use Rattle.dap_accessed.specs.Setup.{IsServerSetup, plain_setup};
 ghost use Rattle.dap_shared.specs.Nodes.{Event, FilesAfter, Gives, GivesRecord, exchange_at, is_locked_out, locks_out, node_after, with_record_at};
-ghost use Rattle.dap_shared.specs.Shared.{AtFile, NotAdded, NotRemoved, RecordNotAdded, SharedAfter, SharedBegins, SharedDrops, SharedGiven, SharedServes, rights_on};
-ghost use Rattle.dap_shared.specs.Inner.Beside.{MovesBeside, session_moved_up, session_without};
+ghost use Rattle.dap_shared.specs.Shared.{AtFile, NotAdded, NotRemoved, RecordNotAdded, SharedAfter, SharedBegins, SharedDrops, SharedGiven, SharedServes, no_session, rights_on, session_without};
+ghost use Rattle.dap_shared.specs.Inner.Beside.{MovesBeside, session_moved_up};
 ghost use Rattle.dap_shared.specs.Inner.Held.{MovesOn, session_at};
 
 use crate::fault::RemoveFault;
 use crate::locks::{FILE_LOCKED, is_barred, is_barred_by_file, is_held};
-use dap_accessed::{AddFault, FileTable, NoMemory, OpenFile, Served, ServerSetup, Session};
+use dap_accessed::{
+    ALL_RIGHTS, AddFault, FileTable, NoMemory, OpenFile, Served, ServerSetup, Session,
+};
 use dap_msg::Item;
 use rec_file::{Rights, Shape};
 use std::alloc::Global;
@@ -124,6 +126,20 @@ fn serve_beside(
     Ok(served)
 }
 
+/// What stands in a link's place while its session is taken out.
+fn no_session(alloc: Global, setup: ServerSetup) -> Session
+    requires { IsServerSetup setup }
+    ensures { result ≡ no_session setup }
+{
+    Session::with_setup(
+        alloc,
+        ServerSetup {
+            most: ALL_RIGHTS,
+            ..setup
+        },
+    )
+}
+
 /// Takes a link's session out, serves it, and puts it back.
 fn serve_on(
     files: &mut FileTable,
@@ -144,7 +160,7 @@ fn serve_on(
     ensures err { OnErr result ((files.new ≡ files.old)
         × (sessions.new.items ≡ sessions.old.items)) }
 {
-    let mut session = mem::replace(&mut sessions[link], Session::with_setup(alloc, setup));
+    let mut session = mem::replace(&mut sessions[link], no_session(alloc, setup));
     let served = serve_beside(files, sessions, &mut session, item, next);
     sessions[link] = session;
     served
@@ -320,14 +336,14 @@ impl SharedFiles {
         ensures refused { IfErr result (NotRemoved self.old name.now) }
         ensures unchanged { OnErr result (self.new ≡ self.old) }
     {
-        let Some(at) = self.files.find_by(self.setup.names, name) else {
+        let Some(removed) = self.files.find_by(self.setup.names, name) else {
             return Err(RemoveFault::NoFile);
         };
-        if is_held(&self.sessions, at) {
+        if is_held(&self.sessions, removed) {
             return Err(RemoveFault::Busy);
         }
-        self.files.remove(at);
-        move_up(&mut self.sessions, at);
+        self.files.remove(removed);
+        move_up(&mut self.sessions, removed);
         Ok(())
     }
 }

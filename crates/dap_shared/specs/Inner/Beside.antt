@@ -9,19 +9,16 @@ use Rattle.dap_accessed.specs.declared.phase.Phase.{Phase}
 use Rattle.dap_accessed.specs.Standing.{Files}
 use Rattle.dap_accessed.specs.Replies.{bare_status}
 use Rattle.dap_accessed.specs.Served.{Answered}
-use Rattle.dap_accessed.specs.Sessions.{SessionValue, IsOpenIn, ServesItem, asked_in, joined, open_at, phase_moved_up, refused_session}
+use Rattle.dap_accessed.specs.Sessions.{SessionValue, IsOpenIn, ServesItem, asked_in, joined, open_at, refused_session}
 use Rattle.dap_shared.specs.Sharing.{bars, file_locked}
+use Rattle.dap_shared.specs.Shared.{session_without}
 
 -- one of the others has something open that bars what is asked for
 abbrev pub is_barred : (others : List SessionValue) → Option OpenFile → Bool
 is_barred others None = false
 is_barred others (Some asked) = list_any (λ s. bars asked (open_at s.phase)) others
 
--- the file at this index was removed: those after it moved up
-abbrev pub session_without : (removed : ℕ) → SessionValue → SessionValue
-session_without removed s = record s { phase = phase_moved_up removed s.phase }
-
--- the same where a file was removed
+-- what is kept of another link, where a file was removed
 abbrev pub session_moved_up : (removed : Option OpenFile) → SessionValue → SessionValue
 session_moved_up None s = s
 session_moved_up (Some removed) s = session_without removed.at s

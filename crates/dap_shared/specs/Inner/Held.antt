@@ -8,13 +8,13 @@ use Rattle.dap_accessed.specs.declared.phase.Phase.{Phase}
 use Rattle.dap_accessed.specs.declared.phase.Phase.TheVariants as phases
 use Rattle.dap_accessed.specs.Setup.{IsServerSetup}
 use Rattle.dap_accessed.specs.Standing.{Files}
-use Rattle.dap_accessed.specs.Sessions.{SessionValue, session_with}
+use Rattle.dap_accessed.specs.Sessions.{SessionValue}
 use Rattle.dap_shared.specs.Nodes.{Event}
-use Rattle.dap_shared.specs.Shared.{SharedValue, SharedAfter}
+use Rattle.dap_shared.specs.Shared.{SharedValue, SharedAfter, no_session}
 use Rattle.dap_shared.specs.Inner.Beside.{MovesBeside}
 
 abbrev pub session_at : (own : ServerSetup) (link : ℕ) → List SessionValue → SessionValue
-session_at own link sessions = get_or sessions link (session_with own)
+session_at own link sessions = get_or sessions link (no_session own)
 
 -- a fetch stops at a record's number
 abbrev pub HasNumber : Phase → Type 0
@@ -33,5 +33,5 @@ pub record IsHeld (v : SharedValue) : Type 0 where
 pub record MovesOn (own : ServerSetup) (link : ℕ) (item : Item) (files : Files) (sessions : List SessionValue) (files' : Files) (sessions' : List SessionValue) (answers : Vec (Vec ℕ)) : Type 0 where
   pub others : List SessionValue
   pub session : SessionValue
-  pub moves : MovesBeside item files (set sessions link (session_with own)) (session_at own link sessions) files' others session answers
+  pub moves : MovesBeside item files (set sessions link (no_session own)) (session_at own link sessions) files' others session answers
   pub back : sessions' ≡ set others link session

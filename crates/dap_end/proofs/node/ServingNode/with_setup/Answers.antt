@@ -4,7 +4,7 @@ use Rattle.dap_end.specs.Ports.{PortValue}
 use Rattle.dap_end.specs.Inner.NodeInside.{IsNode}
 use Rattle.dap_end.proofs.Ports.{no-ports}
 use Rattle.dap_end.proofs.Tables.{table-new}
-use Rattle.dap_end.proofs.node.ServingNode.new.Goals as goal
+use Rattle.dap_end.proofs.node.ServingNode.with_setup.Goals as goal
 
 pub invariant_of-result : goal.invariant_of-result
 invariant_of-result c =
