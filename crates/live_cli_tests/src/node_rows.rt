@@ -52,7 +52,7 @@ waits 0\nwaits 0\n< 04010104040080\nwaits 0\nwaits 0\n",
     // Lines that name no link, and a client's.
     (
         2,
-        b"new\nresend\nack\nclose\nnew 0202\nnew 0202 0101 512 15\nask hello\nfoo\n",
+        b"new\nresend\nack\nclose\nnew 0202\nnew 0202 0101 512 16\nask hello\nfoo\n",
         b"refused bad-line\nwaits 0\nrefused bad-line\nwaits 0\nrefused bad-line\nwaits 0\n\
 refused bad-line\nwaits 0\nrefused bad-line\nwaits 0\nrefused bad-line\nwaits 0\n\
 refused bad-line\nwaits 0\nrefused bad-line\nwaits 0\n",
@@ -107,6 +107,25 @@ file 46 seq variable 0 0\n  1 41\n  3 41\nfiles\n",
 accepted\n< 60010102020180010001020e0004120d0506000000e6e8f08020\nwaits 1\n\
 refused busy\nwaits 0\nrefused busy\nwaits 0\nwaits 0\nrefused 4000 11\nwaits 0\n\
 waits 0\nwaits 0\nrefused 5000 6\nwaits 0\nfile 46 seq variable 0 0\n  1 41\nwaits 0\n",
+    ),
+    // Each link has its own rights, and a file that some link has open isn't dropped; those behind one that is dropped move up.
+    (
+        2,
+        b"file 45 seq variable 0 0\nfile 46 seq variable 0 0\n  1 41\nnew 0202 0101 512 2\nnew 0303 0404\n\
+> 60020201010080010001020a00040703050600000000\n\
+> 60030304040080010001020a00040703050600000000\n\
+> 6002020101018002000302080100014601000000\n> 6003030404018002000302080100014601000000\n\
+drop 46\ndrop 47\ndrop 45\nfiles\nclose 0303\n> 6002020101028003000302080100014602000000\nnew 0202 0101\n\
+drop 46\n  2 42\nfiles\n",
+        b"waits 0\nwaits 0\nwaits 0\nwaits 0\nwaits 0\n\
+accepted\n< 60010102020180010001020e0004120d0506000000e6e8f08020\nwaits 1\n\
+accepted\n< 60040403030180010001020e0004120d0506000000e6e8f08020\nwaits 1\n\
+accepted\n< 600101020202800200090206004000000102\nwaits 1\n\
+accepted\n< 60040403030280020002020ba604000200000400000000060200\nwaits 1\n\
+refused busy\nwaits 0\nrefused 4032 0\nwaits 0\nwaits 0\n\
+file 46 seq variable 0 0\n  1 41\nwaits 0\nwaits 0\n\
+accepted\n< 60010102020380030002020ba604000200000400000000060200\nwaits 1\nwaits 0\n\
+waits 0\nrefused 4032 0\nwaits 0\nwaits 0\n",
     ),
     // Two links read a file. A third, which would write it, is told the lower of their addresses, once for each Access.
     (
