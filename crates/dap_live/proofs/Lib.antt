@@ -10,3 +10,4 @@ pub mod NodeLemmas
 pub mod Forms
 pub mod OneTurn
 pub mod OneNode
+pub mod NewNode
