@@ -1,5 +1,5 @@
 -- What the end that asks does by a line, and says, follows from the end and the line, want of memory aside.
-use Rattle.std.proofs.Common.{◌≡◌, ◌≢◌, ℕ, refl, sym, ◌∙◌, subst, ap, true, false, true≢false, List, [], ◌++◌, length, inl, inr}
+use Rattle.std.proofs.Common.{◌≡◌, ◌≢◌, ℕ, refl, sym, ◌∙◌, subst, ap, true, false, true≢false, List, [], ◌++◌, drop, length, inl, inr}
 use Rattle.std.specs.Prelude.{MatchBool, ◌||◌, ◌&&◌, nat_lt, if◌then◌else◌, Bool, Option, Some, None, Result, Ok, Err}
 use Rattle.std.specs.List.{flat_map}
 use Rattle.hex.specs.Hex.{IsBytes as AreBytes}
@@ -42,8 +42,8 @@ use Rattle.dap_live.specs.AskOrders.{ask_order_of}
 use Rattle.dap_live.specs.Orders.{setup_anew}
 use Rattle.dap_live.specs.Sending.{AllAgain, SaysAck, waits_of}
 use Rattle.dap_live.specs.Texts.{ask_refusal, done_said, link_refusal, packets_text, reports_text, taken_said}
-use Rattle.dap_live.specs.Each.{each_after, each_text, records_text, told_text, waits_told}
-use Rattle.dap_live.specs.Asking.{GoesOn, Resends, AsksNot, Asks, IsNew, OnEnd, Does, DoesAll, DoesAskOrder, Ends, TakesPacket, TellsAlone, answered_whole, begun, waiting, came_by, goes_on}
+use Rattle.dap_live.specs.Each.{each_after, each_text, records_text, told_after, told_text, waits_told}
+use Rattle.dap_live.specs.Asking.{GoesOn, Resends, AsksNot, Asks, IsNew, OnEnd, Does, DoesAll, DoesAskOrder, Ends, TakesPacket, TellsAlone, answered, begun, waiting, came_by, goes_on}
 use Rattle.dap_live.specs.Both.{DoneOr, Stays}
 use Rattle.dap_live.specs.Inner.Saying.{front_text}
 use Rattle.dap_live.specs.Inner.OneText.{AreSameAsking}
@@ -69,11 +69,11 @@ stay = stays_alike AreSameAsking
 -- what waits to be told, by the parts that it is of
 abbrev told_by : Bool → (told : ℕ) → List Report → AskingValue → List ℕ
 told_by is_each told reports end =
-    if is_each then flat_map (each_text told) reports ++ records_text (records_kept end.present.pending) else reports_text reports
+    if is_each then flat_map (each_text told) reports ++ records_text (drop told (records_kept end.present.pending)) else reports_text reports
 
 told_one : (one two : Asking) → AreSameAsking one two → told_text one ≡ told_text two
 told_one one two same =
-    ap (λ (b : Bool). told_by b one.told one.reports.items one.end) (same.4 ∙ sym same.5)
+    ap (λ (b : Bool). told_by b one.told one.reports.items one.end) same.4
     ∙ ap (λ (n : ℕ). told_by two.is_each n one.reports.items one.end) same.3
     ∙ ap (λ (l : List Report). told_by two.is_each two.told l one.end) same.2
     ∙ ap (λ (v : AskingValue). told_by two.is_each two.told two.reports.items v) same.0
@@ -85,8 +85,7 @@ on_end old other one two same x y end reports d = (
   ap (λ (a : Asking). a.setup) x ∙ same.1 ∙ sym (ap (λ (a : Asking). a.setup) y),
   reports,
   ap (λ (a : Asking). a.told) x ∙ same.3 ∙ sym (ap (λ (a : Asking). a.told) y),
-  ap (λ (a : Asking). a.is_each) x ∙ same.4,
-  ap (λ (a : Asking). a.is_each) y ∙ same.5,
+  ap (λ (a : Asking). a.is_each) x ∙ same.4 ∙ sym (ap (λ (a : Asking). a.is_each) y),
   d,
 )
 
@@ -99,7 +98,7 @@ packet_one old other one two bytes said more m n fits same nm nn x y =
     let wy = taken_wants y.taken (told_text two) y.packets (λ e. nn (ap outcome y.ended ∙ outcome_by y.taken _ ∙ e)) in
     let there : Takes (asks old.reports.items two.reports.items) other.end two.end bytes [] y.packets y.taken =
     subst (λ (l : List Report). Takes (asks l two.reports.items) other.end two.end bytes [] y.packets y.taken) (sym same.2) y.took in
-    let t = taking_alike old.end other.end one.end two.end bytes x.taken y.taken [] x.packets y.packets old.reports.items one.reports.items two.reports.items fits same.6 same.0 wx wy x.took there in
+    let t = taking_alike old.end other.end one.end two.end bytes x.taken y.taken [] x.packets y.packets old.reports.items one.reports.items two.reports.items fits same.5 same.0 wx wy x.took there in
     let now : AreSameAsking one two = on_end old other one two same x.rest y.rest t.0 t.3 t.4 in
     let same_said : taken_said x.taken (told_text one) x.packets ≡ taken_said y.taken (told_text two) y.packets =
     ap (λ (r : Result Got TakeFault). taken_said r (told_text one) x.packets) t.1 ∙ ap (taken_said y.taken (told_text one)) t.2
@@ -118,7 +117,7 @@ going_same old other front said more one two m n same nm nn x y =
     let wy = gone_wants y.gone (told_text two) y.packets (λ e. nn (ap outcome y.ended ∙ e)) in
     let there : WentOn (asks old.reports.items two.reports.items) other.end two.end [] y.packets y.gone =
     subst (λ (l : List Report). WentOn (asks l two.reports.items) other.end two.end [] y.packets y.gone) (sym same.2) y.went in
-    let t = going_alike old.end other.end one.end two.end [] x.packets y.packets old.reports.items one.reports.items two.reports.items x.gone y.gone same.6 same.0 wx wy x.went there in
+    let t = going_alike old.end other.end one.end two.end [] x.packets y.packets old.reports.items one.reports.items two.reports.items x.gone y.gone same.5 same.0 wx wy x.went there in
     let now : AreSameAsking one two = on_end old other one two same x.rest y.rest t.0 t.3 t.4 in
     let same_said : done_said (told_text one) x.packets x.gone ≡ done_said (told_text two) y.packets y.gone =
     ap (done_said (told_text one) x.packets) t.1 ∙ ap (λ (l : List (List ℕ)). done_said (told_text one) l y.gone) t.2
@@ -145,7 +144,7 @@ goes_alike old other like =
 again_one : (old other one two : Asking) (said more : List ℕ) (m n : Came) → AreSameAsking old other → outcome m ≢ NoMemory → outcome n ≢ NoMemory → Resends old one said m → Resends other two more n
     → Two one two said more m n
 again_one old other one two said more m n same nm nn x y =
-    let sent = has_sent old.end same.6 in
+    let sent = has_sent old.end same.5 in
     let again : AllAgain old.end.port.link y.0 = subst (λ (p : PortValue). AllAgain p.link y.0) (ap (λ (v : AskingValue). v.port) (sym same.0)) y.1 in
     let packets = all_again old.end.port.link sent.0 x.0 y.0 sent.1 x.1 again in
     let there : GoesOnIf (goes_on old.end) other (packets_text x.0) two more n =
@@ -218,63 +217,54 @@ not_one old other one two said more m n ask.WrongPhase same nm nn x y = said_why
 not_one old other one two said more m n ask.TooLarge same nm nn x y = said_why old other one two said more m n ask.TooLarge same x y
 not_one old other one two said more m n ask.NoMemory same nm nn x y = said_why old other one two said more m n ask.NoMemory same x y
 
--- after a request that doesn't ask for each record by itself, none is told so
-each_stays : (request : Request) → each_after false request false ≡ false
-each_stays Fetch = refl
-each_stays request = refl
-
-still_none : (before : Bool) (request : Request) → before ≡ false → each_after false request before ≡ false
-still_none false request e = each_stays request
-still_none true request e = absurd (true≢false e)
-
 -- it was asked, and its messages are on their way
-abbrev AsksIt : Asking → Request → Asking → List ℕ → Came → Type 0
-AsksIt old request new text came =
-    (count : ℕ) × (mid : AskingValue) × AskedOne request old.end mid count × GoesOn (begun false request (record old { end = mid })) (front_text (front.Asked count)) new text came
+abbrev AsksIt : (each : Bool) → Asking → Request → Asking → List ℕ → Came → Type 0
+AsksIt each old request new text came =
+    (count : ℕ) × (mid : AskingValue) × AskedOne request old.end mid count × GoesOn (begun each request (record old { end = mid })) (front_text (front.Asked count)) new text came
 
 -- it was asked of both
-it_one : (old other one two : Asking) (request : Request) (said more : List ℕ) (m n : Came) (past : AskingPast) → HasAsked past old.end → AreSameAsking old other → outcome m ≢ NoMemory → outcome n ≢ NoMemory
-    → AsksIt old request one said m → AsksIt other request two more n → Two one two said more m n
-it_one old other one two request said more m n past h same nm nn x y =
+it_one : (each : Bool) (old other one two : Asking) (request : Request) (said more : List ℕ) (m n : Came) (past : AskingPast) → HasAsked past old.end → AreSameAsking old other → outcome m ≢ NoMemory → outcome n ≢ NoMemory
+    → AsksIt each old request one said m → AsksIt each other request two more n → Two one two said more m n
+it_one each old other one two request said more m n past h same nm nn x y =
     let asked : AskedOne request old.end y.1 y.0 = subst (λ (v : AskingValue). AskedOne request v y.1 y.0) (sym same.0) y.2 in
     let t = asking_one past request old.end x.1 y.1 x.0 y.0 h x.2 asked in
-    let there : GoesOn (begun false request (record other { end = y.1 })) (front_text (front.Asked x.0)) two more n =
-    subst (λ (k : ℕ). GoesOn (begun false request (record other { end = y.1 })) (front_text (front.Asked k)) two more n) (sym t.1) y.3 in
-    let now : AreSameAsking (begun false request (record old { end = x.1 })) (begun false request (record other { end = y.1 })) =
-    (t.0, same.1, same.2, refl, still_none old.is_each request same.4, still_none other.is_each request same.5, inl (_, asked_past request old.end x.1 x.0 x.2 past h)) in
-    going_same (begun false request (record old { end = x.1 })) (begun false request (record other { end = y.1 })) (front_text (front.Asked x.0)) said more one two m n now nm nn x.3 there
+    let there : GoesOn (begun each request (record other { end = y.1 })) (front_text (front.Asked x.0)) two more n =
+    subst (λ (k : ℕ). GoesOn (begun each request (record other { end = y.1 })) (front_text (front.Asked k)) two more n) (sym t.1) y.3 in
+    let now : AreSameAsking (begun each request (record old { end = x.1 })) (begun each request (record other { end = y.1 })) =
+    (t.0, same.1, same.2, refl, ap (λ (b : Bool). each_after each request b) same.4, inl (_, asked_past request old.end x.1 x.0 x.2 past h)) in
+    going_same (begun each request (record old { end = x.1 })) (begun each request (record other { end = y.1 })) (front_text (front.Asked x.0)) said more one two m n now nm nn x.3 there
 
 -- it was asked of one, and refused by the other
-it_apart : (old other one two : Asking) (request : Request) (said more : List ℕ) (m n : Came) (past : AskingPast) (f : AskFault) → HasAsked past old.end → (old.end ≡ other.end) → outcome n ≢ NoMemory → AsksIt old request one said m
+it_apart : (each : Bool) (old other one two : Asking) (request : Request) (said more : List ℕ) (m n : Came) (past : AskingPast) (f : AskFault) → HasAsked past old.end → (old.end ≡ other.end) → outcome n ≢ NoMemory → AsksIt each old request one said m
     → AskRefused request other.end.present f → AsksNot other two more n f → ⊥
-it_apart old other one two request said more m n past f h like nn x r y =
+it_apart each old other one two request said more m n past f h like nn x r y =
     let there : AskRefused request old.end.present f = subst (λ (v : AskingValue). AskRefused request v.present f) (sym like) r in
     ask_apart old.end.present.identity past.requests past.answers request f (not_want other request two more n f nn y) (x.2.asks.admissible past.requests past.answers h.asking)
     (refused_by request old.end past f h there)
 
-running_one : (old other one two : Asking) (request : Request) (said more : List ℕ) (m n : Came) → AreSameAsking old other → HasDone old.end → outcome m ≢ NoMemory → outcome n ≢ NoMemory → Asks false old request one said m
-    → Asks false other request two more n → Two one two said more m n
-running_one old other one two request said more m n same (inl d) nm nn (inl x) (inl y) = it_one old other one two request said more m n d.0 d.1 same nm nn x y
-running_one old other one two request said more m n same (inl d) nm nn (inl x) (inr y) =
-    absurd (it_apart old other one two request said more m n d.0 y.0 d.1 same.0 nn x y.1 y.2)
-running_one old other one two request said more m n same (inl d) nm nn (inr x) (inl y) =
-    absurd (it_apart other old two one request more said n m d.0 x.0 (subst (HasAsked d.0) same.0 d.1) (sym same.0) nm y x.1 x.2)
-running_one old other one two request said more m n same (inl d) nm nn (inr x) (inr y) =
+running_one : (each : Bool) (old other one two : Asking) (request : Request) (said more : List ℕ) (m n : Came) → AreSameAsking old other → HasDone old.end → outcome m ≢ NoMemory → outcome n ≢ NoMemory → Asks each old request one said m
+    → Asks each other request two more n → Two one two said more m n
+running_one each old other one two request said more m n same (inl d) nm nn (inl x) (inl y) = it_one each old other one two request said more m n d.0 d.1 same nm nn x y
+running_one each old other one two request said more m n same (inl d) nm nn (inl x) (inr y) =
+    absurd (it_apart each old other one two request said more m n d.0 y.0 d.1 same.0 nn x y.1 y.2)
+running_one each old other one two request said more m n same (inl d) nm nn (inr x) (inl y) =
+    absurd (it_apart each other old two one request more said n m d.0 x.0 (subst (HasAsked d.0) same.0 d.1) (sym same.0) nm y x.1 x.2)
+running_one each old other one two request said more m n same (inl d) nm nn (inr x) (inr y) =
     let there : AskRefused request old.end.present y.0 = subst (λ (v : AskingValue). AskRefused request v.present y.0) (sym same.0) y.1 in
     let why = ask_why old.end.present.identity d.0.requests d.0.answers request x.0 y.0 (not_want old request one said m x.0 nm x.2) (not_want other request two more n y.0 nn y.2)
     (refused_by request old.end d.0 x.0 d.1 x.1) (refused_by request old.end d.0 y.0 d.1 there) in
     not_one old other one two said more m n x.0 same nm nn x.2 (subst (λ (f : AskFault). AsksNot other two more n f) (sym why) y.2)
-running_one old other one two request said more m n same (inr d) nm nn (inl x) y = absurd (true≢false (sym d.0 ∙ x.2.asks.works))
-running_one old other one two request said more m n same (inr d) nm nn (inr x) (inl y) = absurd (true≢false (sym d.0 ∙ ap (λ (v : AskingValue). v.present.failed) same.0 ∙ y.2.asks.works))
-running_one old other one two request said more m n same (inr d) nm nn (inr x) (inr y) =
+running_one each old other one two request said more m n same (inr d) nm nn (inl x) y = absurd (true≢false (sym d.0 ∙ x.2.asks.works))
+running_one each old other one two request said more m n same (inr d) nm nn (inr x) (inl y) = absurd (true≢false (sym d.0 ∙ ap (λ (v : AskingValue). v.present.failed) same.0 ∙ y.2.asks.works))
+running_one each old other one two request said more m n same (inr d) nm nn (inr x) (inr y) =
     let why : x.0 ≡ y.0 = only_failed request old.end x.0 d.0 x.1 ∙ sym (only_failed request other.end y.0 (ap (λ (v : AskingValue). v.present.failed) (sym same.0) ∙ d.0) y.1) in
     not_one old other one two said more m n x.0 same nm nn x.2 (subst (λ (f : AskFault). AsksNot other two more n f) (sym why) y.2)
 
-ask_one : (failed : Bool) (old other one two : Asking) (request : Request) (said more : List ℕ) (m n : Came) → AreSameAsking old other → outcome m ≢ NoMemory → outcome n ≢ NoMemory
-    → MatchBool failed (Stays (Untold Done) old one m × (said ≡ (link_refusal Failed).0)) (Asks false old request one said m)
-    → MatchBool failed (Stays (Untold Done) other two n × (more ≡ (link_refusal Failed).0)) (Asks false other request two more n) → Two one two said more m n
-ask_one true old other one two request said more m n same nm nn x y = (stay old other one two same x.0.0 y.0.0, x.1 ∙ sym y.1, x.0.1 ∙ sym y.0.1)
-ask_one false old other one two request said more m n same nm nn x y = running_one old other one two request said more m n same same.6 nm nn x y
+ask_one : (failed each : Bool) (old other one two : Asking) (request : Request) (said more : List ℕ) (m n : Came) → AreSameAsking old other → outcome m ≢ NoMemory → outcome n ≢ NoMemory
+    → MatchBool failed (Stays (Untold Done) old one m × (said ≡ (link_refusal Failed).0)) (Asks each old request one said m)
+    → MatchBool failed (Stays (Untold Done) other two n × (more ≡ (link_refusal Failed).0)) (Asks each other request two more n) → Two one two said more m n
+ask_one true each old other one two request said more m n same nm nn x y = (stay old other one two same x.0.0 y.0.0, x.1 ∙ sym y.1, x.0.1 ∙ sym y.0.1)
+ask_one false each old other one two request said more m n same nm nn x y = running_one each old other one two request said more m n same same.5 nm nn x y
 
 -- ---- A new link.
 
@@ -292,8 +282,7 @@ new_asking setup identity one other x y =
       x.setup ∙ sym y.setup,
       x.reports ∙ sym y.reports,
       x.told ∙ sym y.told,
-      x.each,
-      y.each,
+      x.each ∙ sym y.each,
       inl (nothing_asked, x.asked),
     )
 
@@ -323,81 +312,81 @@ renew_one old other one two anew said more m n same nm nn (inr x) (inr y) =
 same_failed : (old other : Asking) → AreSameAsking old other → old.end.port.link.failed ≡ other.end.port.link.failed
 same_failed old other same = ap (λ (v : AskingValue). v.port.link.failed) same.0
 
-does_one : (old other one two : Asking) (o : AskOrder) (said more : List ℕ) (m n : Came) → Fits (Some o) → (o ≡ order.FetchEach → ⊥) → AreSameAsking old other → outcome m ≢ NoMemory → outcome n ≢ NoMemory → Does old o one said m → Does other o two more n
+does_one : (old other one two : Asking) (o : AskOrder) (said more : List ℕ) (m n : Came) → Fits (Some o) → AreSameAsking old other → outcome m ≢ NoMemory → outcome n ≢ NoMemory → Does old o one said m → Does other o two more n
     → Two one two said more m n
-does_one old other one two (order.Packet bytes) said more m n fits whole same nm nn x y = packet_one old other one two bytes said more m n fits same nm nn x y
-does_one old other one two order.Resend said more m n fits whole same nm nn x y =
+does_one old other one two (order.Packet bytes) said more m n fits same nm nn x y = packet_one old other one two bytes said more m n fits same nm nn x y
+does_one old other one two order.Resend said more m n fits same nm nn x y =
     resend_one old.end.port.link.failed old other one two said more m n same nm nn x
     (subst (λ (f : Bool). MatchBool f (Stays (Untold Done) other two n × (more ≡ (link_refusal Failed).0)) (Resends other two more n)) (sym (same_failed old other same)) y)
-does_one old other one two order.Ack said more m n fits whole same nm nn x y = (
+does_one old other one two order.Ack said more m n fits same nm nn x y = (
   stay old other one two same x.0.0 y.0.0,
   ack_one old.end.port.link said more x.1 (subst (λ (v : AskingValue). SaysAck v.port.link more) (sym same.0) y.1),
   x.0.1 ∙ sym y.0.1,
 )
-does_one old other one two (order.New anew) said more m n fits whole same nm nn x y = renew_one old other one two anew said more m n same nm nn x y
-does_one old other one two (order.Ask request) said more m n fits whole same nm nn x y =
-    ask_one old.end.port.link.failed old other one two request said more m n same nm nn x
+does_one old other one two (order.New anew) said more m n fits same nm nn x y = renew_one old other one two anew said more m n same nm nn x y
+does_one old other one two (order.Ask request) said more m n fits same nm nn x y =
+    ask_one old.end.port.link.failed false old other one two request said more m n same nm nn x
     (subst (λ (f : Bool). MatchBool f (Stays (Untold Done) other two n × (more ≡ (link_refusal Failed).0)) (Asks false other request two more n)) (sym (same_failed old other same)) y)
-does_one old other one two order.FetchEach said more m n fits whole same nm nn x y = absurd (whole refl)
+does_one old other one two order.FetchEach said more m n fits same nm nn x y =
+    ask_one old.end.port.link.failed true old other one two Fetch said more m n same nm nn x
+    (subst (λ (f : Bool). MatchBool f (Stays (Untold Done) other two n × (more ≡ (link_refusal Failed).0)) (Asks true other Fetch two more n)) (sym (same_failed old other same)) y)
 
 -- what waited is dropped where the answer has it
 ends_outcome : (m : Came) (old new : Asking) (b : Became) → Ends m old new b → outcome m ≡ b
 ends_outcome (Told was) old new b h = sym h.1
 ends_outcome (Untold was) old new b h = sym h.1
 
-none_told : (is_each : Bool) (Each None : Type 0) → is_each ≡ false → MatchBool is_each Each None → None
-none_told false Each None e h = h
-none_told true Each None e h = absurd (true≢false e)
+-- so many are told then, by the parts that it is of
+abbrev after_by : Bool → (told : ℕ) → AskingValue → ℕ
+after_by is_each told end = if is_each then length (records_kept end.present.pending) else told
+
+after_one : (one two : Asking) → AreSameAsking one two → told_after one ≡ told_after two
+after_one one two same =
+    ap (λ (b : Bool). after_by b one.told one.end) same.4 ∙ ap (λ (n : ℕ). after_by two.is_each n one.end) same.3 ∙ ap (λ (v : AskingValue). after_by two.is_each two.told v) same.0
 
 ends_one : (m : Came) (old other new end : Asking) (b c : Became) → AreSameAsking old other → Ends m old new b → Ends m other end c → AreSameAsking new end × (b ≡ c)
 ends_one (Told was) old other new end b c same x y =
-    let ex : new.end ≡ old.end = none_told old.is_each _ _ same.4 x.0.end in
-    let ey : end.end ≡ other.end = none_told other.is_each _ _ same.5 y.0.end in
-    let tx : new.told ≡ old.told = none_told old.is_each _ _ same.4 x.0.told in
-    let ty : end.told ≡ other.told = none_told other.is_each _ _ same.5 y.0.told in (
+    let ex : new.end ≡ old.end = ap (λ (a : Asking). a.end) x.0.0 in
+    let ey : end.end ≡ other.end = ap (λ (a : Asking). a.end) y.0.0 in (
       (
         ex ∙ same.0 ∙ sym ey,
-        ap (λ (a : Asking). a.setup) x.0.rest ∙ same.1 ∙ sym (ap (λ (a : Asking). a.setup) y.0.rest),
-        x.0.reports ∙ sym y.0.reports,
-        tx ∙ same.3 ∙ sym ty,
-        ap (λ (a : Asking). a.is_each) x.0.rest ∙ same.4,
-        ap (λ (a : Asking). a.is_each) y.0.rest ∙ same.5,
-        subst HasDone (sym ex) same.6,
+        ap (λ (a : Asking). a.setup) x.0.0 ∙ same.1 ∙ sym (ap (λ (a : Asking). a.setup) y.0.0),
+        x.0.1 ∙ sym y.0.1,
+        ap (λ (a : Asking). a.told) x.0.0 ∙ after_one old other same ∙ sym (ap (λ (a : Asking). a.told) y.0.0),
+        ap (λ (a : Asking). a.is_each) x.0.0 ∙ same.4 ∙ sym (ap (λ (a : Asking). a.is_each) y.0.0),
+        subst HasDone (sym ex) same.5,
       ),
       x.1 ∙ sym y.1,
     )
 ends_one (Untold was) old other new end b c same x y = (stay old other new end same x.0 y.0, x.1 ∙ sym y.1)
 
-all_one : (old other one two : Asking) (o : AskOrder) (said more : List ℕ) (b c : Became) → Fits (Some o) → (o ≡ order.FetchEach → ⊥) → AreSameAsking old other → b ≢ NoMemory → c ≢ NoMemory → DoesAll old o one said b → DoesAll other o two more c
+all_one : (old other one two : Asking) (o : AskOrder) (said more : List ℕ) (b c : Became) → Fits (Some o) → AreSameAsking old other → b ≢ NoMemory → c ≢ NoMemory → DoesAll old o one said b → DoesAll other o two more c
     → AreSameAsking one two × (said ≡ more) × (b ≡ c)
-all_one old other one two o said more b c fits whole same nb nc x y =
-    let t = does_one old other x.0 y.0 o said more x.1 y.1 fits whole same (λ e. nb (sym (ends_outcome x.1 x.0 one b x.3) ∙ e)) (λ e. nc (sym (ends_outcome y.1 y.0 two c y.3) ∙ e)) x.2 y.2 in
+all_one old other one two o said more b c fits same nb nc x y =
+    let t = does_one old other x.0 y.0 o said more x.1 y.1 fits same (λ e. nb (sym (ends_outcome x.1 x.0 one b x.3) ∙ e)) (λ e. nc (sym (ends_outcome y.1 y.0 two c y.3) ∙ e)) x.2 y.2 in
     let e = ends_one x.1 x.0 y.0 one two b c t.0 x.3 (subst (λ (m : Came). Ends m y.0 two c) (sym t.2) y.3) in
     (e.0, t.1, e.1)
 
-order_one : (old other one two : Asking) (o : Option AskOrder) (said more : List ℕ) (b c : Became) → Fits o → (o ≡ Some order.FetchEach → ⊥) → AreSameAsking old other → b ≢ NoMemory → c ≢ NoMemory → DoesAskOrder old o one said b → DoesAskOrder other o two more c
+order_one : (old other one two : Asking) (o : Option AskOrder) (said more : List ℕ) (b c : Became) → Fits o → AreSameAsking old other → b ≢ NoMemory → c ≢ NoMemory → DoesAskOrder old o one said b → DoesAskOrder other o two more c
     → AreSameAsking one two × (said ≡ more) × (b ≡ c)
-order_one old other one two None said more b c fits whole same nb nc x y = (stay old other one two same x.0 y.0, x.1 ∙ sym y.1, x.2 ∙ sym y.2)
-order_one old other one two (Some o) said more b c fits whole same nb nc (inl x) (inl y) =
-    all_one old other one two o said more b c fits (λ e. whole (ap (λ (k : AskOrder). Some k) e)) same nb nc x y
-order_one old other one two (Some o) said more b c fits whole same nb nc (inl x) (inr y) = absurd (nc y.2)
-order_one old other one two (Some o) said more b c fits whole same nb nc (inr x) y = absurd (nb x.2)
+order_one old other one two None said more b c fits same nb nc x y = (stay old other one two same x.0 y.0, x.1 ∙ sym y.1, x.2 ∙ sym y.2)
+order_one old other one two (Some o) said more b c fits same nb nc (inl x) (inl y) =
+    all_one old other one two o said more b c fits same nb nc x y
+order_one old other one two (Some o) said more b c fits same nb nc (inl x) (inr y) = absurd (nc y.2)
+order_one old other one two (Some o) said more b c fits same nb nc (inr x) y = absurd (nb x.2)
 
-asking_answers : (one other new end : Asking) (line said more : List ℕ) (b c : Became) → AreSameAsking one other → b ≢ NoMemory → c ≢ NoMemory → answered_whole one (Some line) new said b → answered_whole other (Some line) end more c
+asking_answers : (one other new end : Asking) (line said more : List ℕ) (b c : Became) → AreSameAsking one other → b ≢ NoMemory → c ≢ NoMemory → answered one (Some line) new said b → answered other (Some line) end more c
     → AreSameAsking new end × (said ≡ more) × (b ≡ c)
-asking_answers one other new end line said more b c same nb nc x y = order_one one other new end (ask_order_of line) said more b c (line_fits line) x.0 same nb nc x.1 y.1
-
-asking_misses : (one other new end : Asking) (said more : List ℕ) (b c : Became) → AreSameAsking one other → answered_whole one None new said b → answered_whole other None end more c → AreSameAsking new end
-asking_misses one other new end said more b c same x y = stay one other new end same x.1 y.1
+asking_answers one other new end line said more b c same nb nc x y = order_one one other new end (ask_order_of line) said more b c (line_fits line) same nb nc x y
 
 -- something waits to be told, by the parts that it is of
-abbrev waits_by : Bool → List Report → AskingValue → Bool
-waits_by is_each reports end = nat_lt 0 (length reports) || (is_each && nat_lt 0 (length (records_kept end.present.pending)))
+abbrev waits_by : Bool → (told : ℕ) → List Report → AskingValue → Bool
+waits_by is_each told reports end = nat_lt 0 (length reports) || (is_each && nat_lt told (length (records_kept end.present.pending)))
 
 told_waits : (one two : Asking) → AreSameAsking one two → waits_told one ≡ waits_told two
 told_waits one two same =
-    ap (λ (b : Bool). waits_by b one.reports.items one.end) (same.4 ∙ sym same.5)
-    ∙ ap (λ (l : List Report). waits_by two.is_each l one.end) same.2 ∙ ap (λ (v : AskingValue). waits_by two.is_each two.reports.items v) same.0
+    ap (λ (b : Bool). waits_by b one.told one.reports.items one.end) same.4 ∙ ap (λ (n : ℕ). waits_by two.is_each n one.reports.items one.end) same.3
+    ∙ ap (λ (l : List Report). waits_by two.is_each two.told l one.end) same.2 ∙ ap (λ (v : AskingValue). waits_by two.is_each two.told two.reports.items v) same.0
 
 asking_waits : (one other : Asking) → AreSameAsking one other → waiting one ≡ waiting other
 asking_waits one other same = ap (λ (n : ℕ). Some n)
@@ -405,5 +394,5 @@ asking_waits one other same = ap (λ (n : ℕ). Some n)
     ∙ ap (λ (b : Bool). waits_of other.end.port.link (b || waits_told one)) (goes_alike one.end other.end same.0)
     ∙ ap (λ (b : Bool). waits_of other.end.port.link (goes_on other.end || b)) (told_waits one other same))
 
-pub asking_text : HaveOneText answered_whole waiting AreSameAsking
-asking_text = one_text answered_whole waiting AreSameAsking (one_answer answered_whole waiting AreSameAsking asking_answers asking_misses asking_waits)
+pub asking_text : HaveOneText answered waiting AreSameAsking
+asking_text = one_text answered waiting AreSameAsking (one_answer answered waiting AreSameAsking asking_answers (λ one other new end said more b c. stay one other new end) asking_waits)

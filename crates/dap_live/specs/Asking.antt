@@ -1,5 +1,5 @@
 -- What a client does by a line, and what it answers.
-use Rattle.std.specs.Prelude.{false, ◌≡◌, ◌⊎◌, ℕ, ◌++◌, Bool, MatchBool, not, ◌&&◌, ◌||◌, length, List, [], ◌∷◌, codes, Option, Some, None, Result, Err}
+use Rattle.std.specs.Prelude.{false, true, ◌≡◌, ◌⊎◌, ℕ, ◌++◌, Bool, MatchBool, not, ◌&&◌, ◌||◌, List, [], ◌∷◌, codes, Option, Some, None, Result, Err}
 use Rattle.std.specs.List.{concat}
 use Rattle.std.specs.Fmt.{decimal}
 use Rattle.nsp_link.specs.declared.link.Got.{Got}
@@ -8,11 +8,9 @@ use Rattle.nsp_link.specs.Link.{IsSetup, SetupFault}
 use Rattle.dap_msg.specs.declared.message.Configuration.{Configuration}
 use Rattle.dap_accessing.specs.Request.{Request}
 use Rattle.dap_accessing.specs.declared.request.Request.TheVariants.{Fetch}
-use Rattle.dap_accessing.specs.declared.report.Report.{Report}
 use Rattle.dap_accessing.specs.declared.fault.AskFault.{AskFault}
 use Rattle.dap_accessing.specs.declared.fault.AskFault.TheVariants.{Busy}
 use Rattle.dap_accessing.specs.Calls.{AskRefused}
-use Rattle.dap_accessing.specs.Each.{none_kept}
 use Rattle.dap_end.specs.declared.fault.EndFault.{EndFault}
 use Rattle.dap_end.specs.declared.fault.TakeFault.{TakeFault}
 use Rattle.dap_end.specs.declared.fault.TakeFault.TheVariants as take
@@ -33,7 +31,7 @@ use Rattle.dap_live.specs.Orders.{setup_anew}
 use Rattle.dap_live.specs.Sending.{AllAgain, SaysAck, UnlessFailed, has_message, is_left, waits_of}
 use Rattle.dap_text.specs.Text.{line_feed}
 use Rattle.dap_live.specs.Texts.{ask_refusal, done_said, link_refusal, packets_text, taken_said}
-use Rattle.dap_live.specs.Each.{counted, each_after, kept, told_text, waits_told}
+use Rattle.dap_live.specs.Each.{each_after, told_after, told_text, waits_told}
 use Rattle.dap_live.specs.Both.{DoneOr, Stays}
 
 -- only the end and its reports changed
@@ -126,20 +124,13 @@ Does old (order.Ask request) new text came =
     UnlessFailed old.end.port.link text (Stays (Untold Done) old new came) (Asks false old request new text came)
 Does old order.FetchEach new text came = UnlessFailed old.end.port.link text (Stays (Untold Done) old new came) (Asks true old Fetch new text came)
 
--- the end without the records that are kept of a batch under way
-abbrev pub emptied : AskingValue → AskingValue
-emptied end = record end { present = record end.present { pending = none_kept end.present.pending } }
-
--- What waited was told: no report waits, and where each record is told by itself, none is kept of a batch under way.
-pub record TookOut (old new : Asking) : Type 0 where
-  pub rest : new ≡ record old { end = new.end; reports = new.reports; told = new.told }
-  pub reports : new.reports.items ≡ []
-  pub end : MatchBool old.is_each (new.end ≡ emptied old.end) (new.end ≡ old.end)
-  pub told : MatchBool old.is_each (new.told ≡ counted old.told (length (kept old))) (new.told ≡ old.told)
+-- All was told that waited: no report waits, nor a record of a batch under way where each is told by itself.
+abbrev pub WasTold : Asking → Asking → Type 0
+WasTold old new = (new ≡ record old { reports = new.reports; told = told_after old }) × (new.reports.items ≡ [])
 
 -- If the answer has what waits to be told, it doesn't wait afterwards; otherwise it waits as before.
 abbrev pub Ends : Came → Asking → Asking → Became → Type 0
-Ends (Told was) old new became = TookOut old new × (became ≡ was)
+Ends (Told was) old new became = WasTold old new × (became ≡ was)
 Ends (Untold was) old new became = (new ≡ old) × (became ≡ was)
 
 -- the same, with what waits to be told afterwards
@@ -158,15 +149,6 @@ DoesAskOrder old (Some o) new text became =
 abbrev pub answered : Asking → Option (List ℕ) → Asking → List ℕ → Became → Type 0
 answered old None new text became = new ≡ old
 answered old (Some line) new text became = DoesAskOrder old (ask_order_of line) new text became
-
--- the line asks that each record is told by itself
-abbrev pub AsksEach : Option (List ℕ) → Type 0
-AsksEach None = ⊥
-AsksEach (Some line) = ask_order_of line ≡ Some order.FetchEach
-
--- the same of lines of which none asks that
-abbrev pub answered_whole : Asking → Option (List ℕ) → Asking → List ℕ → Became → Type 0
-answered_whole old line new text became = (AsksEach line → ⊥) × answered old line new text became
 
 -- the packets that aren't acknowledged, and one more where going on would do something, or something waits to be told
 abbrev pub waiting : Asking → Option ℕ

@@ -16,14 +16,14 @@ ghost use Rattle.dap_live.specs.declared.asking.Came.{Came as TheCame};
 ghost use Rattle.dap_live.specs.Texts.{end_refusal, packets_text};
 ghost use Rattle.dap_live.specs.Inner.Reaching.{Reaches};
 ghost use Rattle.dap_live.specs.Each.{each_after, waits_told};
-ghost use Rattle.dap_live.specs.Asking.{Asks, Does, DoesAskOrder, Ends, GoesOn, Resends, TellsAlone, TookOut, begun, came_by, goes_on as goes_on_by};
+ghost use Rattle.dap_live.specs.Asking.{Asks, Does, DoesAskOrder, Ends, GoesOn, Resends, TellsAlone, WasTold, begun, came_by, goes_on as goes_on_by};
 ghost use Rattle.dap_live.specs.Inner.Saying.{front_text};
 
 use crate::ask_orders::{AskOrder, read_ask_order};
 use crate::orders::{Between, set_up_anew};
 use crate::sending::{has_message, is_left, push_again, say_ack, waits};
 use crate::texts::{
-    count_told, push_ask_refusal, push_done, push_link_refusal, push_refused, push_taken, push_told,
+    push_ask_refusal, push_done, push_link_refusal, push_refused, push_taken, push_told,
 };
 use dap_accessing::{AskFault, Report, Request};
 use dap_end::{AskingEnd, EndFault, TakeFault};
@@ -45,8 +45,8 @@ pub struct Asking {
     pub reports: Vec<Report>,
     /// Each record of a fetch is told by itself.
     pub is_each: bool,
-    /// How many records of the last request were told by themselves.
-    pub told: u64,
+    /// How many records of the batch under way were told by themselves.
+    pub told: usize,
 }
 
 impl Asking {
@@ -379,14 +379,13 @@ fn act(asking: &mut Asking, order: AskOrder<'_>, text: &mut Vec<u8>) -> Result<C
     }
 }
 
-/// Drops what was told: the reports, and where each record is told by itself those of a batch under way.
-fn drop_told(asking: &mut Asking)
-    ensures { TookOut asking.old asking.new }
+/// Notes that all was told that waited: the reports, and where each record is told by itself those of a batch under way.
+fn note_told(asking: &mut Asking)
+    ensures { WasTold asking.old asking.new }
 {
     asking.reports.clear();
     if asking.is_each {
-        let records = asking.end.take_records();
-        asking.told = count_told(asking.told, records.0.len());
+        asking.told = asking.end.records().len();
     }
 }
 
@@ -396,7 +395,7 @@ fn end_answer(asking: &mut Asking, came: Came) -> Became
 {
     match came {
         Came::Told(became) => {
-            drop_told(asking);
+            note_told(asking);
             became
         }
         Came::Untold(became) => became,
@@ -432,7 +431,7 @@ fn answer_order(asking: &mut Asking, order: Option<AskOrder<'_>>, text: &mut Vec
 fn has_told(asking: &Asking) -> bool
     ensures { result ≡ waits_told asking.now }
 {
-    !asking.reports.is_empty() || (asking.is_each && !asking.end.records().is_empty())
+    !asking.reports.is_empty() || (asking.is_each && asking.told < asking.end.records().len())
 }
 
 /// Whether the end would do something by going on, or has something to tell.

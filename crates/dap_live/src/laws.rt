@@ -1,19 +1,18 @@
 //! Laws over the definitions alone. The function does nothing: its contract is the law.
 
-ghost use Rattle.std.specs.Prelude.{◌≡◌, false};
+ghost use Rattle.std.specs.Prelude.{◌≡◌};
 ghost use Rattle.dap_end.specs.Asking.{HasDone};
 ghost use Rattle.linewise.specs.Talks.{HaveOneText};
 ghost use Rattle.dap_live.specs.Asking as asking;
 ghost use Rattle.dap_live.specs.Node as node;
 
 /// An input has one text: two talks over it, of ends of one value, in which no answer is out of memory, have the
-/// same text, and the same became of each line. An end came to its value by its calls. Of a client the lines are those that don't
-/// ask that each record is told by itself.
+/// same text, and the same became of each line. An end came to its value by its calls.
 pub fn inputs_have_one_text()
-    ensures asking { HaveOneText asking.answered_whole asking.waiting (λ one other.
+    ensures asking { HaveOneText asking.answered asking.waiting (λ one other.
         (one.end ≡ other.end) × (one.setup ≡ other.setup)
         × (one.reports.items ≡ other.reports.items) × (one.told ≡ other.told)
-        × (one.is_each ≡ false) × (other.is_each ≡ false) × HasDone one.end) }
+        × (one.is_each ≡ other.is_each) × HasDone one.end) }
     ensures node { HaveOneText node.answered node.waiting (λ one other.
         (one.node ≡ other.node) × (one.own ≡ other.own) × (one.usual ≡ other.usual)
         × (one.most_waiting ≡ other.most_waiting) × (one.last ≡ other.last)

@@ -1,6 +1,6 @@
 //! How answers are printed.
 
-ghost use Rattle.std.specs.Prelude.{◌≡◌, ◌++◌, [], ◌∷◌, codes, OnOk, IfOk};
+ghost use Rattle.std.specs.Prelude.{◌≡◌, ◌++◌, [], ◌∷◌, codes, drop, OnOk, IfOk};
 ghost use Rattle.std.specs.List.{concat, flat_map};
 ghost use Rattle.dap_msg.specs.Blocked.{bodies};
 ghost use Rattle.dap_end.specs.declared.fault.EndFault.TheVariants as end_fault;
@@ -10,7 +10,7 @@ ghost use Rattle.dap_text.specs.Answers.{got_text};
 ghost use Rattle.dap_text.specs.Reports.{ending_text};
 ghost use Rattle.dap_text.specs.Text.{line_feed};
 ghost use Rattle.dap_live.specs.Texts.{add_refusal, ask_refusal, done_said, end_refusal, link_refusal, locked_text, packet_text, packets_text, refused, remove_refusal, report_line, reports_text, status_line, taken_said};
-ghost use Rattle.dap_live.specs.Each.{batch_line, counted, each_text, record_line, records_text, told_text};
+ghost use Rattle.dap_live.specs.Each.{batch_line, each_text, record_line, records_text, told_text};
 ghost use Rattle.dap_text.specs.Text.{word_text};
 ghost use Rattle.dap_live.specs.Inner.Saying.{AddsSaid};
 
@@ -97,37 +97,41 @@ fn push_ending(text: &mut Vec<u8>, ending: Ending) -> Result<(), AllocError>
     }
 }
 
-/// So many records more were told.
-pub(crate) fn count_told(told: u64, more: usize) -> u64
-    ensures { result ≡ counted told more }
+/// The records that are left after so many.
+fn untold(records: &[(u64, Octets)], told: usize) -> &[(u64, Octets)]
+    ensures { result.now ≡ drop told records.now }
 {
-    told.saturating_add(more as u64)
+    if told < records.len() {
+        &records[told..]
+    } else {
+        &[]
+    }
 }
 
-/// The line of a batch of which each record was told by itself.
-fn push_batch_line(text: &mut Vec<u8>, told: u64, ending: Ending) -> Result<(), AllocError>
-    ensures { OnOk result (Adds text.old text.new (batch_line told ending)) }
+/// The line of a batch of so many records, each of which was told by itself.
+fn push_batch_line(text: &mut Vec<u8>, count: usize, ending: Ending) -> Result<(), AllocError>
+    ensures { OnOk result (Adds text.old text.new (batch_line count ending)) }
 {
-    push_number(text, "report batch ", told)?;
+    push_number(text, "report batch ", count)?;
     push_str(text, " ")?;
     push_ending(text, ending)
 }
 
-/// The lines of a report where each record is told by itself, after so many of the request.
-fn push_each(text: &mut Vec<u8>, told: u64, report: &Report) -> Result<(), AllocError>
+/// The lines of a report where each record is told by itself, and so many of a batch were.
+fn push_each(text: &mut Vec<u8>, told: usize, report: &Report) -> Result<(), AllocError>
     ensures { OnOk result (Adds text.old text.new (each_text told report.now)) }
 {
     match report {
         Report::Batch { bodies, ending } => {
-            push_records(text, &bodies.0)?;
-            push_batch_line(text, count_told(told, bodies.0.len()), *ending)
+            push_records(text, untold(&bodies.0, told))?;
+            push_batch_line(text, bodies.0.len(), *ending)
         }
         _ => push_report_line(text, report),
     }
 }
 
 /// The lines of reports where each record is told by itself.
-fn push_eaches(text: &mut Vec<u8>, told: u64, reports: &Vec<Report>) -> Result<(), AllocError>
+fn push_eaches(text: &mut Vec<u8>, told: usize, reports: &Vec<Report>) -> Result<(), AllocError>
     ensures { OnOk result (Adds text.old text.new (flat_map (each_text told) reports.now.items)) }
 {
     for report in reports.iter() {
@@ -142,7 +146,7 @@ pub(crate) fn push_told(text: &mut Vec<u8>, asking: &Asking) -> Result<(), Alloc
 {
     if asking.is_each {
         push_eaches(text, asking.told, &asking.reports)?;
-        push_records(text, asking.end.records())
+        push_records(text, untold(asking.end.records(), asking.told))
     } else {
         push_reports(text, &asking.reports)
     }

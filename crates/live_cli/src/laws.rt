@@ -7,10 +7,10 @@ ghost use Rattle.live_cli.specs.declared.words.Options.{Options as TheOptions};
 ghost use Rattle.live_cli.specs.Running.{identity_of, server_of, setup_of};
 
 /// By the same options an input has one text, and one exit status: whatever two new ends answer to all its lines,
-/// where no answer is out of memory. Of a client no line asks that each record is told by itself.
+/// where no answer is out of memory.
 pub fn inputs_have_one_text()
     ensures asking { (options : TheOptions)
-        → HaveOneText asking.answered_whole asking.waiting
+        → HaveOneText asking.answered asking.waiting
         (λ one other. asking.IsNew (setup_of options) (identity_of options) one
         × asking.IsNew (setup_of options) (identity_of options) other) }
     ensures node { (options : TheOptions)

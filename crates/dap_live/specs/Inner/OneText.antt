@@ -1,5 +1,5 @@
 -- Ends that answer each line alike.
-use Rattle.std.specs.Prelude.{◌≡◌, false}
+use Rattle.std.specs.Prelude.{◌≡◌}
 use Rattle.dap_accessed.specs.Standing.{Files}
 use Rattle.dap_shared.specs.Nodes.{Event}
 use Rattle.dap_shared.specs.Shared.{SharedAfter}
@@ -9,11 +9,11 @@ use Rattle.dap_live.specs.declared.asking.Asking.{Asking}
 use Rattle.dap_live.specs.declared.node.Node.{Node}
 use Rattle.dap_live.specs.Node.{HasRun, HasSent}
 
--- both clients are of one value, and none tells each record by itself
+-- both clients are of one value
 abbrev pub AreSameAsking : Asking → Asking → Type 0
 AreSameAsking one other =
     (one.end ≡ other.end) × (one.setup ≡ other.setup) × (one.reports.items ≡ other.reports.items) × (one.told ≡ other.told)
-    × (one.is_each ≡ false) × (other.is_each ≡ false) × HasDone one.end
+    × (one.is_each ≡ other.is_each) × HasDone one.end
 
 -- some history left what a link of a node stands before, and the link sends some messages
 abbrev pub HasCarried : LinkValue → Type 0
