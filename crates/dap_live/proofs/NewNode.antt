@@ -1,10 +1,10 @@
 -- A new node: without links, or with the only one.
-use Rattle.std.proofs.Common.{◌≡◌, ◌==◌, ℕ, refl, sym, ◌∙◌, subst, ap, Bool, true, false, List, [], ◌∷◌, Some, None}
+use Rattle.std.proofs.Common.{◌≡◌, ◌==◌, ℕ, sym, ◌∙◌, subst, ap, Bool, false, List, [], ◌∷◌, Some, None}
 use Rattle.std.specs.Prelude.{Option, if◌then◌else◌, replicate, set}
 use Rattle.nsp_link.specs.declared.link.LinkSetup.{LinkSetup}
 use Rattle.dap_accessed.specs.declared.setup.ServerSetup.{ServerSetup}
 use Rattle.dap_accessed.specs.Setup.{all_rights}
-use Rattle.dap_shared.specs.Nodes.{Begins, Event}
+use Rattle.dap_shared.specs.Nodes.{Begins}
 use Rattle.dap_shared.specs.Shared.{SharedAfter}
 use Rattle.dap_end.specs.Ports.{PortValue, new_port}
 use Rattle.dap_end.specs.Node.{BeganOn}

@@ -21,7 +21,7 @@ use Rattle.dap_accessing.specs.Each.{records_kept}
 use Rattle.dap_accessing.proofs.ForCallers.{one_present}
 use Rattle.dap_end.specs.declared.fault.TakeFault.{TakeFault}
 use Rattle.dap_end.specs.declared.fault.TakeFault.TheVariants as take
-use Rattle.dap_end.specs.Ports.{PortValue, new_port}
+use Rattle.dap_end.specs.Ports.{PortValue}
 use Rattle.dap_end.specs.Asking.{HasAsked, AskedOne, HasDone}
 use Rattle.dap_end.specs.Hearing.{asks}
 use Rattle.dap_end.specs.Done.{AskingValue, AskingPast, nothing_asked}

@@ -1,5 +1,5 @@
 -- What a node does by a line, and says, follows from the node and the line, want of memory aside.
-use Rattle.std.proofs.Common.{◌≡◌, ◌≢◌, ℕ, zero, suc, ◌==◌, arith, refl, sym, ◌∙◌, subst, ap, Bool, true, false, true≢false, List, [], ◌∷◌, ◌++◌, length, inl, inr}
+use Rattle.std.proofs.Common.{◌≡◌, ◌≢◌, ℕ, zero, suc, ◌==◌, refl, sym, ◌∙◌, subst, ap, Bool, true, false, true≢false, List, [], ◌∷◌, ◌++◌, length, inl, inr}
 use Rattle.std.specs.Prelude.{◌⊎◌, MatchBool, MatchOption, MatchResult, Option, Some, None, Result, Ok, Err, codes, if◌then◌else◌, option_map, replicate, set, slice_get}
 use Rattle.std.specs.List.{position}
 use Rattle.hex.specs.Hex.{IsBytes as AreBytes}
@@ -28,18 +28,15 @@ use Rattle.dap_shared.specs.declared.fault.RemoveFault.{RemoveFault}
 use Rattle.dap_shared.specs.declared.fault.RemoveFault.TheVariants as removing
 use Rattle.dap_shared.specs.Nodes.{Begins, Drops, Event, Gives, GivesRecord, with_record_at}
 use Rattle.dap_shared.specs.Noted.{NotedValue}
-use Rattle.dap_shared.specs.Shared.{NotAdded, NotRemoved, RecordNotAdded, SharedAfter, SharedBegins, SharedDrops, SharedValue, is_held, rights_on}
+use Rattle.dap_shared.specs.Shared.{NotAdded, NotRemoved, RecordNotAdded, SharedBegins, SharedDrops, SharedValue, is_held, rights_on}
 use Rattle.dap_end.specs.declared.fault.EndFault.{EndFault}
 use Rattle.dap_end.specs.declared.fault.EndFault.TheVariants as end
 use Rattle.dap_end.specs.declared.fault.TakeFault.{TakeFault}
-use Rattle.dap_end.specs.declared.fault.TakeFault.TheVariants as take
 use Rattle.dap_end.specs.Ports.{PortValue, new_port}
 use Rattle.dap_end.specs.Node.{AtPort, HasAddress, HasPort, LinkValue, NodeNotGiven, NodeValue, NoneHasCome, OnLink, SomeHasCome, forgotten, has_local, is_between, is_free}
-use Rattle.dap_end.specs.Inner.Wanting.{went_wanting, took_wanting}
-use Rattle.dap_text.specs.declared.filed.FileLine.{FileLine}
 use Rattle.dap_text.specs.declared.filed.RecordLine.{RecordLine}
 use Rattle.dap_text.specs.Tables.{files_lines}
-use Rattle.dap_text.specs.Words.{Words, ends, field, hex_of, words_of}
+use Rattle.dap_text.specs.Words.{Words, ends, hex_of, words_of}
 use Rattle.dap_text.specs.Filed.{file_of, record_of}
 use Rattle.linewise.specs.declared.talking.Became.{Became}
 use Rattle.linewise.specs.declared.talking.Became.TheVariants.{Done, NoMemory}
@@ -53,9 +50,9 @@ use Rattle.dap_live.specs.NodeOrders.{address_alone, filing_forms, links_order_o
 use Rattle.dap_live.specs.Orders.{anew_of, between_of, hex_alone, most_anew, most_beside, setup_anew, setup_beside}
 use Rattle.dap_live.specs.Texts.{LineAnswer, add_refusal, done_said, link_refusal, locked_text, packets_text, remove_refusal, taken_said}
 use Rattle.dap_live.specs.Both.{DoneOr, Stays}
-use Rattle.dap_live.specs.Node.{AddsFileTo, AddsLink, AddsRecordTo, BeginsOn, Does, DoesNodeOrder, DropsFile, Dropped, EndsOn, FileNotGiven, FindsLink, GivenTo, GivesFile, GivesNext, GivesRecordTo, GoesOnWith, HasRun, HasSent, IsNew, NoLink, RecordNotGiven, Refuses, Renews, RenewsOn, ResendsOn, Says, TakesOn, TakesPacketBy, TakesPacketOf, about, answered, before_line, first_events, first_ports, is_alone, is_behind_at, is_used, meant, one_link, receiver_of, sender_of, ungiven, used_by, waiting, waits_on}
+use Rattle.dap_live.specs.Node.{AddsLink, AddsRecordTo, BeginsOn, Does, DoesNodeOrder, DropsFile, Dropped, EndsOn, FileNotGiven, FindsLink, GivenTo, GivesFile, GivesNext, GivesRecordTo, GoesOnWith, HasRun, HasSent, IsNew, NoLink, RecordNotGiven, Refuses, RenewsOn, ResendsOn, Says, TakesOn, TakesPacketBy, about, answered, before_line, first_events, is_alone, is_behind_at, is_used, meant, one_link, receiver_of, sender_of, ungiven, used_by, waiting, waits_on}
 use Rattle.dap_live.specs.Inner.OneText.{AreSameNodes, HasCarried}
-use Rattle.dap_live.proofs.OneLine.{HexFits, ack_one, all_again, end_wants, gone_wants, hex_fits, setup_apart, setup_one, stays_alike, taken_wants}
+use Rattle.dap_live.proofs.OneLine.{HexFits, ack_one, all_again, gone_wants, hex_fits, setup_apart, setup_one, taken_wants}
 use Rattle.dap_live.proofs.OneLine.{one_answer}
 use Rattle.dap_live.proofs.Forms.{AllFit, all_fit, also, ends_fit, field_fits, form_fits, none_fit}
 use Rattle.dap_live.proofs.OneTurn.{going_same, noted_parts, shared_one, taking_same}

@@ -1,5 +1,5 @@
 -- What going on and a packet leave on one link of a node, and what is answered, follow from the node, want of memory aside.
-use Rattle.std.proofs.Common.{◌≡◌, ◌≢◌, ℕ, ◌<◌, ◌≤◌, arith, refl, sym, ◌∙◌, subst, ap, Bool, false, true≢false, List, [], ◌∷◌, ◌++◌, length, get_or, inl, inr}
+use Rattle.std.proofs.Common.{◌≡◌, ◌≢◌, ℕ, ◌≤◌, arith, refl, sym, ◌∙◌, subst, ap, Bool, false, true≢false, List, [], ◌∷◌, ◌++◌, length, inl, inr}
 use Rattle.std.specs.Prelude.{IsTrue, Option, Some, None, Result, Ok, Err}
 use Rattle.std.specs.Option.{option_to_list}
 use Rattle.std.specs.Global.{Vec}
@@ -16,14 +16,14 @@ use Rattle.nsp_link.specs.Sending.{may_queue, SendAllFault}
 use Rattle.nsp_link.proofs.ForCallers.{sends_all}
 use Rattle.dap_accessed.specs.Standing.{Files}
 use Rattle.dap_accessed.specs.declared.setup.ServerSetup.{ServerSetup}
-use Rattle.dap_shared.specs.Nodes.{Event, Serves, locks_out, node_after}
+use Rattle.dap_shared.specs.Nodes.{Event, Serves, node_after}
 use Rattle.dap_shared.specs.Noted.{LeastOf, NotedServed, NotedServes, NotedValue}
 use Rattle.dap_shared.specs.Shared.{SharedAfter, SharedValue, shared_of}
 use Rattle.dap_end.specs.declared.fault.EndFault.{EndFault}
 use Rattle.dap_end.specs.declared.fault.EndFault.TheVariants as end_fault
 use Rattle.dap_end.specs.declared.fault.TakeFault.{TakeFault}
-use Rattle.dap_end.specs.Ports.{HandsOver, PortValue, bytes_waiting, gone_on}
-use Rattle.dap_end.specs.Moved.{posted, sent_more, with_link}
+use Rattle.dap_end.specs.Ports.{HandsOver, PortValue, gone_on}
+use Rattle.dap_end.specs.Moved.{posted}
 use Rattle.dap_end.specs.By.{PortRests, ServedBy, TurnsBy, begins, goes}
 use Rattle.dap_end.specs.Node.{LinkValue, serves_on}
 use Rattle.dap_end.specs.Taking.{HasRoom}

@@ -1,6 +1,6 @@
 //! The end that asks, over lines.
 
-ghost use Rattle.std.specs.Prelude.{◌≡◌, ◌≢◌, ◌≤◌, ◌++◌, ◌⊎◌, [], ℕ, List, Some, OnOk, OnErr, IfOk, IfErr, MatchBool, ◌||◌, ◌&&◌, false, length, nat_lt};
+ghost use Rattle.std.specs.Prelude.{◌≡◌, ◌≤◌, ◌⊎◌, [], ℕ, List, Some, OnOk, OnErr, IfOk, IfErr, MatchBool, ◌||◌, ◌&&◌, false, length, nat_lt};
 ghost use Rattle.dap_msg.specs.BothEnds.{least_buffer};
 ghost use Rattle.dap_msg.specs.Blocked.{bodies};
 ghost use Rattle.dap_msg.specs.Fitting.{FieldsFit};
@@ -13,7 +13,6 @@ ghost use Rattle.dap_end.specs.Done.{nothing_asked};
 ghost use Rattle.dap_end.specs.Turns.{WentOn, Takes};
 ghost use Rattle.dap_text.specs.Adding.{Adds};
 ghost use Rattle.dap_live.specs.declared.asking.Came.{Came as TheCame};
-ghost use Rattle.dap_live.specs.Texts.{end_refusal, packets_text};
 ghost use Rattle.dap_live.specs.Inner.Reaching.{Reaches};
 ghost use Rattle.dap_live.specs.Each.{each_after, waits_told};
 ghost use Rattle.dap_live.specs.Asking.{Asks, Does, DoesAskOrder, Ends, GoesOn, Resends, TellsAlone, WasTold, begun, came_by, goes_on as goes_on_by};

@@ -1,10 +1,9 @@
 //! The server, over lines: one link, or several before one table of files.
 
-ghost use Rattle.std.specs.Prelude.{◌≡◌, ◌≤◌, ◌<◌, ◌⊎◌, ◌×◌, ◌==◌, ◌++◌, [], ℕ, Bool, List, length, Some, None, OnOk, OnErr, IfOk, IfErr, IfSome, IsTrue, MatchBool, MatchOption, option_map, replicate, set, true, false};
-ghost use Rattle.std.specs.List.{list_any, position};
+ghost use Rattle.std.specs.Prelude.{◌≡◌, ◌<◌, ◌⊎◌, ◌==◌, [], ℕ, length, Some, None, OnOk, OnErr, IfOk, IfErr, IfSome, IsTrue, set, true, false};
+ghost use Rattle.std.specs.List.{position};
 ghost use Rattle.dap_msg.specs.Blocked.{bodies};
 ghost use Rattle.rec_file.specs.Shapes.{is_shape};
-ghost use Rattle.rec_file.specs.declared.picks.Rights.{Rights as TheRights};
 ghost use Rattle.dap_accessed.specs.Setup.{IsServerSetup, all_rights, same_name};
 ghost use Rattle.nsp_link.specs.Link.{IsSetup, SetupFault};
 ghost use Rattle.nsp_link.specs.declared.fault.LinkFault.TheVariants as link_fault;
@@ -12,14 +11,12 @@ ghost use Rattle.dap_end.specs.Ports.{PortValue};
 ghost use Rattle.dap_end.specs.Node.{AtPort, BeganOn, HasPort, NotBegun, OnLink, has_local, serves_on};
 ghost use Rattle.dap_end.specs.Turns.{Takes, WentOn};
 ghost use Rattle.linewise.specs.Talks.{Begins};
-ghost use Rattle.linewise.specs.declared.talking.Became.{Became as TheBecame};
-ghost use Rattle.nsp_seg.specs.declared.packet.Packet.{Packet as ThePacket};
 ghost use Rattle.dap_live.specs.Both.{Stays};
 ghost use Rattle.dap_live.specs.Sending.{SaysAck, UnlessFailed};
 ghost use Rattle.dap_live.specs.Texts.{LineAnswer};
 ghost use Rattle.dap_live.specs.Inner.NodeReaching.{Done, NodeReaches};
 ghost use Rattle.dap_live.specs.Inner.Filing.{AddsShapedTo, GivesRecordBy, IsEmpty, RecordNotBy};
-ghost use Rattle.dap_live.specs.Orders.{most_anew, most_beside, setup_anew, setup_beside};
+ghost use Rattle.dap_live.specs.Orders.{most_anew, most_beside, setup_anew};
 ghost use Rattle.dap_live.specs.Node.{AddsFileTo, AddsLink, AddsRecordTo, BeginsOn, Does, DoesNodeOrder, DropsFile, FindsLink, GoesOnWith, IsNew, IsNotDone, NoLink, ResendsOn, TakesOn, TakesPacketBy, RenewsOn, about, before_line, given_beside, is_alone, is_behind_at, is_used, meant, one_link, pieces, receiver_of, sender_of, ungiven, used_by, waits_on as waits_by};
 
 use crate::node_orders::{NodeOrder, read_node_order};

@@ -4,7 +4,7 @@ ghost use Rattle.std.specs.Result.{result_ok};
 ghost use Rattle.std.specs.Prelude.{◌≡◌, ◌≤◌, false, ◌<◌, ◌^◌, ◌++◌, ◌-◌, IfErr, IfOk, IfSome, IsTrue, None, Some, codes, length, map, option_and_then, option_map, pos, replicate, string_bytes};
 ghost use Rattle.std.specs.Int.{from_be_bytes, w128};
 ghost use Rattle.hex.specs.Hex.{decode_sized};
-ghost use Rattle.clap.specs.Words.{FailsBy, all_of, app_of, fault_of, first_of, found_of, kind_of, rows_of, rule_of, subcommand_of};
+ghost use Rattle.clap.specs.Words.{FailsBy, all_of, fault_of, first_of, found_of, kind_of, rows_of, rule_of, subcommand_of};
 ghost use Rattle.clap.specs.declared.builder.value_parser.ValueParser.TheVariants as parser;
 ghost use Rattle.dap_msg.specs.BothEnds.{greatest_message, least_buffer};
 ghost use Rattle.nsp_link.specs.Limits.{largest_segment, largest_window};

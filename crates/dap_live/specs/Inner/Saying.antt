@@ -6,7 +6,7 @@ use Rattle.std.specs.Global.{Vec}
 use Rattle.dap_text.specs.Adding as adding
 use Rattle.dap_text.specs.Text.{line_feed}
 use Rattle.linewise.specs.declared.talking.Became.{Became}
-use Rattle.dap_live.specs.Texts.{LineAnswer, add_refusal, refused}
+use Rattle.dap_live.specs.Texts.{LineAnswer, refused}
 use Rattle.dap_live.specs.declared.asking.Front.{Front}
 use Rattle.dap_live.specs.declared.asking.Front.TheVariants.{Asked, Busy}
 

@@ -1,7 +1,7 @@
-use Rattle.std.proofs.Common.{◌≡◌, inl, inr, subst}
+use Rattle.std.proofs.Common.{inl, inr, subst}
 use Rattle.dap_accessing.specs.declared.fault.AskFault.TheVariants.{Busy}
 use Rattle.dap_live.specs.declared.asking.Asking.{Asking}
-use Rattle.dap_live.specs.Asking.{GoesOn, begun}
+use Rattle.dap_live.specs.Asking.{GoesOn}
 use Rattle.dap_live.specs.Inner.Saying.{front_text}
 use Rattle.dap_live.specs.declared.asking.Front.TheVariants.{Asked}
 use Rattle.dap_live.proofs.ResultLemmas.{err_from}

@@ -1,5 +1,4 @@
 use Rattle.std.proofs.Common.{◌≡◌, ◌∙◌, sym, subst, List, ℕ}
-use Rattle.dap_live.specs.Inner.NodeReaching.{Done}
 use Rattle.dap_live.specs.Node.{TakesOn}
 use Rattle.dap_live.proofs.NodeLemmas.{reaches-one}
 use Rattle.dap_live.proofs.ResultLemmas.{err_from}
