@@ -13,8 +13,8 @@ use Rattle.dap_live.specs.Node.{IsNew}
 use Rattle.dap_live.specs.Inner.Filing.{IsEmpty}
 
 -- with room for several links, or for none, no link is there
-pub new-several : (own : ServerSetup) (links : ℕ) (usual : LinkSetup) (most : ℕ) (node : Node) → (links == 1) ≡ false → IsEmpty own links usual most node → IsNew own links usual most node
-new-several own links usual most node several e =
+pub new_several : (own : ServerSetup) (links : ℕ) (usual : LinkSetup) (most : ℕ) (node : Node) → (links == 1) ≡ false → IsEmpty own links usual most node → IsNew own links usual most node
+new_several own links usual most node several e =
     record {
       stands = subst (λ (b : Bool). SharedAfter [] (if b then Begins 0 all_rights ∷ [] else []) node.node.noted.shared) (sym several) e.stands;
       setup = e.setup;
@@ -49,7 +49,7 @@ only-one own usual most empty node e began rest =
     }
 
 -- with room for one, it is there
-pub new-only : (own : ServerSetup) (links : ℕ) (usual : LinkSetup) (most : ℕ) (empty node : Node) → links ≡ 1 → IsEmpty own links usual most empty → BeganOn 0 empty.usual all_rights empty.node node.node
+pub new_only : (own : ServerSetup) (links : ℕ) (usual : LinkSetup) (most : ℕ) (empty node : Node) → links ≡ 1 → IsEmpty own links usual most empty → BeganOn 0 empty.usual all_rights empty.node node.node
     → node ≡ record empty { node = node.node; last = Some 0 } → IsNew own links usual most node
-new-only own links usual most empty node one e began rest =
+new_only own links usual most empty node one e began rest =
     subst (λ (n : ℕ). IsNew own n usual most node) (sym one) (only-one own usual most empty node (subst (λ (n : ℕ). IsEmpty own n usual most empty) one e) began rest)

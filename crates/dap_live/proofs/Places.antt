@@ -33,25 +33,25 @@ module _ (test : Option PortValue → Bool) (some : (o : Option PortValue) → t
 
 -- ---- The only link.
 
-pub one-is : (ports : List (Option PortValue)) (p : PortValue) → length ports ≡ 1 → slice_get ports 0 ≡ Some (Some p) → one_link ports ≡ Some 0
-one-is [] p count there = absurd (let none : ⊥ = cc in none)
-one-is (None ∷ []) p count there = absurd (let none : ⊥ = cc in none)
-one-is (Some q ∷ []) p count there = refl
-one-is (x ∷ y ∷ ports) p count there = absurd (omega (arith, count))
+pub one_is : (ports : List (Option PortValue)) (p : PortValue) → length ports ≡ 1 → slice_get ports 0 ≡ Some (Some p) → one_link ports ≡ Some 0
+one_is [] p count there = absurd (let none : ⊥ = cc in none)
+one_is (None ∷ []) p count there = absurd (let none : ⊥ = cc in none)
+one_is (Some q ∷ []) p count there = refl
+one_is (x ∷ y ∷ ports) p count there = absurd (omega (arith, count))
 
-pub one-none : (ports : List (Option PortValue)) → ((p : PortValue) → slice_get ports 0 ≡ Some (Some p) → ⊥) → one_link ports ≡ None
-one-none [] none = refl
-one-none (None ∷ ports) none = refl
-one-none (Some p ∷ ports) none = absurd (none p refl)
+pub one_none : (ports : List (Option PortValue)) → ((p : PortValue) → slice_get ports 0 ≡ Some (Some p) → ⊥) → one_link ports ≡ None
+one_none [] none = refl
+one_none (None ∷ ports) none = refl
+one_none (Some p ∷ ports) none = absurd (none p refl)
 
-pub one-several : (ports : List (Option PortValue)) → (length ports ≡ 1 → ⊥) → one_link ports ≡ None
-one-several [] several = refl
-one-several (None ∷ ports) several = refl
-one-several (Some p ∷ []) several = absurd (several refl)
-one-several (Some p ∷ q ∷ ports) several = refl
+pub one_several : (ports : List (Option PortValue)) → (length ports ≡ 1 → ⊥) → one_link ports ≡ None
+one_several [] several = refl
+one_several (None ∷ ports) several = refl
+one_several (Some p ∷ []) several = absurd (several refl)
+one_several (Some p ∷ q ∷ ports) several = refl
 
-pub one-only : (ports : List (Option PortValue)) (other : ℕ) (p : PortValue) → length ports ≡ 1 → slice_get ports other ≡ Some (Some p) → other ≡ 0
-one-only [] other p count there = absurd (omega (arith, count))
-one-only (x ∷ []) zero p count there = refl
-one-only (x ∷ []) (suc other) p count there = absurd (let none : ⊥ = cc in none)
-one-only (x ∷ y ∷ ports) other p count there = absurd (omega (arith, count))
+pub one_only : (ports : List (Option PortValue)) (other : ℕ) (p : PortValue) → length ports ≡ 1 → slice_get ports other ≡ Some (Some p) → other ≡ 0
+one_only [] other p count there = absurd (omega (arith, count))
+one_only (x ∷ []) zero p count there = refl
+one_only (x ∷ []) (suc other) p count there = absurd (let none : ⊥ = cc in none)
+one_only (x ∷ y ∷ ports) other p count there = absurd (omega (arith, count))

@@ -103,6 +103,7 @@ impl Node {
     /// than `most_waiting` bytes wait there. Where there is room for one, that link is there from the start, as `usual`
     /// says, and lines name no link; otherwise none is. Refused: `BadSetup` where there is one link and a limit of its
     /// setup isn't in its range; `NoMemory`.
+    #[tactic(auto, using(crate::proofs::NewNode::new_several, crate::proofs::NewNode::new_only))]
     pub fn new(
         alloc: Global,
         own: ServerSetup,
@@ -126,6 +127,7 @@ impl Node {
 }
 
 /// The only link, of a node that has room for one.
+#[tactic(auto, using(crate::proofs::Places::one_is, crate::proofs::Places::one_none, crate::proofs::Places::one_several, crate::proofs::Places::one_only))]
 fn find_one(node: &ServingNode) -> Option<usize>
     ensures found { result ≡ one_link node.now.ports }
     ensures there { IfSome result (λ link. (p : PortValue) × HasPort link node.now p) }
