@@ -1,7 +1,7 @@
 -- What is kept stays kept.
-use Rattle.std.proofs.Common.{◌≡◌, ℕ, zero, suc, ◌<◌, ◌≤◌, List, [], ◌∷◌, ◌++◌, map, length, Option, Some, None, refl, ap, sym, subst, ◌∙◌, inl, inr, arith}
+use Rattle.std.proofs.Common.{◌≡◌, false, ℕ, zero, suc, ◌<◌, ◌≤◌, List, [], ◌∷◌, ◌++◌, map, length, Option, Some, None, refl, ap, sym, subst, ◌∙◌, inl, inr, arith}
 use Rattle.std.specs.List.{remove}
-use Rattle.std.specs.Prelude.{IfSome, IfOk, OnOk, OnErr, Result, Ok, Err, get_or, set, replicate}
+use Rattle.std.specs.Prelude.{IfErr, IfSome, IfOk, OnOk, OnErr, Result, Ok, Err, get_or, set, replicate}
 use Rattle.std.specs.Global.{Vec}
 use Rattle.std.proofs.lemmas.Bool.{cases_eq}
 use Rattle.std.proofs.lemmas.List.{get_or-set_same, get_or-set_other, length-map, length-set}
@@ -13,17 +13,18 @@ use Rattle.rec_file.specs.declared.shapes.Shape.{Shape}
 use Rattle.rec_file.specs.declared.picks.Rights.{Rights}
 use Rattle.rec_file.specs.Files.{FileVal}
 use Rattle.dap_accessed.specs.declared.fault.AddFault.{AddFault}
+use Rattle.dap_accessed.specs.declared.fault.AddFault.TheVariants as fault
 use Rattle.dap_accessed.specs.declared.fault.NoMemory.{NoMemory}
 use Rattle.dap_accessed.specs.declared.served.Served.{Served}
 use Rattle.dap_accessed.specs.declared.phase.OpenFile.{OpenFile}
 use Rattle.dap_accessed.specs.declared.phase.Phase.{Phase}
 use Rattle.dap_accessed.specs.declared.phase.Phase.TheVariants as phases
-use Rattle.dap_accessed.specs.Standing.{Files, file_at, with_file}
-use Rattle.dap_accessed.specs.Adding.{with_new_file}
-use Rattle.dap_accessed.specs.Storing.{Stores}
+use Rattle.dap_accessed.specs.Standing.{Files, file_at, place_by, with_file}
+use Rattle.dap_accessed.specs.Adding.{MayStore, with_new_file}
+use Rattle.dap_accessed.specs.Storing.{StoreRefused, Stores}
 use Rattle.dap_accessed.specs.Sessions.{SessionValue, IsOpenIn, session_with, open_at, phase_moved_up}
 use Rattle.dap_shared.specs.Nodes.{Event, Serves, Begins, Gives, GivesRecord, Drops, no_exchange, exchange_at, open_on, node_after, setup_with, with_record_at}
-use Rattle.dap_shared.specs.Shared.{SharedValue, SharedGiven, SharedServes, is_held, kept_of, no_session, session_without}
+use Rattle.dap_shared.specs.Shared.{AtFile, RecordNotAdded, SharedDrops, SharedValue, SharedGiven, SharedServes, is_held, kept_of, no_session, session_without}
 use Rattle.dap_shared.specs.Inner.Beside.{gone_by, session_moved_up}
 use Rattle.dap_shared.specs.Inner.Held.{HasNumber, IsHeld, MovesOn, session_at}
 use Rattle.dap_shared.proofs.Events.{history-shares}
@@ -180,6 +181,48 @@ recorded files after at number body (Err f) e s = tt
 pub record-held : (v : SharedValue) (at number : ℕ) (body : List ℕ) (files : Files) (r : Result (Unit {0}) AddFault) → IsHeld v → OnOk r (files ≡ with_record_at at number body v.files) → OnErr r (files ≡ v.files) → IsHeld (record v { files = files })
 record-held v at number body files (Ok u) h ok err = given-held v (GivesRecord at number body) files h (gives-record v at number body files ok)
 record-held v at number body files (Err f) h ok err = subst (λ (t : Files). IsHeld (record v { files = t })) (sym err) h
+
+-- the file of this name, where it is there
+module _ (v : SharedValue) (name : List ℕ) (at : ℕ) (found : place_by v.setup.names name v.files ≡ Some at) where
+  pub may-store : (number : ℕ) (body : List ℕ) (after : FileVal) (r : Result (Unit {0}) AddFault) → Stores number body (file_at at v.files) after r → OnOk r (AtFile name v (λ k. MayStore (file_at k v.files) number body))
+  may-store number body after (Ok u) s = (at, found, s.0)
+  may-store number body after (Err f) s = tt
+
+  pub given-at : (number : ℕ) (body : List ℕ) (files : Files) (r : Result (Unit {0}) AddFault) → OnOk r (files ≡ with_record_at at number body v.files)
+      → OnOk r (AtFile name v (λ k. SharedGiven (GivesRecord k number body) v (record v { files = files })))
+  given-at number body files (Ok u) e = (at, found, gives-record v at number body files e)
+  given-at number body files (Err f) e = tt
+
+  pub files-at : (number : ℕ) (body : List ℕ) (files : Files) (r : Result (Unit {0}) AddFault) → OnOk r (files ≡ with_record_at at number body v.files) → OnOk r (AtFile name v (λ k. files ≡ with_record_at k number body v.files))
+  files-at number body files (Ok u) e = (at, found, e)
+  files-at number body files (Err f) e = tt
+
+  not-stored : (number : ℕ) (body : List ℕ) (f : AddFault) → StoreRefused (file_at at v.files) number body f → RecordNotAdded v name number body f
+  not-stored number body fault.NoFile h = absurd h
+  not-stored number body fault.Busy h = h
+  not-stored number body fault.FileExists h = h
+  not-stored number body (fault.Record why) h = (at, found, h)
+  not-stored number body fault.NoMemory h = (at, found, h)
+
+  pub record-refused : (number : ℕ) (body : List ℕ) (after : FileVal) (r : Result (Unit {0}) AddFault) → Stores number body (file_at at v.files) after r → IfErr r (RecordNotAdded v name number body)
+  record-refused number body after (Ok u) s = tt
+  record-refused number body after (Err f) s = not-stored number body f s.0
+
+-- a file was removed, and the sessions moved up
+module _ (v : SharedValue) (at : ℕ) (files : Files) (sessions : List SessionValue) (closed : is_held at v.sessions ≡ false) (gone : files ≡ remove v.files at) (moved : sessions ≡ map (session_without at) v.sessions) where
+  abbrev without : SharedValue
+  without = record { own = v.own; setup = v.setup; files = files; sessions = sessions }
+
+  by-parts : (P : SharedValue → Type 0) → P (record { own = v.own; setup = v.setup; files = remove v.files at; sessions = map (session_without at) v.sessions }) → P without
+  by-parts P h =
+      subst (λ (l : List SessionValue). P (record { own = v.own; setup = v.setup; files = files; sessions = l })) (sym moved)
+      (subst (λ (f : Files). P (record { own = v.own; setup = v.setup; files = f; sessions = map (session_without at) v.sessions })) (sym gone) h)
+
+  pub removed-shared : SharedDrops at v without
+  removed-shared = by-parts (SharedDrops at v) (drops-shared v at closed)
+
+  pub removed-held : IsHeld v → IsHeld without
+  removed-held h = by-parts IsHeld (drops-held v at h closed)
 
 pub new-held : (own : ServerSetup) (links : ℕ) (sessions : List SessionValue) → IsServerSetup own → sessions ≡ replicate links (session_with own) → IsHeld (record { own = own.identity.bufsiz; setup = own; files = []; sessions = sessions })
 new-held own links sessions low e =

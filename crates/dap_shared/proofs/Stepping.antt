@@ -348,7 +348,7 @@ after-more first events event old new h of own links is =
       stands =
           is ∙ ap (shared_of old.setup) (sym (all-more old.setup (new_node old.setup first (length old.sessions)) events event))
           ∙ ap (λ (n : ServerSetup). shared_of n (node_after n first (length old.sessions) (events ++ event ∷ []))) (sym own)
-          ∙ ap (λ (n : ServerSetup). shared_of new.setup (node_after new.setup first n (events ++ event ∷ []))) (sym links);
+          ∙ ap (λ (n : ℕ). shared_of new.setup (node_after new.setup first n (events ++ event ∷ []))) (sym links);
     }
 
 module _ (old : SharedValue) (link : ℕ) (item : Item) (files : Files) (rest : List SessionValue) (s : SessionValue) (answers : Vec (Vec ℕ)) (there : link < length old.sessions)
@@ -378,7 +378,10 @@ module _ (old : SharedValue) (link : ℕ) (item : Item) (files : Files) (rest : 
         (subst (λ (v : SharedValue). MovesBeside item v.files (set v.sessions link (no_session old.setup)) (session_at old.setup link v.sessions) files rest s answers) h.stands moves)
 
     then-stands : SharedAfter first (events ++ Serves link item ∷ []) new
-    then-stands = after-more first events (Serves link item) old new h (there, tt) refl same-links (sym (item-moves old.setup node link item shares files rest s answers then-moves))
+    then-stands =
+        after-more first events (Serves link item) old new h (there, tt) refl same-links
+        (ap (λ (n : ℕ). let w : SharedValue = record { own = n; setup = old.setup; files = files; sessions = set rest link s } in w) (ap (λ (v : SharedValue). v.own) h.stands)
+        ∙ sym (item-moves old.setup node link item shares files rest s answers then-moves))
 
     then-left : Leaves old.setup node link item shares (after old.setup node link item shares) (answers_beside (setup_on old.setup link node) (open_beside link node.exchanges) (end_at link node) item) files s answers
     then-left = leaves old.setup node link item shares files s answers then-moves.does
