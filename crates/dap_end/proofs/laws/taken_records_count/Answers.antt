@@ -1,4 +1,4 @@
-use Rattle.std.proofs.Common.{◌++◌, refl, subst, sym}
+use Rattle.std.proofs.Common.{◌++◌, length, refl, subst, sym}
 use Rattle.std.specs.Prelude.{Option}
 use Rattle.dap_accessing.specs.declared.pending.Pending.{Pending}
 use Rattle.dap_accessing.proofs.ForCallers.{taken_out}
@@ -35,4 +35,4 @@ returns-clause-posted c = λ told past old new n h hands.
 
 pub returns-clause-wrote : goal.returns-clause-wrote
 returns-clause-wrote c = λ told past old new packets h rest wrote.
-    subst (λ (v : AskingValue). HasAsked past (with_told told v)) (sym rest) (still_sent (with_told told old) new.port _ wrote.sent past h)
+    subst (λ (v : AskingValue). HasAsked past (with_told told v)) (sym rest) (still_sent (with_told told old) new.port (length packets) wrote.sent past h)

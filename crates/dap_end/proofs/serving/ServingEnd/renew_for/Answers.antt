@@ -13,3 +13,6 @@ returns-clause-ok c = rw (← c.self.view_is) (
       (record { serving = c.renew_for.ensures.stands; gone = gone_nothing []; sends = sends_new c.args.setup; answers = refl; fit = tt }),
   c.in_ok-fresh.ensures.ok.1,
 )
+
+pub returns-clause-own : goal.returns-clause-own
+returns-clause-own c = rw (← c.self.view_is) c.renew_for.ensures.setup
