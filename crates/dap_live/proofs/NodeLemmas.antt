@@ -1,12 +1,16 @@
 -- What is done on a link of a node, by what its calls say.
 use Rattle.std.proofs.Common.{◌≡◌, ◌⊎◌, inl, inr, ℕ, true, false, List, Some, refl, ap, sym, subst, ◌∙◌}
-use Rattle.std.specs.Prelude.{IfErr, MatchOption, Option, None, Ok, Err, Result}
+use Rattle.std.specs.Prelude.{IfErr, MatchOption, OnOk, Option, None, Ok, Err, Result}
+use Rattle.dap_accessed.specs.Adding.{MayStore}
+use Rattle.dap_accessed.specs.Standing.{file_at, place_by}
+use Rattle.dap_shared.specs.Nodes.{GivesRecord, with_record_at}
+use Rattle.dap_shared.specs.Shared.{AtFile, SharedGiven}
 use Rattle.nsp_link.specs.Link.{IsSetup, LinkValue, SetupFault}
 use Rattle.nsp_link.specs.declared.link.LinkSetup.{LinkSetup}
 use Rattle.nsp_link.specs.declared.fault.LinkFault.{LinkFault}
 use Rattle.nsp_link.specs.declared.fault.LinkFault.TheVariants.{BadSetup, Failed}
 use Rattle.dap_end.specs.Ports.{PortValue}
-use Rattle.dap_end.specs.Node.{AtPort, HasPort, IsTaken, NodeValue, NotBegun}
+use Rattle.dap_end.specs.Node.{AtPort, HasPort, IsTaken, NodeValue, NoneHasCome, NotBegun}
 use Rattle.linewise.specs.declared.talking.Became.{Became}
 use Rattle.linewise.specs.declared.talking.Became.TheVariants as became_of
 use Rattle.dap_live.specs.declared.node.Node.{Node}
@@ -17,7 +21,7 @@ use Rattle.dap_live.specs.Sending.{AllAgain, UnlessFailed}
 use Rattle.dap_live.specs.Texts.{link_refusal, packets_text}
 use Rattle.dap_live.specs.declared.node_orders.NodeOrder.TheVariants as order
 use Rattle.dap_live.specs.Inner.NodeReaching.{Done, NodeReaches}
-use Rattle.dap_live.specs.Node.{GoesOnWith, ResendsOn, TakesOn, TakesPacketBy, about, about_any, is_behind_at, meant, one_link}
+use Rattle.dap_live.specs.Node.{GivesRecordTo, GoesOnWith, ResendsOn, TakesOn, TakesPacketBy, about, about_any, is_behind_at, meant, one_link}
 use Rattle.dap_live.proofs.ReachLemmas.{unless_failed, unless_runs, where_left, where_none}
 
 module _ (link : ℕ) (old : Node) (l : LinkValue) (at : AtPort link old.node (λ p. l ≡ p.link)) where
@@ -114,3 +118,34 @@ only-link o i j e f = let same : Some j ≡ Some i = sym f ∙ e in (let is : j 
 -- and where none was found, there is none
 pub no-link : (o : Option ℕ) (j : ℕ) → o ≡ None → o ≡ Some j → ⊥
 no-link o j e f = let same : Some j ≡ None = sym f ∙ e in (let none : ⊥ = cc in none)
+
+-- ---- A record is given to the file of a name.
+
+place-one : (o : Option ℕ) (i j : ℕ) → o ≡ Some i → o ≡ Some j → i ≡ j
+place-one o i j e f = (let both : Some i ≡ Some j = sym e ∙ f in cc)
+
+pub gives-record : (name : List ℕ) (number : ℕ) (body : List ℕ) (old new : NodeValue) → NoneHasCome old.ports
+    → AtFile name old.noted.shared (λ at. MayStore (file_at at old.noted.shared.files) number body)
+    → AtFile name old.noted.shared (λ at. SharedGiven (GivesRecord at number body) old.noted.shared new.noted.shared)
+    → AtFile name old.noted.shared (λ at. new.noted.shared.files ≡ with_record_at at number body old.noted.shared.files)
+    → new.ports ≡ old.ports → new.noted ≡ record old.noted { shared = new.noted.shared } → GivesRecordTo name number body old new
+gives-record name number body old new idle (i, here, may) (j, there, given) (k, then, files) ports notes =
+    let place = place_by old.noted.shared.setup.names name old.noted.shared.files in (
+      i,
+      here,
+      (
+        may,
+        record {
+          files = subst (λ (n : ℕ). new.noted.shared.files ≡ with_record_at n number body old.noted.shared.files) (place-one place k i then here) files;
+          idle = idle;
+          given = subst (λ (n : ℕ). SharedGiven (GivesRecord n number body) old.noted.shared new.noted.shared) (place-one place j i there here) given;
+          notes = notes;
+          ports = ports;
+        },
+      ),
+    )
+
+-- what six facts of a result that is good come to
+pub on-all : {T F : Type 0} {A B C D G H R : Type 0} (r : Result T F) → OnOk r A → OnOk r B → OnOk r C → OnOk r D → OnOk r G → OnOk r H → (A → B → C → D → G → H → R) → OnOk r R
+on-all (Ok x) a b c d g h next = next a b c d g h
+on-all (Err f) a b c d g h next = tt
