@@ -277,9 +277,9 @@ NewBy old anew new = IsNew (setup_anew old.setup anew) old.end.present.identity 
 -- new ends that are set up alike
 pub new_asking : (setup : LinkSetup) (identity : Configuration) (one other : Asking) → IsNew setup identity one → IsNew setup identity other → AreSameAsking one other
 new_asking setup identity one other x y =
-    let accessing : one.end.present ≡ other.end.present = one_present [] [] one.end.present other.end.present x.asked.asking y.asked.asking (x.identity ∙ sym y.identity) in (
+    let accessing : one.end.present ≡ other.end.present = one_present [] [] one.end.present other.end.present x.asked.asking y.asked.asking (x.is_identity ∙ sym y.is_identity) in (
       same_end one.end other.end (x.port ∙ sym y.port) accessing,
-      x.setup ∙ sym y.setup,
+      x.is_setup ∙ sym y.is_setup,
       x.reports ∙ sym y.reports,
       x.told ∙ sym y.told,
       x.each ∙ sym y.each,

@@ -283,8 +283,8 @@ begin-one : (link : ℕ) (setup : LinkSetup) (most : Rights) (old one two : Node
 begin-one link setup most old one two said more b c h nb nc (inl x) (inl y) =
     let t = began-one link setup.local most (Some (new_port setup)) old.node one.node two.node h (new-sent setup) x.0.began.shared x.0.began.address x.0.began.ports y.0.began.shared y.0.began.address y.0.began.ports in
     (moved-one (about link old) one two x.0.rest y.0.rest t.0 (x.0.used ∙ sym y.0.used), x.1 ∙ sym y.1, x.2 ∙ sym y.2, t.1)
-begin-one link setup most old one two said more b c h nb nc (inl x) (inr y) = absurd (setup_apart setup y.0 (λ e. nc (y.2.2 ∙ e)) x.0.setup y.1)
-begin-one link setup most old one two said more b c h nb nc (inr x) (inl y) = absurd (setup_apart setup x.0 (λ e. nb (x.2.2 ∙ e)) y.0.setup x.1)
+begin-one link setup most old one two said more b c h nb nc (inl x) (inr y) = absurd (setup_apart setup y.0 (λ e. nc (y.2.2 ∙ e)) x.0.is_setup y.1)
+begin-one link setup most old one two said more b c h nb nc (inr x) (inl y) = absurd (setup_apart setup x.0 (λ e. nb (x.2.2 ∙ e)) y.0.is_setup x.1)
 begin-one link setup most old one two said more b c h nb nc (inr x) (inr y) =
     let f = setup_one setup x.0 y.0 (λ e. nb (x.2.2 ∙ e)) (λ e. nc (y.2.2 ∙ e)) x.1 y.1 in
     says-one (link_refusal x.0) old one two said more b c h x.2 (subst (λ (k : LinkFault). Refuses k old two more c) (sym f) y.2)
@@ -706,7 +706,7 @@ new_node own links usual most one other x y =
     let noted = noted_parts one.node.noted other.node.noted shared (x.addresses ∙ sym y.addresses) (x.locked ∙ sym y.locked) in (
       node-parts one.node other.node noted (x.ports ∙ sym y.ports),
       x.its ∙ sym y.its,
-      x.usual ∙ sym y.usual,
+      x.is_usual ∙ sym y.is_usual,
       x.most_waiting ∙ sym y.most_waiting,
       x.last ∙ sym y.last,
       x.used ∙ sym y.used,

@@ -104,8 +104,8 @@ Asks each old request new text came =
 pub record IsNew (setup : LinkSetup) (identity : Configuration) (a : Asking) : Type 0 where
   pub asked : HasAsked nothing_asked a.end
   pub port : a.end.port ≡ new_port setup
-  pub identity : a.end.present.identity ≡ identity
-  pub setup : a.setup ≡ setup
+  pub is_identity : a.end.present.identity ≡ identity
+  pub is_setup : a.setup ≡ setup
   pub reports : a.reports.items ≡ []
   pub each : a.is_each ≡ false
   pub told : a.told ≡ 0

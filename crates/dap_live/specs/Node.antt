@@ -66,7 +66,7 @@ pub record IsNew (own : ServerSetup) (links : ℕ) (usual : LinkSetup) (most : �
   pub addresses : node.node.noted.addresses ≡ (if links == 1 then usual.local ∷ [] else replicate links 0)
   pub ports : node.node.ports ≡ first_ports links usual
   pub its : node.own ≡ own
-  pub usual : node.usual ≡ usual
+  pub is_usual : node.usual ≡ usual
   pub most_waiting : node.most_waiting ≡ most
   pub last : node.last ≡ (if links == 1 then Some 0 else None)
   pub used : node.used ≡ replicate links false
@@ -194,7 +194,7 @@ ResendsOn link port old new text became = (packets : List (List ℕ)) × AllAgai
 
 -- The link began with this setup and these rights, it isn't used, and the line concerns it.
 pub record BeginsNow (link : ℕ) (setup : LinkSetup) (most : Rights) (old new : Node) : Type 0 where
-  pub setup : IsSetup setup
+  pub is_setup : IsSetup setup
   pub began : BeganOn link setup most old.node new.node
   pub rest : new ≡ record (about link old) { node = new.node; used = new.used }
   pub used : new.used ≡ set old.used link false

@@ -22,7 +22,7 @@ pub record IsEmpty (own : ServerSetup) (links : ℕ) (usual : LinkSetup) (most :
   pub addresses : node.node.noted.addresses ≡ replicate links 0
   pub ports : node.node.ports ≡ replicate links None
   pub its : node.own ≡ own
-  pub usual : node.usual ≡ usual
+  pub is_usual : node.usual ≡ usual
   pub most_waiting : node.most_waiting ≡ most
   pub last : node.last ≡ None
   pub used : node.used ≡ replicate links false

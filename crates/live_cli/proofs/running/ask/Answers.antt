@@ -13,8 +13,8 @@ returns-in-Ok g c =
       record {
         asked = new.after;
         port = new.port ∙ ap new_port is;
-        identity = new.identity ∙ c.identity.ensures.is;
-        setup = new.setup ∙ is;
+        is_identity = new.identity ∙ c.identity.ensures.is;
+        is_setup = new.setup ∙ is;
         reports = new.reports;
         each = new.each.0;
         told = new.each.1;
