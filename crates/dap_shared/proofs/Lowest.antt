@@ -1,5 +1,5 @@
 -- The lowest address, one link more.
-use Rattle.std.proofs.Common.{◌≡◌, ℕ, suc, ◌+◌, ◌<◌, ◌≤◌, ◌⊎◌, Bool, true, false, List, [], length, get_or, Option, Some, None, refl, ap, sym, subst, ◌∙◌, inl, inr, arith}
+use Rattle.std.proofs.Common.{◌≡◌, ℕ, ◌+◌, ◌<◌, ◌≤◌, ◌⊎◌, Bool, true, false, List, length, Option, Some, None, refl, sym, subst, ◌∙◌, inl, inr, arith}
 use Rattle.std.specs.Prelude.{IfOk, IfSome, IsTrue, Result, Ok, Err, ◌++◌}
 use Rattle.std.specs.Option.{option_to_list}
 use Rattle.dap_accessed.specs.declared.setup.ServerSetup.{ServerSetup}

@@ -1,5 +1,5 @@
 -- What is kept of a node's links and files. It is as after any history that leaves this.
-use Rattle.std.specs.Prelude.{ℕ, ◌≡◌, ◌<◌, Bool, true, false, List, [], ◌∷◌, ◌++◌, length, map, get_or, Some, None}
+use Rattle.std.specs.Prelude.{ℕ, ◌≡◌, Bool, true, false, List, [], ◌∷◌, ◌++◌, length, map, get_or, Some, None}
 use Rattle.std.specs.List.{list_any, remove}
 use Rattle.std.specs.Global.{Vec}
 use Rattle.rec_file.specs.declared.picks.Rights.{Rights}

@@ -1,4 +1,4 @@
-use Rattle.std.proofs.Common.{◌≡◌, ◌∙◌, Some, ap, subst, sym, true, false}
+use Rattle.std.proofs.Common.{◌≡◌, ◌∙◌, Some, ap, subst, sym, true}
 use Rattle.dap_accessed.specs.Standing.{place_by}
 use Rattle.dap_shared.specs.Shared.{AtFile, SharedDrops, SharedValue, is_held}
 use Rattle.dap_shared.proofs.Held.{removed-held, removed-shared}
