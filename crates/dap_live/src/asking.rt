@@ -340,11 +340,7 @@ fn fetch_each(asking: &mut Asking, text: &mut Vec<u8>) -> Result<Came, AllocErro
 }
 
 /// Makes the link anew.
-fn renew(
-    asking: &mut Asking,
-    anew: Option<Between>,
-    text: &mut Vec<u8>,
-) -> Result<Came, AllocError>
+fn renew(asking: &mut Asking, anew: Option<Between>, text: &mut Vec<u8>) -> Result<Came, AllocError>
     requires { text.old.items ≡ [] }
     ensures ok { IfOk result (Does asking.old (AskOrder.New anew) asking.new text.new.items) }
     ensures err { OnErr result (asking.new ≡ asking.old) }

@@ -355,11 +355,7 @@ fn resend_on(node: &mut Node, link: usize, text: &mut Vec<u8>) -> Result<Became,
 }
 
 /// Sends all segments again that aren't acknowledged, of the link that a line means.
-fn resend(
-    node: &mut Node,
-    local: Option<u16>,
-    text: &mut Vec<u8>,
-) -> Result<Became, AllocError>
+fn resend(node: &mut Node, local: Option<u16>, text: &mut Vec<u8>) -> Result<Became, AllocError>
     requires { text.old.items ≡ [] }
     ensures ok { IfOk result (Does node.old (NodeOrder.Resend local) node.new text.new.items) }
     ensures err { OnErr result (NodeReaches node.old (NodeOrder.Resend local) node.new) }
@@ -593,11 +589,7 @@ fn add_shaped(
 }
 
 /// Adds a file; where it is refused, no file takes the next records.
-fn add_file(
-    node: &mut Node,
-    file: &FileLine<'_>,
-    text: &mut Vec<u8>,
-) -> Result<Became, AllocError>
+fn add_file(node: &mut Node, file: &FileLine<'_>, text: &mut Vec<u8>) -> Result<Became, AllocError>
     requires { text.old.items ≡ [] }
     ensures ok { IfOk result (AddsFileTo node.old file.now node.new text.new.items) }
     ensures err { OnErr result (node.new ≡ ungiven node.old) }

@@ -47,34 +47,40 @@ most_links = 1023
 
 -- the name of an end, and its options by default
 abbrev pub usual : Role → Text × Options
-usual Serve = (codes "serve", record {
-  role = Serve;
-  local = 514;
-  remote = 257;
-  segment = 512;
-  window = 8;
-  buffer = 1024;
-  ostype = 18;
-  filesys = 13;
-  syscap = usual_syscap;
-  waiting = usual_waiting;
-  links = 1;
-  folded = false;
-})
-usual Ask = (codes "ask", record {
-  role = Ask;
-  local = 257;
-  remote = 514;
-  segment = 512;
-  window = 8;
-  buffer = 1024;
-  ostype = 18;
-  filesys = 13;
-  syscap = usual_syscap;
-  waiting = usual_waiting;
-  links = 1;
-  folded = false;
-})
+usual Serve = (
+  codes "serve",
+  record {
+    role = Serve;
+    local = 514;
+    remote = 257;
+    segment = 512;
+    window = 8;
+    buffer = 1024;
+    ostype = 18;
+    filesys = 13;
+    syscap = usual_syscap;
+    waiting = usual_waiting;
+    links = 1;
+    folded = false;
+  },
+)
+usual Ask = (
+  codes "ask",
+  record {
+    role = Ask;
+    local = 257;
+    remote = 514;
+    segment = 512;
+    window = 8;
+    buffer = 1024;
+    ostype = 18;
+    filesys = 13;
+    syscap = usual_syscap;
+    waiting = usual_waiting;
+    links = 1;
+    folded = false;
+  },
+)
 
 -- ---- The command line, in the words of `clap`.
 

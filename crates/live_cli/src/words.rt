@@ -502,7 +502,8 @@ impl Display for Digits {
     fn fmt<W: fmt::Write>(&self, f: &mut fmt::Formatter<W>) -> fmt::Result {
         f.write_str(match self {
             Digits::Address => "an address is four hex digits",
-            Digits::Number | Digits::Bytes | Digits::Code => "a number is decimal digits, ten at most",
+            Digits::Number | Digits::Bytes | Digits::Code =>
+                "a number is decimal digits, ten at most",
             Digits::Abilities => "a SYSCAP is 1 to 21 hex digits",
             Digits::Comparing => "names are exact or folded",
             Digits::Node => "a node is an area, 1 to 63, a point, and a number, 1 to 1023, as 1.10",
