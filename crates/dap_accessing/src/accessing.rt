@@ -27,7 +27,7 @@ ghost use Rattle.dap_accessing.specs.Request.{Request as TheRequest};
 ghost use Rattle.dap_accessing.specs.declared.report.Report.{Report as TheReport};
 
 use crate::asking::{Outgoing, Prepared};
-use crate::bytes::Numbered;
+use crate::bytes::{Numbered, Octets};
 use crate::fault::{AskFault, ReadFault, ReadStep};
 use crate::pending::{Heard, Pending};
 use crate::phase::Phase;
@@ -251,6 +251,16 @@ impl Accessing {
         match self.take(&message) {
             Ok(report) => Ok(ReadStep { report, next }),
             Err(fault) => Err(fault),
+        }
+    }
+
+    /// The records that are kept of a batch under way: those that came and weren't taken out. None where no batch is under way.
+    pub fn records(&self) -> &[(u64, Octets)]
+        ensures { result.now ≡ records_kept self.now.pending }
+    {
+        match &self.pending {
+            Some(Pending::Batch(records)) => &records.0,
+            _ => &[],
         }
     }
 

@@ -37,7 +37,7 @@ ghost use Rattle.dap_end.specs.Inner.AskingView.{asking_of};
 
 use crate::fault::{EndFault, TakeFault};
 use crate::port::{Port, is_end};
-use dap_accessing::{Accessing, AskFault, Numbered, Prepared, ReadFault, Report, Request};
+use dap_accessing::{Accessing, AskFault, Numbered, Octets, Prepared, ReadFault, Report, Request};
 use dap_msg::Configuration;
 use nsp_link::{Got, LinkEnd, LinkFault, LinkSetup};
 use std::alloc::Global;
@@ -234,6 +234,13 @@ impl AskingEnd {
         ensures err { IfErr result (λ f. ReadNone self.old self.new f) }
     {
         read_next(&mut self.port, &mut self.accessing)
+    }
+
+    /// The records that were read so far of a batch under way, and weren't taken out. None where no batch is under way.
+    pub fn records(&self) -> &[(u64, Octets)]
+        ensures { result.now ≡ records_kept self.now.present.pending }
+    {
+        self.accessing.records()
     }
 
     /// Takes out the records that were read so far of a batch under way, and weren't taken: the report of the batch comes

@@ -1,6 +1,5 @@
 mod AgainLemmas
 pub mod OneLine
-pub mod OneServing
 pub mod OneAsking
 mod ReachLemmas
 mod ResultLemmas
@@ -11,3 +10,4 @@ pub mod NodeLemmas
 pub mod Forms
 pub mod OneTurn
 pub mod OneNode
+pub mod NewNode

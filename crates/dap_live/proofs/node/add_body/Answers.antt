@@ -1,0 +1,13 @@
+use Rattle.std.proofs.Common.{sym}
+use Rattle.dap_live.proofs.NodeLemmas.{gives-record, on-all}
+use Rattle.dap_live.proofs.node.add_body.Goals as goal
+
+pub returns-in-Some-clause-ok : goal.returns-in-Some-clause-ok
+returns-in-Some-clause-ok c =
+    let added = c.add_record.ensures in
+    on-all c.add_record.result added.idle added.may added.given added.files added.ports added.notes
+    (λ idle may given files ports notes. (
+      c.in-Some.name.now,
+      c.in-Some.is,
+      gives-record c.in-Some.name.now c.args.number c.args.body.now c.args.node.now c.add_record.new.self idle may given files ports notes,
+    ))
