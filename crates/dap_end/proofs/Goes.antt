@@ -8,7 +8,7 @@ use Rattle.dap_msg.specs.declared.message.Configuration.{Configuration}
 use Rattle.dap_msg.specs.declared.message.Message.{Message}
 use Rattle.dap_msg.specs.declared.message.StatusFields.{StatusFields}
 use Rattle.dap_msg.specs.declared.message.ControlFields.{ControlFields}
-use Rattle.dap_msg.specs.declared.message.Message.TheVariants.{Attrib, Status}
+use Rattle.dap_msg.specs.declared.message.Message.TheVariants.{Attrib, Config, Status}
 use Rattle.dap_msg.specs.declared.items.Item.{Item}
 use Rattle.dap_msg.specs.declared.items.Item.TheVariants.{Whole}
 use Rattle.dap_msg.specs.BothEnds.{number_of, four_bytes}
@@ -64,7 +64,7 @@ use Rattle.dap_end.specs.Agreement.{IsBufsiz}
 use Rattle.dap_end.specs.Agreement.{AgreeAt, AreLimits}
 
 -- the cut after more items
-abbrev pub more_items : ℕ → Grouped → List Item → Grouped
+abbrev pub more_items : (own : ServerSetup) → Grouped → List Item → Grouped
 more_items own c [] = c
 more_items own c (item ∷ items) = more_items own (one_more own c item) items
 
