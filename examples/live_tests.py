@@ -30,7 +30,7 @@ LONGEST = 16_777_216
 SELDOM = 400
 # so many packets make a capture, at most 16,777,216 bytes
 CAPTURE = 20_000
-# the only files that the talks make; lines give others
+# the files that the talks make, where no packet of them is altered; lines give others
 TALKED = [b"54454d50", b"54455854"]
 GIVEN = [b"46", b"47", b"5359532e444154", b"-"]
 
@@ -128,8 +128,8 @@ class Model:
         self.link = (b"0202", b"0101") if role == "serve" else (b"0101", b"0202")
         # the files by their names: the words behind the name, and the records; whether a talk may have added others
         self.files, self.is_sure = {}, True
-        # the name of the file to which records are added
-        self.given = None
+        # the name of the file to which records are added, and those of all files that lines gave
+        self.given, self.by_lines = None, set()
 
     def goes_on(self, line, answer, waits):
         """What is wrong with the answer to a good line, or nothing."""
@@ -184,6 +184,7 @@ class Model:
             wanted = "refused 4000 1\n"
         else:
             self.given = name
+            self.by_lines.add(name)
             self.files[name] = ([org, rfm, b"%d" % mrs, b"%d" % (mrn if org == b"rel" else 0)], {})
         return None if answer == wanted else f"not {wanted!r}"
 
@@ -218,6 +219,7 @@ class Model:
         if self.is_sure and name not in self.files:
             return "there is no such file"
         self.files.pop(name, None)
+        self.by_lines.discard(name)
         self.given = None if name == self.given else self.given
         return None
 
@@ -235,7 +237,7 @@ class Model:
         if self.is_sure:
             return None if there == was and list(there) == list(was) else "other files"
         self.is_sure = True
-        kept = [name for name in was if name not in TALKED]
+        kept = [name for name in was if name in self.by_lines]
         if any(there.get(name) != was[name] for name in kept) or [name for name in there if name in kept] != kept:
             return "a file that was given is lost or changed"
         return None

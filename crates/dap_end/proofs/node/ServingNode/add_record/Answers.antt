@@ -1,7 +1,9 @@
 use Rattle.std.proofs.Common.{rules, ◌≡◌, true, false, subst}
-use Rattle.std.specs.Prelude.{IfErr}
+use Rattle.std.specs.Prelude.{IfErr, OnOk}
 use Rattle.std.specs.List.{list_any}
-use Rattle.dap_shared.specs.Shared.{RecordNotAdded}
+use Rattle.dap_shared.specs.Shared.{AtFile, RecordNotAdded}
+use Rattle.dap_accessed.specs.Adding.{MayStore}
+use Rattle.dap_accessed.specs.Standing.{file_at}
 use Rattle.dap_end.specs.Inner.Come.{come_on}
 use Rattle.dap_end.specs.Node.{NodeNotGiven, NodeValue}
 use Rattle.dap_end.proofs.Came.{none_come, some_come}
@@ -30,3 +32,7 @@ invariant_of-self c =
     let v : NodeValue = record { noted = c.self.inside.noted; ports = c.self.inside.ports.items } in
     node-same c.self.inside.by_local.items v c.add_record.new.self c.self.invariant
     (record-links c.args.name.now c.args.number c.args.body.now v.noted c.add_record.new.self c.add_record.result c.add_record.ensures.given c.add_record.ensures.unchanged)
+
+pub returns-clause-may : goal.returns-clause-may
+returns-clause-may c =
+    subst (λ (w : NodeValue). OnOk c.add_record.result (AtFile c.args.name.now w.noted.shared (λ at. MayStore (file_at at w.noted.shared.files) c.args.number c.args.body.now))) c.self.view_is c.add_record.ensures.may
