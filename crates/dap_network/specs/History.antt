@@ -1,5 +1,5 @@
 -- The order in which all links of a node were served.
-use Rattle.std.specs.Prelude.{◌≡◌, ℕ, List, [], ◌∷◌, ◌++◌, map}
+use Rattle.std.specs.Prelude.{◌≡◌, List, [], ◌∷◌, ◌++◌, map}
 use Rattle.dap_msg.specs.declared.items.Item.{Item}
 use Rattle.dap_accessed.specs.Setup.{all_rights}
 use Rattle.dap_shared.specs.Nodes.{Event, Begins, Drops, Gives, GivesRecord, Serves}
