@@ -2,7 +2,7 @@
 use Rattle.std.proofs.Common.{◌≡◌, ◌⊎◌, inl, inr, ℕ, true, false, List, Some, refl, ap, sym, subst, ◌∙◌}
 use Rattle.std.specs.Prelude.{IfErr, MatchOption, OnOk, Option, None, Ok, Err, Result}
 use Rattle.dap_accessed.specs.Adding.{MayStore}
-use Rattle.dap_accessed.specs.Standing.{file_at, place_by}
+use Rattle.dap_accessed.specs.Standing.{file_at, index_by}
 use Rattle.dap_shared.specs.Nodes.{GivesRecord, with_record_at}
 use Rattle.dap_shared.specs.Shared.{AtFile, SharedGiven}
 use Rattle.nsp_link.specs.Link.{IsSetup, LinkValue, SetupFault}
@@ -130,7 +130,7 @@ pub gives-record : (name : List ℕ) (number : ℕ) (body : List ℕ) (old new :
     → AtFile name old.noted.shared (λ at. new.noted.shared.files ≡ with_record_at at number body old.noted.shared.files)
     → new.ports ≡ old.ports → new.noted ≡ record old.noted { shared = new.noted.shared } → GivesRecordTo name number body old new
 gives-record name number body old new idle (i, here, may) (j, there, given) (k, then, files) ports notes =
-    let place = place_by old.noted.shared.setup.names name old.noted.shared.files in (
+    let place = index_by old.noted.shared.setup.names name old.noted.shared.files in (
       i,
       here,
       (

@@ -1,4 +1,4 @@
--- What the end that asks does by a line, and says, follows from the end and the line, want of memory aside.
+-- What the end that asks does by a line, and says, follows from the end and the line, out of memory aside.
 use Rattle.std.proofs.Common.{◌≡◌, ◌≢◌, ℕ, refl, sym, ◌∙◌, subst, ap, true, false, true≢false, List, [], ◌++◌, drop, length, inl, inr}
 use Rattle.std.specs.Prelude.{MatchBool, ◌||◌, ◌&&◌, nat_lt, if◌then◌else◌, Bool, Option, Some, None, Result, Ok, Err}
 use Rattle.std.specs.List.{flat_map}
@@ -15,7 +15,7 @@ use Rattle.dap_accessing.specs.declared.report.Report.{Report}
 use Rattle.dap_accessing.specs.declared.fault.AskFault.{AskFault}
 use Rattle.dap_accessing.specs.declared.fault.AskFault.TheVariants as ask
 use Rattle.dap_accessing.specs.Phase.{IsAdmissible, IsRefused}
-use Rattle.dap_accessing.specs.Present.{Present}
+use Rattle.dap_accessing.specs.Present.{ClientState}
 use Rattle.dap_accessing.specs.Calls.{AskRefused}
 use Rattle.dap_accessing.specs.Each.{records_kept}
 use Rattle.dap_accessing.proofs.ForCallers.{one_present}
@@ -23,9 +23,9 @@ use Rattle.dap_end.specs.declared.fault.TakeFault.{TakeFault}
 use Rattle.dap_end.specs.declared.fault.TakeFault.TheVariants as take
 use Rattle.dap_end.specs.Ports.{PortValue}
 use Rattle.dap_end.specs.Asking.{HasAsked, AskedOne, HasDone}
-use Rattle.dap_end.specs.Hearing.{asks}
+use Rattle.dap_end.specs.Hearing.{hears}
 use Rattle.dap_end.specs.Done.{AskingValue, AskingPast, nothing_asked}
-use Rattle.dap_end.specs.Turns.{Takes, WentOn}
+use Rattle.dap_end.specs.Turns.{TakesPacket, WentOn}
 use Rattle.dap_end.proofs.ForCallers.{asked_past, has_sent, asking_one, going_alike, taking_alike}
 use Rattle.linewise.specs.declared.talking.Became.{Became}
 use Rattle.linewise.specs.declared.talking.Became.TheVariants.{Done, NoMemory}
@@ -96,8 +96,8 @@ packet_one : (old other one two : Asking) (bytes said more : List ℕ) (m n : Ca
 packet_one old other one two bytes said more m n fits same nm nn x y =
     let wx = taken_wants x.taken (told_text one) x.packets (λ e. nm (ap outcome x.ended ∙ outcome_by x.taken _ ∙ e)) in
     let wy = taken_wants y.taken (told_text two) y.packets (λ e. nn (ap outcome y.ended ∙ outcome_by y.taken _ ∙ e)) in
-    let there : Takes (asks old.reports.items two.reports.items) other.end two.end bytes [] y.packets y.taken =
-    subst (λ (l : List Report). Takes (asks l two.reports.items) other.end two.end bytes [] y.packets y.taken) (sym same.2) y.took in
+    let there : TakesPacket (hears old.reports.items two.reports.items) other.end two.end bytes [] y.packets y.taken =
+    subst (λ (l : List Report). TakesPacket (hears l two.reports.items) other.end two.end bytes [] y.packets y.taken) (sym same.2) y.took in
     let t = taking_alike old.end other.end one.end two.end bytes x.taken y.taken [] x.packets y.packets old.reports.items one.reports.items two.reports.items fits same.5 same.0 wx wy x.took there in
     let now : AreSameAsking one two = on_end old other one two same x.rest y.rest t.0 t.3 t.4 in
     let same_said : taken_said x.taken (told_text one) x.packets ≡ taken_said y.taken (told_text two) y.packets =
@@ -115,8 +115,8 @@ going_same : (old other : Asking) (front said more : List ℕ) (one two : Asking
 going_same old other front said more one two m n same nm nn x y =
     let wx = gone_wants x.gone (told_text one) x.packets (λ e. nm (ap outcome x.ended ∙ e)) in
     let wy = gone_wants y.gone (told_text two) y.packets (λ e. nn (ap outcome y.ended ∙ e)) in
-    let there : WentOn (asks old.reports.items two.reports.items) other.end two.end [] y.packets y.gone =
-    subst (λ (l : List Report). WentOn (asks l two.reports.items) other.end two.end [] y.packets y.gone) (sym same.2) y.went in
+    let there : WentOn (hears old.reports.items two.reports.items) other.end two.end [] y.packets y.gone =
+    subst (λ (l : List Report). WentOn (hears l two.reports.items) other.end two.end [] y.packets y.gone) (sym same.2) y.went in
     let t = going_alike old.end other.end one.end two.end [] x.packets y.packets old.reports.items one.reports.items two.reports.items x.gone y.gone same.5 same.0 wx wy x.went there in
     let now : AreSameAsking one two = on_end old other one two same x.rest y.rest t.0 t.3 t.4 in
     let same_said : done_said (told_text one) x.packets x.gone ≡ done_said (told_text two) y.packets y.gone =
@@ -269,7 +269,7 @@ ask_one false each old other one two request said more m n same nm nn x y = runn
 -- ---- A new link.
 
 same_end : (one two : AskingValue) → one.port ≡ two.port → one.present ≡ two.present → one ≡ two
-same_end one two port accessing = ap (λ (p : PortValue). record one { port = p }) port ∙ ap (λ (x : Present). record two { present = x }) accessing
+same_end one two port accessing = ap (λ (p : PortValue). record one { port = p }) port ∙ ap (λ (x : ClientState). record two { present = x }) accessing
 
 abbrev NewBy : Asking → Option Between → Asking → Type 0
 NewBy old anew new = IsNew (setup_anew old.setup anew) old.end.present.identity new
@@ -336,7 +336,7 @@ ends_outcome : (m : Came) (old new : Asking) (b : Became) → Ends m old new b �
 ends_outcome (Told was) old new b h = sym h.1
 ends_outcome (Untold was) old new b h = sym h.1
 
--- so many are told then, by the parts that it is of
+-- this many are told then, by the parts that it is of
 abbrev after_by : Bool → (told : ℕ) → AskingValue → ℕ
 after_by is_each told end = if is_each then length (records_kept end.present.pending) else told
 

@@ -1,4 +1,4 @@
--- What a node does by a line, and says, follows from the node and the line, want of memory aside.
+-- What a node does by a line, and says, follows from the node and the line, out of memory aside.
 use Rattle.std.proofs.Common.{◌≡◌, ◌≢◌, ℕ, zero, suc, ◌==◌, refl, sym, ◌∙◌, subst, ap, Bool, true, false, true≢false, List, [], ◌∷◌, ◌++◌, length, inl, inr}
 use Rattle.std.specs.Prelude.{◌⊎◌, MatchBool, MatchOption, MatchResult, Option, Some, None, Result, Ok, Err, codes, if◌then◌else◌, option_map, replicate, set, slice_get}
 use Rattle.std.specs.List.{position}
@@ -20,7 +20,7 @@ use Rattle.dap_accessed.specs.declared.fault.AddFault.{AddFault}
 use Rattle.dap_accessed.specs.declared.fault.AddFault.TheVariants as add
 use Rattle.dap_accessed.specs.declared.setup.Names.{Names}
 use Rattle.dap_accessed.specs.declared.setup.ServerSetup.{ServerSetup}
-use Rattle.dap_accessed.specs.Standing.{Files, file_at, place_by}
+use Rattle.dap_accessed.specs.Standing.{Files, file_at, index_by}
 use Rattle.dap_accessed.specs.Adding.{MayStore, with_new_file}
 use Rattle.dap_accessed.specs.Storing.{StoreRefused}
 use Rattle.dap_accessed.specs.Setup.{all_rights}
@@ -33,11 +33,11 @@ use Rattle.dap_end.specs.declared.fault.EndFault.{EndFault}
 use Rattle.dap_end.specs.declared.fault.EndFault.TheVariants as end
 use Rattle.dap_end.specs.declared.fault.TakeFault.{TakeFault}
 use Rattle.dap_end.specs.Ports.{PortValue, new_port}
-use Rattle.dap_end.specs.Node.{AtPort, HasAddress, HasPort, LinkValue, NodeNotGiven, NodeValue, NoneHasCome, OnLink, SomeHasCome, forgotten, has_local, is_between, is_free}
+use Rattle.dap_end.specs.Node.{AtPort, HasAddress, HasPort, NodeLinkValue, NodeNotGiven, NodeValue, NoneHasCome, OnLink, SomeHasCome, without_notes, has_local, is_between, is_free_link}
 use Rattle.dap_text.specs.declared.filed.RecordLine.{RecordLine}
 use Rattle.dap_text.specs.Tables.{files_lines}
 use Rattle.dap_text.specs.Words.{Words, ends, hex_of, words_of}
-use Rattle.dap_text.specs.Filed.{file_of, record_of}
+use Rattle.dap_text.specs.Filed.{file_line_of, record_line_of}
 use Rattle.linewise.specs.declared.talking.Became.{Became}
 use Rattle.linewise.specs.declared.talking.Became.TheVariants.{Done, NoMemory}
 use Rattle.linewise.specs.Talks.{HaveOneText}
@@ -87,18 +87,18 @@ node-parts : (one two : NodeValue) → one.noted ≡ two.noted → one.ports ≡
 node-parts one two noted ports = ap (λ (n : NotedValue). record one { noted = n }) noted ∙ ap (λ (l : List (Option PortValue)). record two { ports = l }) ports
 
 -- one link moved
-on-link : (link : ℕ) (old one two : NodeValue) (Goes Went : LinkValue → LinkValue → Type 0) (Told : Type 0) → HasRun old
+on-link : (link : ℕ) (old one two : NodeValue) (Goes Went : NodeLinkValue → NodeLinkValue → Type 0) (Told : Type 0) → HasRun old
     → OnLink link Goes old one → OnLink link Went old two
-    → ((before a b : LinkValue) → HasCarried before → Goes before a → Went before b → (a ≡ b) × Told × HasCarried a)
+    → ((before a b : NodeLinkValue) → HasCarried before → Goes before a → Went before b → (a ≡ b) × Told × HasCarried a)
     → (one ≡ two) × Told × HasRun one
 on-link link old one two Goes Went Told h x y f =
     let before : y.before ≡ x.before = one-port old.ports link y.before x.before y.there x.there in
-    let went : Went (record { port = x.before; present = forgotten old.noted }) (record { port = y.after; present = two.noted }) =
-    subst (λ (p : PortValue). Went (record { port = p; present = forgotten old.noted }) (record { port = y.after; present = two.noted })) before y.does in
-    let t = f (record { port = x.before; present = forgotten old.noted }) (record { port = x.after; present = one.noted }) (record { port = y.after; present = two.noted })
+    let went : Went (record { port = x.before; present = without_notes old.noted }) (record { port = y.after; present = two.noted }) =
+    subst (λ (p : PortValue). Went (record { port = p; present = without_notes old.noted }) (record { port = y.after; present = two.noted })) before y.does in
+    let t = f (record { port = x.before; present = without_notes old.noted }) (record { port = x.after; present = one.noted }) (record { port = y.after; present = two.noted })
     (h.0, h.1, h.2, h.3 link x.before x.there) x.does went in
-    let noted : one.noted ≡ two.noted = ap (λ (v : LinkValue). v.present) t.0 in
-    let port : x.after ≡ y.after = ap (λ (v : LinkValue). v.port) t.0 in
+    let noted : one.noted ≡ two.noted = ap (λ (v : NodeLinkValue). v.present) t.0 in
+    let port : x.after ≡ y.after = ap (λ (v : NodeLinkValue). v.port) t.0 in
     let ports : one.ports ≡ two.ports = x.ports ∙ ap (λ (p : PortValue). set old.ports link (Some p)) port ∙ sym y.ports in (
       node-parts one two noted ports,
       t.1,
@@ -312,7 +312,7 @@ renew-by : (o : Option ℕ) (between : Between) (old one two : Node) (said more 
     → MatchOption o (AddsLink (setup_beside old.usual between) (most_beside all_rights between) old one said b) (λ link. RenewsOn link (Some between) old one said b)
     → MatchOption o (AddsLink (setup_beside old.usual between) (most_beside all_rights between) old two more c) (λ link. RenewsOn link (Some between) old two more c) → Same one two said more b c
 renew-by None between old one two said more b c h nb nc x y =
-    added-by (position is_free old.node.ports) (setup_beside old.usual between) (most_beside all_rights between) old one two said more b c h nb nc x y
+    added-by (position is_free_link old.node.ports) (setup_beside old.usual between) (most_beside all_rights between) old one two said more b c h nb nc x y
 renew-by (Some link) between old one two said more b c h nb nc x y = renew-on-one link (Some between) old one two said more b c h nb nc x y
 
 -- ---- Files that it is given.
@@ -376,7 +376,7 @@ used-why false f g P Q same x y = same x y
 
 -- ---- A file.
 
-file-apart : (names : Names) (files : Files) (name : List ℕ) (f : AddFault) → f ≢ add.NoMemory → place_by names name files ≡ None → NotAdded names files name f → ⊥
+file-apart : (names : Names) (files : Files) (name : List ℕ) (f : AddFault) → f ≢ add.NoMemory → index_by names name files ≡ None → NotAdded names files name f → ⊥
 file-apart names files name add.FileExists want may h = h may
 file-apart names files name add.NoMemory want may h = want refl
 file-apart names files name f want may h = absurd h
@@ -397,13 +397,13 @@ module _ (old : Node) (name : List ℕ) (shape : Shape) where
 
   file-not : (one : Node) (f : AddFault) → f ≢ add.NoMemory → GivesFile name shape old one → FileNotGiven name old f → ⊥
   file-not one f want x h =
-      not-given (place_by names name files ≡ None) (NotAdded names files name) (file-apart names files name) (file-why names files name) old.node f want x.given.idle x.first
+      not-given (index_by names name files ≡ None) (NotAdded names files name) (file-apart names files name) (file-why names files name) old.node f want x.given.idle x.first
       (not-used (is_used old) _ _ x.idle h)
 
   files-why : (f g : AddFault) → f ≢ add.NoMemory → g ≢ add.NoMemory → FileNotGiven name old f → FileNotGiven name old g → f ≡ g
   files-why f g nf ng x y =
       used-why (is_used old) f g _ _
-      (λ u v. given-why (place_by names name files ≡ None) (NotAdded names files name) (file-apart names files name) (file-why names files name) old.node f g nf ng u v) x y
+      (λ u v. given-why (index_by names name files ≡ None) (NotAdded names files name) (file-apart names files name) (file-why names files name) old.node f g nf ng u v) x y
 
   give-file : (one two : Node) (said more : List ℕ) (b c : Became) → HasRun old.node → b ≢ NoMemory → c ≢ NoMemory
       → DoneOr (λ became. became) (GivesFile name shape old one) (FileNotGiven name old) add_refusal (ungiven old) one said b
@@ -450,7 +450,7 @@ one-name o x y e f = (let both : Some x ≡ Some y = sym e ∙ f in cc)
 
 module _ (v : SharedValue) (name : List ℕ) (n : ℕ) (body : List ℕ) where
   abbrev place : Option ℕ
-  place = place_by v.setup.names name v.files
+  place = index_by v.setup.names name v.files
 
   abbrev May : Type 0
   May = (at : ℕ) × (place ≡ Some at) × MayStore (file_at at v.files) n body
@@ -509,7 +509,7 @@ module _ (old : Node) (r : RecordLine) where
       let v = old.node.noted.shared in
       let name : y.0.name ≡ x.0.name = one-name old.given y.0.name x.0.name y.0.named x.0.named in
       let there : GivesRecordTo x.0.name r.number r.body old.node two.node = subst (λ (l : List ℕ). GivesRecordTo l r.number r.body old.node two.node) name y.0.given in
-      let at : there.0 ≡ x.0.given.0 = one-place (place_by v.setup.names x.0.name v.files) there.0 x.0.given.0 there.1 x.0.given.1 in
+      let at : there.0 ≡ x.0.given.0 = one-place (index_by v.setup.names x.0.name v.files) there.0 x.0.given.0 there.1 x.0.given.1 in
       let made : GivenTo (with_record_at x.0.given.0 r.number r.body v.files) (GivesRecord x.0.given.0 r.number r.body) old.node two.node =
       subst (λ (i : ℕ). GivenTo (with_record_at i r.number r.body v.files) (GivesRecord i r.number r.body) old.node two.node) at there.2.1 in
       let t = given-one (with_record_at x.0.given.0 r.number r.body v.files) (GivesRecord x.0.given.0 r.number r.body) old.node one.node two.node h x.0.given.2.1 made in
@@ -527,7 +527,7 @@ module _ (old : Node) (name : List ℕ) where
   shared = old.node.noted.shared
 
   abbrev at-name : Option ℕ
-  at-name = place_by shared.setup.names name shared.files
+  at-name = index_by shared.setup.names name shared.files
 
   drop-not : (one : Node) (f : RemoveFault) → Dropped name old one → NotRemoved shared name f → ⊥
   drop-not one removing.NoFile x h = no-place at-name x.drops.0 x.drops.1 h
@@ -584,8 +584,8 @@ packet-form words = packet-fits (hex_alone words) (alone-fits words)
 filing-fits : (line : List ℕ) → AllFit Fits tt (filing_forms line)
 filing-fits line =
     also Fits tt _ _ (form_fits Fits tt (codes "files") (ends order.Files) (λ words. ends_fit Fits tt order.Files words tt))
-    (also Fits tt _ _ (form_fits Fits tt (codes "file") (λ words. option_map order.File (file_of line)) (λ words. map-fits order.File (λ file. tt) (file_of line)))
-    (also Fits tt _ _ (form_fits Fits tt [] (λ words. option_map order.Record (record_of line)) (λ words. map-fits order.Record (λ r. tt) (record_of line)))
+    (also Fits tt _ _ (form_fits Fits tt (codes "file") (λ words. option_map order.File (file_line_of line)) (λ words. map-fits order.File (λ file. tt) (file_line_of line)))
+    (also Fits tt _ _ (form_fits Fits tt [] (λ words. option_map order.Record (record_line_of line)) (λ words. map-fits order.Record (λ r. tt) (record_line_of line)))
     (also Fits tt _ _ (form_fits Fits tt (codes "drop") (λ words. option_map order.Drop (text_alone words)) (λ words. map-fits order.Drop (λ name. tt) (text_alone words)))
     (none_fit Fits tt))))
 
@@ -666,7 +666,7 @@ node-answers one other new end line said more b c same nb nc x y =
     let t = order-one (node_order_of (is_alone one.node) line) (before_line one) new end said more b c (line-fits (is_alone one.node) line) same.7 nb nc x there in
     (parts-of new end t.0 t.3, t.1, t.2)
 
--- and behind a line that they miss
+-- and after a line that they miss
 node-misses : (one other new end : Node) (said more : List ℕ) (b c : Became) → AreSameNodes one other → answered one None new said b → answered other None end more c → AreSameNodes new end
 node-misses one other new end said more b c same x y =
     parts-of new end (x ∙ begun-one one other same ∙ sym y) (subst (λ (n : Node). HasRun n.node) (sym x) same.7)

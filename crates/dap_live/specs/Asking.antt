@@ -16,9 +16,9 @@ use Rattle.dap_end.specs.declared.fault.TakeFault.{TakeFault}
 use Rattle.dap_end.specs.declared.fault.TakeFault.TheVariants as take
 use Rattle.dap_end.specs.Ports.{new_port}
 use Rattle.dap_end.specs.Asking.{AskedOne, HasAsked}
-use Rattle.dap_end.specs.Hearing.{asks}
+use Rattle.dap_end.specs.Hearing.{hears}
 use Rattle.dap_end.specs.Done.{AskingValue, nothing_asked}
-use Rattle.dap_end.specs.Turns.{Takes, WentOn}
+use Rattle.dap_end.specs.Turns.{TakesPacket, WentOn}
 use Rattle.linewise.specs.declared.talking.Became.{Became}
 use Rattle.linewise.specs.declared.talking.Became.TheVariants.{Done, BadLine, NoMemory}
 use Rattle.dap_live.specs.declared.asking.Asking.{Asking}
@@ -49,7 +49,7 @@ came_by _ became = Told became
 pub record TakesPacket (old : Asking) (bytes : List ℕ) (new : Asking) (text : List ℕ) (came : Came) : Type 0 where
   pub taken : Result Got TakeFault
   pub packets : List (List ℕ)
-  pub took : Takes (asks old.reports.items new.reports.items) old.end new.end bytes [] packets taken
+  pub took : TakesPacket (hears old.reports.items new.reports.items) old.end new.end bytes [] packets taken
   pub rest : OnEnd old new
   pub says : text ≡ (taken_said taken (told_text new) packets).0
   pub ended : came ≡ came_by taken (taken_said taken (told_text new) packets).1
@@ -60,7 +60,7 @@ pub record TakesPacket (old : Asking) (bytes : List ℕ) (new : Asking) (text : 
 pub record GoesOn (old : Asking) (front : List ℕ) (new : Asking) (text : List ℕ) (came : Came) : Type 0 where
   pub gone : Result (Unit {0}) EndFault
   pub packets : List (List ℕ)
-  pub went : WentOn (asks old.reports.items new.reports.items) old.end new.end [] packets gone
+  pub went : WentOn (hears old.reports.items new.reports.items) old.end new.end [] packets gone
   pub rest : OnEnd old new
   pub says : text ≡ front ++ (done_said (told_text new) packets gone).0
   pub ended : came ≡ Told (done_said (told_text new) packets gone).1

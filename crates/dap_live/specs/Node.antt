@@ -21,15 +21,15 @@ use Rattle.dap_accessed.specs.declared.setup.Names.{Names}
 use Rattle.dap_accessed.specs.declared.setup.ServerSetup.{ServerSetup}
 use Rattle.dap_accessed.specs.Adding.{MayStore, with_new_file}
 use Rattle.dap_accessed.specs.Setup.{all_rights, same_name}
-use Rattle.dap_accessed.specs.Standing.{Files, file_at, place_by}
+use Rattle.dap_accessed.specs.Standing.{Files, file_at, index_by}
 use Rattle.dap_shared.specs.Nodes.{Begins, Event, Gives, GivesRecord, with_record_at}
 use Rattle.dap_shared.specs.Shared.{AtFile, NotAdded, NotRemoved, RecordNotAdded, SharedAfter, SharedDrops, SharedGiven, rights_on}
 use Rattle.dap_end.specs.declared.fault.EndFault.{EndFault}
 use Rattle.dap_end.specs.declared.fault.TakeFault.{TakeFault}
 use Rattle.dap_end.specs.declared.fault.TakeFault.TheVariants as take
 use Rattle.dap_end.specs.Ports.{PortValue, new_port}
-use Rattle.dap_end.specs.Node.{AtPort, BeganOn, EndedOn, HasPort, NodeNotGiven, NodeValue, NoneHasCome, OnLink, has_local, is_between, is_free, serves_on}
-use Rattle.dap_end.specs.Turns.{Takes, WentOn}
+use Rattle.dap_end.specs.Node.{AtPort, BeganOn, EndedOn, HasPort, NodeNotGiven, NodeValue, NoneHasCome, OnLink, has_local, is_between, is_free_link, serves_on}
+use Rattle.dap_end.specs.Turns.{TakesPacket, WentOn}
 use Rattle.dap_text.specs.declared.filed.FileLine.{FileLine}
 use Rattle.dap_text.specs.declared.filed.RecordLine.{RecordLine}
 use Rattle.dap_text.specs.declared.tables.FilesPlace.{FilesPlace}
@@ -44,7 +44,7 @@ use Rattle.dap_live.specs.declared.orders.Between.{Between}
 use Rattle.dap_live.specs.NodeOrders.{node_order_of}
 use Rattle.dap_live.specs.Orders.{most_anew, most_beside, setup_anew, setup_beside}
 use Rattle.dap_live.specs.Sending.{AllAgain, SaysAck, UnlessFailed, is_left, is_served_next, waits_of}
-use Rattle.dap_live.specs.Texts.{LineAnswer, add_refusal, done_said, link_refusal, locked_text, packets_text, refused, remove_refusal, status_line, taken_said}
+use Rattle.dap_live.specs.Texts.{LineAnswer, add_refusal, done_said, link_refusal, locked_text, packets_text, refused_with, remove_refusal, status_line, taken_said}
 use Rattle.dap_live.specs.Both.{DoneOr, Stays}
 
 -- ---- A new node.
@@ -57,7 +57,7 @@ first_events links = if links == 1 then Begins 0 all_rights ∷ [] else []
 abbrev pub first_ports : (links : ℕ) → LinkSetup → List (Option PortValue)
 first_ports links usual = if links == 1 then Some (new_port usual) ∷ [] else replicate links None
 
--- A node without files that is set up so, with room for so many links. Where that is one, it is there, with every right.
+-- A node without files that is set up so, with room for this many links. Where that is one, it is there, with every right.
 pub record IsNew (own : ServerSetup) (links : ℕ) (usual : LinkSetup) (most : ℕ) (node : Node) : Type 0 where
   pub stands : SharedAfter [] (first_events links) node.node.noted.shared
   pub setup : node.node.noted.shared.setup ≡ own
@@ -152,7 +152,7 @@ FindsLink ports bytes (Err f) =
 pub record TakesOn (link : ℕ) (old : Node) (bytes : List ℕ) (new : Node) (text : List ℕ) (became : Became) : Type 0 where
   pub taken : Result Got TakeFault
   pub packets : List (List ℕ)
-  pub took : OnLink link (λ before after. Takes (serves_on link old.most_waiting) before after bytes [] packets taken) old.node new.node
+  pub took : OnLink link (λ before after. TakesPacket (serves_on link old.most_waiting) before after bytes [] packets taken) old.node new.node
   pub rest : new ≡ record (about link old) { node = new.node; used = new.used }
   pub used : new.used ≡ used_by taken link old.used
   pub says : text ≡ (taken_said taken (locked_text new.node.noted.locked) packets).0
@@ -208,11 +208,11 @@ BeginsOn link setup most old new text became =
 -- why no link is added where all are there: a bad setup comes first
 abbrev pub NoLink : LinkSetup → LineAnswer → Type 0
 NoLink setup said =
-    ((IsSetup setup → ⊥) × (said ≡ link_refusal fault.BadSetup)) ⊎ (IsSetup setup × (said ≡ refused (codes "no-links")))
+    ((IsSetup setup → ⊥) × (said ≡ link_refusal fault.BadSetup)) ⊎ (IsSetup setup × (said ≡ refused_with (codes "no-links")))
 
 -- a link is added
 abbrev pub AddsLink : LinkSetup → (most : Rights) → Node → Node → List ℕ → Became → Type 0
-AddsLink setup most old new text became = MatchOption (position is_free old.node.ports)
+AddsLink setup most old new text became = MatchOption (position is_free_link old.node.ports)
     ((said : LineAnswer) × NoLink setup said × Says said old new text became)
     (λ link. BeginsOn link setup most old new text became)
 
@@ -250,7 +250,7 @@ pub record GivenTo (made : Files) (event : Event) (old new : NodeValue) : Type 0
 -- A file was added, while no link is used: no file had its name. The next records are added to it.
 pub record GivesFile (name : List ℕ) (shape : Shape) (old new : Node) : Type 0 where
   pub idle : is_used old ≡ false
-  pub first : place_by old.node.noted.shared.setup.names name old.node.noted.shared.files ≡ None
+  pub first : index_by old.node.noted.shared.setup.names name old.node.noted.shared.files ≡ None
   pub given : GivenTo (with_new_file name shape old.node.noted.shared.files) (Gives name shape) old.node new.node
   pub named : new.given ≡ Some name
   pub rest : new ≡ record old { node = new.node; given = new.given }
@@ -376,6 +376,6 @@ abbrev pub waits_on : (most : ℕ) → Option ℕ → NodeValue → ℕ
 waits_on most None v = 0
 waits_on most (Some link) v = port_waits most (slice_get v.ports link)
 
--- what `waits` tells behind an answer
+-- what `waits` tells after an answer
 abbrev pub waiting : Node → Option ℕ
 waiting node = Some (waits_on node.most_waiting node.last node.node)

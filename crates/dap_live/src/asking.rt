@@ -8,9 +8,9 @@ ghost use Rattle.dap_msg.specs.declared.message.Message.TheVariants.{Config};
 ghost use Rattle.nsp_link.specs.Link.{SetupFault};
 ghost use Rattle.dap_end.specs.Ports.{new_port};
 ghost use Rattle.dap_end.specs.Asking.{HasAsked};
-ghost use Rattle.dap_end.specs.Hearing.{asks};
+ghost use Rattle.dap_end.specs.Hearing.{hears};
 ghost use Rattle.dap_end.specs.Done.{nothing_asked};
-ghost use Rattle.dap_end.specs.Turns.{WentOn, Takes};
+ghost use Rattle.dap_end.specs.Turns.{WentOn, TakesPacket};
 ghost use Rattle.dap_text.specs.Adding.{Adds};
 ghost use Rattle.dap_live.specs.declared.asking.Came.{Came as TheCame};
 ghost use Rattle.dap_live.specs.Inner.Reaching.{Reaches};
@@ -99,7 +99,7 @@ fn take(
     reports: &mut Vec<Report>,
 ) -> Result<Got, TakeFault>
     requires { packets.old.items ≡ [] }
-    ensures { Takes (asks reports.old.items reports.new.items) end.old end.new bytes.now []
+    ensures { TakesPacket (hears reports.old.items reports.new.items) end.old end.new bytes.now []
         (bodies packets.new.items) result }
 {
     end.take(bytes, packets, reports)
@@ -133,14 +133,14 @@ fn take_packet(
     Ok(came_of(taken, became))
 }
 
-/// Reads, hands over and writes what is left.
+/// Reads, passes on and writes what is left.
 fn go_on(
     end: &mut AskingEnd,
     packets: &mut Vec<Vec<u8>>,
     reports: &mut Vec<Report>,
 ) -> Result<(), EndFault>
     requires { packets.old.items ≡ [] }
-    ensures { WentOn (asks reports.old.items reports.new.items) end.old end.new []
+    ensures { WentOn (hears reports.old.items reports.new.items) end.old end.new []
         (bodies packets.new.items) result }
 {
     end.go_on(packets, reports)

@@ -9,7 +9,7 @@ ghost use Rattle.nsp_link.specs.Link.{IsSetup, SetupFault};
 ghost use Rattle.nsp_link.specs.declared.fault.LinkFault.TheVariants as link_fault;
 ghost use Rattle.dap_end.specs.Ports.{PortValue};
 ghost use Rattle.dap_end.specs.Node.{AtPort, BeganOn, HasPort, NotBegun, OnLink, has_local, serves_on};
-ghost use Rattle.dap_end.specs.Turns.{Takes, WentOn};
+ghost use Rattle.dap_end.specs.Turns.{TakesPacket, WentOn};
 ghost use Rattle.linewise.specs.Talks.{Begins};
 ghost use Rattle.dap_live.specs.Both.{Stays};
 ghost use Rattle.dap_live.specs.Sending.{SaysAck, UnlessFailed};
@@ -99,7 +99,7 @@ fn begin_only(node: &mut Node) -> Result<(), LinkFault>
 }
 
 impl Node {
-    /// A node without files that is set up so, with room for so many links. It serves what came on a link while fewer
+    /// A node without files that is set up so, with room for this many links. It serves what came on a link while fewer
     /// than `most_waiting` bytes wait there. Where there is room for one, that link is there from the start, as `usual`
     /// says, and lines name no link; otherwise none is. Refused: `BadSetup` where there is one link and a limit of its
     /// setup isn't in its range; `NoMemory`.
@@ -214,7 +214,7 @@ fn take(
 ) -> Result<Got, TakeFault>
     requires there { (p : PortValue) × HasPort link node.old p }
     requires packets { packets.old.items ≡ [] }
-    ensures { OnLink link (λ before after. Takes (serves_on link most_waiting) before after
+    ensures { OnLink link (λ before after. TakesPacket (serves_on link most_waiting) before after
         bytes.now [] (bodies packets.new.items) result) node.old node.new }
 {
     node.take(link, bytes, most_waiting, packets)
