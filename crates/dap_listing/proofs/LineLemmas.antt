@@ -7,7 +7,7 @@ use Rattle.std.proofs.lemmas.List.Quantifiers.{position-Some}
 use Rattle.std.proofs.lemmas.List.Sums.{position_or_len_is, fails_before_first, passes_at_first, split_at_first}
 use Rattle.std.proofs.lemmas.Grind.{common_steps}
 use Rattle.std.proofs.lemmas.Bool.Decides.{nat_tests}
-use Rattle.dap_listing.specs.Inner.Cutting.{IsEnd}
+use Rattle.dap_listing.specs.Inner.Cutting.{IsSuffixOf}
 
 abbrev is_line_feed : ℕ → Bool
 is_line_feed byte = byte == 10
@@ -55,7 +55,7 @@ ended_first bytes end found follow =
     (omega (arith, length-slice_split is_line_feed (drop (end + 1) bytes ++ follow)))
 
 -- the end of an end
-pub end_of_end : (bytes rest after : List ℕ) → IsEnd bytes rest → IsEnd rest after → length after ≤ length rest → length rest ≤ length bytes → IsEnd bytes after
+pub end_of_end : (bytes rest after : List ℕ) → IsSuffixOf bytes rest → IsSuffixOf rest after → length after ≤ length rest → length rest ≤ length bytes → IsSuffixOf bytes after
 end_of_end bytes rest after one two less small =
     let between : (length bytes - length rest) + (length rest - length after) ≡ length bytes - length after = omega (arith, less, small) in
     two ∙ ap (drop (length rest - length after)) one ∙ drop-drop (length rest - length after) (length bytes - length rest) bytes ∙ ap (λ n. drop n bytes) between

@@ -17,7 +17,7 @@ pub const INPUT_LIMIT: usize = LONGEST;
 /// How many bytes are read at a time.
 pub(crate) const CHUNK: usize = 65_536;
 
-/// Reads on into the front of the chunk, no further than the byte that breaks the limit, and answers how many bytes
+/// Reads on into the start of the chunk, no further than the byte that breaks the limit, and answers how many bytes
 /// came: 0 at the end. The count is of the bytes that were read before.
 #[tactic(auto, unfolding(crate::specs::Inner::Input::TakesBehind, crate::specs::Inner::Input::TakesUpTo))]
 pub(crate) fn read_some<R: Read>(

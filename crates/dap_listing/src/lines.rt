@@ -4,7 +4,7 @@ ghost use Rattle.std.specs.Prelude.{ℕ, ◌≡◌, ◌<◌, ◌-◌, drop, leng
 ghost use Rattle.std.specs.Str.Lines.{lines, strip_carriage_return};
 ghost use Rattle.dap_listing.specs.Lines.{line_of};
 ghost use Rattle.dap_listing.specs.Inner.Lines.{line_of_head};
-ghost use Rattle.dap_listing.specs.Inner.Cutting.{HasNoEnd, IsCut, IsEnd};
+ghost use Rattle.dap_listing.specs.Inner.Cutting.{HasNoEnd, CutsLine, IsSuffixOf};
 
 use dap_text::find_byte;
 
@@ -59,9 +59,9 @@ pub fn next_line(bytes: &[u8]) -> Option<(&[u8], &[u8])>
 /// The first line that has its end, without that, and what is after it.
 #[tactic(auto, using(crate::proofs::LineLemmas::first_line, crate::proofs::LineLemmas::ended_first))]
 fn ended_line(bytes: &[u8]) -> Option<(&[u8], &[u8])>
-    ensures first { IfSome result (λ cut. IsCut false bytes.now cut.0.now cut.1.now
+    ensures first { IfSome result (λ cut. CutsLine false bytes.now cut.0.now cut.1.now
         × (length cut.1.now < length bytes.now)) }
-    ensures end { IfSome result (λ cut. IsEnd bytes.now cut.1.now) }
+    ensures end { IfSome result (λ cut. IsSuffixOf bytes.now cut.1.now) }
     ensures none { IfNone result (HasNoEnd bytes.now) }
 {
     let end = find_byte(b'\n', bytes)?;
@@ -70,9 +70,9 @@ fn ended_line(bytes: &[u8]) -> Option<(&[u8], &[u8])>
 
 /// The first line and what is after it, where the line has its end or the bytes are the last.
 pub(crate) fn cut_line(bytes: &[u8], is_last: bool) -> Option<(&[u8], &[u8])>
-    ensures first { IfSome result (λ cut. IsCut is_last bytes.now cut.0.now cut.1.now
+    ensures first { IfSome result (λ cut. CutsLine is_last bytes.now cut.0.now cut.1.now
         × (length cut.1.now < length bytes.now)) }
-    ensures end { IfSome result (λ cut. IsEnd bytes.now cut.1.now) }
+    ensures end { IfSome result (λ cut. IsSuffixOf bytes.now cut.1.now) }
     ensures none { IfNone result (HasNoEnd bytes.now) }
     ensures last { IfNone result (is_last ≡ true → bytes.now ≡ []) }
 {

@@ -26,7 +26,7 @@ fn usual_setup() -> ServerSetup {
     }
 }
 
-/// What a server of so many links answers to lines.
+/// What a server of this many links answers to lines.
 fn answers(alloc: Global, links: usize, lines: &[u8]) -> Result<Vec<u8>, Fail> {
     let mut node = Node::new(alloc, usual_setup(), links, USUAL, 1 << 20)?;
     let mut reader = lines;

@@ -58,7 +58,7 @@ accepted\n< 60010102020180010001020e0004120d0506000000e6e8f08020\nwaits 1\nrefus
 waits 0\nfile 46 rel variable 0 3\n  3 41\nwaits 0\n",
         b"",
     ),
-    // The end that asks: its packet again, its peer's answer, and an answer that has no place.
+    // The end that asks: its packet again, its peer's answer, and an answer that is out of sequence.
     (
         &["ask"],
         b"ask hello\nask hello\nresend\n> 60010102020180010001020a00040703050600000000\nask get\n\
@@ -376,7 +376,7 @@ waits 0\naccepted\nrefused unexpected-answer\nwaits 0\nrefused ask-failed\nwaits
 asked 1\n< 60020201010080010001020e0004120d0506000000e6e8f08020\nwaits 1\n",
         b"",
     ),
-    // A message of three segments, the second one twice and behind the third.
+    // A message of three segments, the second one twice and after the third.
     (
         &["follow"],
         b"> 20020201010100010001020a\n\
@@ -516,7 +516,7 @@ part > dst=0202 src=0101 seg=3..3 len=5\n",
 \x20 data recnum=- body=41 ; \"A\"\n",
         b"",
     ),
-    // A line at fault, behind which nothing is written.
+    // A line at fault, after which nothing is written.
     (
         &["follow"],
         b"> 6002\n> 6\n",
@@ -674,7 +674,7 @@ part > dst=0202 src=0101 seg=3..3 len=5\n",
         b"1 > bad truncated at=1\n2 > ack dst=0202 src=0101 acks=0:1\n",
         b"bad line 2\nbad line 3\n",
     ),
-    // The same in words; and a frame that a bad line is behind, which tells of no packet.
+    // The same in words; and a frame that a bad line is after, which tells of no packet.
     (
         &["watch", "--words"],
         b"# frame 12 1600000000.123456 1.1 -> 1.2\n\

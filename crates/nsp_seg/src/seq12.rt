@@ -9,7 +9,7 @@ use std::marker::Model;
 #[derive(Clone, Copy, PartialEq, Eq)]
 pub struct Seq12(u16);
 
-/// So many numbers there are.
+/// This many numbers there are.
 const ROUND: u16 = 4096;
 
 impl Model for Seq12 {
