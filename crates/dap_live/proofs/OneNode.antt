@@ -131,8 +131,8 @@ take-one link old one two bytes said more b c fits h nb nc x y =
       t.2,
     )
 
-says-one : (answer : LineAnswer) (then one two : Node) (said more : List ℕ) (b c : Became) → HasRun then.node → Says answer then one said b → Says answer then two more c → Same one two said more b c
-says-one answer then one two said more b c h x y = (x.0 ∙ sym y.0, x.1 ∙ sym y.1, x.2 ∙ sym y.2, subst (λ (n : Node). HasRun n.node) (sym x.0) h)
+says-one : (answer : LineAnswer) (base one two : Node) (said more : List ℕ) (b c : Became) → HasRun base.node → Says answer base one said b → Says answer base two more c → Same one two said more b c
+says-one answer base one two said more b c h x y = (x.0 ∙ sym y.0, x.1 ∙ sym y.1, x.2 ∙ sym y.2, subst (λ (n : Node). HasRun n.node) (sym x.0) h)
 
 abbrev found_by : ℕ → Result ℕ LinkFault
 found_by link = Ok link
@@ -238,8 +238,8 @@ resend-one local old one two said more b c h nb nc x y =
     local-by (meant local old.node.ports) old one two said more b c _ _ h x y
     (λ link u v. at-one link old.node _ _ u v (λ p there i j. resend-by p.link.failed link p old one two said more b c (h.3 link p there) h nb nc i j))
 
-stays-one : (then one two : Node) (said more : List ℕ) (b c : Became) → HasRun then.node → Stays Done then one b → Stays Done then two c → said ≡ more → Same one two said more b c
-stays-one then one two said more b c h x y e = (x.0 ∙ sym y.0, e, x.1 ∙ sym y.1, subst (λ (n : Node). HasRun n.node) (sym x.0) h)
+stays-one : (base one two : Node) (said more : List ℕ) (b c : Became) → HasRun base.node → Stays Done base one b → Stays Done base two c → said ≡ more → Same one two said more b c
+stays-one base one two said more b c h x y e = (x.0 ∙ sym y.0, e, x.1 ∙ sym y.1, subst (λ (n : Node). HasRun n.node) (sym x.0) h)
 
 ack-line-one : (local : Option ℕ) (old one two : Node) (said more : List ℕ) (b c : Became) → HasRun old.node → Does old (order.Ack local) one said b → Does old (order.Ack local) two more c → Same one two said more b c
 ack-line-one local old one two said more b c h x y =
@@ -265,9 +265,9 @@ none-sent : (q : PortValue) → None ≡ Some q → HasSent q.link
 none-sent q is = (let none : ⊥ = cc in absurd none)
 
 -- the table and what is used are one
-moved-one : (then one two : Node) → one ≡ record then { node = one.node; used = one.used } → two ≡ record then { node = two.node; used = two.used } → one.node ≡ two.node → one.used ≡ two.used → one ≡ two
-moved-one then one two x y node used =
-    x ∙ ap (λ (n : NodeValue). record then { node = n; used = one.used }) node ∙ ap (λ (u : List Bool). record then { node = two.node; used = u }) used ∙ sym y
+moved-one : (base one two : Node) → one ≡ record base { node = one.node; used = one.used } → two ≡ record base { node = two.node; used = two.used } → one.node ≡ two.node → one.used ≡ two.used → one ≡ two
+moved-one base one two x y node used =
+    x ∙ ap (λ (n : NodeValue). record base { node = n; used = one.used }) node ∙ ap (λ (u : List Bool). record base { node = two.node; used = u }) used ∙ sym y
 
 end-one : (link : ℕ) (old one two : Node) (said more : List ℕ) (b c : Became) → HasRun old.node → EndsOn link old one × (said ≡ []) × (b ≡ Done) → EndsOn link old two × (more ≡ []) × (c ≡ Done) → Same one two said more b c
 end-one link old one two said more b c h (x, sx, bx) (y, sy, by) =
@@ -332,9 +332,9 @@ add-want : (f : AddFault) → (add_refusal f).1 ≢ NoMemory → f ≢ add.NoMem
 add-want f want e = want (ap (λ k. (add_refusal k).1) e)
 
 -- nothing was done, for one reason
-why-one : {F : Type 0} (told : F → LineAnswer) (then one two : Node) (said more : List ℕ) (b c : Became) (f g : F) → HasRun then.node → f ≡ g → (one ≡ then) × (said ≡ (told f).0) × (b ≡ (told f).1)
-    → (two ≡ then) × (more ≡ (told g).0) × (c ≡ (told g).1) → Same one two said more b c
-why-one {F} told then one two said more b c f g h e x y =
+why-one : {F : Type 0} (told : F → LineAnswer) (base one two : Node) (said more : List ℕ) (b c : Became) (f g : F) → HasRun base.node → f ≡ g → (one ≡ base) × (said ≡ (told f).0) × (b ≡ (told f).1)
+    → (two ≡ base) × (more ≡ (told g).0) × (c ≡ (told g).1) → Same one two said more b c
+why-one {F} told base one two said more b c f g h e x y =
     (x.0 ∙ sym y.0, x.1 ∙ ap (λ (k : F). (told k).0) e ∙ sym y.1, x.2 ∙ ap (λ (k : F). (told k).1) e ∙ sym y.2, subst (λ (n : Node). HasRun n.node) (sym x.0) h)
 
 -- a file or a record is given, or isn't: which of them, and why not, is determined

@@ -95,11 +95,11 @@ about_any None node = node
 about_any (Some link) node = about link node
 
 -- the node is as this one, and this is answered
-abbrev pub Says : LineAnswer → (then new : Node) → List ℕ → Became → Type 0
-Says said then new text became = (new ≡ then) × (text ≡ said.0) × (became ≡ said.1)
+abbrev pub Says : LineAnswer → (base new : Node) → List ℕ → Became → Type 0
+Says said base new text became = (new ≡ base) × (text ≡ said.0) × (became ≡ said.1)
 
 -- a link is refused so, and nothing changed
-abbrev pub Refuses : LinkFault → (then new : Node) → List ℕ → Became → Type 0
+abbrev pub Refuses : LinkFault → (base new : Node) → List ℕ → Became → Type 0
 Refuses f = Says (link_refusal f)
 
 -- there is room for one link alone

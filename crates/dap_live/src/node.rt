@@ -576,7 +576,7 @@ fn add_shaped(
     requires shape { IsTrue (is_shape shape) }
     requires text { text.old.items ≡ [] }
     ensures ok { IfOk result
-        (AddsShapedTo node.old name.entry shape node.new text.new.items) }
+        (AddsShapedTo node.old name shape node.new text.new.items) }
     ensures err { OnErr result (node.new ≡ node.old) }
 {
     match node.node.add(&name.0, shape) {

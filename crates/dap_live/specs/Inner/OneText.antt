@@ -1,5 +1,5 @@
 -- Ends that answer each line alike.
-use Rattle.std.specs.Prelude.{◌≡◌}
+use Rattle.std.specs.Prelude.{◌≡◌, List}
 use Rattle.dap_accessed.specs.Standing.{Files}
 use Rattle.dap_shared.specs.Nodes.{Event}
 use Rattle.dap_shared.specs.Shared.{SharedAfter}
