@@ -1,4 +1,5 @@
 mod AgainLemmas
+mod EachLemmas
 pub mod OneLine
 pub mod OneAsking
 mod ReachLemmas

@@ -145,7 +145,7 @@ gives-record name number body old new idle (i, here, may) (j, there, given) (k, 
       ),
     )
 
--- what six facts of a result that is good come to
-pub on-all : {T F : Type 0} {A B C D G H R : Type 0} (r : Result T F) → OnOk r A → OnOk r B → OnOk r C → OnOk r D → OnOk r G → OnOk r H → (A → B → C → D → G → H → R) → OnOk r R
-on-all (Ok x) a b c d g h next = next a b c d g h
-on-all (Err f) a b c d g h next = tt
+-- what four facts of a result that is good come to
+pub on-all : {T F : Type 0} {A B C D R : Type 0} (r : Result T F) → OnOk r A → OnOk r B → OnOk r C → OnOk r D → (A → B → C → D → R) → OnOk r R
+on-all (Ok x) a b c d next = next a b c d
+on-all (Err f) a b c d next = tt

@@ -1,6 +1,7 @@
 -- Rows: what lines of a server say.
 use Rattle.std.proofs.Common.{◌≡◌, true, false, Some, None, [], ◌∷◌, refl}
 use Rattle.std.specs.Prelude.{codes}
+use Rattle.hex.specs.Hex.{decode_pairs}
 use Rattle.dap_live.specs.declared.node_orders.NodeOrder.TheVariants as order
 use Rattle.dap_live.specs.Orders.{between}
 use Rattle.dap_live.specs.NodeOrders.{node_order_of}
@@ -25,12 +26,15 @@ nothing-is-asked : node_order_of true (codes "ask hello") ≡ None
 nothing-is-asked = refl
 
 rights-are-named : node_order_of false (codes "new 0202 0101 512 2") ≡ Some (order.New (between 514 257 (Some 512) (Some 2)))
+unfolding decode_pairs
 rights-are-named = refl
 
 rights-have-four-bits : node_order_of false (codes "new 0202 0101 512 16") ≡ None
+unfolding decode_pairs
 rights-have-four-bits = refl
 
 a-file-is-dropped : node_order_of true (codes "drop 46") ≡ Some (order.Drop (70 ∷ []))
+unfolding decode_pairs
 a-file-is-dropped = refl
 
 one-locks : locked_text (0x0301 ∷ []) ≡ codes "locked 0301\n"

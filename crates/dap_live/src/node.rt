@@ -630,18 +630,18 @@ fn add_body(
 /// Adds a record to the file of the last `file` line.
 fn add_record(
     node: &mut Node,
-    record: &RecordLine<'_>,
+    line: &RecordLine<'_>,
     text: &mut Vec<u8>,
 ) -> Result<Became, AllocError>
     requires { text.old.items ≡ [] }
-    ensures ok { IfOk result (AddsRecordTo node.old «record».now node.new text.new.items) }
+    ensures ok { IfOk result (AddsRecordTo node.old line.now node.new text.new.items) }
     ensures err { OnErr result (node.new ≡ node.old) }
 {
     if is_in_use(node) {
         return push_add_refusal(text, AddFault::Busy);
     }
-    let body = record.body.to_vec(node.alloc)?;
-    match add_body(&mut node.node, &node.given, record.number, &body) {
+    let body = line.body.to_vec(node.alloc)?;
+    match add_body(&mut node.node, &node.given, line.number, &body) {
         Ok(()) => Ok(Became::Done),
         Err(fault) => push_add_refusal(text, fault),
     }

@@ -10,7 +10,7 @@ ghost use Rattle.dap_text.specs.Answers.{got_text};
 ghost use Rattle.dap_text.specs.Reports.{ending_text};
 ghost use Rattle.dap_text.specs.Text.{line_feed};
 ghost use Rattle.dap_live.specs.Texts.{add_refusal, ask_refusal, done_said, end_refusal, link_refusal, locked_text, packet_text, packets_text, refused, remove_refusal, report_line, reports_text, status_line, taken_said};
-ghost use Rattle.dap_live.specs.Each.{batch_line, each_text, record_line, records_text, told_text};
+ghost use Rattle.dap_live.specs.Each.{batch_line, each_text, records_text, told_text};
 ghost use Rattle.dap_text.specs.Text.{word_text};
 ghost use Rattle.dap_live.specs.Inner.Saying.{AddsSaid};
 
@@ -67,21 +67,14 @@ fn push_reports(text: &mut Vec<u8>, reports: &Vec<Report>) -> Result<(), AllocEr
     Ok(())
 }
 
-/// The line of a record that is told by itself.
-fn push_record(text: &mut Vec<u8>, number: u64, body: &[u8]) -> Result<(), AllocError>
-    ensures { OnOk result (Adds text.old text.new (record_line (number, body.now))) }
-{
-    push_number(text, "report record ", number)?;
-    push_image(text, " ", body)?;
-    push_str(text, "\n")
-}
-
 /// The lines of records that are told one by one.
 fn push_records(text: &mut Vec<u8>, records: &[(u64, Octets)]) -> Result<(), AllocError>
     ensures { OnOk result (Adds text.old text.new (records_text records.now)) }
 {
     for record in records {
-        push_record(text, record.0, &record.1.0)?;
+        push_number(text, "report record ", record.0)?;
+        push_image(text, " ", &record.1.0)?;
+        push_str(text, "\n")?;
     }
     Ok(())
 }

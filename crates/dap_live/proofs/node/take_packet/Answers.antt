@@ -12,8 +12,8 @@ returns-in-Some-clause-err c =
     (λ done. reaches-one c.in-Some.link c.args.node.now c.take_on.new.node c.args.digits.now (sym c.in-Some.is ∙ c.find_one.ensures.found)
     (done.0, done.1, subst (λ (b : List ℕ). TakesOn c.in-Some.link c.args.node.now b c.take_on.new.node done.0 done.1) bytes done.2))
 
-pub returns-in-None-clause-err : goal.returns-in-None-clause-err
-returns-in-None-clause-err c =
+pub returns-clause-err : goal.returns-clause-err
+returns-clause-err c =
     let old = c.args.node.now in
     let new = c.take_of.new.node in
     let bytes : c.deref-in-None.result.now ≡ c.args.digits.now = c.deref-in-None.ensures.value ∙ c.in_ok-bytes.ensures in
