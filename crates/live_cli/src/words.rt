@@ -12,7 +12,7 @@ ghost use Rattle.dap_text.specs.Words.{short};
 ghost use Rattle.dap_live.specs.Orders.{address_of};
 ghost use Rattle.decnet_frames.specs.Nodes.{node_of};
 ghost use Rattle.live_cli.specs.Words.{code_of, folded_of, names_of, syscap_of, daplive, ends_of, greatest_waiting, has_address, is_given as is_given_in, is_word as is_in_words, least_waiting, links_of, most_links, option as option_rule, options_of, task_in as task_of_rows, task_of, has_words as words_wanted, waiting_of};
-ghost use Rattle.live_cli.specs.Inner.CommandLine.{HasAddresses, HasCodes, HasIdentity, HasLimits, HasLinks, HasNames, HasRoom, HasWaiting, IsCommandLine, IsEndLine, IsFollowLine, IsFramesLine, IsServeLine, IsWatchLine};
+ghost use Rattle.live_cli.specs.Inner.CommandLine.{HasAddresses, HasCodes, HasIdentity, HasLimits, HasLinks, HasNames, HasRoom, HasSyscap, HasWaiting, IsCommandLine, IsEndLine, IsFollowLine, IsFramesLine, IsServeLine, IsWatchLine};
 ghost use Rattle.live_cli.specs.Inner.Spelling.{IsMisspelt};
 
 use clap::builder::ValueParser;
@@ -246,9 +246,9 @@ fn with_codes<'a>(alloc: Global, command: Command<'a>) -> Result<Command<'a>, Er
     Ok(command)
 }
 
-/// What an end says of itself.
-fn with_identity<'a>(alloc: Global, command: Command<'a>) -> Result<Command<'a>, Error>
-    ensures added { IfOk result (HasIdentity command.entry) }
+/// What an end says that it can do.
+fn with_syscap<'a>(alloc: Global, command: Command<'a>) -> Result<Command<'a>, Error>
+    ensures added { IfOk result (HasSyscap command.entry) }
     ensures memory { IfErr result (λ error. kind_of error ≡ ErrorKind.OutOfMemory) }
 {
     let syscap = option(
@@ -258,8 +258,17 @@ fn with_identity<'a>(alloc: Global, command: Command<'a>) -> Result<Command<'a>,
         "2001c3466",
         "SYSCAP of the Configuration, by 1 to 21 hex digits",
     );
-    let command = with_codes(alloc, command)?;
     let command = command.arg(syscap)?;
+    Ok(command)
+}
+
+/// What an end says of itself.
+fn with_identity<'a>(alloc: Global, command: Command<'a>) -> Result<Command<'a>, Error>
+    ensures added { IfOk result (HasIdentity command.entry) }
+    ensures memory { IfErr result (λ error. kind_of error ≡ ErrorKind.OutOfMemory) }
+{
+    let command = with_codes(alloc, command)?;
+    let command = with_syscap(alloc, command)?;
     Ok(command)
 }
 

@@ -34,6 +34,9 @@ HasCodes before =
     (with_rule (app_of before) (number (codes "ostype") (codes "18") 0 255))
     (number (codes "filesys") (codes "13") 0 255))
 
+abbrev pub HasSyscap : Command → Command → Type 0
+HasSyscap before = Becomes before (with_rule (app_of before) (option (codes "syscap") (codes "2001c3466")))
+
 abbrev pub HasIdentity : Command → Command → Type 0
 HasIdentity before =
     Becomes before
