@@ -12,7 +12,7 @@ ghost use Rattle.dap_text.specs.Words.{short};
 ghost use Rattle.dap_live.specs.Orders.{address_of};
 ghost use Rattle.decnet_frames.specs.Nodes.{node_of};
 ghost use Rattle.live_cli.specs.Words.{code_of, folded_of, names_of, syscap_of, daplive, ends_of, greatest_waiting, has_address, is_given as is_given_in, is_word as is_in_words, least_waiting, links_of, most_links, option as option_rule, options_of, task_in as task_of_rows, task_of, has_words as words_wanted, waiting_of};
-ghost use Rattle.live_cli.specs.Inner.CommandLine.{HasAddresses, HasIdentity, HasLimits, HasLinks, HasNames, HasRoom, HasWaiting, IsCommandLine, IsEndLine, IsFollowLine, IsFramesLine, IsServeLine, IsWatchLine};
+ghost use Rattle.live_cli.specs.Inner.CommandLine.{HasAddresses, HasCodes, HasIdentity, HasLimits, HasLinks, HasNames, HasRoom, HasSyscap, HasWaiting, IsCommandLine, IsEndLine, IsFollowLine, IsFramesLine, IsServeLine, IsWatchLine};
 ghost use Rattle.live_cli.specs.Inner.Spelling.{IsMisspelt};
 
 use clap::builder::ValueParser;
@@ -221,9 +221,9 @@ fn codes_of<'a>() -> ValueParser<'a>
     value_parser!(u16).range(0..=GREATEST_CODE as i64)
 }
 
-/// What an end says of itself.
-fn with_identity<'a>(alloc: Global, command: Command<'a>) -> Result<Command<'a>, Error>
-    ensures added { IfOk result (HasIdentity command.entry) }
+/// The codes of a Configuration.
+fn with_codes<'a>(alloc: Global, command: Command<'a>) -> Result<Command<'a>, Error>
+    ensures added { IfOk result (HasCodes command.entry) }
     ensures memory { IfErr result (λ error. kind_of error ≡ ErrorKind.OutOfMemory) }
 {
     let ostype = number(
@@ -242,6 +242,15 @@ fn with_identity<'a>(alloc: Global, command: Command<'a>) -> Result<Command<'a>,
         "FILESYS of the Configuration, 0 to 255",
         codes_of(),
     );
+    let command = command.arg(ostype)?.arg(filesys)?;
+    Ok(command)
+}
+
+/// What an end says that it can do.
+fn with_syscap<'a>(alloc: Global, command: Command<'a>) -> Result<Command<'a>, Error>
+    ensures added { IfOk result (HasSyscap command.entry) }
+    ensures memory { IfErr result (λ error. kind_of error ≡ ErrorKind.OutOfMemory) }
+{
     let syscap = option(
         alloc,
         "syscap",
@@ -249,7 +258,17 @@ fn with_identity<'a>(alloc: Global, command: Command<'a>) -> Result<Command<'a>,
         "2001c3466",
         "SYSCAP of the Configuration, by 1 to 21 hex digits",
     );
-    let command = command.arg(ostype)?.arg(filesys)?.arg(syscap)?;
+    let command = command.arg(syscap)?;
+    Ok(command)
+}
+
+/// What an end says of itself.
+fn with_identity<'a>(alloc: Global, command: Command<'a>) -> Result<Command<'a>, Error>
+    ensures added { IfOk result (HasIdentity command.entry) }
+    ensures memory { IfErr result (λ error. kind_of error ≡ ErrorKind.OutOfMemory) }
+{
+    let command = with_codes(alloc, command)?;
+    let command = with_syscap(alloc, command)?;
     Ok(command)
 }
 

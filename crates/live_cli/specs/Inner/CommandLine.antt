@@ -27,6 +27,16 @@ HasLimits before =
     (number (codes "window") (codes "8") 1 largest_window))
     (number (codes "buffer") (codes "1024") least_buffer greatest_message))
 
+abbrev pub HasCodes : Command → Command → Type 0
+HasCodes before =
+    Becomes before
+    (with_rule
+    (with_rule (app_of before) (number (codes "ostype") (codes "18") 0 255))
+    (number (codes "filesys") (codes "13") 0 255))
+
+abbrev pub HasSyscap : Command → Command → Type 0
+HasSyscap before = Becomes before (with_rule (app_of before) (option (codes "syscap") (codes "2001c3466")))
+
 abbrev pub HasIdentity : Command → Command → Type 0
 HasIdentity before =
     Becomes before
