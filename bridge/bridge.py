@@ -6,7 +6,7 @@ usage: bridge.py serve --interface IF|--udp LPORT:HOST:RPORT --node 1.2 [--files
        bridge.py copy FROM TO, bridge.py type NODE::NAME, bridge.py get NODE::NAME --number N,
        bridge.py put NODE::NAME TEXT [--number N]
        bridge.py probe --to NODE
-       bridge.py password NAME <PASSWORD
+       bridge.py password NAME [--rights get,put,..] <PASSWORD
 
 `serve` takes links to object 17 (FAL), one at a time or --links at once, and holds the files over all of them. `ask` opens one link to
 that object, reads requests, one a line as they stand behind `ask` of docs/LIVE.md, asks each when the report of the one

@@ -26,13 +26,11 @@ BUILT = pathlib.Path(__file__).resolve().parent.parent / "crates"
 DAPLIVE = BUILT / "daplive/out/daplive"
 DAPNSP = BUILT / "dapnsp/out/dapnsp"
 LONGEST = 16_777_216
-# so many segments an end takes or holds, from the next one on
-WINDOW = 8
 # inputs of that many are one with a line about as long as lines may be
 SELDOM = 400
 # so many packets make a capture, at most 16,777,216 bytes
 CAPTURE = 20_000
-# the only files that the talks make; lines give others
+# the files that the talks make, where no packet of them is altered; lines give others
 TALKED = [b"54454d50", b"54455854"]
 GIVEN = [b"46", b"47", b"5359532e444154", b"-"]
 
@@ -53,15 +51,17 @@ def matches(pattern):
 
 HEX, TEXT, ADDRESS = matches(rb"([0-9a-fA-F]{2})+"), matches(rb"-|([0-9a-fA-F]{2})+"), matches(rb"[0-9a-fA-F]{4}")
 BYTE, SHORT, LONG, ACCESS = number(255), number(65_535), number(4_294_967_295), number(15)
-BOTH = {
+ASK = {
     b">": [[HEX]],
     b"resend": [[]],
     b"ack": [[]],
     b"new": [[], [ADDRESS, ADDRESS], [ADDRESS, ADDRESS, LONG]],
 }
 SERVE = {
-    **BOTH,
+    **ASK,
+    b"new": [*ASK[b"new"], [ADDRESS, ADDRESS, LONG, ACCESS]],
     b"files": [[]],
+    b"drop": [[TEXT]],
     b"file": [[TEXT, one_of(b"seq", b"rel"), one_of(b"fixed", b"variable"), SHORT, LONG]],
     b"": [[one_of(b""), LONG, TEXT]],
 }
@@ -75,7 +75,7 @@ REQUESTS = {
     b"update": [[TEXT]],
     b"delete": [[]],
     b"rewind": [[]],
-    b"fetch": [[]],
+    b"fetch": [[], [one_of(b"each")]],
     b"continue": [[one_of(b"again", b"skip", b"abort")]],
     b"close": [[]],
     b"purge": [[]],
@@ -95,15 +95,7 @@ def is_good(role, line):
         if others[:1] == [b"store"]:
             return all(map(TEXT, others[1:]))
         return fits(others[1:], REQUESTS.get(others[0], [])) if others else False
-    return fits(others, (SERVE if role == "serve" else BOTH).get(word, []))
-
-
-def segment_number(packet):
-    """The number of the segment of a packet, behind the acknowledgements, which have their highest bit set."""
-    place = 10
-    while (field := int(packet[place + 2 : place + 4] + packet[place : place + 2], 16)) & 0x8000:
-        place += 4
-    return field & 0x0FFF
+    return fits(others, (SERVE if role == "serve" else ASK).get(word, []))
 
 
 # ---- What a line is answered.
@@ -120,6 +112,7 @@ ANSWERS = {
     b"files": r"((file|  )[^\n]+\n)*",
     b"file": r"(refused (busy|4000 1|4000 11)\n)?",
     b"": r"(refused (busy|4032 0|5000 [567])\n)?",
+    b"drop": r"(refused (busy|4032 0)\n)?",
     b"ask": rf"((asked \d+|refused ask-busy)\n{REPORTS}{PACKETS}(refused (unexpected-answer|ask-failed)\n)?"
     r"|refused (failed|ask-phase|ask-too-large|ask-failed)\n)",
 }
@@ -130,10 +123,13 @@ class Model:
     """What is known of an end by the lines that it was told, and by its answers."""
 
     def __init__(self, role):
-        self.role, self.waits, self.has_failed, self.has_come = role, 0, False, False
+        # the link is used: a packet came on it that it didn't refuse
+        self.role, self.waits, self.has_failed, self.is_used = role, 0, False, False
         self.link = (b"0202", b"0101") if role == "serve" else (b"0101", b"0202")
         # the files by their names: the words behind the name, and the records; whether a talk may have added others
         self.files, self.is_sure = {}, True
+        # the name of the file to which records are added, and those of all files that lines gave
+        self.given, self.by_lines = None, set()
 
     def goes_on(self, line, answer, waits):
         """What is wrong with the answer to a good line, or nothing."""
@@ -143,8 +139,8 @@ class Model:
         before, self.waits = self.waits, waits
         if self.has_failed and waits:
             return "packets wait on a link that has failed"
-        wrong = {b">": self.packet, b"new": self.new, b"files": self.list, b"file": self.file, b"": self.record}.get(
-            words[0], self.other)(words, answer)
+        wrong = {b">": self.packet, b"new": self.new, b"files": self.list, b"file": self.file, b"": self.record,
+                 b"drop": self.drop}.get(words[0], self.other)(words, answer)
         if not wrong and words[0] == b"resend" and answer.count("< ") != before:
             return f"{before} packets waited"
         return wrong
@@ -163,11 +159,9 @@ class Model:
             return "the link hasn't failed" if answer == "refused failed\n" else None
         if (packet[2:6], packet[6:10]) != tuple(word[2:] + word[:2] for word in self.link):
             return "a packet of another link is taken"
+        self.is_used = True
         if answer.startswith("accepted"):
-            self.has_come, self.is_sure = True, False
-        elif answer.startswith("early") and not self.has_come:
-            # One that is beyond the window isn't held.
-            self.has_come = segment_number(packet) <= WINDOW
+            self.is_sure = False
         return None
 
     def new(self, words, answer):
@@ -175,20 +169,22 @@ class Model:
         if is_setup != (answer == ""):
             return "whether the link can be so"
         if is_setup:
-            self.has_failed = self.has_come = False
+            self.has_failed = self.is_used = False
             self.link = tuple(word.lower() for word in words[1:3]) or self.link
         return "packets wait" if is_setup and self.waits else None
 
     def file(self, words, answer):
         name, org, rfm, mrs, mrn = words[1].lower(), words[2], words[3], int(words[4]), int(words[5])
-        wanted = ""
+        wanted, self.given = "", None
         if mrs > 32_767 or mrn > 2_147_483_647 or rfm == b"fixed" and not mrs:
             wanted = "refused 4000 11\n"
-        elif self.has_come:
+        elif self.is_used:
             wanted = "refused busy\n"
         elif name in self.files:
             wanted = "refused 4000 1\n"
         else:
+            self.given = name
+            self.by_lines.add(name)
             self.files[name] = ([org, rfm, b"%d" % mrs, b"%d" % (mrn if org == b"rel" else 0)], {})
         return None if answer == wanted else f"not {wanted!r}"
 
@@ -196,15 +192,12 @@ class Model:
         wanted = ""
         place, body = int(words[2]), words[3].lower()
         size = 0 if body == b"-" else len(body) // 2
-        if self.has_come:
+        if self.is_used:
             wanted = "refused busy\n"
-        elif not self.is_sure:
-            # The newest file may be one of a talk: what is answered stands, and files are looked at next.
-            return None
-        elif not self.files:
+        elif self.given not in self.files:
             wanted = "refused 4032 0\n"
         else:
-            (org, rfm, mrs, mrn), records = list(self.files.values())[-1]
+            (org, rfm, mrs, mrn), records = self.files[self.given]
             limit = int(mrn) or 2_147_483_647
             if size > 32_767 or rfm == b"fixed" and size != int(mrs) or rfm == b"variable" and 0 < int(mrs) < size:
                 wanted = "refused 5000 7\n"
@@ -215,6 +208,20 @@ class Model:
             else:
                 records[place] = body
         return None if answer == wanted else f"not {wanted!r}"
+
+    def drop(self, words, answer):
+        name = words[1].lower()
+        if answer == "refused 4032 0\n":
+            return "the file is there" if name in self.files else None
+        if answer:
+            # A link has it open, which a file has that a talk made or opened.
+            return None if self.is_used else "no link has it open"
+        if self.is_sure and name not in self.files:
+            return "there is no such file"
+        self.files.pop(name, None)
+        self.by_lines.discard(name)
+        self.given = None if name == self.given else self.given
+        return None
 
     def list(self, _words, answer):
         """Compares the files, and goes on with those that are there."""
@@ -230,7 +237,7 @@ class Model:
         if self.is_sure:
             return None if there == was and list(there) == list(was) else "other files"
         self.is_sure = True
-        kept = [name for name in was if name not in TALKED]
+        kept = [name for name in was if name in self.by_lines]
         if any(there.get(name) != was[name] for name in kept) or [name for name in there if name in kept] != kept:
             return "a file that was given is lost or changed"
         return None
@@ -316,10 +323,12 @@ class Input:
         return b"  %d %b" % (self.chance.choice([0, 1, 2, 3, 4, 5]), self.chance.randbytes(size).hex().encode() or b"-")
 
     def given(self):
-        """Files, and records behind them."""
+        """Files, and records behind them; some are dropped."""
         lines = []
         for _ in range(self.chance.randrange(1, 4)):
             lines += [self.file()] + [self.record() for _ in range(self.chance.randrange(6))]
+            if not self.chance.randrange(6):
+                lines += [b"drop " + self.chance.choice(GIVEN), self.record()]
         return lines
 
     def packet(self):
@@ -339,7 +348,7 @@ class Input:
         choice = self.chance.choice
         word = choice([*REQUESTS, b"store"])
         kinds = {TEXT: self.text, BYTE: self.number, SHORT: self.number, LONG: self.number, ACCESS: self.number}
-        others = [kinds[one]() if one in kinds else choice([b"key", b"rfa", b"again", b"skip", b"abort"])
+        others = [kinds[one]() if one in kinds else choice([b"key", b"rfa", b"again", b"skip", b"abort", b"each"])
                   for one in choice(REQUESTS.get(word, [[TEXT] * 3, []]))]
         return b" ".join([b"ask", word, *others])
 
@@ -350,6 +359,7 @@ class Input:
             lambda: b"resend", lambda: b"ack", lambda: b"files", lambda: b"new", self.packet, self.packet, self.packet,
             lambda: b"new " + choice([b"0202 0101", b"0101 0202", b"0303 0404"]),
             lambda: b"new 0202 0101 " + self.number(), self.file, self.record, self.request, self.request,
+            lambda: b"new 0202 0101 512 " + self.number(), lambda: b"drop " + choice([*GIVEN, *TALKED]),
         ]
         bad = [
             lambda: b"", lambda: b"# " + self.text(), lambda: b"#\0\xff\r", lambda: b" ", lambda: b"\0", lambda: b"\r",

@@ -98,6 +98,8 @@ UNREAD = [
     (["server"], 2),
     (["serve", "--local", "12"], 2),
     (["ask", "--window", "0"], 2),
+    (["ask", "--syscap", "g"], 2),
+    (["serve", "--names", "upper"], 2),
 ]
 # Lines of short answers, for which each read and each write is tried; the last has no end.
 SHORT = {

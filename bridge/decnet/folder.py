@@ -19,6 +19,7 @@ from decnet.texts import TextFault, lines_of, records_of
 OTHERS = ".daplive"
 TEXT = "seq variable 0 0"  # the attributes of a text
 HIDDEN = b"."
+DROP = "drop "  # how a line begins that removes a file
 EDITED = ".host"  # behind the name of a file that somebody edited meanwhile
 RANDOM_BYTES = 8
 MAX_NAME = 200  # bytes of a name here: there has to be room for what is put behind it
@@ -69,6 +70,7 @@ class Folder:
         """A KeptFault where it is no folder that can be written, or another bridge serves it."""
         self.path, self.lock = os.path.realpath(path), None
         self.known = {}  # by name: the digest of the records that are on the disk, and the state of the file that has them
+        self.left = {}  # by name: the state of a file that the live end refused
         self.others = []  # the lines that are in OTHERS
         self.told = []  # what is to be said
         try:
@@ -141,6 +143,53 @@ class Folder:
             raise TextFault(f"{os.fsdecode(path)}: {fault}") from fault
         self.known[name] = (digest_of(records), state_of(path))
         return records
+
+    def said(self):
+        """What is to be said, once."""
+        said, self.told = self.told, []
+        return said
+
+    def refused(self, line):
+        """Of which file a line is that a live end refuses, and why it may: the file is left alone then."""
+        if not line.startswith(FILE):
+            return self.path
+        name = bytes_in(line.split(" ")[1])
+        self.known.pop(name, None)
+        self.left[name] = state_of(self.place(name))
+        return f"{os.fsdecode(self.place(name))}: another file has this name"
+
+    # ---- what somebody else does
+
+    def changes(self):
+        """The lines by which a live end has what somebody did here since: files that are gone or have changed are dropped,
+        and those that are new, or have changed, are given."""
+        lines = []
+        try:
+            there = {name for name in os.listdir(os.fsencode(self.path)) if is_host_name(name) and self.is_plain(name)}
+            for name in sorted(self.known.keys() - there):
+                lines.append(f"{DROP}{digits(name)}")
+                del self.known[name]
+            for name in sorted(there - self.other_names()):
+                lines += self.changes_of(name)
+        except OSError as fault:
+            self.told.append(f"{os.fsdecode(fault.filename or self.path)}: {fault.strerror}")
+        return lines
+
+    def changes_of(self, name):
+        """The same of a file that is here."""
+        before, state = self.known.get(name, (None, self.left.get(name)))
+        if state is not None and state_of(self.place(name)) == state:
+            return []
+        try:
+            records = self.read(name)
+        except TextFault as fault:
+            self.told.append(f"{fault}: it is served as it was" if before is not None else f"{fault}: it isn't served")
+            return []
+        if self.known[name][0] == before:
+            return []
+        dropped = [] if before is None else [f"{DROP}{digits(name)}"]
+        return [*dropped, f"{FILE}{digits(name)} {TEXT}",
+                *(f"{RECORD}{number} {digits(record)}" for number, record in enumerate(records, 1))]
 
     # ---- writing
 
@@ -252,8 +301,7 @@ class FolderListing:
 
     def told(self):
         """What is to be said of it, once."""
-        told, self.folder.told = self.folder.told, []
-        return told
+        return self.folder.said()
 
     def take(self, line):
         try:

@@ -190,7 +190,7 @@ class Link:
         self.other = OtherData(clock)
         self.flow = Flow(FlowControl.NONE)
         self.waiting, self.is_told = Waiting(settings.waiting, settings.window), False
-        self.segment = settings.segment
+        self.segment, self.fac = settings.segment, None  # the most that it may do with files, where that is said
         self.acknowledged = 0  # the highest segment that the other end has
         self.pending = 0  # lines that the live end hasn't answered
         self.waits = 0  # how many of its packets wait to be acknowledged, as its last answer says
@@ -209,12 +209,13 @@ class Link:
         self.state = State.OPENING
         self.send_until_answered(nsp.connect(self.local, self.settings.segment, session), self.settings.tries)
 
-    def accept(self, connect):
-        """Takes the link that a connect initiate asks for; false where the end can't have it. The connect confirm goes
-        out when the live end has the link. Behind an acknowledgement the connect initiate doesn't come again: where the
-        link is kept, that waits too."""
+    def accept(self, connect, fac=None):
+        """Takes the link that a connect initiate asks for, which may do no more than `fac` says; false where the end can't
+        have it. The connect confirm goes out when the live end has the link. Behind an acknowledgement the connect initiate
+        doesn't come again: where the link is kept, that waits too."""
         if not self.read_sizes(connect):
             return False
+        self.fac = fac
         self.state = State.ACCEPTING
         if not self.end.is_kept:
             self.send(nsp.connect_ack(self.remote))
@@ -272,8 +273,9 @@ class Link:
         return True
 
     def begin(self, then):
-        """Gives the live end the link's addresses and segment size."""
-        self.ask_end(f"new {self.local:04x} {self.remote:04x} {self.segment}", then)
+        """Gives the live end the link's addresses and segment size, and the most that it may do."""
+        fac = "" if self.fac is None else f" {self.fac}"
+        self.ask_end(f"new {self.local:04x} {self.remote:04x} {self.segment}{fac}", then)
 
     def run(self):
         self.state, self.was_open = State.RUNNING, True

@@ -56,8 +56,8 @@ def open_wire(words):
 def start_end(words, signals):
     """The live end, which answers."""
     role = "serve" if words.role == "serve" else "ask"
-    named = ["window", "buffer", *(["waiting"] if role == "serve" else [])]
-    options = [word for name in named if getattr(words, name) for word in (f"--{name}", str(getattr(words, name)))]
+    named = ["window", "buffer", "ostype", "filesys", "syscap", *(["waiting", "names"] if role == "serve" else [])]
+    options = [word for name in named if getattr(words, name) is not None for word in (f"--{name}", str(getattr(words, name)))]
     has_links = role == "serve" and words.links > 1
     if has_links:
         options += ["--links", str(words.links)]
@@ -94,8 +94,8 @@ def keep_file(words):
 def load_files(words, kept, end, space, signals):
     """Gives a live end its files; whether some aren't yet where they are kept."""
     if words.folder is not None:
-        load(end, words.folder, kept.read_lines(), space, signals)
-        for text in kept.listing(None).told():
+        load(end, words.folder, kept.read_lines(), space, signals, kept.refused)
+        for text in kept.said():
             log.say(text)
         return False
     if words.files is None:

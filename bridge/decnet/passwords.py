@@ -23,7 +23,8 @@ def print_user(words, closed):
     password = read_typed() if sys.stdin.isatty() else sys.stdin.buffer.readline(PASSWORD_LIMIT).rstrip(b"\r\n")
     if not 0 < len(password) <= nsp.IMAGE_LIMIT:
         raise KeptFault(f"a password has 1 to {nsp.IMAGE_LIMIT} bytes")
-    print(os.fsdecode(folded(name)), make_hash(password))
+    rights = [words.rights] if words.rights is not None else []
+    print(os.fsdecode(folded(name)), make_hash(password), *rights)
     return GOOD
 
 

@@ -97,12 +97,13 @@ class Server(Role):
             return not (self.store and self.store.is_busy)
         return False
 
-    def checked(self, peer, packet, reason):
-        """The user and the password of a connect initiate are known, or there is a reason why they aren't."""
+    def checked(self, peer, packet, reason, fac):
+        """The user and the password of a connect initiate are known, and the most that the link may do; or there is a
+        reason why they aren't."""
         if reason is not None:
             self.refuse(peer, packet, reason)
         elif self.is_free(peer, packet):
-            self.take(peer, packet)
+            self.take(peer, packet, fac)
         self.look()
 
     def resume(self, left):
@@ -132,9 +133,10 @@ class Server(Role):
                 link.noted(f"a file that it wants is open over link {local:04x}, from node {node_text(holder.peer.node)}")
             holder.want(f"node {node_text(link.peer.node)} wants a file that is open over it")
 
-    def take(self, peer, packet):
+    def take(self, peer, packet, fac=None):
+        self.look_at_folder()
         link = self.link_to(peer)
-        if not link.accept(packet):
+        if not link.accept(packet, fac):
             self.node.send(peer, nsp.disconnect_confirm(packet.source, 0, Reason.NO_RESOURCES))
             self.log_refused(peer, packet, Reason.NO_RESOURCES)
             return
@@ -165,6 +167,28 @@ class Server(Role):
             self.end.remark("link -")
 
     # ---- files
+
+    def look_at_folder(self):
+        """Where no link is open the live end is given what somebody has changed in the folder, before it is told of the
+        next one."""
+        changes = getattr(self.keeper and self.keeper.kept, "changes", None)
+        if changes is None or self.links or self.keeper.is_due:
+            return
+        lines = changes()
+        for text in self.keeper.kept.said():
+            log.say(text)
+        if lines and self.settings.links == 1:
+            self.end.tell("new", Answer(lambda answer: None))  # so that no link is used
+        for _, line in self.space.noted(enumerate(lines)) if self.space else enumerate(lines):
+            self.end.queue(line, Answer(lambda answer, line=line: self.given(line, answer)))
+        self.end.write()
+
+    def given(self, line, answer):
+        """The live end has this of a file of the folder, or refuses it."""
+        if answer and line.startswith(FILE):
+            log.say(f"{self.keeper.kept.refused(line)}: {answer[0]}")
+        elif answer and NO_MEMORY in answer:
+            log.say(f"{self.keeper.kept.path}: {answer[-1]}: not all of what was changed is served")
 
     def files(self):
         readers, writers = super().files()
@@ -261,10 +285,12 @@ def tell_all(end, lines, check, signals):
     wait_for(lambda: not answers.lines, end, signals, tell_more)
 
 
-def load(end, path, lines, space, signals):
-    """Gives a live end files by such lines as `files` prints, each with its number; they come from `path`."""
-    def check(number, _line, answer):
-        raise KeptFault(f"{path}: line {number}: {answer[0]}", of_machine=answer[0] == NO_MEMORY)
+def load(end, path, lines, space, signals, named=None):
+    """Gives a live end files by such lines as `files` prints, each with its number; they come from `path`. `named` says of
+    which file a line is, where that isn't seen by its number."""
+    def check(number, line, answer):
+        where = named(line) if named else f"{path}: line {number}"
+        raise KeptFault(f"{where}: {answer[0]}", of_machine=answer[0] == NO_MEMORY)
 
     tell_all(end, space.noted(lines), check, signals)
 

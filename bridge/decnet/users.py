@@ -1,7 +1,7 @@
 """Who may open a link: the users of a file, with their passwords as salted hashes, and nodes.
 
-A line of the file is `NAME HASH`, as `bridge.py password` prints it, or `- -` where a link without a user is taken too.
-Empty lines, and those that begin with `#`, say nothing. Small letters and capitals are the same, in names and in passwords.
+A line of the file is `NAME HASH`, as `bridge.py password` prints it, or `- -` where a link without a user is taken too; behind
+it may stand the most that the link may do with files, as `get` or `get,put`. Empty lines, and those that begin with `#`, say nothing. Small letters and capitals are the same, in names and in passwords.
 """
 import collections
 import hashlib
@@ -14,6 +14,7 @@ import threading
 
 from decnet import log, nsp
 from decnet.locked import KeptFault, fault_of
+from decnet.messages import Fac
 from decnet.nsp import Reason
 
 COST = {"n": 1 << 14, "r": 8, "p": 1}
@@ -23,6 +24,7 @@ NOBODY = "-"  # the user of a link without one, and its hash
 MAX_BYTES = 1 << 20  # of a file of users
 MAX_WAITING = 16  # connect initiates that wait for their check; one more comes again
 DUMMY = bytes(SALT_BYTES)
+RIGHTS = {"get": Fac.GET, "put": Fac.PUT, "upd": Fac.UPDATE, "del": Fac.DELETE}
 
 
 def folded(data):
@@ -33,6 +35,16 @@ def make_hash(password, salt=None):
     """What stands in the file for a password."""
     salt = salt or os.urandom(SALT_BYTES)
     return f"scrypt:{salt.hex()}:{hashlib.scrypt(folded(password), salt=salt, dklen=HASH_BYTES, **COST).hex()}"
+
+
+def read_rights(word):
+    """The FAC of some rights, with commas between them; None where one of them is none."""
+    fac = 0
+    for name in word.split(","):
+        if name not in RIGHTS:
+            return None
+        fac |= RIGHTS[name]
+    return int(fac)
 
 
 def is_hash_of(text, password):
@@ -46,7 +58,7 @@ def is_name(name):
 
 
 def read_users(path):
-    """The hash of each user."""
+    """The hash and the FAC of each user."""
     users = {}
     try:
         with open(path, encoding="utf-8", errors="surrogateescape") as file:
@@ -59,13 +71,16 @@ def read_users(path):
         words = line.split()
         if not words or words[0].startswith("#"):
             continue
-        is_user = len(words) == 2 and words[0] != NOBODY and HASH.fullmatch(words[1])
-        if not is_user and words != [NOBODY, NOBODY]:
+        is_user = len(words) in (2, 3) and words[0] != NOBODY and HASH.fullmatch(words[1])
+        if not is_user and (words[:2] != [NOBODY, NOBODY] or len(words) > 3):
             raise KeptFault(f"{path}: line {number}: no NAME and HASH, as `bridge.py password` prints them")
+        fac = read_rights(words[2]) if len(words) == 3 else int(Fac.ALL)
+        if fac is None:
+            raise KeptFault(f"{path}: line {number}: '{words[2][:40]}' isn't some of get, put, upd and del, with commas between them")
         name = folded(os.fsencode(words[0]))
         if name in users:
             raise KeptFault(f"{path}: line {number}: {words[0]} is there twice")
-        users[name] = words[1]
+        users[name] = (words[1], fac)
     return users
 
 
@@ -82,22 +97,27 @@ class Users:
         return bool(os.stat(self.path).st_mode & (stat.S_IRGRP | stat.S_IROTH))
 
     def refusal(self, body):
-        """Why a link with this connect message isn't taken; None where it is. It takes the same time for a user that is
-        there and one that isn't."""
+        """Why a link with this connect message isn't taken; None where it is."""
+        return self.look_up(body)[0]
+
+    def look_up(self, body):
+        """The same, and the most that the link may do, as FAC. It takes the same time for a user that is there and one that
+        isn't."""
         session = nsp.read_session(body)
         if session is None:
-            return Reason.IMAGE_TOO_LONG
+            return Reason.IMAGE_TOO_LONG, 0
         try:
             users = read_users(self.path)
         except KeptFault as fault:
             log.say(str(fault))
-            return Reason.ACCESS_CONTROL
+            return Reason.ACCESS_CONTROL, 0
         if not session.user:
-            return None if NOBODY.encode() in users else Reason.ACCESS_CONTROL
-        text = users.get(folded(session.user), NOBODY)
+            _, fac = users.get(NOBODY.encode(), (NOBODY, None))
+            return (Reason.ACCESS_CONTROL, 0) if fac is None else (None, fac)
+        text, fac = users.get(folded(session.user), (NOBODY, 0))
         is_there = text != NOBODY
         is_good = is_hash_of(text if is_there else f"scrypt:{DUMMY.hex()}:", session.password)
-        return None if is_there and is_good else Reason.ACCESS_CONTROL
+        return (None, fac) if is_there and is_good else (Reason.ACCESS_CONTROL, 0)
 
 
 class Guard:
@@ -105,7 +125,8 @@ class Guard:
 
     def __init__(self, users):
         self.users, self.waiting, self.current = users, collections.OrderedDict(), None
-        self.checked = lambda peer, packet, reason: None  # told of each check that is over
+        self.checked = lambda peer, packet, reason, fac: None  # told of each check that is over
+        self.found = Reason.ACCESS_CONTROL, 0  # by the one that is over
         self.reading, self.writing = socket.socketpair()
 
     def check(self, peer, packet):
@@ -123,16 +144,16 @@ class Guard:
 
     def work(self, body):
         try:
-            self.reason = self.users.refusal(body)
+            self.found = self.users.look_up(body)
         except Exception:  # whatever it is, nobody enters by it
-            self.reason = Reason.ACCESS_CONTROL
+            self.found = Reason.ACCESS_CONTROL, 0
         self.writing.send(b"\0")
 
     def look(self):
         """A check is over."""
         self.reading.recv(1)
         (peer, packet), self.current = self.current, None
-        self.checked(peer, packet, self.reason)
+        self.checked(peer, packet, *self.found)
         self.begin()
 
     def files(self):

@@ -1,6 +1,7 @@
 """The words of the bridge's command line: its roles, their options, and what each may be."""
 import argparse
 import os
+import re
 import sys
 
 from decnet import nsp, options, program, udp
@@ -11,8 +12,10 @@ from decnet.nodes import find, read_names
 from decnet.remote import is_remote, read_remote
 from decnet.talks import Names, talks
 from decnet.texts import MAX_NUMBER, RECORD_LIMIT
+from decnet.users import read_rights
 
 PASSWORD_LIMIT = 65536
+SYSCAP = re.compile(r"[0-9A-Fa-f]{1,21}")
 TALKS = [talk.name for talk in talks(Names(""))]
 PEOPLE = ("copy", "type", "get", "put")  # the roles that name a file
 # what holds where an option isn't given; one that isn't here is None then
@@ -58,11 +61,24 @@ def number(least, most, kind=int):
     return read
 
 
+def hex_word(text):
+    """Bits in hex."""
+    if not SYSCAP.fullmatch(text):
+        raise argparse.ArgumentTypeError(f"{text[:40]} is no number of 1 to 21 hex digits")
+    return text
+
+
 def udp_word(text):
     try:
         return udp.read_ports(text)
     except ValueError as fault:
         raise argparse.ArgumentTypeError(str(fault)) from fault
+
+
+def rights_word(text):
+    if read_rights(text) is None:
+        raise argparse.ArgumentTypeError(f"{text[:40]} isn't some of get, put, upd and del, with commas between them")
+    return text
 
 
 def image_word(text):
@@ -107,6 +123,10 @@ def add_link(parser):
     parser.add_argument("--daplive", metavar="PROGRAM",
                         help="the live end (default $DAPLIVE, or ./daplive of this repository)")
     parser.add_argument("--log", metavar="FILE", help="write messages to a file, which SIGHUP opens again")
+    parser.add_argument("--ostype", type=number(0, 255), metavar="N", help="the system that this node says it is (default 18)")
+    parser.add_argument("--filesys", type=number(0, 255), metavar="N", help="its file system (default 13)")
+    parser.add_argument("--syscap", type=hex_word, metavar="HEX",
+                        help="what it says that it can do (default 2001c3466: what it can)")
 
 
 def add_keeping(parser):
@@ -120,6 +140,11 @@ def add_keeping(parser):
     parser.add_argument("--sync", choices=SYNCS, help="with --store: when the disk has to have it (default answers)")
     parser.add_argument("--growth", type=number(1 << 20, 1 << 40), metavar="BYTES",
                         help="with --store: close a link that lets it grow by more (default 1073741824)")
+
+
+def add_names(parser):
+    parser.add_argument("--names", choices=("exact", "folded"),
+                        help="whether DATA.TXT;1, [DIR]DATA.TXT and data.txt are one name (default exact)")
 
 
 def add_entry(parser):
@@ -202,11 +227,13 @@ def add_put(parser):
 
 def add_password(parser):
     parser.add_argument("user", metavar="NAME", help="whose password is on standard input")
+    parser.add_argument("--rights", type=rights_word, metavar="RIGHTS",
+                        help="the most that the user may do with files: get, put, upd, del, with commas between them (default all)")
 
 
 # of each role what it does, its options, and its other words
 ROLES = {
-    "serve": ("take links to object 17 (FAL)", (add_network, add_link, add_keeping, add_entry, add_limits), ()),
+    "serve": ("take links to object 17 (FAL)", (add_network, add_link, add_keeping, add_names, add_entry, add_limits), ()),
     "ask": ("ask a node for what standard input says", (add_network, add_link, add_other, add_asking), ()),
     "copy": ("copy a file from a node, or to one", (add_network, add_link, add_other, add_copying), (add_copied,)),
     "type": ("write a node's file as text", (add_network, add_link, add_other), (add_source,)),

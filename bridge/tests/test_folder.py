@@ -79,6 +79,51 @@ class ReadTest(FolderCase):
         self.assertFalse(left.exists())
 
 
+class ChangesTest(FolderCase):
+    """What somebody does in the folder while no link is open."""
+
+    def test_what_changed_is_given_and_what_is_gone_is_dropped(self):
+        self.put(a=b"one\n", b=b"two\n", c=b"three\n")
+        folder = self.open()
+        self.lines(folder)
+        self.assertEqual(folder.changes(), [])
+        self.put(b=b"two\nmore\n", d=b"four\n")
+        (self.path / "c").unlink()
+        (self.path / "a").touch()
+        self.assertEqual(folder.changes(), ["drop 63", "drop 62", *file_of("b", b"two", b"more"), *file_of("d", b"four")])
+        self.assertEqual(folder.changes(), [])
+        files = [*file_of("a", b"one"), *file_of("b", b"two", b"more"), *file_of("d", b"four", b"by a link")]
+        self.assertEqual(self.write_back(folder, files), ([], None))
+        self.assertEqual(self.texts(), {"a": b"one\n", "b": b"two\nmore\n", "d": b"four\nby a link\n"})
+        self.assertEqual(folder.changes(), [])
+
+    def test_what_can_be_no_file_stays_as_it_was(self):
+        self.put(a=b"one\n")
+        folder = self.open()
+        self.lines(folder)
+        self.put(a=b"x" * 32_768, b=b"y" * 32_768)
+        self.assertEqual(folder.changes(), [])
+        told = folder.said()
+        self.assertRegex(told[0], "/a: line 1 has more than 32767 bytes: it is served as it was$")
+        self.assertRegex(told[1], "/b: line 1 has more than 32767 bytes: it isn't served$")
+        told, fault = self.write_back(folder, file_of("a", b"by a link"))
+        self.assertIsNone(fault)
+        self.assertEqual(self.texts()["a.host"], b"x" * 32_768)
+        self.assertEqual(self.texts()["a"], b"by a link\n")
+
+    def test_a_file_that_the_live_end_refuses_is_left_alone(self):
+        self.put(a=b"one\n", A=b"two\n")
+        folder = self.open()
+        self.lines(folder)
+        self.assertEqual(folder.refused("file 41 seq variable 0 0"), f"{self.path}/A: another file has this name")
+        self.assertEqual(folder.refused("  1 41"), str(self.path))
+        self.assertEqual(folder.changes(), [])
+        self.assertEqual(self.write_back(folder, file_of("a", b"by a link")), ([], None))
+        self.assertEqual(self.texts(), {"a": b"by a link\n", "A": b"two\n"})
+        self.put(A=b"two and more\n")
+        self.assertEqual(folder.changes(), file_of("A", b"two and more"))
+
+
 class WriteTest(FolderCase):
     def test_only_what_changed_is_written(self):
         self.put(a=b"one\r\ntwo", b=b"old\n")

@@ -22,7 +22,7 @@ from tests import readings
 from tests.datagrams import UdpCase
 from tests.network import LIBC, Capture, Network, ip
 from tests.patterns import altered, good_frame, packets
-from tests.station import ASKING, CONFIGURATION, SERVING, SILENCE, Station, segment
+from tests.station import ASKING, CONFIGURATION, OWN_CONFIGURATION, SERVING, SILENCE, Station, segment
 from tests.support import (
     BRIDGE, PATIENCE, POLL, PROGRAM, PYTHON, SEED, Case, child_of, expect, expect_equal, file_lines, need_live_end,
     until)
@@ -331,7 +331,7 @@ class LinkTest(CapturedCase):
         station.say_hello()
         station.hear_nothing(nsp.SEGMENTS, "where nothing is wanted")
         station.request(2, modifier=Modifier.START)
-        expect_equal(station.hear_segments(1), CONFIGURATION, "the answer after a start")
+        expect_equal(station.hear_segments(1), OWN_CONFIGURATION, "the answer after a start")
         station.disconnect()
         self.stop(server)
 
@@ -544,7 +544,7 @@ class FaultTest(NetworkCase):
                 station.send_frame(frame)
         station.hear_all()
         station.say_hello()
-        expect_equal(station.hear_segments(1), CONFIGURATION, "the answer after bad frames")
+        expect_equal(station.hear_segments(1), OWN_CONFIGURATION, "the answer after bad frames")
         station.disconnect()
         self.stop(server)
         expect("Traceback" not in server.told(), server.told())

@@ -12,7 +12,7 @@ from decnet.journal import Parsed
 from decnet.nsp import FlowControl, Kind, Modifier, Reason
 from tests.datagrams import UdpCase
 from tests.patterns import altered
-from tests.station import CONFIGURATION, segment
+from tests.station import CONFIGURATION, OWN_CONFIGURATION, segment
 from tests.support import APART, PROGRAM, SEED, need_live_end, sweep_count, until
 
 HASTE = ["--resend", "0.1", "--tries", "100"]
@@ -271,4 +271,4 @@ class SizeTest(StoreCase):
         self.assertEqual(self.kept(), STORED)
 
 
-CONFIGURATION_ANSWER = CONFIGURATION
+CONFIGURATION_ANSWER = OWN_CONFIGURATION

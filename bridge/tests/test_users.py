@@ -60,6 +60,12 @@ class FileTest(Case):
         for data in ODD:
             self.assertEqual(some.refusal(data), Reason.IMAGE_TOO_LONG)
 
+    def test_rights(self):
+        some = self.users("- - get", f"SMITH {make_hash(b'S')}", f"JONES {make_hash(b'J')} get,put", f"BROWN {make_hash(b'B')} upd,del")
+        for user, password, found in ((b"", b"", (None, 2)), (b"SMITH", b"S", (None, 15)), (b"JONES", b"J", (None, 3)),
+                                      (b"BROWN", b"B", (None, 12)), (b"JONES", b"S", (34, 0)), (b"NONE", b"", (34, 0))):
+            self.assertEqual(some.look_up(nsp.session(user, password)), found, user)
+
     def test_a_link_without_a_user(self):
         some = self.users("- -", f"SMITH {make_hash(b'SECRET')}")
         self.assertIsNone(some.refusal(nsp.session()))
@@ -77,9 +83,12 @@ class FileTest(Case):
 
     def test_lines_that_are_none(self):
         good = make_hash(b"X")
-        for line in ("SMITH", f"SMITH {good} more", "SMITH secret", "SMITH -", f"SMITH {good[:-1]}", f"- {good}", "SMITH scrypt::"):
+        for line in ("SMITH", f"SMITH {good} get more", "SMITH secret", "SMITH -", f"SMITH {good[:-1]}", f"- {good}", "SMITH scrypt::"):
             with self.assertRaisesRegex(KeptFault, "line 2: no NAME and HASH"):
                 read_users(self.file("bad", ["# users", line]))
+        for rights in ("more", "get,", "get,get2", "GET", "15"):
+            with self.assertRaisesRegex(KeptFault, f"line 2: '{rights}' isn't some of get, put, upd and del"):
+                read_users(self.file("bad", ["# users", f"SMITH {good} {rights}"]))
         with self.assertRaisesRegex(KeptFault, "line 2: smith is there twice"):
             read_users(self.file("bad", [f"SMITH {good}", f"smith {good}"]))
         with self.assertRaisesRegex(KeptFault, "more than 1048576 bytes"):

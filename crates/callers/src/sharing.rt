@@ -3,6 +3,7 @@
 use crate::trouble::{Lines, Trouble};
 use dap_msg::item_at;
 use dap_shared::SharedFiles;
+use rec_file::Rights;
 use std::alloc::Global;
 
 /// A Configuration.
@@ -41,11 +42,46 @@ fn serve(
     Ok(())
 }
 
-/// Two links are served, one message after another.
+/// What is served then on a link that may only read: it can't make `F`.
+const OF_A_READER: &[&[u8]] = &[HELLO, CREATES];
+
+/// Drops the file `F`.
+fn drop_file(shared: &mut SharedFiles, out: &mut Lines) {
+    match shared.remove(b"F") {
+        Ok(()) => out.line(format_args!("sharing: F is dropped")),
+        Err(fault) => out.line(format_args!("sharing: F isn't dropped: {fault}")),
+    }
+}
+
+/// A link begins anew, on which an Access may only ask for GET: what it had open is closed.
+fn begin_to_read(shared: &mut SharedFiles, link: usize) -> Result<(), Trouble> {
+    if link >= shared.links() {
+        return Err(Trouble("a link"));
+    }
+    shared.begin(
+        link,
+        Rights {
+            get: true,
+            put: false,
+            upd: false,
+            del: false,
+        },
+    );
+    Ok(())
+}
+
+/// Two links are served, one message after another. Then the file is dropped, once the link that has it open begins
+/// anew.
 pub fn call(alloc: Global, out: &mut Lines) -> Result<(), Trouble> {
     let mut shared = SharedFiles::new(alloc, 1024, 2)?;
     for (link, message) in MESSAGES {
         serve(&mut shared, *link, message, out)?;
+    }
+    drop_file(&mut shared, out);
+    begin_to_read(&mut shared, 1)?;
+    drop_file(&mut shared, out);
+    for message in OF_A_READER {
+        serve(&mut shared, 1, message, out)?;
     }
     out.line(format_args!("sharing: {} files", shared.files().count()));
     Ok(())

@@ -1,5 +1,9 @@
 -- Every answer has a spelling, and none is longer than the peer takes.
 use Rattle.std.proofs.Common.{subst, ◌≡◌, ℕ, ◌+◌, ◌^◌, ◌<◌, ◌≤◌, Bool, true, false, List, [], ◌∷◌, ◌++◌, length, map, Option, Some, None, Result, Ok, Err, refl, sym, arith, lit≤, lit<}
+use Rattle.dap_accessed.specs.Setup.{lacks}
+use Rattle.rec_file.specs.declared.picks.Rights.{Rights}
+use Rattle.dap_accessed.specs.declared.setup.ServerSetup.{ServerSetup}
+use Rattle.dap_msg.specs.Fitting.{FieldsFit}
 use Rattle.std.proofs.lemmas.List.{append-nil}
 use Rattle.dap_accessed.specs.Groups.{next_answers, answers_after}
 use Rattle.dap_accessed.proofs.Cuts.{Answers-more, added-is}
@@ -36,12 +40,12 @@ use Rattle.dap_accessed.specs.declared.verbs.Verb.TheVariants as verbs
 use Rattle.std.specs.Prelude.{◌==◌, take_while, drop}
 use Rattle.std.specs.List.{prefix_len, AllByRecursion}
 use Rattle.std.proofs.lemmas.List.Sums.{take_while-cons}
-use Rattle.dap_msg.specs.BothEnds.{config_of, limit_of}
+use Rattle.dap_msg.specs.BothEnds.{limit_of}
 use Rattle.dap_accessed.specs.Standing.{Files, enters}
-use Rattle.dap_accessed.specs.Standing.{place_of, file_at, the_file, Place, Fresh, Ready, Opened, Connected, Store, Stopped, Group, Standing, Scene, Effect}
+use Rattle.dap_accessed.specs.Standing.{place_by, file_at, the_file, Place, Fresh, Ready, Opened, Connected, Store, Stopped, Group, Standing, Scene, Effect}
 use Rattle.dap_accessed.specs.Past.{asked_shape, kept_attributes, is_dropping, ordinal_so_far, next_ordinal}
 use Rattle.dap_accessed.specs.Replies.{bare_status, reason_status, sync_status, reason_of, refusal_status, done_status, record_status, too_large, completed, org_number, format_number, opened_with}
-use Rattle.dap_accessed.specs.Accesses.{open_file, create_file, access_file, end_stream, complete}
+use Rattle.dap_accessed.specs.Accesses.{permitted, rights_to_create, rights_to_open, make_file, open_file, create_file, access_file, end_stream, complete}
 use Rattle.dap_accessed.specs.Records.{at_number, uncurrent, verb_of, get_pick, got, record_got, Change, Putting, Updating, changed, fits_limit, filedata_of}
 use Rattle.dap_accessed.specs.Transfers.{fetch, fetch_ends, continue_refused, continue_fetch, store_one, stored_answers, continue_store}
 use Rattle.dap_msg.specs.BothEnds.{is_too_small}
@@ -136,7 +140,7 @@ module _ (limit : ℕ) (least : least_buffer ≤ limit) where
   all_recorded (r ∷ rs) h =
       subst (λ (l : List (ℕ × List ℕ)). AreSendable limit (map filedata_of l)) (sym (take_while-cons (fits_limit limit) r rs)) (leads r rs (fits_limit limit r) refl h.0 (all_recorded rs h.1))
 
-module _ (own : ℕ) (small_own : own < 2 ^ 16) (scene : Scene) (files : AllFiles scene.files) (least : least_buffer ≤ scene.limit) where
+module _ (own : ServerSetup) (small_own : FieldsFit (Config own.identity)) (scene : Scene) (files : AllFiles scene.files) (least : least_buffer ≤ scene.limit) where
   abbrev Sends : Effect → Type 0
   Sends e = AreSendable scene.limit e.answers
 
@@ -145,23 +149,31 @@ module _ (own : ℕ) (small_own : own < 2 ^ 16) (scene : Scene) (files : AllFile
 
   -- ---- Accesses.
 
-  opening : (fac : ℕ) (at : Option ℕ) → IfSome at (λ n. n < length scene.files) → Sends (open_file scene fac at)
-  opening fac None h = (bare scene.limit least 0x4032 (lit< tt), tt)
-  opening fac (Some at) h = opened scene.limit least (file_at at scene.files).shape (file-there scene.files at files h).shape
-
-  creating : (name : List ℕ) (fac : ℕ) (at : Option ℕ) (shape : Option Shape) → Good shape → Sends (create_file scene name fac at shape)
-  creating name fac (Some at) shape g = (reasoned scene.limit least 0x4000 1 [] (lit< tt) (lit≤ tt), tt)
-  creating name fac None None g = (reasoned scene.limit least 0x4000 11 [] (lit< tt) (lit≤ tt), tt)
-  creating name fac None (Some shape) g = opened scene.limit least shape g
-
   either : (b : Bool) (one two : Effect) → Sends one → Sends two → Sends (if b then one else two)
   either true one two h k = h
   either false one two h k = k
 
-  accessing : (a : AccessFields) (shape : Option Shape) → Good shape → Sends (access_file scene a shape)
+  permitting : (asked : Rights) (e : Effect) → Sends e → Sends (permitted own asked scene e)
+  permitting asked e h = either (lacks own.most asked) _ _ (reasoned scene.limit least 0x4000 2 [] (lit< tt) (lit≤ tt), tt) h
+
+  opening : (fac : ℕ) (at : Option ℕ) → IfSome at (λ n. n < length scene.files) → Sends (open_file own scene fac at)
+  opening fac None h = (bare scene.limit least 0x4032 (lit< tt), tt)
+  opening fac (Some at) h =
+      permitting (rights_to_open fac) _ (opened scene.limit least (file_at at scene.files).shape (file-there scene.files at files h).shape)
+
+  making : (name : List ℕ) (fac : ℕ) (shape : Option Shape) → Good shape → Sends (make_file scene name fac shape)
+  making name fac None g = (reasoned scene.limit least 0x4000 11 [] (lit< tt) (lit≤ tt), tt)
+  making name fac (Some shape) g = opened scene.limit least shape g
+
+  creating : (name : List ℕ) (fac : ℕ) (at : Option ℕ) (shape : Option Shape) → Good shape → Sends (create_file own scene name fac at shape)
+  creating name fac (Some at) shape g = (reasoned scene.limit least 0x4000 1 [] (lit< tt) (lit≤ tt), tt)
+  creating name fac None shape g = permitting (rights_to_create fac) _ (making name fac shape g)
+
+  accessing : (a : AccessFields) (shape : Option Shape) → Good shape → Sends (access_file own scene a shape)
   accessing a shape g =
-      either (a.func == codes.accfunc.opening) _ _ (opening a.fac (place_of a.name scene.files) (place-within a.name scene.files))
-      (either (a.func == codes.accfunc.creating) _ _ (creating a.name a.fac (place_of a.name scene.files) shape g) (bare scene.limit least 0x20C0 (lit< tt), tt))
+      let found = place_by own.names a.name scene.files in
+      either (a.func == codes.accfunc.opening) _ _ (opening a.fac found (place-within own.names a.name scene.files))
+      (either (a.func == codes.accfunc.creating) _ _ (creating a.name a.fac found shape g) (bare scene.limit least 0x20C0 (lit< tt), tt))
 
   ending-sends : (o : OpenFile) (place : Place) → Sends (end_stream scene o place)
   ending-sends o (Opened p) = (bare scene.limit least (codes.out_of_place codes.types.accomp) (lit< tt), tt)
@@ -261,9 +273,9 @@ module _ (own : ℕ) (small_own : own < 2 ^ 16) (scene : Scene) (files : AllFile
     with-second change s (Whole (Filedata r body)) h = second change s body
     with-second change s (Whole message) h = (out scene.limit least message h, tt)
 
-  configuring : (small : Bool) (bufsiz : ℕ) → AreSendable scene.limit (if small then enters scene Fresh (bare_status (codes.invalid codes.types.config) ∷ []) else enters (record scene { limit = limit_of bufsiz }) Ready (config_of own ∷ [])).answers
+  configuring : (small : Bool) (bufsiz : ℕ) → AreSendable scene.limit (if small then enters scene Fresh (bare_status (codes.invalid codes.types.config) ∷ []) else enters (record scene { limit = limit_of bufsiz }) Ready (Config own.identity ∷ [])).answers
   configuring true bufsiz = (bare scene.limit least 0x9040 (lit< tt), tt)
-  configuring false bufsiz = (short scene.limit least _ (answers_fit.config own small_own), tt)
+  configuring false bufsiz = (short scene.limit least _ (answers_fit.identity own.identity small_own), tt)
 
   of-message : (past : List Group) (place : Place) → IsOpenAt scene.files place → (m : Message) → type_of m < 256 → SendsIn (turn_in own scene past place m)
   of-message past Fresh h (Config c) t = configuring (is_too_small c.bufsiz) c.bufsiz
@@ -295,7 +307,7 @@ module _ (own : ℕ) (small_own : own < 2 ^ 16) (scene : Scene) (files : AllFile
 
 -- ---- One item more, and every list of items.
 
-module _ (own : ℕ) (small : own < 2 ^ 16) (first : Files) (good : AreFiles first) where
+module _ (own : ServerSetup) (small : FieldsFit (Config own.identity)) (first : Files) (good : AreFiles first) where
   one-sends : (s : Standing) (b : Option Begun) (item : Item) → IsSound (record { standing = s; begun = b }) → HasShortType item → AreSendable s.scene.limit (answers_after own s b item)
   one-sends s None item h t =
       let h = h.standing in
@@ -318,7 +330,7 @@ fit-both : (one two : List Message) → AllFit one → AllFit two → AllFit (on
 fit-both [] two h k = k
 fit-both (m ∷ one) two h k = (h.0, fit-both one two h.1 k)
 
-fit-on : (own : ℕ) → own < 2 ^ 16 → (first : Files) → AreFiles first → (before more : List Item) → AllFit (Answers own first before) → AllByRecursion IsRead more → AllFit (Answers own first (before ++ more))
+fit-on : (own : ServerSetup) → FieldsFit (Config own.identity) → (first : Files) → AreFiles first → (before more : List Item) → AllFit (Answers own first before) → AllByRecursion IsRead more → AllFit (Answers own first (before ++ more))
 fit-on own small first good before [] h r = subst (λ (l : List Item). AllFit (Answers own first l)) (sym (append-nil before)) h
 fit-on own small first good before (item ∷ more) h r =
     let here = added own first before item in
@@ -326,5 +338,5 @@ fit-on own small first good before (item ∷ more) h r =
     let one : AllFit (Answers own first (before ++ item ∷ [])) = subst AllFit (sym (Answers-more own first before item)) (fit-both (Answers own first before) here h fit) in
     subst (λ (l : List Item). AllFit (Answers own first l)) (append_assoc before (item ∷ []) more) (fit-on own small first good (before ++ item ∷ []) more one r.1)
 
-pub all-fit : (own : ℕ) → own < 2 ^ 16 → (first : Files) → AreFiles first → (items : List Item) → AllByRecursion IsRead items → AllFit (Answers own first items)
+pub all-fit : (own : ServerSetup) → FieldsFit (Config own.identity) → (first : Files) → AreFiles first → (items : List Item) → AllByRecursion IsRead items → AllFit (Answers own first items)
 all-fit own small first good items r = fit-on own small first good [] items tt r

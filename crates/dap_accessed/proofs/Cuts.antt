@@ -1,5 +1,6 @@
 -- One item more finishes a group or begins one.
 use Rattle.std.proofs.Common.{◌≡◌, ℕ, List, [], ◌∷◌, ◌++◌, length, drop, refl, ap, sym, ◌∙◌}
+use Rattle.dap_accessed.specs.declared.setup.ServerSetup.{ServerSetup}
 use Rattle.std.proofs.Math.Seq.{drop-append_seam}
 use Rattle.std.specs.Prelude.{Option, Some, None}
 use Rattle.std.proofs.lemmas.List.{append-nil}
@@ -10,7 +11,7 @@ use Rattle.dap_accessed.specs.Effects.{Begun, Turn, Does, Begins, turn_of}
 use Rattle.dap_accessed.specs.Groups.{Grouped, over, after_two, grouped, stands_after, added, answers_in, Answers, one_more, next_group, more_after, next_answers, answers_after, answers_of}
 use Rattle.dap_accessed.specs.Present.{present_of}
 
-pub cut-more : (own : ℕ) (s : Standing) (items : List Item) (item : Item) → grouped own s (items ++ item ∷ []) ≡ one_more own (grouped own s items) item
+pub cut-more : (own : ServerSetup) (s : Standing) (items : List Item) (item : Item) → grouped own s (items ++ item ∷ []) ≡ one_more own (grouped own s items) item
 cut-more own s [] item = refl
 cut-more own s (first ∷ []) item =
     elim (turn_of own s first) as (λ (t : Turn).
@@ -32,23 +33,23 @@ next_answers-more s item (Does effect) = refl
 next_answers-more s item (Begins begun) = sym (append-nil (answers_in s.past))
 
 -- the answers after an item are those before and its own
-pub answers_after-more : (own : ℕ) (s : Standing) (b : Option Begun) (item : Item) → answers_in (more_after own s b item).standing.past ≡ answers_in s.past ++ answers_after own s b item
+pub answers_after-more : (own : ServerSetup) (s : Standing) (b : Option Begun) (item : Item) → answers_in (more_after own s b item).standing.past ≡ answers_in s.past ++ answers_after own s b item
 answers_after-more own s None item = next_answers-more s item (turn_of own s item)
 answers_after-more own s (Some begun) item = refl
 
-Answers-then : (own : ℕ) (first : Files) (items : List Item) (item : Item) → Answers own first (items ++ item ∷ []) ≡ Answers own first items ++ answers_of own (stands_after own first items) item
+Answers-then : (own : ServerSetup) (first : Files) (items : List Item) (item : Item) → Answers own first (items ++ item ∷ []) ≡ Answers own first items ++ answers_of own (stands_after own first items) item
 Answers-then own first items item =
     let c = stands_after own first items in
     ap (λ (c : Grouped). answers_in c.standing.past) (cut-more own (start first) items item) ∙ answers_after-more own c.standing c.begun item
 
 -- what an item adds is what the end answers from where it stands
-pub added-is : (own : ℕ) (first : Files) (items : List Item) (item : Item) → added own first items item ≡ answers_of own (stands_after own first items) item
+pub added-is : (own : ServerSetup) (first : Files) (items : List Item) (item : Item) → added own first items item ≡ answers_of own (stands_after own first items) item
 added-is own first items item =
     ap (drop (length (Answers own first items))) (Answers-then own first items item) ∙ drop-append_seam (Answers own first items) (answers_of own (stands_after own first items) item)
 
 -- The answers to a list and one item more are those to the list, and those that the item adds.
-pub Answers-more : (own : ℕ) (first : Files) (items : List Item) (item : Item) → Answers own first (items ++ item ∷ []) ≡ Answers own first items ++ added own first items item
+pub Answers-more : (own : ServerSetup) (first : Files) (items : List Item) (item : Item) → Answers own first (items ++ item ∷ []) ≡ Answers own first items ++ added own first items item
 Answers-more own first items item = Answers-then own first items item ∙ ap (λ (l : List Message). Answers own first items ++ l) (sym (added-is own first items item))
 
-pub present-more : (own : ℕ) (first : Files) (items : List Item) (item : Item) → present_of own (stands_after own first (items ++ item ∷ [])) ≡ present_of own (one_more own (stands_after own first items) item)
+pub present-more : (own : ServerSetup) (first : Files) (items : List Item) (item : Item) → present_of own (stands_after own first (items ++ item ∷ [])) ≡ present_of own (one_more own (stands_after own first items) item)
 present-more own first items item = ap (present_of own) (cut-more own (start first) items item)

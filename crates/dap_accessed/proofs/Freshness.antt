@@ -1,5 +1,6 @@
 -- An end is fresh where no Config was served.
 use Rattle.std.proofs.Common.{◌≡◌, ℕ, Bool, true, false, List, [], ◌∷◌, ◌++◌, Option, Some, None, refl, ap, sym, subst, ◌∙◌, append_assoc}
+use Rattle.dap_accessed.specs.declared.setup.ServerSetup.{ServerSetup}
 use Rattle.std.specs.Prelude.{if◌then◌else◌}
 use Rattle.std.proofs.lemmas.List.{append-nil}
 use Rattle.dap_msg.specs.declared.items.Item.{Item}
@@ -38,27 +39,27 @@ group-fresh s None e = place-fresh s.place (looked_back s.place s.past) e
 group-fresh s (Some b) e = absurd (within-late b.change b.opened b.stream e)
 
 pub is-fresh : (p : Present) → p.phase ≡ phases.Fresh → IsFresh p
-is-fresh p e = record { is = λ first items h. (let c = stands_after p.own first items in group-fresh c.standing c.begun (ap (λ (q : Present). q.phase) (sym h) ∙ e)) }
+is-fresh p e = record { is = λ first items h. (let c = stands_after p.setup first items in group-fresh c.standing c.begun (ap (λ (q : Present). q.phase) (sym h) ∙ e)) }
 
 -- ---- Before a Config no group is begun.
 
 abbrev IsWhole : Grouped → Type 0
 IsWhole c = c.standing.place ≡ Fresh → c.begun ≡ None
 
-does : (own : ℕ) (s : Standing) (item : Item) (begun : Begun) → turn_of own (record s { place = Fresh }) item ≡ Begins begun → ⊥
+does : (own : ServerSetup) (s : Standing) (item : Item) (begun : Begun) → turn_of own (record s { place = Fresh }) item ≡ Begins begun → ⊥
 does own s (Malformed fault) begun e = cc
 does own s (Whole message) begun e = cc
 
-whole-by : (own : ℕ) (s : Standing) (item : Item) (t : Turn) → turn_of own s item ≡ t → IsWhole (next_group s item t)
+whole-by : (own : ServerSetup) (s : Standing) (item : Item) (t : Turn) → turn_of own s item ≡ t → IsWhole (next_group s item t)
 whole-by own s item (Does effect) e = λ at. refl
 whole-by own s item (Begins begun) e = λ at.
     absurd (does own s item begun (ap (λ (p : Place). turn_of own (record s { place = p }) item) (sym at) ∙ e))
 
-whole-one : (own : ℕ) (s : Standing) (b : Option Begun) (item : Item) → IsWhole (more_after own s b item)
+whole-one : (own : ServerSetup) (s : Standing) (b : Option Begun) (item : Item) → IsWhole (more_after own s b item)
 whole-one own s None item = whole-by own s item (turn_of own s item) refl
 whole-one own s (Some b) item = λ at. refl
 
-whole-on : (own : ℕ) (first : Files) (before more : List Item) → IsWhole (stands_after own first before) → IsWhole (stands_after own first (before ++ more))
+whole-on : (own : ServerSetup) (first : Files) (before more : List Item) → IsWhole (stands_after own first before) → IsWhole (stands_after own first (before ++ more))
 whole-on own first before [] h = subst (λ (l : List Item). IsWhole (stands_after own first l)) (sym (append-nil before)) h
 whole-on own first before (item ∷ more) h =
     let c = stands_after own first before in
@@ -70,5 +71,5 @@ fresh-phase s b at none = rw (none, at) refl
 
 pub is-late : (p : Present) → (p.phase ≡ phases.Fresh → ⊥) → IsLate p
 is-late p late = record {
-  isnt = λ first items h at. (let c = stands_after p.own first items in late (ap (λ (q : Present). q.phase) h ∙ fresh-phase c.standing c.begun at (whole-on p.own first [] items (λ e. refl) at)));
+  isnt = λ first items h at. (let c = stands_after p.setup first items in late (ap (λ (q : Present). q.phase) h ∙ fresh-phase c.standing c.begun at (whole-on p.setup first [] items (λ e. refl) at)));
 }

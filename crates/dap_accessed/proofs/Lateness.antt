@@ -1,5 +1,7 @@
 -- Where a Config was served, no later item takes the end back; and before that nothing depends on the files that it has.
 use Rattle.std.proofs.Common.{◌≡◌, ℕ, ◌+◌, Bool, true, false, List, [], ◌∷◌, ◌++◌, Option, Some, None, Result, Ok, Err, refl, ap, sym, subst, ◌∙◌, append_assoc}
+use Rattle.dap_accessed.specs.Setup.{lacks}
+use Rattle.dap_accessed.specs.declared.setup.ServerSetup.{ServerSetup}
 use Rattle.std.specs.Prelude.{if◌then◌else◌, ◌==◌, take_while, drop, unwrap_or}
 use Rattle.std.specs.FinMap as map
 use Rattle.std.specs.List.{prefix_len}
@@ -9,7 +11,7 @@ use Rattle.dap_msg.specs.declared.message.Message.{Message}
 use Rattle.dap_msg.specs.declared.message.ControlFields.{ControlFields}
 use Rattle.dap_msg.specs.declared.message.AccessFields.{AccessFields}
 use Rattle.dap_msg.specs.declared.message.Message.TheVariants.{Config, Access, Control, Contran, Accomp, Filedata, Other}
-use Rattle.dap_msg.specs.BothEnds.{is_too_small, limit_of, config_of}
+use Rattle.dap_msg.specs.BothEnds.{is_too_small, limit_of}
 use Rattle.dap_msg.specs.declared.items.Item.{Item}
 use Rattle.dap_msg.specs.declared.items.Item.TheVariants.{Whole, Malformed}
 use Rattle.rec_file.specs.declared.shapes.Shape.{Shape}
@@ -20,10 +22,10 @@ use Rattle.rec_file.specs.Acts.{StreamVal, act, get_record}
 use Rattle.dap_accessed.specs.declared.phase.OpenFile.{OpenFile}
 use Rattle.dap_accessed.specs.declared.verbs.Verb.{Verb}
 use Rattle.dap_accessed.specs.declared.verbs.Verb.TheVariants as verbs
-use Rattle.dap_accessed.specs.Standing.{Files, place_of, the_file, Place, Fresh, Ready, Opened, Connected, Store, Stopped, Group, Standing, Scene, Effect, start, enters}
+use Rattle.dap_accessed.specs.Standing.{Files, place_by, the_file, Place, Fresh, Ready, Opened, Connected, Store, Stopped, Group, Standing, Scene, Effect, start, enters}
 use Rattle.dap_accessed.specs.Past.{asked_shape, kept_attributes, is_dropping, ordinal_so_far}
 use Rattle.dap_accessed.specs.Replies.{bare_status, too_large}
-use Rattle.dap_accessed.specs.Accesses.{open_file, create_file, access_file, end_stream, complete}
+use Rattle.dap_accessed.specs.Accesses.{permitted, rights_to_create, rights_to_open, make_file, open_file, create_file, access_file, end_stream, complete}
 use Rattle.dap_accessed.specs.Records.{verb_of, get_pick, got, record_got, at_number, filedata_of, fits_limit, uncurrent, Change, Putting, Updating, changed}
 use Rattle.dap_accessed.specs.Transfers.{fetch, fetch_ends, continue_fetch}
 use Rattle.dap_accessed.specs.Effects.{Begun, Turn, Does, Begins, control_opened, control_connected, turn_in, turn_of, effect_with}
@@ -48,19 +50,23 @@ module _ (scene : Scene) where
   either true one two h k = h
   either false one two h k = k
 
-  opening : (fac : ℕ) (at : Option ℕ) → Late (open_file scene fac at)
-  opening fac None = refl
-  opening fac (Some at) = refl
+  opening : (own : ServerSetup) (fac : ℕ) (at : Option ℕ) → Late (open_file own scene fac at)
+  opening own fac None = refl
+  opening own fac (Some at) = either (lacks own.most (rights_to_open fac)) _ _ refl refl
 
-  creating : (name : List ℕ) (fac : ℕ) (at : Option ℕ) (shape : Option Shape) → Late (create_file scene name fac at shape)
-  creating name fac (Some at) shape = refl
-  creating name fac None None = refl
-  creating name fac None (Some shape) = refl
+  making : (name : List ℕ) (fac : ℕ) (shape : Option Shape) → Late (make_file scene name fac shape)
+  making name fac None = refl
+  making name fac (Some shape) = refl
 
-  accessing : (a : AccessFields) (shape : Option Shape) → Late (access_file scene a shape)
-  accessing a shape =
-      either (a.func == codes.accfunc.opening) _ _ (opening a.fac (place_of a.name scene.files))
-      (either (a.func == codes.accfunc.creating) _ _ (creating a.name a.fac (place_of a.name scene.files) shape) refl)
+  creating : (own : ServerSetup) (name : List ℕ) (fac : ℕ) (at : Option ℕ) (shape : Option Shape) → Late (create_file own scene name fac at shape)
+  creating own name fac (Some at) shape = refl
+  creating own name fac None shape = either (lacks own.most (rights_to_create fac)) _ _ refl (making name fac shape)
+
+  accessing : (own : ServerSetup) (a : AccessFields) (shape : Option Shape) → Late (access_file own scene a shape)
+  accessing own a shape =
+      let found = place_by own.names a.name scene.files in
+      either (a.func == codes.accfunc.opening) _ _ (opening own a.fac found)
+      (either (a.func == codes.accfunc.creating) _ _ (creating own a.name a.fac found shape) refl)
 
   ended : (o : OpenFile) (place : Place) → Late (end_stream scene o place)
   ended o (Opened p) = refl
@@ -125,9 +131,9 @@ module _ (scene : Scene) where
     with-second change s (Whole (Filedata r body)) = second change s body
     with-second change s (Whole message) = refl
 
-  of-message : (own : ℕ) (past : List Group) (place : Place) → is_late place ≡ true → (m : Message) → LateTurn (turn_in own scene past place m)
+  of-message : (own : ServerSetup) (past : List Group) (place : Place) → is_late place ≡ true → (m : Message) → LateTurn (turn_in own scene past place m)
   of-message own past Fresh h m = cc
-  of-message own past Ready h (Access a) = accessing a (asked_shape (kept_attributes past))
+  of-message own past Ready h (Access a) = accessing own a (asked_shape (kept_attributes past))
   of-message own past Ready h m = refl
   of-message own past (Opened o) h (Control c) = opened-control o (verb_of c)
   of-message own past (Opened o) h (Accomp c) = completing c.func o (Opened o) refl
@@ -143,7 +149,7 @@ module _ (scene : Scene) where
   of-message own past (Stopped o s) h (Accomp c) = completing c.func o (Stopped o s) refl
   of-message own past (Stopped o s) h m = refl
 
-  pub of-item : (own : ℕ) (past : List Group) (place : Place) → is_late place ≡ true → (item : Item) → LateTurn (turn_of own (record { scene = scene; place = place; past = past }) item)
+  pub of-item : (own : ServerSetup) (past : List Group) (place : Place) → is_late place ≡ true → (item : Item) → LateTurn (turn_of own (record { scene = scene; place = place; past = past }) item)
   of-item own past place h (Malformed fault) = h
   of-item own past place h (Whole m) = of-message own past place h m
 
@@ -156,7 +162,7 @@ next-late : (s : Standing) (item : Item) (t : Turn) → is_late s.place ≡ true
 next-late s item (Does e) h late = late
 next-late s item (Begins b) h late = h
 
-more-late : (own : ℕ) (s : Standing) (b : Option Begun) (item : Item) → is_late s.place ≡ true → LateThen (more_after own s b item)
+more-late : (own : ServerSetup) (s : Standing) (b : Option Begun) (item : Item) → is_late s.place ≡ true → LateThen (more_after own s b item)
 more-late own s None item h = next-late s item (turn_of own s item) h (of-item s.scene own s.past s.place h item)
 more-late own s (Some b) item h = with-second s.scene b.opened b.change b.stream item
 
@@ -167,7 +173,7 @@ abbrev pub with_files : Files → Grouped → Grouped
 with_files files c = record c { standing = record c.standing { scene = record c.standing.scene { files = files } } }
 
 -- these files are those that it had at first, and it stands so whatever these are
-pub record IsOfAny (own : ℕ) (first : Files) (items : List Item) : Type 0 where
+pub record IsOfAny (own : ServerSetup) (first : Files) (items : List Item) : Type 0 where
   pub files : (stands_after own first items).standing.scene.files ≡ first
   pub any : (other : Files) → stands_after own other items ≡ with_files other (stands_after own first items)
   pub whole : (stands_after own first items).begun ≡ None
@@ -184,34 +190,34 @@ fresh_of (Stopped o s) e = cc
 abbrev given_files : Files → Standing → Standing
 given_files other s = record s { scene = record s.scene { files = other } }
 
-abbrev after_one : ℕ → Standing → Item → Grouped
+abbrev after_one : ServerSetup → Standing → Item → Grouped
 after_one own s item = next_group s item (turn_of own s item)
 
 -- an item moves no file, and does the same whatever files there are
-record DoesAnyway (own : ℕ) (s : Standing) (item : Item) : Type 0 where
+record DoesAnyway (own : ServerSetup) (s : Standing) (item : Item) : Type 0 where
   files : (after_one own s item).standing.scene.files ≡ s.scene.files
   any : (other : Files) → after_one own (given_files other s) item ≡ with_files other (after_one own s item)
   whole : (after_one own s item).begun ≡ None
 
-configuring : (own : ℕ) (s : Standing) (c : Message) (small : Bool) (limit : ℕ) (refusal answers : List Message)
+configuring : (own : ServerSetup) (s : Standing) (c : Message) (small : Bool) (limit : ℕ) (refusal answers : List Message)
     → let effect : Scene → Effect = λ scene. if small then enters scene Fresh refusal else enters (record scene { limit = limit }) Ready answers in
     ((next_group s (Whole c) (Does (effect s.scene))).standing.scene.files ≡ s.scene.files)
     × ((other : Files) → next_group (given_files other s) (Whole c) (Does (effect (record s.scene { files = other }))) ≡ with_files other (next_group s (Whole c) (Does (effect s.scene))))
 configuring own s c true limit refusal answers = (refl, λ other. refl)
 configuring own s c false limit refusal answers = (refl, λ other. refl)
 
-fresh_step : (own : ℕ) (s : Standing) (item : Item) → DoesAnyway own (record s { place = Fresh }) item
+fresh_step : (own : ServerSetup) (s : Standing) (item : Item) → DoesAnyway own (record s { place = Fresh }) item
 fresh_step own s (Malformed fault) = record { files = refl; any = λ other. refl; whole = refl }
 fresh_step own s (Whole (Config c)) =
-    let both = configuring own (record s { place = Fresh }) (Config c) (is_too_small c.bufsiz) (limit_of c.bufsiz) (bare_status (codes.invalid codes.types.config) ∷ []) (config_of own ∷ []) in
+    let both = configuring own (record s { place = Fresh }) (Config c) (is_too_small c.bufsiz) (limit_of c.bufsiz) (bare_status (codes.invalid codes.types.config) ∷ []) (Config own.identity ∷ []) in
     record { files = both.0; any = both.1; whole = refl }
 fresh_step own s (Whole (Other n body)) = record { files = refl; any = λ other. refl; whole = refl }
 fresh_step own s (Whole m) = record { files = refl; any = λ other. refl; whole = refl }
 
-one_step : (own : ℕ) (s : Standing) (item : Item) → s.place ≡ Fresh → DoesAnyway own s item
+one_step : (own : ServerSetup) (s : Standing) (item : Item) → s.place ≡ Fresh → DoesAnyway own s item
 one_step own s item e = subst (λ (p : Place). DoesAnyway own (record s { place = p }) item) (sym e) (fresh_step own s item)
 
-of_one_more : (own : ℕ) (first : Files) (before : List Item) (item : Item) → IsOfAny own first before → (stands_after own first before).standing.place ≡ Fresh → IsOfAny own first (before ++ item ∷ [])
+of_one_more : (own : ServerSetup) (first : Files) (before : List Item) (item : Item) → IsOfAny own first before → (stands_after own first before).standing.place ≡ Fresh → IsOfAny own first (before ++ item ∷ [])
 of_one_more own first before item h fresh =
     let c = stands_after own first before in
     let d = one_step own c.standing item fresh in
@@ -228,11 +234,11 @@ of_one_more own first before item h fresh =
     }
 
 -- it was so before the last item
-was_fresh : (own : ℕ) (c : Grouped) (item : Item) (late : Bool) → is_late c.standing.place ≡ late → is_late (more_after own c.standing c.begun item).standing.place ≡ false → is_late c.standing.place ≡ false
+was_fresh : (own : ServerSetup) (c : Grouped) (item : Item) (late : Bool) → is_late c.standing.place ≡ late → is_late (more_after own c.standing c.begun item).standing.place ≡ false → is_late c.standing.place ≡ false
 was_fresh own c item true e fresh = let late = more-late own c.standing c.begun item e in cc
 was_fresh own c item false e fresh = e
 
-of_any_on : (own : ℕ) (first : Files) (before more : List Item) → (is_late (stands_after own first before).standing.place ≡ false → IsOfAny own first before)
+of_any_on : (own : ServerSetup) (first : Files) (before more : List Item) → (is_late (stands_after own first before).standing.place ≡ false → IsOfAny own first before)
     → is_late (stands_after own first (before ++ more)).standing.place ≡ false → IsOfAny own first (before ++ more)
 of_any_on own first before [] h e =
     subst (IsOfAny own first) (sym (append-nil before)) (h (subst (λ (l : List Item). is_late (stands_after own first l).standing.place ≡ false) (append-nil before) e))
@@ -245,24 +251,24 @@ of_any_on own first before (item ∷ more) h e =
     subst (IsOfAny own first) same (of_any_on own first (before ++ item ∷ []) more one (subst (λ (l : List Item). is_late (stands_after own first l).standing.place ≡ false) (sym same) e))
 
 -- before a Config the files are those at first, and an end with other files at first would stand so too
-pub of_any : (own : ℕ) (first : Files) (items : List Item) → (stands_after own first items).standing.place ≡ Fresh → IsOfAny own first items
+pub of_any : (own : ServerSetup) (first : Files) (items : List Item) → (stands_after own first items).standing.place ≡ Fresh → IsOfAny own first items
 of_any own first items fresh =
     of_any_on own first [] items (λ e. record { files = refl; any = λ other. refl; whole = refl }) (ap is_late fresh)
 
 -- and it stood there after each front of these items
-front_on : (own : ℕ) (first : Files) (before more : List Item) → is_late (stands_after own first (before ++ more)).standing.place ≡ false → is_late (stands_after own first before).standing.place ≡ false
+front_on : (own : ServerSetup) (first : Files) (before more : List Item) → is_late (stands_after own first (before ++ more)).standing.place ≡ false → is_late (stands_after own first before).standing.place ≡ false
 front_on own first before [] e = subst (λ (l : List Item). is_late (stands_after own first l).standing.place ≡ false) (append-nil before) e
 front_on own first before (item ∷ more) e =
     let c = stands_after own first before in
     let later = front_on own first (before ++ item ∷ []) more (subst (λ (l : List Item). is_late (stands_after own first l).standing.place ≡ false) (sym (append_assoc before (item ∷ []) more)) e) in
     was_fresh own c item (is_late c.standing.place) refl (subst (λ (g : Grouped). is_late g.standing.place ≡ false) (cut-more own (start first) before item) later)
 
-pub front_fresh : (own : ℕ) (first : Files) (before more : List Item) → (stands_after own first (before ++ more)).standing.place ≡ Fresh → (stands_after own first before).standing.place ≡ Fresh
+pub front_fresh : (own : ServerSetup) (first : Files) (before more : List Item) → (stands_after own first (before ++ more)).standing.place ≡ Fresh → (stands_after own first before).standing.place ≡ Fresh
 front_fresh own first before more e = fresh_of (stands_after own first before).standing.place (front_on own first before more (ap is_late e))
 
 -- ---- An end that is given files.
 
-present_by : (own : ℕ) (files : Files) (s : Standing) (b : Option Begun)
+present_by : (own : ServerSetup) (files : Files) (s : Standing) (b : Option Begun)
     → present_of own (with_files files (record { standing = s; begun = b })) ≡ record (present_of own (record { standing = s; begun = b })) { files = files }
 present_by own files s None = refl
 present_by own files s (Some b) = refl
@@ -270,9 +276,9 @@ present_by own files s (Some b) = refl
 -- of whatever items it stands after, it stands so with these files at first
 pub stands_given : (old new : Present) → IsFresh old → new ≡ record old { files = new.files } → (first : Files) (items : List Item) → StandsAfter first items old → StandsAfter new.files items new
 stands_given old new fresh is first items h =
-    let c = stands_after old.own first items in
-    let any = (of_any old.own first items (fresh.is first items h)).any new.files in
-    let so : new ≡ present_of old.own (stands_after old.own new.files items) =
-    is ∙ ap (λ (p : Present). record p { files = new.files }) h ∙ sym (present_by old.own new.files c.standing c.begun) ∙ ap (present_of old.own) (sym any) in
-    let own : new.own ≡ old.own = ap (λ (p : Present). p.own) is in
-    so ∙ ap (λ (n : ℕ). present_of n (stands_after n new.files items)) (sym own)
+    let c = stands_after old.setup first items in
+    let any = (of_any old.setup first items (fresh.is first items h)).any new.files in
+    let so : new ≡ present_of old.setup (stands_after old.setup new.files items) =
+    is ∙ ap (λ (p : Present). record p { files = new.files }) h ∙ sym (present_by old.setup new.files c.standing c.begun) ∙ ap (present_of old.setup) (sym any) in
+    let own : new.setup ≡ old.setup = ap (λ (p : Present). p.setup) is in
+    so ∙ ap (λ (n : ServerSetup). present_of n (stands_after n new.files items)) (sym own)

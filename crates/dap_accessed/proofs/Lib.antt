@@ -1,4 +1,5 @@
 pub mod Tables
+pub mod Finding
 pub mod Entries
 pub mod Opens
 pub mod Writing
@@ -15,3 +16,5 @@ pub mod SoundLists
 pub mod Given
 pub mod Answering
 pub mod ForCallers
+pub mod Apart
+pub mod Twins

@@ -8,7 +8,7 @@ use Rattle.dap_msg.specs.declared.message.Message.{Message}
 use Rattle.dap_msg.specs.declared.message.AccessFields.{AccessFields}
 use Rattle.dap_msg.specs.declared.message.ControlFields.{ControlFields}
 use Rattle.dap_msg.specs.declared.message.Message.TheVariants.{Config, Attrib, Access, Control, Contran, Accomp, Filedata, Other}
-use Rattle.dap_msg.specs.BothEnds.{config_of, limit_of, is_too_small}
+use Rattle.dap_msg.specs.BothEnds.{limit_of, is_too_small}
 use Rattle.dap_msg.specs.declared.items.Item.{Item}
 use Rattle.dap_msg.specs.declared.items.Item.TheVariants.{Whole, Malformed}
 use Rattle.rec_file.specs.declared.picks.Pick.{Pick}
@@ -16,15 +16,17 @@ use Rattle.rec_file.specs.declared.refusals.Refusal.{Refusal}
 use Rattle.rec_file.specs.declared.shapes.Shape.{Shape}
 use Rattle.rec_file.specs.Files.{records_from}
 use Rattle.rec_file.specs.Acts.{StreamVal, get_record, act}
+use Rattle.dap_accessed.specs.Setup.{lacks}
+use Rattle.dap_accessed.specs.declared.setup.ServerSetup.{ServerSetup}
 use Rattle.dap_accessed.specs.declared.phase.OpenFile.{OpenFile}
 use Rattle.dap_accessed.specs.declared.phase.Phase.{Phase}
 use Rattle.dap_accessed.specs.declared.phase.Phase.TheVariants as phases
 use Rattle.dap_accessed.specs.declared.verbs.Verb.{Verb}
 use Rattle.dap_accessed.specs.declared.verbs.Verb.TheVariants as verbs
-use Rattle.dap_accessed.specs.Standing.{Files, the_file, place_of, Place, Group, Standing, Scene, Effect, Fresh, Ready, Opened, Connected, Store, Stopped, enters}
+use Rattle.dap_accessed.specs.Standing.{Files, the_file, place_by, Place, Group, Standing, Scene, Effect, Fresh, Ready, Opened, Connected, Store, Stopped, enters}
 use Rattle.dap_accessed.specs.Replies.{bare_status}
 use Rattle.dap_accessed.specs.Past.{is_filedata, is_dropping, ordinal_so_far}
-use Rattle.dap_accessed.specs.Accesses.{open_file, create_file, access_file, end_stream, complete}
+use Rattle.dap_accessed.specs.Accesses.{permitted, rights_to_create, rights_to_open, make_file, open_file, create_file, access_file, end_stream, complete}
 use Rattle.dap_accessed.specs.Records.{Change, Putting, Updating, got, record_got, at_number, verb_of, fits_limit, filedata_of}
 use Rattle.dap_accessed.specs.Transfers.{fetch, fetch_ends, continue_fetch, continue_refused}
 use Rattle.dap_accessed.specs.Effects.{Begun, effect_with, control_opened, control_connected}
@@ -49,19 +51,23 @@ either true one two a b = a
 either false one two a b = b
 
 module _ (scene : Scene) where
-  opening : (fac : ℕ) (at : Option ℕ) → Answers (open_file scene fac at)
-  opening fac None = λ e. cc
-  opening fac (Some at) = λ e. cc
+  opening : (own : ServerSetup) (fac : ℕ) (at : Option ℕ) → Answers (open_file own scene fac at)
+  opening own fac None = λ e. cc
+  opening own fac (Some at) = either (lacks own.most (rights_to_open fac)) _ _ (λ e. cc) (λ e. cc)
 
-  creating : (name : List ℕ) (fac : ℕ) (at : Option ℕ) (shape : Option Shape) → Answers (create_file scene name fac at shape)
-  creating name fac (Some at) shape = λ e. cc
-  creating name fac None None = λ e. cc
-  creating name fac None (Some shape) = λ e. cc
+  making : (name : List ℕ) (fac : ℕ) (shape : Option Shape) → Answers (make_file scene name fac shape)
+  making name fac None = λ e. cc
+  making name fac (Some shape) = λ e. cc
 
-  accessing : (a : AccessFields) (shape : Option Shape) → Answers (access_file scene a shape)
-  accessing a shape =
-      either (a.func == codes.accfunc.opening) _ _ (opening a.fac (place_of a.name scene.files))
-      (either (a.func == codes.accfunc.creating) _ _ (creating a.name a.fac (place_of a.name scene.files) shape) (λ e. cc))
+  creating : (own : ServerSetup) (name : List ℕ) (fac : ℕ) (at : Option ℕ) (shape : Option Shape) → Answers (create_file own scene name fac at shape)
+  creating own name fac (Some at) shape = λ e. cc
+  creating own name fac None shape = either (lacks own.most (rights_to_create fac)) _ _ (λ e. cc) (making name fac shape)
+
+  accessing : (own : ServerSetup) (a : AccessFields) (shape : Option Shape) → Answers (access_file own scene a shape)
+  accessing own a shape =
+      let found = place_by own.names a.name scene.files in
+      either (a.func == codes.accfunc.opening) _ _ (opening own a.fac found)
+      (either (a.func == codes.accfunc.creating) _ _ (creating own a.name a.fac found shape) (λ e. cc))
 
   ending-stream : (o : OpenFile) (place : Place) → Answers (end_stream scene o place)
   ending-stream o (Opened p) = λ e. cc
@@ -131,13 +137,13 @@ is_storing _ = false
 
 silent : (phase : Phase) (p : Present) (item : Item) → (move_in phase p item).answers ≡ [] → (is_filedata item ≡ true → is_storing phase ≡ false) → is_silent phase item ≡ true
 silent phases.Fresh p (Malformed fault) e h = cc
-silent phases.Fresh p (Whole (Config c)) e h = absurd (either (is_too_small c.bufsiz) (enters (scene_in p) Fresh (bare_status (codes.invalid codes.types.config) ∷ [])) (enters (record (scene_in p) { limit = limit_of c.bufsiz }) Ready (config_of p.own ∷ [])) (λ f. cc) (λ f. cc) e)
+silent phases.Fresh p (Whole (Config c)) e h = absurd (either (is_too_small c.bufsiz) (enters (scene_in p) Fresh (bare_status (codes.invalid codes.types.config) ∷ [])) (enters (record (scene_in p) { limit = limit_of c.bufsiz }) Ready (Config p.setup.identity ∷ [])) (λ f. cc) (λ f. cc) e)
 silent phases.Fresh p (Whole (Other _ _)) e h = refl
 silent phases.Fresh p (Whole message) e h = cc
 silent phases.Ready p (Malformed fault) e h = cc
 silent phases.Ready p (Whole (Other _ _)) e h = refl
 silent phases.Ready p (Whole (Attrib _)) e h = refl
-silent phases.Ready p (Whole (Access a)) e h = absurd (accessing (scene_in p) a p.kept e)
+silent phases.Ready p (Whole (Access a)) e h = absurd (accessing (scene_in p) p.setup a p.kept e)
 silent phases.Ready p (Whole message) e h = cc
 silent (phases.Opened o) p (Malformed fault) e h = cc
 silent (phases.Opened o) p (Whole (Control c)) e h = absurd (connecting (scene_in p) (verb_of c) o e)
@@ -188,11 +194,11 @@ drops : (standing : Standing) (begun : Option Begun) → is_dropping standing.pa
 drops standing None e = drops-at standing.place standing.past e
 drops standing (Some b) e = drops-within b.change b.opened b.stream
 
-pub silent-in : (old : Present) (c : Grouped) (item : Item) → IsIn c old → IsSilentIn old.own c item → is_silent old.phase item ≡ true
+pub silent-in : (old : Present) (c : Grouped) (item : Item) → IsIn c old → IsSilentIn old.setup c item → is_silent old.phase item ≡ true
 silent-in old c item h none =
     silent old.phase old item (answers-in old item c h ∙ none.0)
     (λ f. ap (λ (p : Present). is_storing p.phase) h ∙ drops c.standing c.begun (none.1 f))
 
-pub silent-is : (old : Present) (first : Files) (items : List Item) (item : Item) → StandsAfter first items old → IsSilent old.own first items item → is_silent old.phase item ≡ true
+pub silent-is : (old : Present) (first : Files) (items : List Item) (item : Item) → StandsAfter first items old → IsSilent old.setup first items item → is_silent old.phase item ≡ true
 silent-is old first items item h none =
-    silent old.phase old item (answers-are old item first items h ∙ none.0) (λ f. ap (λ (p : Present). is_storing p.phase) h ∙ (let c = stands_after old.own first items in drops c.standing c.begun (none.1 f)))
+    silent old.phase old item (answers-are old item first items h ∙ none.0) (λ f. ap (λ (p : Present). is_storing p.phase) h ∙ (let c = stands_after old.setup first items in drops c.standing c.begun (none.1 f)))

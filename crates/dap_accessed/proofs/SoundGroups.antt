@@ -1,6 +1,9 @@
 -- Every group leaves an end sound.
 use Rattle.std.proofs.Common.{◌≡◌, ℕ, ◌+◌, ◌<◌, ◌≤◌, Bool, true, false, List, [], ◌∷◌, length, Option, Some, None, Result, Ok, Err, refl, ap, subst, inl, inr, arith, lit≤}
-use Rattle.std.specs.Prelude.{IfSome, IsTrue, if◌then◌else◌}
+use Rattle.dap_accessed.specs.Setup.{lacks}
+use Rattle.dap_accessed.specs.declared.setup.Names.{Names}
+use Rattle.dap_accessed.specs.declared.setup.ServerSetup.{ServerSetup}
+use Rattle.std.specs.Prelude.{IfSome, IsTrue, bytes_eq, if◌then◌else◌}
 use Rattle.std.specs.FinMap as map
 use Rattle.dap_msg.specs.declared.message.Message.{Message}
 use Rattle.dap_msg.specs.declared.message.AccessFields.{AccessFields}
@@ -32,11 +35,10 @@ use Rattle.dap_accessed.specs.declared.verbs.Verb.TheVariants as verbs
 use Rattle.std.specs.Prelude.{◌==◌, take_while, drop}
 use Rattle.std.specs.List.{prefix_len, remove}
 use Rattle.dap_msg.specs.Codes as codes
-use Rattle.dap_msg.specs.BothEnds.{config_of}
 use Rattle.dap_accessed.specs.Replies.{bare_status}
-use Rattle.dap_accessed.specs.Standing.{Files, place_of, with_file, the_file, Place, Fresh, Ready, Opened, Connected, Store, Stopped, Group, Standing, Scene, Effect, start, enters}
+use Rattle.dap_accessed.specs.Standing.{Files, place_of, place_by, with_file, the_file, Place, Fresh, Ready, Opened, Connected, Store, Stopped, Group, Standing, Scene, Effect, start, enters}
 use Rattle.dap_accessed.specs.Past.{asked_shape, kept_attributes, is_dropping, ordinal_so_far}
-use Rattle.dap_accessed.specs.Accesses.{open_file, create_file, access_file, end_stream, complete}
+use Rattle.dap_accessed.specs.Accesses.{permitted, rights_to_create, rights_to_open, make_file, open_file, create_file, access_file, end_stream, complete}
 use Rattle.dap_accessed.specs.Records.{at_number, verb_of, get_pick, got, record_got, settled, Change, Putting, Updating, changed, fits_limit}
 use Rattle.dap_accessed.specs.Transfers.{fetch, fetch_ends, continue_fetch, store_one}
 use Rattle.dap_msg.specs.BothEnds.{is_too_small}
@@ -46,7 +48,7 @@ use Rattle.dap_accessed.specs.Sound.{AreFiles, IsOpenAt, IsSoundAt, IsSound}
 use Rattle.dap_accessed.specs.Groups.{next_group, more_after}
 use Rattle.dap_accessed.proofs.Tables.{length-with}
 use Rattle.dap_accessed.proofs.Kept.{act-keeps, both}
-use Rattle.dap_accessed.proofs.SoundTables.{file-there, files-with, files-more, all-without, distinct-without}
+use Rattle.dap_accessed.proofs.SoundTables.{file-there, files-with, files-more, all-without, distinct-without, none_exact}
 
 -- ---- Shapes, limits and places.
 
@@ -92,8 +94,8 @@ within-of : (b : Bool) (n len : ℕ) → (b ≡ true → n < len) → IfSome (co
 within-of true n len f = f refl
 within-of false n len f = tt
 
-pub place-within : (name : List ℕ) (files : Files) → IfSome (place_of name files) (λ n. n < length files)
-place-within name files = within-of _ _ _ (λ e. grind (arith, nat_tests))
+pub place-within : (names : Names) (name : List ℕ) (files : Files) → IfSome (place_by names name files) (λ n. n < length files)
+place-within names name files = within-of _ _ _ (λ e. grind (arith, nat_tests))
 
 -- the end that a turn leaves is sound, or the open file is in the table
 abbrev IsSoundTurn : Scene → Turn → Type 0
@@ -131,14 +133,17 @@ module _ (scene : Scene) (files : AreFiles scene.files) (least : 64 ≤ scene.li
 
   -- ---- Accesses.
 
-  opening : (fac : ℕ) (name : List ℕ) (at : Option ℕ) → IfSome at (λ n. n < length scene.files) → Leaves (open_file scene fac at)
-  opening fac name None h = entering Ready tt
-  opening fac name (Some at) h = entering (Opened _) h
+  either : (b : Bool) (one two : Effect) → Leaves one → Leaves two → Leaves (if b then one else two)
+  either true one two h k = h
+  either false one two h k = k
 
-  creating : (name : List ℕ) (fac : ℕ) (at : Option ℕ) (shape : Option Shape) → place_of name scene.files ≡ at → Good shape → Leaves (create_file scene name fac at shape)
-  creating name fac (Some at) shape e g = entering Ready tt
-  creating name fac None None e g = entering Ready tt
-  creating name fac None (Some shape) e good =
+  opening : (own : ServerSetup) (fac : ℕ) (at : Option ℕ) → IfSome at (λ n. n < length scene.files) → Leaves (open_file own scene fac at)
+  opening own fac None h = entering Ready tt
+  opening own fac (Some at) h = either (lacks own.most (rights_to_open fac)) _ _ (entering Ready tt) (entering (Opened _) h)
+
+  making : (name : List ℕ) (fac : ℕ) (shape : Option Shape) → place_of name scene.files ≡ None → Good shape → Leaves (make_file scene name fac shape)
+  making name fac None e g = entering Ready tt
+  making name fac (Some shape) e good =
       record {
         files = files-more scene.files name shape files good e;
         opened = omega (arith, length-append scene.files ((name, record { shape = shape; records = map.empty }) ∷ []));
@@ -146,17 +151,19 @@ module _ (scene : Scene) (files : AreFiles scene.files) (least : 64 ≤ scene.li
         most = most;
       }
 
-  either : (b : Bool) (one two : Effect) → Leaves one → Leaves two → Leaves (if b then one else two)
-  either true one two h k = h
-  either false one two h k = k
+  creating : (own : ServerSetup) (name : List ℕ) (fac : ℕ) (at : Option ℕ) (shape : Option Shape) → place_by own.names name scene.files ≡ at → Good shape → Leaves (create_file own scene name fac at shape)
+  creating own name fac (Some at) shape e g = entering Ready tt
+  creating own name fac None shape e g =
+      either (lacks own.most (rights_to_create fac)) _ _ (entering Ready tt) (making name fac shape (none_exact own.names name scene.files e) g)
 
-  accessing : (a : AccessFields) (shape : Option Shape) → Good shape → Leaves (access_file scene a shape)
-  accessing a shape g =
-      either (a.func == codes.accfunc.opening) _ _ (opening a.fac a.name (place_of a.name scene.files) (place-within a.name scene.files))
-      (either (a.func == codes.accfunc.creating) _ _ (creating a.name a.fac (place_of a.name scene.files) shape refl g) (entering Ready tt))
+  accessing : (own : ServerSetup) (a : AccessFields) (shape : Option Shape) → Good shape → Leaves (access_file own scene a shape)
+  accessing own a shape g =
+      let found = place_by own.names a.name scene.files in
+      either (a.func == codes.accfunc.opening) _ _ (opening own a.fac found (place-within own.names a.name scene.files))
+      (either (a.func == codes.accfunc.creating) _ _ (creating own a.name a.fac found shape refl g) (entering Ready tt))
 
   purging : (o : OpenFile) (new : Bool) → IsSoundAt (record scene { files = if new then remove scene.files o.at else scene.files }) Ready
-  purging o true = record { files = record { files = all-without scene.files o.at files.files; distinct = distinct-without scene.files o.at files.distinct }; opened = tt; least = least; most = most }
+  purging o true = record { files = record { files = all-without scene.files o.at files.files; distinct = distinct-without bytes_eq scene.files o.at files.distinct }; opened = tt; least = least; most = most }
   purging o false = entering Ready tt
 
   ended-soundly : (o : OpenFile) (place : Place) → o.at < length scene.files → Leaves (end_stream scene o place)
@@ -231,15 +238,15 @@ module _ (scene : Scene) (files : AreFiles scene.files) (least : 64 ≤ scene.li
     with-second change s (Whole (Filedata r body)) = second change s body
     with-second change s (Whole message) = entering (Connected o s) h
 
-  configuring : (small : Bool) (bufsiz : ℕ) → is_too_small bufsiz ≡ small → (own : ℕ) → Leaves (if small then enters scene Fresh (bare_status (codes.invalid codes.types.config) ∷ []) else enters (record scene { limit = limit_of bufsiz }) Ready (config_of own ∷ []))
+  configuring : (small : Bool) (bufsiz : ℕ) → is_too_small bufsiz ≡ small → (own : ServerSetup) → Leaves (if small then enters scene Fresh (bare_status (codes.invalid codes.types.config) ∷ []) else enters (record scene { limit = limit_of bufsiz }) Ready (Config own.identity ∷ []))
   configuring true bufsiz e own = entering Fresh tt
   configuring false bufsiz e own =
       record { files = files; opened = tt; least = limit-least bufsiz e; most = limit-most bufsiz }
 
-  of-message : (own : ℕ) (past : List Group) (place : Place) → IsOpenAt scene.files place → (m : Message) → IsSoundTurn scene (turn_in own scene past place m)
+  of-message : (own : ServerSetup) (past : List Group) (place : Place) → IsOpenAt scene.files place → (m : Message) → IsSoundTurn scene (turn_in own scene past place m)
   of-message own past Fresh h (Config c) = configuring (is_too_small c.bufsiz) c.bufsiz refl own
   of-message own past Fresh h m = entering Fresh tt
-  of-message own past Ready h (Access a) = accessing a (asked_shape (kept_attributes past)) (good-shape (kept_attributes past))
+  of-message own past Ready h (Access a) = accessing own a (asked_shape (kept_attributes past)) (good-shape (kept_attributes past))
   of-message own past Ready h m = entering Ready tt
   of-message own past (Opened o) h (Control c) = opened-control o h (verb_of c)
   of-message own past (Opened o) h (Accomp c) = completed-soundly c.func o (Opened o) h h
@@ -255,7 +262,7 @@ module _ (scene : Scene) (files : AreFiles scene.files) (least : 64 ≤ scene.li
   of-message own past (Stopped o s) h (Accomp c) = completed-soundly c.func o (Stopped o s) h h
   of-message own past (Stopped o s) h m = entering (Stopped o s) h
 
-  pub of-item : (own : ℕ) (past : List Group) (place : Place) → IsOpenAt scene.files place → (item : Item) → IsSoundTurn scene (turn_of own (record { scene = scene; place = place; past = past }) item)
+  pub of-item : (own : ServerSetup) (past : List Group) (place : Place) → IsOpenAt scene.files place → (item : Item) → IsSoundTurn scene (turn_of own (record { scene = scene; place = place; past = past }) item)
   of-item own past place h (Malformed fault) = entering place h
   of-item own past place h (Whole m) = of-message own past place h m
 
@@ -267,7 +274,7 @@ module _ (scene : Scene) (files : AreFiles scene.files) (least : 64 ≤ scene.li
 pub start-sound : (first : Files) → AreFiles first → IsSound (record { standing = start first; begun = None })
 start-sound first good = record { standing = record { files = good; opened = tt; least = lit≤ tt; most = lit≤ tt }; begun = tt }
 
-one-sound : (own : ℕ) (s : Standing) (item : Item) → IsSoundAt s.scene s.place → IsSoundTurn s.scene (turn_of own s item)
+one-sound : (own : ServerSetup) (s : Standing) (item : Item) → IsSoundAt s.scene s.place → IsSoundTurn s.scene (turn_of own s item)
 one-sound own s item h =
     of-item s.scene h.files h.least h.most own s.past s.place h.opened item
 
@@ -278,6 +285,6 @@ next-sound : (s : Standing) (item : Item) (t : Turn) → IsSoundAt s.scene s.pla
 next-sound s item (Does e) h sound = record { standing = sound; begun = tt }
 next-sound s item (Begins b) h there = record { standing = h; begun = there }
 
-pub more-sound : (own : ℕ) (s : Standing) (b : Option Begun) (item : Item) → IsSound (record { standing = s; begun = b }) → IsSound (more_after own s b item)
+pub more-sound : (own : ServerSetup) (s : Standing) (b : Option Begun) (item : Item) → IsSound (record { standing = s; begun = b }) → IsSound (more_after own s b item)
 more-sound own s None item h = next-sound s item (turn_of own s item) h.standing (one-sound own s item h.standing)
 more-sound own s (Some b) item h = record { standing = two-sound s b item h.standing h.begun; begun = tt }

@@ -1,5 +1,6 @@
 -- One item more moves what an end keeps as `move` says, and adds the answers that it says.
 use Rattle.std.proofs.Common.{◌≡◌, ℕ, suc, Bool, true, false, List, [], ◌∷◌, ◌++◌, length, Option, Some, None, refl, ap, sym, subst, ◌∙◌, arith}
+use Rattle.dap_accessed.specs.declared.setup.ServerSetup.{ServerSetup}
 use Rattle.std.specs.Prelude.{min, nat_lt, not, ◌==◌, filter, filter_map, slice_get, unwrap_or, take_while, ◌||◌, if◌then◌else◌}
 use Rattle.std.specs.List.{list_any}
 use Rattle.std.proofs.lemmas.List.Sums.{take_while-cons}
@@ -134,7 +135,7 @@ module _ (past : List Group) where
 
 -- ---- Moves.
 
-module _ (own : ℕ) (scene : Scene) (past : List Group) where
+module _ (own : ServerSetup) (scene : Scene) (past : List Group) where
   abbrev at : Place → Standing
   at place = record { scene = scene; place = place; past = past }
 
@@ -142,11 +143,11 @@ module _ (own : ℕ) (scene : Scene) (past : List Group) where
   kept_at place = present_of own (record { standing = at place; begun = None })
 
   -- after a group in a place that began with this item and had this effect
-  after-group : (p : Present) (s : Standing) (place : Place) (item : Item) (e : Effect) → p.own ≡ own → s.past ≡ past →
+  after-group : (p : Present) (s : Standing) (place : Place) (item : Item) (e : Effect) → p.own ≡ own.identity.bufsiz → p.setup ≡ own → s.past ≡ past →
       present_of own (record { standing = over s place item e; begun = None }) ≡ (settles p (remembers (looked_back place past) place item e.answers) e).present
-  after-group p s place item e o h = rw (o, h)
-      (ap (λ (k : Option Shape). let q : Present = record { own = own; limit = e.scene.limit; files = e.scene.files; kept = k; phase = phase_at e.place (looked_back e.place (group_of past place item e.answers ∷ past)) } in q) (shape-kept past place item e.answers)
-      ∙ ap (λ (f : Phase). let q : Present = record { own = own; limit = e.scene.limit; files = e.scene.files; kept = (remembers (looked_back place past) place item e.answers).shape; phase = f } in q) (entered past e.place place item e.answers))
+  after-group p s place item e b o h = rw (b, o, h)
+      (ap (λ (k : Option Shape). let q : Present = record { own = own.identity.bufsiz; setup = own; limit = e.scene.limit; files = e.scene.files; kept = k; phase = phase_at e.place (looked_back e.place (group_of past place item e.answers ∷ past)) } in q) (shape-kept past place item e.answers)
+      ∙ ap (λ (f : Phase). let q : Present = record { own = own.identity.bufsiz; setup = own; limit = e.scene.limit; files = e.scene.files; kept = (remembers (looked_back place past) place item e.answers).shape; phase = f } in q) (entered past e.place place item e.answers))
 
   -- what an end keeps, and the answers, are those of the move
   pub record Agrees (step : Move) (present : Present) (answers : List Message) : Type 0 where
@@ -155,7 +156,7 @@ module _ (own : ℕ) (scene : Scene) (past : List Group) where
 
   turned : (place : Place) (item : Item) (t : Turn) →
       Agrees (turns t (kept_at place) (looked_back place past) place item) (present_of own (next_group (at place) item t)) (next_answers t)
-  turned place item (Does effect) = record { same_present = after-group (kept_at place) (at place) place item effect refl refl; same_answers = refl }
+  turned place item (Does effect) = record { same_present = after-group (kept_at place) (at place) place item effect refl refl refl; same_answers = refl }
   turned place item (Begins begun) = record { same_present = refl; same_answers = refl }
 
   abbrev Follows : Place → Item → Move → Type 0
@@ -192,69 +193,75 @@ module _ (own : ℕ) (scene : Scene) (past : List Group) where
       Agrees (move (present_of own c) item) (present_of own (one_more own c item)) (answers_of own c item)
   two-follows place o s (Putting key) first item =
       record {
-        same_present = after-group (record { own = own; limit = scene.limit; files = scene.files; kept = asked_shape (kept_attributes past); phase = phases.PutDue o s key }) (at place) (Connected o s) first (effect_with (Putting key) scene o s item) refl refl;
+        same_present = after-group (record { own = own.identity.bufsiz; setup = own; limit = scene.limit; files = scene.files; kept = asked_shape (kept_attributes past); phase = phases.PutDue o s key }) (at place) (Connected o s) first (effect_with (Putting key) scene o s item) refl refl refl;
         same_answers = refl;
       }
   two-follows place o s Updating first item =
       record {
-        same_present = after-group (record { own = own; limit = scene.limit; files = scene.files; kept = asked_shape (kept_attributes past); phase = phases.UpdateDue o s }) (at place) (Connected o s) first (effect_with Updating scene o s item) refl refl;
+        same_present = after-group (record { own = own.identity.bufsiz; setup = own; limit = scene.limit; files = scene.files; kept = asked_shape (kept_attributes past); phase = phases.UpdateDue o s }) (at place) (Connected o s) first (effect_with Updating scene o s item) refl refl refl;
         same_answers = refl;
       }
 
-pub step-is : (own : ℕ) (s : Standing) (begun : Option Begun) (item : Item) →
+pub step-is : (own : ServerSetup) (s : Standing) (begun : Option Begun) (item : Item) →
     let c : Grouped = record { standing = s; begun = begun } in
     Agrees own s.scene s.past (move (present_of own c) item) (present_of own (one_more own c item)) (answers_of own c item)
 step-is own s None item = one-follows own s.scene s.past s.place item
 step-is own s (Some b) item = two-follows own s.scene s.past s.place b.opened b.stream b.change b.first item
 
 -- the move of an end that stands as after some items
-pub present-moves : (own : ℕ) (first : Files) (items : List Item) (item : Item) → present_of own (stands_after own first (items ++ item ∷ [])) ≡ (move (present_of own (stands_after own first items)) item).present
+pub present-moves : (own : ServerSetup) (first : Files) (items : List Item) (item : Item) → present_of own (stands_after own first (items ++ item ∷ [])) ≡ (move (present_of own (stands_after own first items)) item).present
 present-moves own first items item = let c = stands_after own first items in present-more own first items item ∙ (step-is own c.standing c.begun item).same_present
 
-pub answers-move : (own : ℕ) (first : Files) (items : List Item) (item : Item) → added own first items item ≡ (move (present_of own (stands_after own first items)) item).answers
+pub answers-move : (own : ServerSetup) (first : Files) (items : List Item) (item : Item) → added own first items item ≡ (move (present_of own (stands_after own first items)) item).answers
 answers-move own first items item = let c = stands_after own first items in added-is own first items item ∙ (step-is own c.standing c.begun item).same_answers
 
--- an end's own BUFSIZ stays
-turns-own : (t : Turn) (p : Present) (memory : Memory) (place : Place) (item : Item) → (turns t p memory place item).present.own ≡ p.own
-turns-own (Does effect) p memory place item = refl
-turns-own (Begins begun) p memory place item = refl
+-- an end's own BUFSIZ and its setup stay
+abbrev KeepsOwn : (new old : Present) → Type 0
+KeepsOwn new old = (new.own ≡ old.own) × (new.setup ≡ old.setup)
 
-between-own : (p : Present) (memory : Memory) (place : Place) (item : Item) → (between p memory place item).present.own ≡ p.own
-between-own p memory place item = turns-own (turn_by p.own (scene_in p) memory place item) p memory place item
+turns-own : (t : Turn) (p : Present) (memory : Memory) (place : Place) (item : Item) → KeepsOwn (turns t p memory place item).present p
+turns-own (Does effect) p memory place item = (refl, refl)
+turns-own (Begins begun) p memory place item = (refl, refl)
 
-moves-own : (phase : Phase) (p : Present) (item : Item) → (move_in phase p item).present.own ≡ p.own
+between-own : (p : Present) (memory : Memory) (place : Place) (item : Item) → KeepsOwn (between p memory place item).present p
+between-own p memory place item = turns-own (turn_by p.setup (scene_in p) memory place item) p memory place item
+
+moves-own : (phase : Phase) (p : Present) (item : Item) → KeepsOwn (move_in phase p item).present p
 moves-own phases.Fresh p item = between-own p (plain_memory p.kept) Fresh item
 moves-own phases.Ready p item = between-own p (plain_memory p.kept) Ready item
 moves-own (phases.Opened o) p item = between-own p (plain_memory p.kept) (Opened o) item
 moves-own (phases.Connected o s) p item = between-own p (plain_memory p.kept) (Connected o s) item
-moves-own (phases.PutDue o s key) p item = refl
-moves-own (phases.UpdateDue o s) p item = refl
+moves-own (phases.PutDue o s key) p item = (refl, refl)
+moves-own (phases.UpdateDue o s) p item = (refl, refl)
 moves-own (phases.Storing o s n) p item = between-own p (store_memory p.kept false n) (Store o s) item
 moves-own (phases.Dropping o s n) p item = between-own p (store_memory p.kept true n) (Store o s) item
 moves-own (phases.Stopped o s) p item = between-own p (plain_memory p.kept) (Stopped o s) item
 
 pub same-own : (p : Present) (item : Item) → (move p item).present.own ≡ p.own
-same-own p item = moves-own p.phase p item
+same-own p item = (moves-own p.phase p item).0
+
+pub same-setup : (p : Present) (item : Item) → (move p item).present.setup ≡ p.setup
+same-setup p item = (moves-own p.phase p item).1
 
 -- an end that stood as after some items stands as after these and one more
 pub stands-more : (old new : Present) (item : Item) → new ≡ (move old item).present → (first : Files) (items : List Item) → StandsAfter first items old → StandsAfter first (items ++ item ∷ []) new
 stands-more old new item e first items h =
-    let own : new.own ≡ old.own = ap (λ (p : Present). p.own) e ∙ same-own old item in
-    e ∙ ap (λ (p : Present). (move p item).present) h ∙ sym (present-moves old.own first items item) ∙ ap (λ (n : ℕ). present_of n (stands_after n first (items ++ item ∷ []))) (sym own)
+    let own : new.setup ≡ old.setup = ap (λ (p : Present). p.setup) e ∙ same-setup old item in
+    e ∙ ap (λ (p : Present). (move p item).present) h ∙ sym (present-moves old.setup first items item) ∙ ap (λ (n : ServerSetup). present_of n (stands_after n first (items ++ item ∷ []))) (sym own)
 
-pub answers-are : (old : Present) (item : Item) (first : Files) (items : List Item) → StandsAfter first items old → (move old item).answers ≡ added old.own first items item
-answers-are old item first items h = ap (λ (p : Present). (move p item).answers) h ∙ sym (answers-move old.own first items item)
+pub answers-are : (old : Present) (item : Item) (first : Files) (items : List Item) → StandsAfter first items old → (move old item).answers ≡ added old.setup first items item
+answers-are old item first items h = ap (λ (p : Present). (move p item).answers) h ∙ sym (answers-move old.setup first items item)
 
 -- ---- From any state.
 
 -- an end that was in a state is in that after the item
-pub in-more : (old new : Present) (item : Item) (c : Grouped) → new ≡ (move old item).present → IsIn c old → IsIn (one_more old.own c item) new
+pub in-more : (old new : Present) (item : Item) (c : Grouped) → new ≡ (move old item).present → IsIn c old → IsIn (one_more old.setup c item) new
 in-more old new item c e h =
-    let own : new.own ≡ old.own = ap (λ (p : Present). p.own) e ∙ same-own old item in
-    e ∙ ap (λ (p : Present). (move p item).present) h ∙ sym (step-is old.own c.standing c.begun item).same_present ∙ ap (λ (n : ℕ). present_of n (one_more old.own c item)) (sym own)
+    let own : new.setup ≡ old.setup = ap (λ (p : Present). p.setup) e ∙ same-setup old item in
+    e ∙ ap (λ (p : Present). (move p item).present) h ∙ sym (step-is old.setup c.standing c.begun item).same_present ∙ ap (λ (n : ServerSetup). present_of n (one_more old.setup c item)) (sym own)
 
-pub answers-in : (old : Present) (item : Item) (c : Grouped) → IsIn c old → (move old item).answers ≡ answers_of old.own c item
-answers-in old item c h = ap (λ (p : Present). (move p item).answers) h ∙ sym (step-is old.own c.standing c.begun item).same_answers
+pub answers-in : (old : Present) (item : Item) (c : Grouped) → IsIn c old → (move old item).answers ≡ answers_of old.setup c item
+answers-in old item c h = ap (λ (p : Present). (move p item).answers) h ∙ sym (step-is old.setup c.standing c.begun item).same_answers
 
 -- an Access uses up the attributes
 pub access-keeps : (past : List Group) (a : AccessFields) (answers : List Message) → asked_shape (kept_attributes (record { place = Ready; first = Whole (Access a); answers = answers } ∷ past)) ≡ asked_shape no_attributes

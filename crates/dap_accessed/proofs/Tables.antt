@@ -31,7 +31,7 @@ pub map-last : {X Y : Type 0} (f : X → Y) (xs : List X) (x : X) → map f (xs 
 map-last {Y = Y} f [] x = refl
 map-last {Y = Y} f (y ∷ xs) x = ap (λ (l : List Y). f y ∷ l) (map-last f xs x)
 
-none_of : {X : Type 0} (o : Option X) → is_some o ≡ false → o ≡ None
+pub none_of : {X : Type 0} (o : Option X) → is_some o ≡ false → o ≡ None
 none_of None none = refl
 none_of (Some x) none = let no : ⊥ = cc in absurd no
 

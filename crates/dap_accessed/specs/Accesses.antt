@@ -6,9 +6,12 @@ use Rattle.dap_msg.specs.declared.message.Message.{Message}
 use Rattle.dap_msg.specs.declared.message.AccessFields.{AccessFields}
 use Rattle.rec_file.specs.declared.shapes.Shape.{Shape}
 use Rattle.rec_file.specs.declared.picks.Rights.{Rights}
+use Rattle.rec_file.specs.declared.refusals.Refusal.TheVariants.{NotPermitted}
 use Rattle.dap_accessed.specs.declared.phase.OpenFile.{OpenFile}
-use Rattle.dap_accessed.specs.Standing.{Files, new_file, place_of, file_at, Place, Ready, Opened, Scene, Effect, enters}
-use Rattle.dap_accessed.specs.Replies.{bare_status, refused_access, opened_with, completed}
+use Rattle.dap_accessed.specs.declared.setup.ServerSetup.{ServerSetup}
+use Rattle.dap_accessed.specs.Setup.{lacks}
+use Rattle.dap_accessed.specs.Standing.{Files, new_file, place_by, file_at, Place, Ready, Opened, Scene, Effect, enters}
+use Rattle.dap_accessed.specs.Replies.{bare_status, reason_of, refused_access, opened_with, completed}
 
 -- the operations that FAC allows
 abbrev pub rights_of : ℕ → Rights
@@ -28,27 +31,45 @@ fac_or fac usual = if fac == 0 then usual else fac
 abbrev pub refuse_access : Scene → Message → Effect
 refuse_access scene status = enters scene Ready (status ∷ [])
 
--- Opens the file at this index of the table, if there is one.
-abbrev pub open_file : Scene → (fac : ℕ) → Option ℕ → Effect
-open_file scene fac None = refuse_access scene (bare_status codes.stscode.file_not_found)
-open_file scene fac (Some at) =
-    enters scene (Opened (record { at = at; is_new = false; rights = rights_of (fac_or fac codes.fac_bits.get) }))
-    (opened_with (file_at at scene.files).shape)
+-- An Access that asks for a right which the server doesn't give is refused.
+abbrev pub permitted : ServerSetup → (asked : Rights) → Scene → Effect → Effect
+permitted own asked scene effect =
+    if lacks own.most asked then refuse_access scene (refused_access (reason_of NotPermitted)) else effect
 
--- Makes a file of this name and shape, unless one of that name is at an index. It comes after all others.
-abbrev pub create_file : Scene → (name : List ℕ) → (fac : ℕ) → Option ℕ → Option Shape → Effect
-create_file scene name fac (Some at) shape = refuse_access scene (refused_access codes.reasons.file_exists)
-create_file scene name fac None None = refuse_access scene (refused_access codes.reasons.bad_attributes)
-create_file scene name fac None (Some shape) =
+-- the rights that an Access to open a file asks for
+abbrev pub rights_to_open : (fac : ℕ) → Rights
+rights_to_open fac = rights_of (fac_or fac codes.fac_bits.get)
+
+-- the rights that an Access to create a file asks for: PUT too
+abbrev pub rights_to_create : (fac : ℕ) → Rights
+rights_to_create fac = record (rights_of (fac_or fac codes.fac_bits.put)) { put = true }
+
+-- Opens the file at this index of the table, if there is one.
+abbrev pub open_file : ServerSetup → Scene → (fac : ℕ) → Option ℕ → Effect
+open_file own scene fac None = refuse_access scene (bare_status codes.stscode.file_not_found)
+open_file own scene fac (Some at) =
+    permitted own (rights_to_open fac) scene (enters scene (Opened (record { at = at; is_new = false; rights = rights_of (fac_or fac codes.fac_bits.get) }))
+    (opened_with (file_at at scene.files).shape))
+
+-- Makes a file of this name and shape, if the attributes were good. It comes after all others.
+abbrev pub make_file : Scene → (name : List ℕ) → (fac : ℕ) → Option Shape → Effect
+make_file scene name fac None = refuse_access scene (refused_access codes.reasons.bad_attributes)
+make_file scene name fac (Some shape) =
     enters (record scene { files = scene.files ++ (name, new_file shape) ∷ [] })
     (Opened (record { at = length scene.files; is_new = true; rights = rights_of (fac_or fac codes.fac_bits.put) }))
     (opened_with shape)
 
+-- Makes a file of this name and shape, unless one of that name is at an index.
+abbrev pub create_file : ServerSetup → Scene → (name : List ℕ) → (fac : ℕ) → Option ℕ → Option Shape → Effect
+create_file own scene name fac (Some at) shape = refuse_access scene (refused_access codes.reasons.file_exists)
+create_file own scene name fac None shape = permitted own (rights_to_create fac) scene (make_file scene name fac shape)
+
 -- an Access, by ACCFUNC: open and create are supported
-abbrev pub access_file : Scene → AccessFields → Option Shape → Effect
-access_file scene access shape =
-    if access.func == codes.accfunc.opening then open_file scene access.fac (place_of access.name scene.files)
-    else if access.func == codes.accfunc.creating then create_file scene access.name access.fac (place_of access.name scene.files) shape
+abbrev pub access_file : ServerSetup → Scene → AccessFields → Option Shape → Effect
+access_file own scene access shape =
+    let found = place_by own.names access.name scene.files in
+    if access.func == codes.accfunc.opening then open_file own scene access.fac found
+    else if access.func == codes.accfunc.creating then create_file own scene access.name access.fac found shape
     else refuse_access scene (bare_status (codes.unsupported codes.types.access))
 
 -- ---- Access Complete.

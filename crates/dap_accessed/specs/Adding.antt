@@ -9,17 +9,17 @@ use Rattle.rec_file.specs.Acts.{out_of_range, is_free, first_refusal}
 use Rattle.dap_accessed.specs.declared.fault.AddFault.{AddFault}
 use Rattle.dap_accessed.specs.declared.fault.AddFault.TheVariants as fault
 use Rattle.dap_msg.specs.declared.items.Item.{Item}
-use Rattle.dap_accessed.specs.Standing.{Files, place_of, new_file, file_at, with_file, Fresh}
+use Rattle.dap_accessed.specs.Standing.{Files, place_by, new_file, file_at, with_file, Fresh}
 use Rattle.dap_accessed.specs.Groups.{stands_after}
 use Rattle.dap_accessed.specs.Present.{Present, StandsAfter}
 
 -- No Configuration was served, whatever items left this server.
 pub record IsFresh (p : Present) : Type 0 where
-  pub is : (first : Files) (items : List Item) → StandsAfter first items p → (stands_after p.own first items).standing.place ≡ Fresh
+  pub is : (first : Files) (items : List Item) → StandsAfter first items p → (stands_after p.setup first items).standing.place ≡ Fresh
 
 -- One was.
 pub record IsLate (p : Present) : Type 0 where
-  pub isnt : (first : Files) (items : List Item) → StandsAfter first items p → (stands_after p.own first items).standing.place ≢ Fresh
+  pub isnt : (first : Files) (items : List Item) → StandsAfter first items p → (stands_after p.setup first items).standing.place ≢ Fresh
 
 -- ---- A file.
 
@@ -27,14 +27,14 @@ pub record IsLate (p : Present) : Type 0 where
 abbrev pub with_new_file : List ℕ → Shape → Files → Files
 with_new_file name shape files = files ++ (name, new_file shape) ∷ []
 
--- no Configuration was served, and no file has this name
+-- no Configuration was served, and no file has this name, as the server compares names
 abbrev pub MayAdd : Present → List ℕ → Type 0
-MayAdd p name = IsFresh p × (place_of name p.files ≡ None)
+MayAdd p name = IsFresh p × (place_by p.setup.names name p.files ≡ None)
 
 -- why a file isn't added, the first reason in this order
 abbrev pub AddRefused : Present → List ℕ → AddFault → Type 0
 AddRefused p name fault.Busy = IsLate p
-AddRefused p name fault.FileExists = IsFresh p × (place_of name p.files ≡ None → ⊥)
+AddRefused p name fault.FileExists = IsFresh p × (place_by p.setup.names name p.files ≡ None → ⊥)
 AddRefused p name fault.NoMemory = MayAdd p name
 AddRefused p name _ = ⊥
 

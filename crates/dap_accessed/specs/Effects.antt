@@ -5,12 +5,13 @@ use Rattle.dap_msg.specs.Codes as codes
 use Rattle.dap_msg.specs.declared.message.Message.{Message}
 use Rattle.dap_msg.specs.declared.message.ControlFields.{ControlFields}
 use Rattle.dap_msg.specs.declared.message.Message.TheVariants.{Config, Attrib, Access, Control, Contran, Ack, Accomp, Filedata, Other}
-use Rattle.dap_msg.specs.BothEnds.{limit_of, config_of, is_too_small}
+use Rattle.dap_msg.specs.BothEnds.{limit_of, is_too_small}
 use Rattle.dap_msg.specs.declared.items.Item.{Item}
 use Rattle.dap_msg.specs.declared.items.Item.TheVariants.{Whole, Malformed}
 use Rattle.rec_file.specs.declared.refusals.Refusal.TheVariants.{NotPermitted}
 use Rattle.rec_file.specs.declared.shapes.Shape.{Shape}
 use Rattle.rec_file.specs.Acts.{StreamVal, delete_record, act}
+use Rattle.dap_accessed.specs.declared.setup.ServerSetup.{ServerSetup}
 use Rattle.dap_accessed.specs.declared.phase.OpenFile.{OpenFile}
 use Rattle.dap_accessed.specs.declared.verbs.Verb.{Verb}
 use Rattle.dap_accessed.specs.declared.verbs.Verb.TheVariants as verbs
@@ -57,10 +58,10 @@ common_effect scene opened place message = sync scene place message
 
 -- A Configuration sets the peer's limit and is answered by that of this end. A BUFSIZ of 1 to 63 isn't allowed.
 -- Messages of types 10 to 16 are ignored.
-abbrev pub effect_fresh : (own : ℕ) → Scene → Message → Effect
+abbrev pub effect_fresh : (own : ServerSetup) → Scene → Message → Effect
 effect_fresh own scene (Config c) =
     if is_too_small c.bufsiz then enters scene Fresh (bare_status (codes.invalid codes.types.config) ∷ [])
-    else enters (record scene { limit = limit_of c.bufsiz }) Ready (config_of own ∷ [])
+    else enters (record scene { limit = limit_of c.bufsiz }) Ready (Config own.identity ∷ [])
 effect_fresh own scene (Other _ _) = enters scene Fresh []
 effect_fresh own scene message = sync scene Fresh message
 
@@ -68,11 +69,11 @@ effect_fresh own scene message = sync scene Fresh message
 
 -- Attributes have no answer, an Access opens or makes a file of the given shape, and messages of types 10 to 16 are
 -- ignored.
-abbrev pub effect_ready : Scene → Option Shape → Message → Effect
-effect_ready scene shape (Other _ _) = enters scene Ready []
-effect_ready scene shape (Attrib _) = enters scene Ready []
-effect_ready scene shape (Access access) = access_file scene access shape
-effect_ready scene shape message = sync scene Ready message
+abbrev pub effect_ready : (own : ServerSetup) → Scene → Option Shape → Message → Effect
+effect_ready own scene shape (Other _ _) = enters scene Ready []
+effect_ready own scene shape (Attrib _) = enters scene Ready []
+effect_ready own scene shape (Access access) = access_file own scene access shape
+effect_ready own scene shape message = sync scene Ready message
 
 -- ---- Opened.
 
@@ -136,9 +137,9 @@ effect_stopped scene opened stream message = common_effect scene opened (Stopped
 -- ---- All places. Only in Connected does a message begin a group of two.
 
 -- what a message does in a place
-abbrev pub turn_in : (own : ℕ) → Scene → (past : List Group) → Place → Message → Turn
+abbrev pub turn_in : (own : ServerSetup) → Scene → (past : List Group) → Place → Message → Turn
 turn_in own scene past Fresh message = Does (effect_fresh own scene message)
-turn_in own scene past Ready message = Does (effect_ready scene (asked_shape (kept_attributes past)) message)
+turn_in own scene past Ready message = Does (effect_ready own scene (asked_shape (kept_attributes past)) message)
 turn_in own scene past (Opened opened) message = Does (effect_opened scene opened message)
 turn_in own scene past (Connected opened stream) message = turn_connected scene opened stream message
 turn_in own scene past (Store opened stream) message =
@@ -146,7 +147,7 @@ turn_in own scene past (Store opened stream) message =
 turn_in own scene past (Stopped opened stream) message = Does (effect_stopped scene opened stream message)
 
 -- What an item does outside a group of two. A malformed one is answered by the format Status of its type.
-abbrev pub turn_of : (own : ℕ) → Standing → Item → Turn
+abbrev pub turn_of : (own : ServerSetup) → Standing → Item → Turn
 turn_of own s (Malformed fault) = Does (enters s.scene s.place (bare_status (codes.status_code_for fault.message_type) ∷ []))
 turn_of own s (Whole message) = turn_in own s.scene s.past s.place message
 

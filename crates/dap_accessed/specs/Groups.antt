@@ -4,6 +4,7 @@
 use Rattle.std.specs.Prelude.{ℕ, List, [], ◌∷◌, ◌++◌, length, drop, Option, Some, None}
 use Rattle.dap_msg.specs.declared.message.Message.{Message}
 use Rattle.dap_msg.specs.declared.items.Item.{Item}
+use Rattle.dap_accessed.specs.declared.setup.ServerSetup.{ServerSetup}
 use Rattle.dap_accessed.specs.Standing.{Files, Place, Connected, Group, Standing, Effect, start}
 use Rattle.dap_accessed.specs.Effects.{Begun, Turn, Does, Begins, turn_of, effect_with}
 
@@ -28,7 +29,7 @@ pub record Grouped : Type 0 where
   pub begun : Option Begun
 
 -- the items, cut into groups from this state on
-abbrev pub grouped : ℕ → Standing → List Item → Grouped
+abbrev pub grouped : (own : ServerSetup) → Standing → List Item → Grouped
 grouped own s [] = record { standing = s; begun = None }
 grouped own s (item ∷ []) =
     elim (turn_of own s item) [
@@ -46,24 +47,24 @@ abbrev pub answers_in : List Group → List Message
 answers_in [] = []
 answers_in (group ∷ past) = answers_in past ++ group.answers
 
--- the state of a server with this BUFSIZ, and these files at first, after these items
-abbrev pub stands_after : ℕ → Files → List Item → Grouped
+-- the state of a server with this setup, and these files at first, after these items
+abbrev pub stands_after : (own : ServerSetup) → Files → List Item → Grouped
 stands_after own first items = grouped own (start first) items
 
 -- the longest message that the peer takes then
-abbrev pub limit_for : ℕ → Files → List Item → ℕ
+abbrev pub limit_for : (own : ServerSetup) → Files → List Item → ℕ
 limit_for own first items = (stands_after own first items).standing.scene.limit
 
 -- the files then: those at first after the operations of all groups
-abbrev pub After : ℕ → Files → List Item → Files
+abbrev pub After : (own : ServerSetup) → Files → List Item → Files
 After own first items = (stands_after own first items).standing.scene.files
 
 -- the answers of all groups, in order
-abbrev pub Answers : ℕ → Files → List Item → List Message
+abbrev pub Answers : (own : ServerSetup) → Files → List Item → List Message
 Answers own first items = answers_in (stands_after own first items).standing.past
 
 -- the answers that one item more adds
-abbrev pub added : ℕ → Files → List Item → Item → List Message
+abbrev pub added : (own : ServerSetup) → Files → List Item → Item → List Message
 added own first items item = drop (length (Answers own first items)) (Answers own first (items ++ item ∷ []))
 
 -- ---- One item more finishes the group that was begun, or is a group, or begins one.
@@ -74,12 +75,12 @@ next_group s item (Does effect) = record { standing = over s s.place item effect
 next_group s item (Begins begun) = record { standing = s; begun = Some begun }
 
 -- the state after an item, where this group was begun
-abbrev pub more_after : ℕ → Standing → Option Begun → Item → Grouped
+abbrev pub more_after : (own : ServerSetup) → Standing → Option Begun → Item → Grouped
 more_after own s None item = next_group s item (turn_of own s item)
 more_after own s (Some begun) item = record { standing = after_two s begun item; begun = None }
 
 -- the state after one item more
-abbrev pub one_more : ℕ → Grouped → Item → Grouped
+abbrev pub one_more : (own : ServerSetup) → Grouped → Item → Grouped
 one_more own c item = more_after own c.standing c.begun item
 
 -- the answers of a group; one that is begun has none yet
@@ -88,11 +89,11 @@ next_answers (Does effect) = effect.answers
 next_answers (Begins begun) = []
 
 -- the answers to an item, where this group was begun
-abbrev pub answers_after : ℕ → Standing → Option Begun → Item → List Message
+abbrev pub answers_after : (own : ServerSetup) → Standing → Option Begun → Item → List Message
 answers_after own s None item = next_answers (turn_of own s item)
 answers_after own s (Some begun) item =
     (effect_with begun.change s.scene begun.opened begun.stream item).answers
 
 -- the answers to an item in this state
-abbrev pub answers_of : ℕ → Grouped → Item → List Message
+abbrev pub answers_of : (own : ServerSetup) → Grouped → Item → List Message
 answers_of own c item = answers_after own c.standing c.begun item

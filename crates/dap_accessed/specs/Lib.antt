@@ -1,3 +1,4 @@
+pub mod Setup
 pub mod Standing
 pub mod Replies
 pub mod Past
@@ -10,6 +11,8 @@ pub mod Present
 pub mod Served
 pub mod Sessions
 pub mod Sound
+pub mod Apart
+pub mod Twins
 pub mod Adding
 pub mod Storing
 pub mod Stored

@@ -3,6 +3,7 @@ use Rattle.std.specs.Prelude.{ℕ, ◌≡◌, Bool, ◌&&◌, if◌then◌else�
 use Rattle.dap_msg.specs.declared.items.Item.{Item}
 use Rattle.rec_file.specs.declared.shapes.Shape.{Shape}
 use Rattle.rec_file.specs.Acts.{StreamVal}
+use Rattle.dap_accessed.specs.declared.setup.ServerSetup.{ServerSetup}
 use Rattle.dap_accessed.specs.declared.phase.OpenFile.{OpenFile}
 use Rattle.dap_accessed.specs.declared.phase.Phase.{Phase}
 use Rattle.dap_accessed.specs.declared.phase.Phase.TheVariants as phases
@@ -16,6 +17,8 @@ use Rattle.dap_accessed.specs.Groups.{Grouped, stands_after}
 pub record Present : Type 0 where
   -- the server's BUFSIZ
   pub own : ℕ
+  -- what it is set up with, this BUFSIZ too
+  pub setup : ServerSetup
   -- how long a message the peer takes
   pub limit : ℕ
   pub files : Files
@@ -60,16 +63,17 @@ phase_of s None = phase_at s.place (looked_back s.place s.past)
 phase_of s (Some begun) = phase_within begun.change begun.opened begun.stream
 
 -- what a server keeps in this state
-abbrev pub present_of : ℕ → Grouped → Present
+abbrev pub present_of : (own : ServerSetup) → Grouped → Present
 present_of own c =
     record {
-      own = own;
+      own = own.identity.bufsiz;
+      setup = own;
       limit = c.standing.scene.limit;
       files = c.standing.scene.files;
       kept = asked_shape (kept_attributes c.standing.past);
       phase = phase_of c.standing c.begun;
     }
 
--- the server is as one with its BUFSIZ, and these files at first, after these items
+-- the server is as one with its setup, and these files at first, after these items
 abbrev pub StandsAfter : Files → List Item → Present → Type 0
-StandsAfter first items present = present ≡ present_of present.own (stands_after present.own first items)
+StandsAfter first items present = present ≡ present_of present.setup (stands_after present.setup first items)

@@ -7,6 +7,7 @@ use Rattle.dap_msg.specs.declared.items.Item.{Item}
 use Rattle.dap_msg.specs.Items.{ItemAt}
 use Rattle.dap_msg.specs.Blocked.{Blocked, all_joined, bodies, AllFit}
 use Rattle.dap_msg.specs.BothEnds.{greatest_message}
+use Rattle.dap_accessed.specs.declared.setup.ServerSetup.{ServerSetup}
 use Rattle.dap_accessed.specs.declared.served.Served.{Served}
 use Rattle.dap_accessed.specs.Standing.{Files}
 use Rattle.dap_accessed.specs.Past.{is_filedata, is_dropping}
@@ -30,16 +31,17 @@ pub record Serves (bytes : List ℕ) (at : ℕ) (old new : Present) (served : Se
   pub item : Item
   pub reads : ItemAt bytes at item served.next
   pub limit : ℕ
-  pub is_limit : (first : Files) (items : List Item) → StandsAfter first items old → limit ≡ limit_for old.own first items
+  pub is_limit : (first : Files) (items : List Item) → StandsAfter first items old → limit ≡ limit_for old.setup first items
   pub most : limit ≤ greatest_message
   pub stands : (first : Files) (items : List Item) → StandsAfter first items old → StandsAfter first (items ++ item ∷ []) new
   pub answers : (first : Files) (items : List Item) → StandsAfter first items old →
-      bodies served.answers.items ≡ all_joined (Blocked limit (added old.own first items item))
-  pub fits : (first : Files) (items : List Item) → StandsAfter first items old → AllFit (added old.own first items item)
+      bodies served.answers.items ≡ all_joined (Blocked limit (added old.setup first items item))
+  pub fits : (first : Files) (items : List Item) → StandsAfter first items old → AllFit (added old.setup first items item)
   pub within : AllAtMost limit (bodies served.answers.items)
   pub same_own : new.own ≡ old.own
+  pub same_setup : new.setup ≡ old.setup
 
 -- an item without an answer, that is no Data message which is stored: it is never out of memory
-abbrev pub IsSilent : ℕ → Files → List Item → Item → Type 0
+abbrev pub IsSilent : (own : ServerSetup) → Files → List Item → Item → Type 0
 IsSilent own first items item =
     (added own first items item ≡ []) × (is_filedata item ≡ true → is_dropping (stands_after own first items).standing.past ≡ true)

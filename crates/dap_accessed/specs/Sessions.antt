@@ -10,12 +10,14 @@ use Rattle.dap_msg.specs.declared.items.Item.{Item}
 use Rattle.dap_msg.specs.declared.items.Item.TheVariants.{Whole}
 use Rattle.rec_file.specs.Limits.{greatest_number}
 use Rattle.rec_file.specs.declared.shapes.Shape.{Shape}
+use Rattle.dap_accessed.specs.declared.setup.ServerSetup.{ServerSetup}
 use Rattle.dap_accessed.specs.declared.phase.OpenFile.{OpenFile}
 use Rattle.dap_accessed.specs.declared.phase.Phase.{Phase}
 use Rattle.dap_accessed.specs.declared.phase.Phase.TheVariants as phases
-use Rattle.dap_accessed.specs.Standing.{Files, place_of, plain_shape}
+use Rattle.dap_accessed.specs.Setup.{lacks, plain_setup}
+use Rattle.dap_accessed.specs.Standing.{Files, place_by, plain_shape}
 use Rattle.dap_accessed.specs.Past.{is_filedata, is_dropping}
-use Rattle.dap_accessed.specs.Accesses.{rights_of, fac_or}
+use Rattle.dap_accessed.specs.Accesses.{rights_to_open}
 use Rattle.dap_accessed.specs.Groups.{Grouped, one_more, answers_of}
 use Rattle.dap_accessed.specs.Present.{Present, present_of}
 use Rattle.dap_accessed.specs.Served.{AllAtMost, Answered}
@@ -23,21 +25,27 @@ use Rattle.dap_accessed.specs.Served.{AllAtMost, Answered}
 -- what a server keeps of a link, but for the files
 pub record SessionValue : Type 0 where
   pub own : ℕ
+  pub setup : ServerSetup
   pub limit : ℕ
   pub kept : Option Shape
   pub phase : Phase
 
 -- with these files
 abbrev pub joined : Files → SessionValue → Present
-joined files s = record { own = s.own; limit = s.limit; files = files; kept = s.kept; phase = s.phase }
+joined files s = record { own = s.own; setup = s.setup; limit = s.limit; files = files; kept = s.kept; phase = s.phase }
 
 -- without the files
 abbrev pub session_of : Present → SessionValue
-session_of p = record { own = p.own; limit = p.limit; kept = p.kept; phase = p.phase }
+session_of p = record { own = p.own; setup = p.setup; limit = p.limit; kept = p.kept; phase = p.phase }
 
 -- no Configuration was served
+abbrev pub session_with : (own : ServerSetup) → SessionValue
+session_with own =
+    record { own = own.identity.bufsiz; setup = own; limit = least_buffer; kept = Some plain_shape; phase = phases.Fresh }
+
+-- the same of a server with this BUFSIZ of which nothing else is asked
 abbrev pub new_session : (own : ℕ) → SessionValue
-new_session own = record { own = own; limit = least_buffer; kept = Some plain_shape; phase = phases.Fresh }
+new_session own = session_with (plain_setup own)
 
 -- after an Access that was refused
 abbrev pub refused_session : SessionValue → SessionValue
@@ -87,36 +95,39 @@ phase_moved_up r (phases.Stopped o s) = phases.Stopped (moved_up r o) s
 
 -- a file that is there, as an Access with this FAC opens it
 abbrev pub there_at : (fac at : ℕ) → OpenFile
-there_at fac at = record { at = at; is_new = false; rights = rights_of (fac_or fac codes.fac_bits.get) }
+there_at fac at = record { at = at; is_new = false; rights = rights_to_open fac }
 
--- what an Access would open, where it names a file that is there
-abbrev pub would_open : Files → AccessFields → Option OpenFile
-would_open files access =
-    if access.func == codes.accfunc.opening
-    then option_map (there_at access.fac) (place_of access.name files)
-    else None
+-- the same, unless it asks for a right that the server doesn't give
+abbrev pub there_if : (own : ServerSetup) → (fac : ℕ) → Option ℕ → Option OpenFile
+there_if own fac found = if lacks own.most (rights_to_open fac) then None else option_map (there_at fac) found
+
+-- what an Access would open, where it names a file that is there, and asks for no right too many
+abbrev pub would_open : (own : ServerSetup) → Files → AccessFields → Option OpenFile
+would_open own files access =
+    if access.func == codes.accfunc.opening then there_if own access.fac (place_by own.names access.name files) else None
 
 -- what an item asks to open: only an Access in Ready does
-abbrev pub asked_in : Files → Phase → Item → Option OpenFile
-asked_in files phases.Ready (Whole (Access access)) = would_open files access
-asked_in files phase item = None
+abbrev pub asked_in : (own : ServerSetup) → Files → Phase → Item → Option OpenFile
+asked_in own files phases.Ready (Whole (Access access)) = would_open own files access
+asked_in own files phase item = None
 
 -- ---- One item.
 
 -- it is what a server keeps in this state
 abbrev pub IsIn : Grouped → Present → Type 0
-IsIn c present = present ≡ present_of present.own c
+IsIn c present = present ≡ present_of present.setup c
 
 -- an item without an answer in this state, that is no Data message which is stored: it is never out of memory
-abbrev pub IsSilentIn : (own : ℕ) → Grouped → Item → Type 0
+abbrev pub IsSilentIn : (own : ServerSetup) → Grouped → Item → Type 0
 IsSilentIn own c item =
     (answers_of own c item ≡ []) × (is_filedata item ≡ true → is_dropping c.standing.past ≡ true)
 
 -- An item was served. In whatever state the server was, it is in the state after that and this item, and gives the
 -- answers that the item has there, joined within the peer's limit.
 pub record ServesItem (item : Item) (old new : Present) (answers : Vec (Vec ℕ)) : Type 0 where
-  pub stands : (c : Grouped) → IsIn c old → IsIn (one_more old.own c item) new
-  pub answered : (c : Grouped) → IsIn c old → Answered old.limit (answers_of old.own c item) answers
+  pub stands : (c : Grouped) → IsIn c old → IsIn (one_more old.setup c item) new
+  pub answered : (c : Grouped) → IsIn c old → Answered old.limit (answers_of old.setup c item) answers
   pub within : AllAtMost old.limit (bodies answers.items)
   pub most : old.limit ≤ greatest_message
   pub same_own : new.own ≡ old.own
+  pub same_setup : new.setup ≡ old.setup

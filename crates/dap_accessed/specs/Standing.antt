@@ -10,6 +10,8 @@ use Rattle.rec_file.specs.declared.shapes.Org.TheVariants.{Seq}
 use Rattle.rec_file.specs.declared.shapes.Format.TheVariants.{Variable}
 use Rattle.rec_file.specs.Files.{FileVal}
 use Rattle.rec_file.specs.Acts.{StreamVal}
+use Rattle.dap_accessed.specs.Setup.{same_name}
+use Rattle.dap_accessed.specs.declared.setup.Names.{Names}
 use Rattle.dap_accessed.specs.declared.phase.OpenFile.{OpenFile}
 
 -- the files, each with its name, in the order in which they were made
@@ -19,6 +21,10 @@ Files = List (List ℕ × FileVal)
 -- the index of the first file with this name
 abbrev pub place_of : List ℕ → Files → Option ℕ
 place_of name files = position (λ (f : List ℕ × FileVal). bytes_eq f.0 name) files
+
+-- the index of the first file whose name is one with this, so compared
+abbrev pub place_by : Names → List ℕ → Files → Option ℕ
+place_by names name files = position (λ (f : List ℕ × FileVal). same_name names f.0 name) files
 
 -- the shape of a file that isn't there: sequential, variable, without limits
 abbrev pub plain_shape : Shape

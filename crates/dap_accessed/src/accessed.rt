@@ -10,11 +10,13 @@ ghost use Rattle.dap_msg.specs.Decoding.{IsSpelled};
 ghost use Rattle.dap_accessed.specs.Groups.{After};
 ghost use Rattle.dap_accessed.specs.Present.{StandsAfter};
 ghost use Rattle.dap_accessed.specs.Served.{IsSilent, Serves};
+ghost use Rattle.dap_accessed.specs.Setup.{IsServerSetup, plain_setup};
 ghost use Rattle.dap_accessed.specs.Standing.{Files};
 
 use crate::fault::NoMemory;
 use crate::served::Served;
 use crate::session::Session;
+use crate::setup::ServerSetup;
 use crate::table::FileTable;
 use dap_msg::{Item, item_at};
 use std::alloc::Global;
@@ -50,11 +52,22 @@ impl Accessed {
         requires low { least_buffer ≤ bufsiz }
         requires high { bufsiz ≤ greatest_message }
         ensures own { result.own ≡ bufsiz }
+        ensures setup { result.setup ≡ plain_setup bufsiz }
+        ensures stands { StandsAfter [] [] result }
+    {
+        Accessed::with_setup(alloc, ServerSetup::plain(bufsiz))
+    }
+
+    /// The same end, set up so. It takes no memory.
+    pub fn with_setup(alloc: Global, setup: ServerSetup) -> Accessed
+        requires { IsServerSetup setup }
+        ensures setup { result.setup ≡ setup }
+        ensures own { result.own ≡ setup.identity.bufsiz }
         ensures stands { StandsAfter [] [] result }
     {
         Accessed {
             files: FileTable::new(alloc),
-            session: Session::new(alloc, bufsiz),
+            session: Session::with_setup(alloc, setup),
         }
     }
 
@@ -62,7 +75,7 @@ impl Accessed {
     pub fn files(&self) -> &FileTable
         ensures held { result.now ≡ self.now.files }
         ensures after { (first : Files) (items : List TheItem) → StandsAfter first items self.now
-            → result.now ≡ After self.now.own first items }
+            → result.now ≡ After self.now.setup first items }
     {
         &self.files
     }
@@ -81,7 +94,7 @@ impl Accessed {
         ensures no_memory { OnErr result (self.new ≡ self.old) }
         ensures unrefused { (first : Files) (items : List TheItem) (item : TheItem) (next : ℕ)
             → StandsAfter first items self.old → ItemAt nsp_message.now at item next
-            → IsSilent self.old.own first items item → IsOk result }
+            → IsSilent self.old.setup first items item → IsOk result }
     {
         let (item, next) = item_at(nsp_message, at);
         self.serve_item(item, next)
@@ -96,7 +109,7 @@ impl Accessed {
         ensures no_memory { OnErr result (self.new ≡ self.old) }
         ensures unrefused { (first : Files) (items : List TheItem)
             → StandsAfter first items self.old
-            → IsSilent self.old.own first items item.entry → IsOk result }
+            → IsSilent self.old.setup first items item.entry → IsOk result }
     {
         let answers = self.session.answer_item(&mut self.files, item)?;
         Ok(Served { answers, next })

@@ -13,22 +13,32 @@ use crate::accessed::Accessed;
 use crate::fault::AddFault;
 use crate::phase::Phase;
 use dap_msg::LEAST_BUFFER;
-use rec_file::{AnyFile, OneWalk, RecordFile, Refusal, Shape};
+use rec_file::{AnyFile, OneWalk, RecordFile, Refusal, Rights, Shape};
 
 impl Accessed {
     /// The same files for another link: the end waits for a peer's Config again, an open file is closed, and a PUT
     /// or an UPDATE that waits for its record is dropped.
     pub fn renew(&mut self)
         ensures own { self.new.own ≡ self.old.own }
+        ensures setup { self.new.setup ≡ self.old.setup }
         ensures stands { StandsAfter self.old.files [] self.new }
     {
         self.session.renew();
     }
 
+    /// The same files for another link, on which an Access may ask for these rights at most.
+    pub fn renew_for(&mut self, most: Rights)
+        ensures own { self.new.own ≡ self.old.own }
+        ensures setup { self.new.setup ≡ record self.old.setup { most = most } }
+        ensures stands { StandsAfter self.old.files [] self.new }
+    {
+        self.session.renew_for(most);
+    }
+
     /// A file without records after the others, before the peer's Config was served. Its shape is one that
     /// [`Shape::check`] gives.
     ///
-    /// Refusals in order: Busy, FileExists, NoMemory; each leaves the end unchanged.
+    /// Refusals in order: Busy; FileExists, as the end compares names; NoMemory. Each leaves the end unchanged.
     pub fn add(&mut self, name: &[u8], shape: Shape) -> Result<(), AddFault>
         requires { IsTrue (is_shape shape) }
         ensures may { OnOk result (MayAdd self.old name.now) }
@@ -37,13 +47,14 @@ impl Accessed {
         ensures stands { OnOk result ((first : Files) (items : List TheItem)
             → StandsAfter first items self.old → StandsAfter self.new.files items self.new) }
         ensures own { self.new.own ≡ self.old.own }
+        ensures setup { self.new.setup ≡ self.old.setup }
         ensures refused { IfErr result (λ f. AddRefused self.old name.now f) }
         ensures unchanged { OnErr result (self.new ≡ self.old) }
     {
         if !self.is_fresh() {
             return Err(AddFault::Busy);
         }
-        if self.files.find(name).is_some() {
+        if self.files.find_by(self.session.setup.names, name).is_some() {
             return Err(AddFault::FileExists);
         }
         self.files.make(self.session.alloc, name, shape)?;
@@ -61,6 +72,7 @@ impl Accessed {
         ensures stands { OnOk result ((first : Files) (items : List TheItem)
             → StandsAfter first items self.old → StandsAfter self.new.files items self.new) }
         ensures own { self.new.own ≡ self.old.own }
+        ensures setup { self.new.setup ≡ self.old.setup }
         ensures refused { IfErr result (λ f. RecordRefused self.old number body.now f) }
         ensures unchanged { OnErr result (self.new ≡ self.old) }
     {

@@ -1,10 +1,10 @@
 //! Answers, and their messages.
 
 ghost use Rattle.std.specs.Prelude.{◌≡◌, ◌≤◌, [], ◌∷◌, IfOk, length};
-ghost use Rattle.dap_msg.specs.declared.message.Message.TheVariants.{Ack, Filedata};
+ghost use Rattle.dap_msg.specs.declared.message.Message.TheVariants.{Ack, Config, Filedata};
 ghost use Rattle.dap_msg.specs.Canon.{Fits};
 ghost use Rattle.dap_msg.specs.Sizes.{file_data_size};
-ghost use Rattle.dap_msg.specs.BothEnds.{config_of, four_bytes, least_buffer};
+ghost use Rattle.dap_msg.specs.BothEnds.{four_bytes, least_buffer};
 ghost use Rattle.rec_file.specs.Limits.{longest_record};
 ghost use Rattle.dap_accessed.specs.Replies.{attributes_for, completed, format_number, opened_with, org_number, status, too_large};
 ghost use Rattle.dap_accessed.specs.Inner.Written.{AddsAnswer, FitsIn, IsAtMost, IsShort, IsWritable, message_of, most_bytes};
@@ -16,8 +16,8 @@ use dap_msg::codes::{
     RFM_FIXED, RFM_VARIABLE, SUCCESS,
 };
 use dap_msg::{
-    Attributes, Bytes, LEAST_BUFFER, MessageValue, StatusFields, append_message, encode_value,
-    encoded_len,
+    Attributes, Bytes, Configuration, LEAST_BUFFER, MessageValue, StatusFields, append_message,
+    encode_value, encoded_len,
 };
 use rec_file::{Format, Org, Shape};
 use std::alloc::Global;
@@ -26,8 +26,8 @@ use std::marker::Model;
 /// An answer before it is written, with the bytes of its numbers.
 #[derive(Clone, Copy)]
 pub(crate) enum Answer<'a> {
-    /// The Config of an end with this BUFSIZ in bytes.
-    Config(u16),
+    /// The Config of an end.
+    Config(Configuration),
     /// The Attributes of a file, and its MRN.
     Attributes(Shape, [u8; 4]),
     Ack,
@@ -145,7 +145,7 @@ impl<'a> Answer<'a> {
         ensures within { IsAtMost (most_bytes self.now) (message_of self.now) }
     {
         match self {
-            Answer::Config(bufsiz) => MessageValue::config_of(*bufsiz),
+            Answer::Config(own) => MessageValue::Config(*own),
             Answer::Attributes(shape, mrn) => attributes(*shape, mrn),
             Answer::Ack => MessageValue::Ack,
             Answer::Complete => MessageValue::complete_with(CMPFUNC_RESPONSE),

@@ -3,20 +3,25 @@
 
 ghost use Rattle.std.specs.Prelude.{◌≡◌, ◌<◌, ◌^◌, ℕ, List, [], ◌∷◌, ◌++◌, length, None, IsTrue};
 ghost use Rattle.dap_msg.specs.declared.items.Item.{Item as TheItem};
+ghost use Rattle.dap_msg.specs.declared.message.Message.TheVariants.{Config};
+ghost use Rattle.dap_msg.specs.Fitting.{FieldsFit};
 ghost use Rattle.dap_msg.specs.Items.{IsRead};
 ghost use Rattle.dap_msg.specs.Blocked.{AllFit};
 ghost use Rattle.dap_msg.specs.Sendable.{AreSendable};
 ghost use Rattle.std.specs.List.{AllByRecursion};
 ghost use Rattle.dap_accessed.specs.Sound.{AreFiles, IsSound};
+ghost use Rattle.dap_accessed.specs.Apart.{AreApart};
+ghost use Rattle.dap_accessed.specs.Twins.{AreTwins, SameMessages};
+ghost use Rattle.dap_accessed.specs.declared.setup.ServerSetup.{ServerSetup};
 ghost use Rattle.dap_accessed.specs.Standing.{Files, place_of, file_at};
 ghost use Rattle.dap_accessed.specs.Adding.{MayStore, newest, with_new_file, with_record};
 ghost use Rattle.rec_file.specs.Shapes.{is_shape};
 ghost use Rattle.rec_file.specs.declared.shapes.Shape.{Shape};
-ghost use Rattle.dap_accessed.specs.Groups.{Answers, added, limit_for, stands_after};
+ghost use Rattle.dap_accessed.specs.Groups.{After, Answers, added, limit_for, stands_after};
 
 /// One message more adds its own answers to those of the messages before it, and no others.
 pub fn answers_grow()
-    ensures { (own : ℕ) (first : Files) (items : List TheItem) (item : TheItem)
+    ensures { (own : ServerSetup) (first : Files) (items : List TheItem) (item : TheItem)
         → Answers own first (items ++ item ∷ [])
         ≡ Answers own first items ++ added own first items item }
 {}
@@ -25,20 +30,22 @@ pub fn answers_grow()
 /// is one that `Shape::check` gives, the file that is open is in the table, and what the peer takes is 64 to 65,535
 /// bytes.
 pub fn stays_sound()
-    ensures { (own : ℕ) (first : Files) (items : List TheItem)
+    ensures { (own : ServerSetup) (first : Files) (items : List TheItem)
         → AreFiles first → IsSound (stands_after own first items) }
 {}
 
 /// Each answer to one message more that was read has a spelling, and none is longer than the peer takes.
 pub fn answers_are_sendable()
-    ensures { (own : ℕ) → own < 2 ^ 16 → (first : Files) (items : List TheItem)
+    ensures { (own : ServerSetup) → FieldsFit (Config own.identity)
+        → (first : Files) (items : List TheItem)
         (item : TheItem) → AreFiles first → IsRead item
         → AreSendable (limit_for own first items) (added own first items item) }
 {}
 
 /// All answers to messages that were read have spellings.
 pub fn answers_fit()
-    ensures { (own : ℕ) → own < 2 ^ 16 → (first : Files) (items : List TheItem)
+    ensures { (own : ServerSetup) → FieldsFit (Config own.identity)
+        → (first : Files) (items : List TheItem)
         → AreFiles first → AllByRecursion IsRead items → AllFit (Answers own first items) }
 {}
 
@@ -49,4 +56,26 @@ pub fn given_files_are_sound()
         → AreFiles (with_new_file name shape files) }
     ensures record { (files : Files) (n : ℕ) (body : List ℕ) → AreFiles files → 0 < length files
         → MayStore (file_at (newest files) files) n body → AreFiles (with_record n body files) }
+{}
+
+/// Where no two of the files at first had one name, as the server compares names, no two ever have. So with folded names no
+/// two files of the table fold alike.
+pub fn names_stay_apart()
+    ensures { (own : ServerSetup) (first : Files) (items : List TheItem)
+        → AreApart own.names first → AreApart own.names (After own first items) }
+{}
+
+/// Two servers that differ in what they say of themselves alone, of whatever BUFSIZ, do the same: the files after any messages
+/// are the same, so is the longest message that they send, and so are the answers, but that each sends its own Configuration.
+pub fn identity_is_told_alone()
+    ensures files { (one other : ServerSetup) (first : Files) (items : List TheItem)
+        → AreTwins one other → After one first items ≡ After other first items }
+    ensures limit { (one other : ServerSetup) (first : Files) (items : List TheItem)
+        → AreTwins one other → limit_for one first items ≡ limit_for other first items }
+    ensures answers { (one other : ServerSetup) (first : Files) (items : List TheItem)
+        → AreTwins one other → SameMessages one.identity other.identity
+        (Answers one first items) (Answers other first items) }
+    ensures added { (one other : ServerSetup) (first : Files) (items : List TheItem)
+        (item : TheItem) → AreTwins one other → SameMessages one.identity other.identity
+        (added one first items item) (added other first items item) }
 {}

@@ -13,6 +13,7 @@ mod phase;
 mod refusing;
 mod served;
 mod session;
+mod setup;
 mod step;
 mod table;
 mod transfer;
@@ -21,10 +22,12 @@ mod verbs;
 pub use accessed::Accessed;
 pub use fault::{AddFault, NoMemory};
 pub use laws::{
-    answers_are_sendable, answers_fit, answers_grow, given_files_are_sound, stays_sound,
+    answers_are_sendable, answers_fit, answers_grow, given_files_are_sound, identity_is_told_alone,
+    names_stay_apart, stays_sound,
 };
 pub use phase::OpenFile;
 pub use refusing::reason_number;
 pub use served::Served;
 pub use session::Session;
+pub use setup::{ALL_RIGHTS, Names, ServerSetup, rights_of_fac};
 pub use table::FileTable;

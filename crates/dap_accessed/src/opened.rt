@@ -2,7 +2,7 @@
 
 ghost use Rattle.std.specs.Prelude.{OnOk, ◌≡◌, ◌<◌, length, OnErr};
 ghost use Rattle.dap_accessed.specs.Records.{uncurrent};
-ghost use Rattle.dap_accessed.specs.Inner.Moves.{Makes, Moves, refuses};
+ghost use Rattle.dap_accessed.specs.Inner.Moves.{Makes, Moves, refuses, refuses_large};
 ghost use Rattle.dap_accessed.specs.Sessions.{IsOpenIn, joined};
 ghost use Rattle.dap_accessed.specs.Inner.Steps.{done};
 ghost use Rattle.dap_accessed.specs.declared.step.Step.TheVariants as steps;
@@ -89,10 +89,7 @@ impl Session {
             Err(refusal) => return self.refuse(files, opened, stream, refusal),
         };
         if filedata_len(body) > usize::from(self.limit) {
-            return self.reply(
-                too_large(),
-                Phase::Connected(opened, without_current(stream)),
-            );
+            return self.refuse_large(files, opened, stream);
         }
         let answers = one(
             self.alloc,
@@ -122,6 +119,25 @@ impl Session {
     {
         self.reply(
             refused(refusal),
+            Phase::Connected(opened, without_current(stream)),
+        )
+    }
+
+    /// Answers a GET of a record that is longer than the peer takes.
+    fn refuse_large(
+        &mut self,
+        files: &FileTable,
+        opened: OpenFile,
+        stream: Stream,
+    ) -> Result<Vec<Vec<u8>>, NoMemory>
+        requires { opened.at < length files.now }
+        ensures ok { Makes (refuses_large (joined files.now self.old) opened stream)
+            (joined files.now self.old) (joined files.now self.new) result }
+        ensures there { OnOk result (IsOpenIn files.now self.new.phase) }
+        ensures err { OnErr result (joined files.now self.new ≡ joined files.now self.old) }
+    {
+        self.reply(
+            too_large(),
             Phase::Connected(opened, without_current(stream)),
         )
     }

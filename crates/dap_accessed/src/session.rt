@@ -7,11 +7,12 @@ ghost use Rattle.dap_msg.specs.declared.message.Message.{Message as TheMessage};
 ghost use Rattle.dap_msg.specs.Codes as codes;
 ghost use Rattle.dap_msg.specs.Decoding.{IsSpelled};
 ghost use Rattle.dap_msg.specs.Items.{ItemFits};
-ghost use Rattle.dap_accessed.specs.Accesses.{fac_or, rights_of};
+ghost use Rattle.dap_accessed.specs.Accesses.{fac_or, rights_of, rights_to_create};
 ghost use Rattle.dap_accessed.specs.Groups.{Grouped};
 ghost use Rattle.dap_accessed.specs.Replies.{bare_status, refused_access};
 ghost use Rattle.dap_accessed.specs.Served.{Answered};
-ghost use Rattle.dap_accessed.specs.Sessions.{IsIn, IsOpenIn, IsSilentIn, ServesItem, asked_in, joined, new_session, open_at, phase_moved_up, refused_session, there_at, would_open};
+ghost use Rattle.dap_accessed.specs.Sessions.{IsIn, IsOpenIn, IsSilentIn, ServesItem, asked_in, joined, new_session, open_at, phase_moved_up, refused_session, session_with, there_at, would_open};
+ghost use Rattle.dap_accessed.specs.Setup.{IsServerSetup};
 ghost use Rattle.dap_accessed.specs.Inner.Sessions.{Enters};
 ghost use Rattle.dap_accessed.specs.Inner.Moves.{Makes, Moves, creates, is_silent, move, opens, opens_nothing};
 ghost use Rattle.dap_accessed.specs.Inner.Steps.{CanDo, done, is_quiet};
@@ -23,11 +24,12 @@ use crate::answers::{Answer, one, opening};
 use crate::fault::NoMemory;
 use crate::phase::{OpenFile, Phase};
 use crate::served::Served;
+use crate::setup::{ServerSetup, rights_for_access, rights_of_fac};
 use crate::step::Step;
 use crate::table::FileTable;
 use dap_msg::codes::{
     ACCESS_REFUSED, ACCFUNC_CREATE, ACCFUNC_OPEN, FILE_NOT_FOUND, REASON_BAD_ATTRIBUTES,
-    REASON_FILE_EXISTS, TYPE_ACCESS, unsupported,
+    REASON_FILE_EXISTS, REASON_NOT_PERMITTED, TYPE_ACCESS, unsupported,
 };
 use dap_msg::{AccessFields, FileAccess, Item, LEAST_BUFFER, MessageValue};
 use rec_file::{Format, Org, RecordFile, Rights, Shape};
@@ -38,8 +40,7 @@ use std::marker::Model;
 #[derive(Drop)]
 pub struct Session {
     pub(crate) alloc: Global,
-    /// The BUFSIZ of its own Config.
-    bufsiz: u16,
+    pub(crate) setup: ServerSetup,
     /// How long a message the peer takes.
     pub(crate) limit: u16,
     /// The shape that an Access would give a new file.
@@ -56,9 +57,15 @@ impl Model for Session {
 
     ghost coded = { session_code };
 
-    ghost view = { λ a. record { own = a.bufsiz; limit = a.limit; kept = a.kept; phase = a.phase } };
+    ghost view = { λ a. record {
+      own = a.setup.identity.bufsiz;
+      setup = a.setup;
+      limit = a.limit;
+      kept = a.kept;
+      phase = a.phase;
+    } };
 
-    ghost invariant = { λ a. IsGood a.limit a.kept };
+    ghost invariant = { λ a. IsGood a.setup a.limit a.kept };
 }
 
 /// The shape of a file of which no Attributes message says anything.
@@ -73,16 +80,20 @@ pub(crate) const PLAIN: Shape = Shape {
 fn rights_for(fac: u32, usual: FileAccess) -> Rights
     ensures { result ≡ rights_of (fac_or fac usual.0) }
 {
-    let access = if fac == 0 {
-        usual
+    if fac == 0 {
+        rights_for_access(usual)
     } else {
-        FileAccess::of_fac(fac)
-    };
+        rights_of_fac(fac)
+    }
+}
+
+/// The rights that an Access to create a file asks for: PUT too.
+fn rights_to_create(fac: u32) -> Rights
+    ensures { result ≡ rights_to_create fac }
+{
     Rights {
-        get: access.allows_get(),
-        put: access.allows_put(),
-        upd: access.allows_update(),
-        del: access.allows_delete(),
+        put: true,
+        ..rights_for(fac, FileAccess::PUT)
     }
 }
 
@@ -108,14 +119,17 @@ fn there_at(at: usize, fac: u32) -> OpenFile
     }
 }
 
-/// The file that an Access would open, where it names one that is there.
-fn would_open(files: &FileTable, access: &AccessFields<'_>) -> Option<OpenFile>
-    ensures { result ≡ would_open files.now access.now }
+/// The file that an Access would open, where it names one that is there, and asks for no right too many.
+fn would_open(setup: &ServerSetup, files: &FileTable, access: &AccessFields<'_>) -> Option<OpenFile>
+    ensures { result ≡ would_open setup.now files.now access.now }
 {
     if access.func != ACCFUNC_OPEN {
         return None;
     }
-    let at = files.find(access.name.0)?;
+    if setup.lacks(rights_for(access.fac, FileAccess::GET)) {
+        return None;
+    }
+    let at = files.find_by(setup.names, access.name.0)?;
     Some(there_at(at, access.fac))
 }
 
@@ -125,9 +139,17 @@ impl Session {
         requires low { least_buffer ≤ bufsiz }
         ensures { result ≡ new_session bufsiz }
     {
+        Session::with_setup(alloc, ServerSetup::plain(bufsiz))
+    }
+
+    /// The same of a server that is set up so. It takes no memory.
+    pub fn with_setup(alloc: Global, setup: ServerSetup) -> Session
+        requires { IsServerSetup setup }
+        ensures { result ≡ session_with setup }
+    {
         Session {
             alloc,
-            bufsiz,
+            setup,
             limit: LEAST_BUFFER,
             kept: Some(PLAIN),
             phase: Phase::Fresh,
@@ -136,11 +158,28 @@ impl Session {
 
     /// The same for another link: the open file is closed, and a PUT or an UPDATE that waits for its record is dropped.
     pub fn renew(&mut self)
-        ensures { self.new ≡ new_session self.old.own }
+        ensures session { self.new ≡ session_with self.old.setup }
+        ensures own { self.new.own ≡ self.old.own }
     {
         self.limit = LEAST_BUFFER;
         self.kept = Some(PLAIN);
         self.phase = Phase::Fresh;
+    }
+
+    /// The same for another link, on which an Access may ask for these rights at most.
+    pub fn renew_for(&mut self, most: Rights)
+        ensures session { self.new ≡ session_with (record self.old.setup { most = most }) }
+        ensures own { self.new.own ≡ self.old.own }
+    {
+        self.setup.most = most;
+        self.renew();
+    }
+
+    /// The most that an Access may ask for.
+    pub fn rights(&self) -> Rights
+        ensures { result ≡ self.now.setup.most }
+    {
+        self.setup.most
     }
 
     /// The file that is open, where one is.
@@ -159,12 +198,15 @@ impl Session {
         }
     }
 
-    /// The file that an item would open: an Access, while none is open, that names a file which is there.
+    /// The file that an item would open: an Access, while none is open, that names a file which is there, and asks for no
+    /// right too many.
     pub fn asked(&self, files: &FileTable, item: &Item<'_>) -> Option<OpenFile>
-        ensures { result ≡ asked_in files.now self.now.phase item.now }
+        ensures { result ≡ asked_in self.now.setup files.now self.now.phase item.now }
     {
         match (self.phase, item) {
-            (Phase::Ready, Item::Whole(MessageValue::Access(access))) => would_open(files, access),
+            (Phase::Ready, Item::Whole(MessageValue::Access(access))) => {
+                would_open(&self.setup, files, access)
+            }
             _ => None,
         }
     }
@@ -245,7 +287,7 @@ impl Session {
         ensures there { OnOk result (IsOpenIn files.now self.new.phase) }
         ensures err { OnErr result (joined files.now self.new ≡ joined files.now self.old) }
     {
-        let answers = self.reply(Answer::Config(self.bufsiz), Phase::Ready)?;
+        let answers = self.reply(Answer::Config(self.setup.identity), Phase::Ready)?;
         self.limit = limit;
         Ok(answers)
     }
@@ -298,7 +340,7 @@ impl Session {
         Ok(answers)
     }
 
-    /// Answers an Access that opens a file.
+    /// Answers an Access that opens a file. It is refused where there is none, and then where it asks for a right too many.
     fn open(
         &mut self,
         files: &mut FileTable,
@@ -310,16 +352,20 @@ impl Session {
         ensures there { OnOk result (IsOpenIn files.new self.new.phase) }
         ensures err { OnErr result (joined files.new self.new ≡ joined files.old self.old) }
     {
-        let Some(at) = files.find(name) else {
+        let Some(at) = files.find_by(self.setup.names, name) else {
             return self.refuse_access(files, Answer::Status(FILE_NOT_FOUND));
         };
+        if self.setup.lacks(rights_for(fac, FileAccess::GET)) {
+            return self.refuse_access(files, refused_access(REASON_NOT_PERMITTED));
+        }
         let answers = opening(self.alloc, self.limit, files.file(at).shape())?;
         self.kept = Some(PLAIN);
         self.phase = Phase::Opened(there_at(at, fac));
         Ok(answers)
     }
 
-    /// Answers an Access that creates a file.
+    /// Answers an Access that creates a file. It is refused where there is one, then where it asks for a right too many, and
+    /// then where its attributes are bad.
     fn create(
         &mut self,
         files: &mut FileTable,
@@ -331,8 +377,11 @@ impl Session {
         ensures there { OnOk result (IsOpenIn files.new self.new.phase) }
         ensures err { OnErr result (joined files.new self.new ≡ joined files.old self.old) }
     {
-        if files.find(name).is_some() {
+        if files.find_by(self.setup.names, name).is_some() {
             return self.refuse_access(files, refused_access(REASON_FILE_EXISTS));
+        }
+        if self.setup.lacks(rights_to_create(fac)) {
+            return self.refuse_access(files, refused_access(REASON_NOT_PERMITTED));
         }
         let Some(shape) = self.kept else {
             return self.refuse_access(files, refused_access(REASON_BAD_ATTRIBUTES));
@@ -379,7 +428,7 @@ impl Session {
         ensures there { IsOpenIn files.new self.new.phase }
         ensures no_memory { OnErr result ((files.new ≡ files.old) × (self.new ≡ self.old)) }
         ensures unrefused { (c : Grouped) → IsIn c (joined files.old self.old)
-            → IsSilentIn self.old.own c item.entry → IsOk result }
+            → IsSilentIn self.old.setup c item.entry → IsOk result }
     {
         let answers = self.answer_item(files, item)?;
         Ok(Served { answers, next })

@@ -32,3 +32,5 @@ pub use Rattle.dap_accessing.proofs.Laws.{none_due}
 pub use Rattle.dap_accessing.proofs.One.{one_present}
 -- where a request is in a phase of its list, the table has it there
 pub use Rattle.dap_accessing.proofs.Phases.{fits-where}
+-- records that are taken out of a batch, and put back
+pub use Rattle.dap_accessing.proofs.Each.{taken_out}

@@ -205,6 +205,7 @@ pub stands_asked : (request : Request) (old : Present) → old.pending ≡ None 
 stands_asked request old none requests answers s =
     let a = asked_one requests answers request (none_pending (due_after requests answers) (subst (λ p. FitsDue (due_after requests answers) p) none s.pending)) in
     record {
+      own = s.own;
       works = s.works;
       phase = s.phase ∙ ap phase_after (sym a.told);
       limit = s.limit ∙ ap limit_after (sym a.told);
@@ -231,6 +232,7 @@ stands_waiting answer old p next some e requests answers s =
     let told : Told requests (answers ++ answer ∷ []) ≡ Told requests answers = l.told (answer ∷ []) ∙ ap (λ h. Told requests answers ++ told_by [] h) waits ∙ append-nil (Told requests answers) in
     let due : due_after requests (answers ++ answer ∷ []) ≡ AnswersDue l.last (l.so_far ++ answer ∷ []) = l.due (answer ∷ []) ∙ ap (due_by l.last [] (l.so_far ++ answer ∷ [])) waits in (
       record {
+        own = s.own;
         works = s.works;
         phase = s.phase ∙ ap phase_after (sym told);
         limit = s.limit ∙ ap limit_after (sym told);
@@ -250,6 +252,7 @@ stands_reported answer old p done some e requests answers s =
     let told : Told requests (answers ++ answer ∷ []) ≡ Told requests answers ++ done ∷ [] = l.told (answer ∷ []) ∙ ap (λ h. Told requests answers ++ told_by [] h) (e []) in
     let due : due_after requests (answers ++ answer ∷ []) ≡ NothingDue = l.due (answer ∷ []) ∙ ap (due_by l.last [] (l.so_far ++ answer ∷ [])) (e []) in (
       record {
+        own = s.own;
         works = s.works;
         phase = ap (λ ph. phase_next ph done) s.phase ∙ sym (phase_more (Told requests answers) done) ∙ ap phase_after (sym told);
         limit = ap (λ n. limit_next n done) s.limit ∙ sym (limit_more (Told requests answers) done) ∙ ap limit_after (sym told);
@@ -299,7 +302,7 @@ pub none_of : (o : Option Pending) → is_some o ≡ false → o ≡ None
 none_of (Some p) e = absurd cc
 none_of None e = refl
 
-pub refuse_busy : (request : Request) (old : Present) → is_some old.pending ≡ true → (requests : List Request) (answers : List Item) → StandsAfter requests answers old → IsRefused old.own requests answers request fault.Busy
+pub refuse_busy : (request : Request) (old : Present) → is_some old.pending ≡ true → (requests : List Request) (answers : List Item) → StandsAfter requests answers old → IsRefused old.identity requests answers request fault.Busy
 refuse_busy request old some requests answers s = let p = some_of old.pending some in something_due old p.0 p.1 requests answers s
 
 in_phase : (request : Request) (old : Present) (b : Bool) → phase_fits old.phase request ≡ b → (requests : List Request) (answers : List Item) → StandsAfter requests answers old → phase_fits (phase_after (Told requests answers)) request ≡ b
@@ -308,23 +311,23 @@ in_phase request old b e requests answers s = ap (λ ph. phase_fits ph request) 
 is_in_phase : (request : Request) (old : Present) → phase_fits old.phase request ≡ true → (requests : List Request) (answers : List Item) → StandsAfter requests answers old → IsAmong (phases_for request) (phase_after (Told requests answers))
 is_in_phase request old e requests answers s = where-fits (phase_after (Told requests answers)) request (in_phase request old true e requests answers s)
 
-pub refuse_phase : (request : Request) (old : Present) → is_some old.pending ≡ false → phase_fits old.phase request ≡ false → (requests : List Request) (answers : List Item) → StandsAfter requests answers old → IsRefused old.own requests answers request fault.WrongPhase
+pub refuse_phase : (request : Request) (old : Present) → is_some old.pending ≡ false → phase_fits old.phase request ≡ false → (requests : List Request) (answers : List Item) → StandsAfter requests answers old → IsRefused old.identity requests answers request fault.WrongPhase
 refuse_phase request old none wrong requests answers s =
     (nothing_due old (none_of old.pending none) requests answers s, λ e. let f : false ≡ true = sym (in_phase request old false wrong requests answers s) ∙ fits-where request (phase_after (Told requests answers)) e in cc)
 
-pub refuse_large : (request : Request) (old : Present) → is_some old.pending ≡ false → phase_fits old.phase request ≡ true → (AreSendable old.limit (messages_of old.own request) → ⊥)
-    → (requests : List Request) (answers : List Item) → StandsAfter requests answers old → IsRefused old.own requests answers request fault.TooLarge
+pub refuse_large : (request : Request) (old : Present) → is_some old.pending ≡ false → phase_fits old.phase request ≡ true → (AreSendable old.limit (messages_of old.identity request) → ⊥)
+    → (requests : List Request) (answers : List Item) → StandsAfter requests answers old → IsRefused old.identity requests answers request fault.TooLarge
 refuse_large request old none right large requests answers s =
-    (nothing_due old (none_of old.pending none) requests answers s, is_in_phase request old right requests answers s, λ e. large (subst (λ n. AreSendable n (messages_of old.own request)) (sym s.limit) e))
+    (nothing_due old (none_of old.pending none) requests answers s, is_in_phase request old right requests answers s, λ e. large (subst (λ n. AreSendable n (messages_of old.identity request)) (sym s.limit) e))
 
 pub admit : (request : Request) (old : Present) → MayAsk old request → IsAdmittedBy old request
 admit request old may = λ requests answers s. (
   nothing_due old may.none_due requests answers s,
   is_in_phase request old may.in_phase requests answers s,
-  subst (λ n. AreSendable n (messages_of old.own request)) s.limit may.sendable,
+  subst (λ n. AreSendable n (messages_of old.identity request)) s.limit may.sendable,
 )
 
-pub may_ask : (request : Request) (old : Present) → old.failed ≡ false → is_some old.pending ≡ false → phase_fits old.phase request ≡ true → AreSendable old.limit (messages_of old.own request) → old.limit ≤ greatest_message → MayAsk old request
+pub may_ask : (request : Request) (old : Present) → old.failed ≡ false → is_some old.pending ≡ false → phase_fits old.phase request ≡ true → AreSendable old.limit (messages_of old.identity request) → old.limit ≤ greatest_message → MayAsk old request
 may_ask request old works none right sendable most = record { works = works; none_due = none_of old.pending none; in_phase = right; sendable = sendable; most = most }
 
 -- ---- What `read` answers.
@@ -410,7 +413,7 @@ pub rest_refused : (bytes : List ℕ) (at : ℕ) (fault : MsgFault) (next : ℕ)
 rest_refused bytes at fault next old new works reads failed =
     (works, ap (λ (p : Present). p.failed) failed, failed, (Malformed fault, next, reads, unexpected (Malformed fault) old (malformed_misplaced old.pending fault)))
 
-pub asks_of : (request : Request) (old : Present) (p : Pending) (messages : List (List ℕ)) → MayAsk old request → messages ≡ all_joined (Blocked old.limit (messages_of old.own request)) → p ≡ pending_of request
+pub asks_of : (request : Request) (old : Present) (p : Pending) (messages : List (List ℕ)) → MayAsk old request → messages ≡ all_joined (Blocked old.limit (messages_of old.identity request)) → p ≡ pending_of request
     → Asks request old (record old { pending = Some p }) messages
 asks_of request old p messages may spelled e =
     record {

@@ -2,6 +2,7 @@
 use Rattle.std.proofs.Common.{◌≡◌, ℕ, Bool, List, [], ◌∷◌, Option, Some, None, refl, sym, ◌∙◌, ap}
 use Rattle.std.specs.Option.{option_or}
 use Rattle.std.proofs.lemmas.List.{append-nil}
+use Rattle.dap_msg.specs.declared.message.Configuration.{Configuration}
 use Rattle.dap_msg.specs.Codes as codes
 use Rattle.dap_msg.specs.declared.message.Message.TheVariants.{Ack, Filedata, Status}
 use Rattle.dap_msg.specs.BothEnds.{config_of, complete_with}
@@ -61,7 +62,7 @@ or-none : {A : Type 0} (o : Option A) → option_or o None ≡ o
 or-none None = refl
 or-none (Some a) = refl
 
-probed-is : (p : Pending) → probed p ≡ p
+pub probed-is : (p : Pending) → probed p ≡ p
 probed-is pending.Config = refl
 probed-is pending.Attributes = refl
 probed-is (pending.Opened org rfm mrs mrn) = refl
@@ -72,7 +73,7 @@ probed-is (pending.Batch records) = ap pending.Batch (append-nil records)
 probed-is (pending.Stored first) = ap pending.Stored (or-none first)
 probed-is pending.Closed = refl
 
-same-probes : (p q : Pending) → ((more : List Item) → hear_from p more ≡ hear_from q more) → probed p ≡ probed q
+pub same-probes : (p q : Pending) → ((more : List Item) → hear_from p more ≡ hear_from q more) → probed p ≡ probed q
 same-probes p q same =
     let c = same config in
     let a = same ack in
@@ -101,13 +102,15 @@ one_pending Wrong (Some p) q h k = absurd h
 
 -- ---- All of it.
 
-abbrev kept : ℕ → Bool → Phase → ℕ → Option Pending → Present
-kept own failed phase limit pending = record { own = own; failed = failed; phase = phase; limit = limit; pending = pending }
+abbrev kept : Configuration → Bool → Phase → ℕ → Option Pending → Present
+kept own failed phase limit pending = record { own = own.bufsiz; identity = own; failed = failed; phase = phase; limit = limit; pending = pending }
 
-pub one_present : (requests : List Request) (answers : List Item) (one two : Present) → StandsAfter requests answers one → StandsAfter requests answers two → one.own ≡ two.own → one ≡ two
+pub one_present : (requests : List Request) (answers : List Item) (one two : Present) → StandsAfter requests answers one → StandsAfter requests answers two → one.identity ≡ two.identity → one ≡ two
 one_present requests answers one two h k own =
-    ap (λ (x : ℕ). kept x one.failed one.phase one.limit one.pending) own
-    ∙ ap (λ (x : Bool). kept two.own x one.phase one.limit one.pending) (h.works ∙ sym k.works)
-    ∙ ap (λ (x : Phase). kept two.own two.failed x one.limit one.pending) (h.phase ∙ sym k.phase)
-    ∙ ap (λ (x : ℕ). kept two.own two.failed two.phase x one.pending) (h.limit ∙ sym k.limit)
-    ∙ ap (λ (x : Option Pending). kept two.own two.failed two.phase two.limit x) (one_pending (due_after requests answers) one.pending two.pending h.pending k.pending)
+    ap (λ (n : ℕ). record one { own = n }) h.own
+    ∙ ap (λ (x : Configuration). kept x one.failed one.phase one.limit one.pending) own
+    ∙ ap (λ (x : Bool). kept two.identity x one.phase one.limit one.pending) (h.works ∙ sym k.works)
+    ∙ ap (λ (x : Phase). kept two.identity two.failed x one.limit one.pending) (h.phase ∙ sym k.phase)
+    ∙ ap (λ (x : ℕ). kept two.identity two.failed two.phase x one.pending) (h.limit ∙ sym k.limit)
+    ∙ ap (λ (x : Option Pending). kept two.identity two.failed two.phase two.limit x) (one_pending (due_after requests answers) one.pending two.pending h.pending k.pending)
+    ∙ sym (ap (λ (n : ℕ). record two { own = n }) k.own)

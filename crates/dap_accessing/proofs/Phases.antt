@@ -1,5 +1,5 @@
 -- The table of the phases says what the list of each request's phases says.
-use Rattle.std.proofs.Common.{◌≡◌, rules, ℕ, zero, suc, refl, ap, arith, lit≤, [], ◌∷◌, true}
+use Rattle.std.proofs.Common.{◌≡◌, zero, suc, refl, ap, arith, lit≤, [], ◌∷◌, true}
 use Rattle.std.specs.List.{IsAmong}
 use Rattle.dap_accessing.specs.Request.{Request}
 use Rattle.dap_accessing.specs.declared.request.Request.TheVariants.{Hello, Create, OpenFile, Connect, Get, Put, Update, Delete, Rewind, Fetch, Store, Continue, Close, Purge}

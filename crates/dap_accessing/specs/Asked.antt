@@ -1,9 +1,10 @@
 -- The messages of a request (DAP 5.6.0, message sequences).
 use Rattle.std.specs.Prelude.{ℕ, List, [], ◌∷◌, ◌++◌, map, flat_map, Option, Some, None}
+use Rattle.dap_msg.specs.declared.message.Configuration.{Configuration}
 use Rattle.dap_msg.specs.declared.message.Message.{Message}
-use Rattle.dap_msg.specs.declared.message.Message.TheVariants.{Attrib, Access, Control, Contran, Filedata}
+use Rattle.dap_msg.specs.declared.message.Message.TheVariants.{Attrib, Config, Access, Control, Contran, Filedata}
 use Rattle.dap_msg.specs.Codes as codes
-use Rattle.dap_msg.specs.BothEnds.{four_bytes, attributes_of, config_of, complete_with, no_attributes}
+use Rattle.dap_msg.specs.BothEnds.{four_bytes, attributes_of, complete_with, no_attributes}
 use Rattle.dap_accessing.specs.declared.request.By.{By}
 use Rattle.dap_accessing.specs.declared.request.By.TheVariants.{Next, Key, Rfa}
 use Rattle.dap_accessing.specs.declared.request.How.{How}
@@ -38,11 +39,11 @@ how_to_go_on Again = codes.confunc.again
 how_to_go_on Skip = codes.confunc.skip
 how_to_go_on Abort = codes.confunc.abort
 
--- The messages of a request, of a client with this BUFSIZ. A Create or an OpenFile is Attributes and an Access. A Put
+-- The messages of a request, of a client with this Configuration. A Create or an OpenFile is Attributes and an Access. A Put
 -- or an Update is a Control and a Data message. A Store is a PUT with RAC 3, a Data message for each record, and an
 -- Access Complete that ends the stream. All others are one message.
-abbrev pub messages_of : ℕ → Request → List Message
-messages_of own Hello = config_of own ∷ []
+abbrev pub messages_of : (own : Configuration) → Request → List Message
+messages_of own Hello = Config own ∷ []
 messages_of own (Create name org rfm mrs mrn fac) =
     attributes_of org rfm mrs mrn ∷ access codes.accfunc.creating name fac ∷ []
 messages_of own (OpenFile name fac) = Attrib no_attributes ∷ access codes.accfunc.opening name fac ∷ []
@@ -60,5 +61,5 @@ messages_of own Close = complete_with codes.cmpfunc.close ∷ []
 messages_of own Purge = complete_with codes.cmpfunc.purge ∷ []
 
 -- the messages of all requests, in order
-abbrev pub Asked : ℕ → List Request → List Message
+abbrev pub Asked : (own : Configuration) → List Request → List Message
 Asked own requests = flat_map (messages_of own) requests

@@ -19,7 +19,7 @@ use Rattle.dap_accessing.specs.Present.{Present, StandsAfter, failed_after}
 -- the request is admissible after any requests and answers that leave this client
 abbrev pub IsAdmittedBy : Present → Request → Type 0
 IsAdmittedBy old request =
-    (requests : List Request) (answers : List Item) → StandsAfter requests answers old → IsAdmissible old.own requests answers request
+    (requests : List Request) (answers : List Item) → StandsAfter requests answers old → IsAdmissible old.identity requests answers request
 
 -- The request is asked: it is admissible, these NSP messages are its messages, joined within the peer's limit, and
 -- the client is as after this request too. No report is added.
@@ -30,8 +30,8 @@ pub record Asks (request : Request) (old new : Present) (messages : List (List �
   pub limit : ℕ
   pub is_limit : (requests : List Request) (answers : List Item) → StandsAfter requests answers old → limit ≡ limit_after (Told requests answers)
   pub most : limit ≤ greatest_message
-  pub sendable : AreSendable limit (messages_of old.own request)
-  pub spelled : messages ≡ all_joined (Blocked limit (messages_of old.own request))
+  pub sendable : AreSendable limit (messages_of old.identity request)
+  pub spelled : messages ≡ all_joined (Blocked limit (messages_of old.identity request))
   pub stands : (requests : List Request) (answers : List Item) → StandsAfter requests answers old → StandsAfter (requests ++ request ∷ []) answers new
   -- asking alone adds no report
   pub told : (requests : List Request) (answers : List Item) → StandsAfter requests answers old →
@@ -42,7 +42,7 @@ abbrev pub AskRefused : Request → Present → AskFault → Type 0
 AskRefused request old ask_fault.Failed = old.failed ≡ true
 AskRefused request old fault =
     (old.failed ≡ false)
-    × ((requests : List Request) (answers : List Item) → StandsAfter requests answers old → IsRefused old.own requests answers request fault)
+    × ((requests : List Request) (answers : List Item) → StandsAfter requests answers old → IsRefused old.identity requests answers request fault)
 
 -- The answer at this offset was read: it was expected, and the report is the one that it adds, if any.
 pub record Reads (bytes : List ℕ) (at : ℕ) (old new : Present) (read : ReadStep) : Type 0 where

@@ -1,6 +1,7 @@
 -- The client's phase and the peer's limit follow from the reports. Which requests are admissible follows from these.
 use Rattle.std.specs.Prelude.{◌≡◌, ℕ, List, [], ◌∷◌, fold}
 use Rattle.std.specs.List.{IsAmong}
+use Rattle.dap_msg.specs.declared.message.Configuration.{Configuration}
 use Rattle.dap_msg.specs.declared.items.Item.{Item}
 use Rattle.dap_msg.specs.BothEnds.{limit_of, greatest_message}
 use Rattle.dap_msg.specs.Sendable.{AreSendable}
@@ -61,14 +62,14 @@ IsInPhase requests answers request = IsAmong (phases_for request) (phase_after (
 
 -- Admissible after requests and answers: no report is due, the phase is right, and each message has a spelling and is
 -- within the peer's limit.
-abbrev pub IsAdmissible : ℕ → List Request → List Item → Request → Type 0
+abbrev pub IsAdmissible : (own : Configuration) → List Request → List Item → Request → Type 0
 IsAdmissible own requests answers request =
     IsNoneDue requests answers × IsInPhase requests answers request
     × AreSendable (limit_after (Told requests answers)) (messages_of own request)
 
 -- Why a request isn't asked: the first of these that holds. Memory is refused only to an admissible request. A client
 -- that has failed is a case of `AskRefused`.
-abbrev pub IsRefused : ℕ → List Request → List Item → Request → AskFault → Type 0
+abbrev pub IsRefused : (own : Configuration) → List Request → List Item → Request → AskFault → Type 0
 IsRefused own requests answers request Busy = IsNoneDue requests answers → ⊥
 IsRefused own requests answers request WrongPhase = IsNoneDue requests answers × (IsInPhase requests answers request → ⊥)
 IsRefused own requests answers request TooLarge =

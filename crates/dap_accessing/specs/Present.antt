@@ -1,6 +1,7 @@
 -- What a client keeps of its requests and answers. It is as after any requests and answers that leave this.
 use Rattle.std.specs.Prelude.{ℕ, ◌+◌, ◌≡◌, ◌≤◌, Bool, true, false, if◌then◌else◌, List, ◌++◌, length, Option, Some, None}
 use Rattle.std.specs.Option.{option_or}
+use Rattle.dap_msg.specs.declared.message.Configuration.{Configuration}
 use Rattle.dap_msg.specs.declared.items.Item.{Item}
 use Rattle.dap_accessing.specs.Request.{Request}
 use Rattle.dap_accessing.specs.declared.report.Report.TheVariants as report
@@ -26,10 +27,11 @@ hear_from (pending.Stored first) answers =
     else hear_store_end (option_or first (first_told (statuses_in_front answers))) (behind is_status answers)
 hear_from pending.Closed answers = hear_completed report.Closed answers
 
--- the client's BUFSIZ, whether it has failed, its phase, the peer's limit, and what is still to come of the answers
+-- the client's BUFSIZ and its Configuration, whether it has failed, its phase, the peer's limit, and what is still to come of the answers
 -- to a request
 pub record Present : Type 0 where
   pub own : ℕ
+  pub identity : Configuration
   pub failed : Bool
   pub phase : Phase
   pub limit : ℕ
@@ -48,6 +50,7 @@ FitsDue _ _ = ⊥
 -- the client is as after these requests and answers: it works, and its phase, its limit and what is pending are those
 -- that they leave
 pub record StandsAfter (requests : List Request) (answers : List Item) (present : Present) : Type 0 where
+  pub own : present.own ≡ present.identity.bufsiz
   pub works : present.failed ≡ false
   pub phase : present.phase ≡ phase_after (Told requests answers)
   pub limit : present.limit ≡ limit_after (Told requests answers)

@@ -1,8 +1,10 @@
 //! The accessing end.
 
-ghost use Rattle.std.specs.Prelude.{◌≡◌, ◌≢◌, ◌≤◌, ◌<◌, List, [], ◌++◌, true, false, length, map, Some, IfOk, IfErr, OnOk, OnErr};
+ghost use Rattle.std.specs.Prelude.{◌≡◌, ◌≢◌, ◌≤◌, ◌<◌, ℕ, List, [], ◌∷◌, ◌++◌, true, false, length, map, Some, IfOk, IfErr, OnOk, OnErr};
 ghost use Rattle.dap_accessing.specs.declared.fault.AskFault.TheVariants.{NoMemory};
-ghost use Rattle.dap_msg.specs.BothEnds.{four_bytes, greatest_message, least_buffer};
+ghost use Rattle.dap_msg.specs.BothEnds.{four_bytes, greatest_message, least_buffer, plain_identity};
+ghost use Rattle.dap_msg.specs.Fitting.{FieldsFit};
+ghost use Rattle.dap_msg.specs.declared.message.Message.TheVariants.{Config};
 ghost use Rattle.dap_msg.specs.declared.items.Item.{Item as TheItem};
 ghost use Rattle.dap_msg.specs.declared.items.Item.TheVariants.{Whole};
 ghost use Rattle.dap_msg.specs.Blocked.{bodies};
@@ -13,28 +15,35 @@ ghost use Rattle.dap_msg.specs.Decoding.{IsSpelled};
 ghost use Rattle.dap_accessing.specs.Present.{Present, StandsAfter};
 ghost use Rattle.dap_msg.specs.Items.{IsPlace};
 ghost use Rattle.dap_accessing.specs.Calls.{Asks, AskRefused, IsAdmittedBy, Reads, ReadRefused};
+ghost use Rattle.dap_accessing.specs.Each.{ReadsOn, none_kept, put_back, records_kept};
 ghost use Rattle.dap_accessing.specs.Told.{Told};
+ghost use Rattle.dap_accessing.specs.Asked.{messages_of};
 ghost use Rattle.dap_accessing.specs.Outgoing.{number_carried};
+ghost use Rattle.dap_accessing.specs.Phase.{IsAdmissible};
+ghost use Rattle.dap_msg.specs.declared.message.Configuration.{Configuration as Own};
+ghost use Rattle.dap_accessing.specs.declared.request.Request.TheVariants.{Hello};
 ghost use Rattle.dap_accessing.specs.Prepared.{IsPrepared};
 ghost use Rattle.dap_accessing.specs.Request.{Request as TheRequest};
 ghost use Rattle.dap_accessing.specs.declared.report.Report.{Report as TheReport};
 
 use crate::asking::{Outgoing, Prepared};
+use crate::bytes::{Numbered, Octets};
 use crate::fault::{AskFault, ReadFault, ReadStep};
 use crate::pending::{Heard, Pending};
 use crate::phase::Phase;
 use crate::report::Report;
 use crate::request::Request;
-use dap_msg::{GREATEST_MESSAGE, Item, MessageValue, item_at, limit_of};
+use dap_msg::{Configuration, GREATEST_MESSAGE, Item, MessageValue, item_at, limit_of};
 use std::alloc::Global;
 use std::marker::Model;
+use std::mem;
 
 /// The client. It keeps no list of what was asked or answered: it is as after any requests
 /// and answers that leave what it keeps.
 #[derive(Drop)]
 pub struct Accessing {
     alloc: Global,
-    bufsiz: u16,
+    identity: Configuration,
     failed: bool,
     phase: Phase,
     limit: u16,
@@ -47,7 +56,8 @@ impl Model for Accessing {
     ghost Value = { Present };
 
     ghost view = { λ a. record {
-      own = a.bufsiz;
+      own = a.identity.bufsiz;
+      identity = a.identity;
       failed = a.failed;
       phase = a.phase;
       limit = a.limit;
@@ -61,11 +71,23 @@ impl Accessing {
         requires low { least_buffer ≤ bufsiz }
         requires high { bufsiz ≤ greatest_message }
         ensures own { result.own ≡ bufsiz }
+        ensures identity { result.identity ≡ plain_identity bufsiz }
+        ensures stands { StandsAfter [] [] result }
+    {
+        Accessing::with_identity(alloc, Configuration::plain(bufsiz))
+    }
+
+    /// The same end, which says this of itself in its Configuration, with a BUFSIZ of at least 64. It takes no memory.
+    pub fn with_identity(alloc: Global, identity: Configuration) -> Accessing
+        requires low { least_buffer ≤ identity.bufsiz }
+        requires fits { FieldsFit (Config identity) }
+        ensures identity { result.identity ≡ identity }
+        ensures own { result.own ≡ identity.bufsiz }
         ensures stands { StandsAfter [] [] result }
     {
         Accessing {
             alloc,
-            bufsiz,
+            identity,
             failed: false,
             phase: Phase::Fresh,
             limit: GREATEST_MESSAGE,
@@ -76,6 +98,7 @@ impl Accessing {
     /// The same end for another link: nothing was asked of it.
     pub fn renew(&mut self)
         ensures own { self.new.own ≡ self.old.own }
+        ensures identity { self.new.identity ≡ self.old.identity }
         ensures stands { StandsAfter [] [] self.new }
     {
         self.failed = false;
@@ -95,6 +118,7 @@ impl Accessing {
         ensures refused { IfErr result (λ f. AskRefused request.now self.old f) }
         ensures unchanged { OnErr result (self.new ≡ self.old) }
         ensures own { self.new.own ≡ self.old.own }
+        ensures identity { self.new.identity ≡ self.old.identity }
     {
         let number = request.number();
         let prepared = self.prepare(request, &number)?;
@@ -135,7 +159,7 @@ impl Accessing {
         if !self.phase.fits(request) {
             return Err(AskFault::WrongPhase);
         }
-        let outgoing = Outgoing::of(self.bufsiz, request, number);
+        let outgoing = Outgoing::of(self.identity, request, number);
         match outgoing.count(self.limit) {
             Some(counts) => Ok(Prepared { outgoing, counts }),
             None => Err(AskFault::TooLarge),
@@ -155,6 +179,7 @@ impl Accessing {
         ensures refused { IfErr result (λ f. f ≡ NoMemory) }
         ensures unchanged { OnErr result (self.new ≡ self.old) }
         ensures own { self.new.own ≡ self.old.own }
+        ensures identity { self.new.identity ≡ self.old.identity }
     {
         let Prepared { outgoing, counts } = prepared;
         let Ok(messages) = outgoing.blocked(self.alloc, self.limit, counts) else {
@@ -169,6 +194,7 @@ impl Accessing {
         requires short { HasShortNumbers message.now }
         ensures takes { Takes (Whole message.now) self.old self.new result }
         ensures own { self.new.own ≡ self.old.own }
+        ensures identity { self.new.identity ≡ self.old.identity }
     {
         let Some(pending) = self.pending.take() else {
             self.failed = true;
@@ -204,10 +230,14 @@ impl Accessing {
     pub fn read(&mut self, nsp_message: &[u8], at: usize) -> Result<ReadStep, ReadFault>
         requires { IsPlace at nsp_message.now }
         ensures reads { IfOk result (λ read. Reads nsp_message.now at self.old self.new read) }
+        // The same where records were taken out of the batch that is under way.
+        ensures reads_on { IfOk result
+            (λ read. ReadsOn nsp_message.now at self.old self.new read) }
         ensures refused { IfErr result (λ f. ReadRefused nsp_message.now at self.old self.new f) }
         ensures within { IfOk result (λ read. read.next ≤ length nsp_message.now) }
         ensures further { at < length nsp_message.now → IfOk result (λ read. at < read.next) }
         ensures own { self.new.own ≡ self.old.own }
+        ensures identity { self.new.identity ≡ self.old.identity }
     {
         if self.failed {
             return Err(ReadFault::Failed);
@@ -224,6 +254,30 @@ impl Accessing {
         }
     }
 
+    /// The records that are kept of a batch under way: those that came and weren't taken out. None where no batch is under way.
+    pub fn records(&self) -> &[(u64, Octets)]
+        ensures { result.now ≡ records_kept self.now.pending }
+    {
+        match &self.pending {
+            Some(Pending::Batch(records)) => &records.0,
+            _ => &[],
+        }
+    }
+
+    /// Takes the records out that are kept of a batch under way: those that came since the last call. The report of the batch
+    /// has the others alone. None where no batch is under way. It takes no memory.
+    pub fn take_records(&mut self) -> Numbered
+        ensures records { result ≡ records_kept self.old.pending }
+        ensures rest { self.new ≡ record self.old { pending = none_kept self.old.pending } }
+        ensures told { (told : List (ℕ × List ℕ))
+            → put_back (told ++ result) self.new ≡ put_back told self.old }
+    {
+        match &mut self.pending {
+            Some(Pending::Batch(records)) => mem::replace(records, Numbered(Vec::new(self.alloc))),
+            _ => Numbered(Vec::new(self.alloc)),
+        }
+    }
+
     /// What `read` answers where there is no room for a report: why the one DAP message that begins at `at` isn't
     /// read. In order: Failed; Unexpected, after which the end has failed, and keeps nothing of its requests;
     /// NoMemory, which changes nothing.
@@ -231,6 +285,7 @@ impl Accessing {
         requires { IsPlace at nsp_message.now }
         ensures refused { ReadRefused nsp_message.now at self.old self.new result }
         ensures own { self.new.own ≡ self.old.own }
+        ensures identity { self.new.identity ≡ self.old.identity }
     {
         if self.failed {
             return ReadFault::Failed;
@@ -266,11 +321,22 @@ pub fn reports_grow()
         × (Told requests (answers ++ more) ≡ Told requests answers ++ reports) }
 {}
 
-/// What an end keeps follows from the requests and answers that it is after, and from its own buffer; and it works.
+/// What is asked depends on the client's Configuration only where that is sent, and which requests are admissible doesn't
+/// depend on it.
+pub fn identity_is_told_by_hello()
+    ensures hello { (own : Own) → messages_of own Hello ≡ Config own ∷ [] }
+    ensures others { (one two : Own) (request : TheRequest) → request ≢ Hello
+        → messages_of one request ≡ messages_of two request }
+    ensures admissible { (one two : Own) → FieldsFit (Config two)
+        → (requests : List TheRequest) (answers : List TheItem) (request : TheRequest)
+        → IsAdmissible one requests answers request → IsAdmissible two requests answers request }
+{}
+
+/// What an end keeps follows from the requests and answers that it is after, and from its own Configuration; and it works.
 pub fn standing_is_one()
     ensures one { (requests : List TheRequest) (answers : List TheItem) (one two : Present)
         → StandsAfter requests answers one → StandsAfter requests answers two
-        → one.own ≡ two.own → one ≡ two }
+        → one.identity ≡ two.identity → one ≡ two }
     ensures works { (requests : List TheRequest) (answers : List TheItem) (end : Present)
         → StandsAfter requests answers end → end.failed ≡ false }
 {}

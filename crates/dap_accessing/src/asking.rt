@@ -19,8 +19,8 @@ use dap_msg::codes::{
     RAC_WHOLE_FILE,
 };
 use dap_msg::{
-    AccessFields, Attributes, Bytes, ControlFields, MessageValue, MsgFault, append_counted,
-    encoded_len, fits_value,
+    AccessFields, Attributes, Bytes, Configuration, ControlFields, MessageValue, MsgFault,
+    append_counted, encoded_len, fits_value,
 };
 use std::alloc::Global;
 
@@ -103,12 +103,12 @@ fn record(body: &Octets) -> MessageValue<'_>
 }
 
 /// The first message of a request that carries these four bytes.
-fn first_message<'a>(own: u16, request: &'a Request, number: &'a [u8]) -> MessageValue<'a>
+fn first_message<'a>(own: Configuration, request: &'a Request, number: &'a [u8]) -> MessageValue<'a>
     requires { number.now ≡ four_bytes (number_carried request.now) }
     ensures { result ≡ first_of own request.now }
 {
     match request {
-        Request::Hello => MessageValue::config_of(own),
+        Request::Hello => MessageValue::Config(own),
         Request::Create { org, rfm, mrs, .. } => attributes(*org, *rfm, *mrs, number),
         Request::OpenFile { .. } => MessageValue::Attrib(Attributes::none()),
         Request::Connect => control(CTLFUNC_CONNECT, None, None),
@@ -248,7 +248,7 @@ pub(crate) struct Outgoing<'a> {
 
 impl<'a> Outgoing<'a> {
     /// The messages of a request that carries these four bytes.
-    pub(crate) fn of(own: u16, request: &'a Request, number: &'a [u8]) -> Outgoing<'a>
+    pub(crate) fn of(own: Configuration, request: &'a Request, number: &'a [u8]) -> Outgoing<'a>
         requires { number.now ≡ four_bytes (number_carried request.now) }
         ensures messages { outgoing_messages result ≡ asked.messages_of own request.now }
         ensures first { result.first ≡ first_of own request.now }

@@ -12,7 +12,7 @@ mod phase;
 mod report;
 mod request;
 
-pub use accessing::{Accessing, reports_grow, standing_is_one};
+pub use accessing::{Accessing, identity_is_told_by_hello, reports_grow, standing_is_one};
 pub use asking::Prepared;
 pub use bytes::{Numbered, Octets, OctetsList, ToBytes, ToRecords};
 pub use fault::{AskFault, ReadFault, ReadStep};

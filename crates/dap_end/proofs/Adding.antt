@@ -1,6 +1,7 @@
 -- Files that an end is given.
 use Rattle.std.proofs.Common.{◌≡◌, ℕ, List, [], ◌∷◌, ◌++◌, length, refl, sym, ◌∙◌, ap, subst, append_assoc, inr}
 use Rattle.std.specs.Prelude.{drop, Result, Ok, Err, OnOk, IfErr}
+use Rattle.dap_accessed.specs.declared.setup.ServerSetup.{ServerSetup}
 use Rattle.dap_msg.specs.declared.message.Message.{Message}
 use Rattle.dap_msg.specs.declared.items.Item.{Item}
 use Rattle.dap_msg.specs.Blocked.{NspMessage, Blocked, all_joined, AllFit}
@@ -17,7 +18,7 @@ use Rattle.dap_end.specs.Done.{ServingValue, Past, answers_to}
 use Rattle.dap_end.specs.Inner.ServingView.{serving_of}
 
 -- before a Config the answers are those of any files at first
-answers_given : (own : ℕ) (first other : Files) (before items : List Item) → (stands_after own first (before ++ items)).standing.place ≡ Fresh → answers_to own first before items ≡ answers_to own other before items
+answers_given : (own : ServerSetup) (first other : Files) (before items : List Item) → (stands_after own first (before ++ items)).standing.place ≡ Fresh → answers_to own first before items ≡ answers_to own other before items
 answers_given own first other before [] fresh = refl
 answers_given own first other before (item ∷ items) fresh =
     let then : (stands_after own first ((before ++ item ∷ []) ++ items)).standing.place ≡ Fresh =
@@ -34,11 +35,11 @@ answers_given own first other before (item ∷ items) fresh =
     ∙ ap (λ (l : List NspMessage). Blocked (limit_for own other before) (added own other before item) ++ l) (answers_given own first other (before ++ item ∷ []) items then)
 
 -- the end was given files, and stands as if it had had them at first
-pub given : (old : ServingValue) (after : Present) (r : Result (Unit {0}) AddFault) → after.own ≡ old.present.own → OnOk r (IsFresh old.present)
+pub given : (old : ServingValue) (after : Present) (r : Result (Unit {0}) AddFault) → after.setup ≡ old.present.setup → OnOk r (IsFresh old.present)
     → OnOk r ((first : Files) (items : List Item) → StandsAfter first items old.present → StandsAfter after.files items after)
     → OnOk r ((past : Past) → IsAfter past old → IsAfter (record past { first = after.files }) (serving_of old.port after))
 given old after (Ok u) own fresh stands = λ past h.
-    let own_old = old.present.own in
+    let own_old = old.present.setup in
     let is_fresh = fresh.is past.first past.items h.serving in
     let any = (of_any own_old past.first past.items is_fresh).any after.files in
     let same : Answers own_old past.first past.items ≡ Answers own_old after.files past.items = sym (ap (λ (g : Grouped). answers_in g.standing.past) any) in
@@ -48,8 +49,8 @@ given old after (Ok u) own fresh stands = λ past h.
       sends = h.sends;
       answers =
           h.answers ∙ ap all_joined (answers_given own_old past.first after.files [] past.items is_fresh)
-          ∙ ap (λ (n : ℕ). all_joined (answers_to n after.files [] past.items)) (sym own);
-      fit = subst AllFit (same ∙ ap (λ (n : ℕ). Answers n after.files past.items) (sym own)) h.fit;
+          ∙ ap (λ (n : ServerSetup). all_joined (answers_to n after.files [] past.items)) (sym own);
+      fit = subst AllFit (same ∙ ap (λ (n : ServerSetup). Answers n after.files past.items) (sym own)) h.fit;
     }
 given old after (Err f) own fresh stands = tt
 

@@ -3,6 +3,8 @@ use Rattle.std.proofs.Common.{◌≡◌, ℕ, suc, refl, sym, ◌∙◌, true, f
 use Rattle.std.specs.Prelude.{◌≢◌}
 use Rattle.std.proofs.lemmas.List.{append-nil, map-append}
 use Rattle.std.proofs.lemmas.List.Sums.{fold-append}
+use Rattle.dap_accessed.specs.declared.setup.ServerSetup.{ServerSetup}
+use Rattle.dap_msg.specs.declared.message.Configuration.{Configuration}
 use Rattle.dap_msg.specs.BothEnds.{greatest_message}
 use Rattle.dap_msg.specs.declared.message.Message.{Message}
 use Rattle.dap_msg.specs.declared.items.Item.{Item}
@@ -34,7 +36,7 @@ use Rattle.dap_end.proofs.Stores.{store_goes}
 
 -- ---- One request, in the place that it fits.
 
-module _ (own_a own_b : ℕ) (a : IsBufsiz own_a) (b : IsBufsiz own_b) (files : Files) (all : AllFiles files) (limit : ℕ) (past : List Group) (limit_a : ℕ) where
+module _ (own_a : Configuration) (own_b : ServerSetup) (a : IsBufsiz own_a.bufsiz) (b : IsBufsiz own_b.identity.bufsiz) (files : Files) (all : AllFiles files) (limit : ℕ) (past : List Group) (limit_a : ℕ) where
   abbrev GoesAt : Phase → Place → Request → Type 0
   GoesAt phase place r = Goes own_a own_b r phase (standing_at place files limit past) limit_a
 
@@ -183,16 +185,16 @@ expected rs answers reports h front back answer e =
 
 -- ---- One request more.
 
-asked-more : (own : ℕ) (rs : List Request) (r : Request) → Asked own (rs ++ r ∷ []) ≡ Asked own rs ++ messages_of own r
+asked-more : (own : Configuration) (rs : List Request) (r : Request) → Asked own (rs ++ r ∷ []) ≡ Asked own rs ++ messages_of own r
 asked-more own [] r = append-nil (messages_of own r)
 asked-more own (q ∷ rs) r = ap (λ (l : List Message). messages_of own q ++ l) (asked-more own rs r) ∙ sym (append_assoc (messages_of own q) (Asked own rs) (messages_of own r))
 
-cut-append : (own : ℕ) (s : Standing) (xs ys : List Item) → grouped own s (xs ++ ys) ≡ more_items own (grouped own s xs) ys
+cut-append : (own : ServerSetup) (s : Standing) (xs ys : List Item) → grouped own s (xs ++ ys) ≡ more_items own (grouped own s xs) ys
 cut-append own s xs [] = ap (grouped own s) (append-nil xs)
 cut-append own s xs (y ∷ ys) =
     ap (grouped own s) (sym (append_assoc xs (y ∷ []) ys)) ∙ cut-append own s (xs ++ y ∷ []) ys ∙ ap (λ (c : Grouped). more_items own c ys) (cut-more own s xs y)
 
-module _ (own_a own_b : ℕ) (a : IsBufsiz own_a) (b : IsBufsiz own_b) (first : Files) (good : AreFiles first) where
+module _ (own_a : Configuration) (own_b : ServerSetup) (a : IsBufsiz own_a.bufsiz) (b : IsBufsiz own_b.identity.bufsiz) (first : Files) (good : AreFiles first) where
   abbrev after : List Request → Grouped
   after rs = stands_after own_b first (asked_items own_a rs)
 

@@ -47,9 +47,9 @@ use Rattle.dap_end.proofs.Turning.{DoAlike, no_want, went_same, took_same}
 pub asking_one : (past : AskingPast) (request : Request) (old one two : AskingValue) (n m : ℕ) → HasAsked past old → AskedOne request old one n → AskedOne request old two m → (one ≡ two) × (n ≡ m)
 asking_one past request old one two n m h a b =
     let limit : a.asks.limit ≡ b.asks.limit = a.asks.is_limit past.requests past.answers h.asking ∙ sym (b.asks.is_limit past.requests past.answers h.asking) in
-    let messages : a.messages ≡ b.messages = a.asks.spelled ∙ ap (λ (n : ℕ). all_joined (Blocked n (messages_of old.present.own request))) limit ∙ sym b.asks.spelled in
-    let now = asked_one past old.present.own request in
-    let present : one.present ≡ two.present = one_present now.requests now.answers one.present two.present (asked_past request old one n a past h).asking (asked_past request old two m b past h).asking (a.own ∙ sym b.own) in
+    let messages : a.messages ≡ b.messages = a.asks.spelled ∙ ap (λ (n : ℕ). all_joined (Blocked n (messages_of old.present.identity request))) limit ∙ sym b.asks.spelled in
+    let now = asked_one past old.present.identity request in
+    let present : one.present ≡ two.present = one_present now.requests now.answers one.present two.present (asked_past request old one n a past h).asking (asked_past request old two m b past h).asking (a.identity ∙ sym b.identity) in
     let port : one.port ≡ two.port = a.port ∙ ap (λ (l : List (List ℕ)). record old.port { outbox = old.port.outbox ++ l }) messages ∙ sym b.port in (
       ap (λ (p : PortValue). record one { port = p }) port ∙ ap (λ (x : Present). record two { present = x }) present,
       a.count ∙ ap length messages ∙ sym b.count,
@@ -74,7 +74,7 @@ reading_one past old one two r s h a b =
     let same = one_item a.one.bytes old.port.place a.one.item b.one.item a.one.next b.one.next a.one.fits a.one.reads (subst (λ (l : List ℕ). ItemAt l old.port.place b.one.item b.one.next) bytes b.one.reads) in
     let answers : past.answers ++ b.one.item ∷ [] ≡ past.answers ++ a.one.item ∷ [] = ap (λ (i : Item). past.answers ++ i ∷ []) same.0 in
     let present : one.present ≡ two.present =
-    one_present past.requests (past.answers ++ a.one.item ∷ []) one.present two.present (a.past past h).asking (subst (λ (l : List Item). StandsAfter past.requests l two.present) answers (b.past past h).asking) (a.own ∙ sym b.own) in
+    one_present past.requests (past.answers ++ a.one.item ∷ []) one.present two.present (a.past past h).asking (subst (λ (l : List Item). StandsAfter past.requests l two.present) answers (b.past past h).asking) (a.identity ∙ sym b.identity) in
     let port : one.port ≡ two.port =
     a.port ∙ ap (λ (k : ℕ). gone_on old.port a.one.bytes a.one.later k) (sym same.1)
     ∙ ap (λ (l : List ℕ). gone_on old.port l a.one.later b.one.next) (sym bytes)

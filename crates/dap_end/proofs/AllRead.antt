@@ -1,6 +1,8 @@
 -- What an admissible request finds: every answer was read.
 use Rattle.std.proofs.Common.{◌≡◌, ℕ, suc, refl, sym, ◌∙◌, true, false, subst, ap, append_assoc, arith, List, [], ◌∷◌, ◌++◌, length, map}
 use Rattle.std.proofs.lemmas.List.{append-nil}
+use Rattle.dap_accessed.specs.declared.setup.ServerSetup.{ServerSetup}
+use Rattle.dap_msg.specs.declared.message.Configuration.{Configuration}
 use Rattle.dap_msg.specs.declared.message.Message.{Message}
 use Rattle.dap_msg.specs.declared.items.Item.{Item}
 use Rattle.dap_msg.specs.declared.items.Item.TheVariants.{Whole}
@@ -39,27 +41,27 @@ pub is_unexpected-then : (rs : List Request) (answers : List Item) (answer : Ite
 is_unexpected-then rs answers answer e = unexpected_by (due_after rs (answers ++ answer ∷ [])) (no_place rs answers answer e)
 
 -- a front of the answers that leaves no report to come is all of them
-left_by : (own_a own_b : ℕ) (first : Files) (rs : List Request) (front back : List Item) → AreExpected own_a own_b first rs → front ++ back ≡ map Whole (asked_answers own_a own_b first rs)
+left_by : (own_a : Configuration) (own_b : ServerSetup) (first : Files) (rs : List Request) (front back : List Item) → AreExpected own_a own_b first rs → front ++ back ≡ map Whole (asked_answers own_a own_b first rs)
     → length (Told rs front) ≡ length rs → back ≡ []
 left_by own_a own_b first rs front [] expected e told = refl
 left_by own_a own_b first rs front (answer ∷ back) expected e told = absurd (expected front back answer e (is_unexpected-then rs front answer told))
 
-pub all_told : (own_a own_b : ℕ) (first : Files) (rs : List Request) (front back : List Item) → AreExpected own_a own_b first rs → front ++ back ≡ map Whole (asked_answers own_a own_b first rs)
+pub all_told : (own_a : Configuration) (own_b : ServerSetup) (first : Files) (rs : List Request) (front back : List Item) → AreExpected own_a own_b first rs → front ++ back ≡ map Whole (asked_answers own_a own_b first rs)
     → length (Told rs front) ≡ length rs → front ≡ map Whole (asked_answers own_a own_b first rs)
 all_told own_a own_b first rs front back expected e told =
     sym (append-nil front) ∙ ap (λ (l : List Item). front ++ l) (sym (left_by own_a own_b first rs front back expected e told)) ∙ e
 
 -- none is left behind a front after which no report is due
-pub none_left : (own_a own_b : ℕ) (first : Files) (rs : List Request) (front back : List Item) → AreExpected own_a own_b first rs → front ++ back ≡ map Whole (asked_answers own_a own_b first rs)
+pub none_left : (own_a : Configuration) (own_b : ServerSetup) (first : Files) (rs : List Request) (front back : List Item) → AreExpected own_a own_b first rs → front ++ back ≡ map Whole (asked_answers own_a own_b first rs)
     → IsNoneDue rs front → back ≡ []
 none_left own_a own_b first rs front back expected e none = left_by own_a own_b first rs front back expected e (each_told rs front none)
 
-pub all_read : (own_a own_b : ℕ) (first : Files) (rs : List Request) (front back : List Item) → AreExpected own_a own_b first rs → front ++ back ≡ map Whole (asked_answers own_a own_b first rs)
+pub all_read : (own_a : Configuration) (own_b : ServerSetup) (first : Files) (rs : List Request) (front back : List Item) → AreExpected own_a own_b first rs → front ++ back ≡ map Whole (asked_answers own_a own_b first rs)
     → IsNoneDue rs front → front ≡ map Whole (asked_answers own_a own_b first rs)
 all_read own_a own_b first rs front back expected e none = all_told own_a own_b first rs front back expected e (each_told rs front none)
 
 -- the answers to a front of items are a front of the answers
-pub answers-front : (own : ℕ) (first : Files) (items more : List Item) → (rest : List Message) × (Answers own first items ++ rest ≡ Answers own first (items ++ more))
+pub answers-front : (own : ServerSetup) (first : Files) (items more : List Item) → (rest : List Message) × (Answers own first items ++ rest ≡ Answers own first (items ++ more))
 answers-front own first items [] = ([], append-nil (Answers own first items) ∙ ap (Answers own first) (sym (append-nil items)))
 answers-front own first items (x ∷ more) =
     let next = answers-front own first (items ++ x ∷ []) more in
@@ -69,7 +71,7 @@ answers-front own first items (x ∷ more) =
     )
 
 -- one request more that was admissible
-pub admissible-more : (own_a own_b : ℕ) (first : Files) (before rs : List Request) (r : Request) → AreAllAdmissible own_a own_b first before rs
+pub admissible-more : (own_a : Configuration) (own_b : ServerSetup) (first : Files) (before rs : List Request) (r : Request) → AreAllAdmissible own_a own_b first before rs
     → IsAdmissible own_a (before ++ rs) (map Whole (asked_answers own_a own_b first (before ++ rs))) r → AreAllAdmissible own_a own_b first before (rs ++ r ∷ [])
 admissible-more own_a own_b first before [] r all m =
     (subst (λ (l : List Request). IsAdmissible own_a l (map Whole (asked_answers own_a own_b first l)) r) (append-nil before) m, tt)

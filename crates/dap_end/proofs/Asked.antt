@@ -1,18 +1,19 @@
 -- What the calls of an asking end leave of what it did.
 use Rattle.std.proofs.Common.{◌≡◌, inl, inr, eq-eqb, ◌-◌, ℕ, ◌+◌, ◌<◌, ◌≤◌, arith, refl, sym, ◌∙◌, subst, ap, append_assoc, true, false, true≢false, List, [], ◌∷◌, ◌++◌, length}
-use Rattle.std.specs.Prelude.{Result, Ok, Err, IfOk, IfErr, ◌==◌, Option, nat_le, if◌then◌else◌, option_to_list}
+use Rattle.std.specs.Prelude.{Result, Ok, Err, IfOk, IfErr, ◌==◌, Option, nat_le, if◌then◌else◌, option_map, option_to_list}
 use Rattle.std.proofs.lemmas.Bool.{cases_eq, ne_eqb}
 use Rattle.std.proofs.lemmas.List.{append-nil, map-append}
 use Rattle.std.proofs.lemmas.List.Elements.{All-append}
+use Rattle.dap_msg.specs.declared.message.Configuration.{Configuration}
 use Rattle.dap_fields.specs.Spelling.{AreBytes}
 use Rattle.dap_msg.specs.declared.message.Message.{Message}
 use Rattle.dap_msg.specs.Canon.{canon}
 use Rattle.dap_msg.specs.declared.items.Item.{Item}
-use Rattle.dap_msg.specs.Items.{IsPlace}
+use Rattle.dap_msg.specs.Items.{IsPlace, ItemAt}
 use Rattle.dap_msg.specs.Sendable.{AreSendable}
 use Rattle.dap_msg.specs.Blocked.{NspMessage, joined, Blocked, blocked_after, all_joined, messages_in, AllFit}
 use Rattle.dap_msg.specs.Inner.Blocked.{IsWithin, AllWithin}
-use Rattle.dap_msg.proofs.ForCallers.{messages_in-Blocked, within_limit}
+use Rattle.dap_msg.proofs.ForCallers.{messages_in-Blocked, within_limit, one_item}
 use Rattle.nsp_link.specs.Link.{LinkValue, Sends, SendsStill, Stands, with_inbox}
 use Rattle.nsp_link.proofs.ForCallers.{sends_all, may_queue_parts}
 use Rattle.dap_accessed.specs.Served.{AllAtMost}
@@ -22,7 +23,8 @@ use Rattle.dap_accessing.specs.declared.fault.ReadStep.{ReadStep}
 use Rattle.dap_accessing.specs.Asked.{Asked, messages_of}
 use Rattle.dap_accessing.specs.Told.{Told}
 use Rattle.dap_accessing.specs.Phase.{limit_after}
-use Rattle.dap_accessing.specs.Present.{Present}
+use Rattle.dap_accessing.specs.Present.{Present, StandsAfter}
+use Rattle.dap_accessing.specs.Each.{ReadsOn, put_back, reported_behind}
 use Rattle.dap_accessing.specs.Calls.{Asks, Reads}
 use Rattle.dap_end.specs.Pasts.{AreFull, asked_one, read_one}
 use Rattle.dap_end.specs.Ports.{HandsOver, PortValue, gone_on}
@@ -85,7 +87,7 @@ in_append : (xs ys : List NspMessage) → messages_in (xs ++ ys) ≡ messages_in
 in_append [] ys = refl
 in_append (x ∷ xs) ys = ap (λ (l : List Message). x ++ l) (in_append xs ys) ∙ sym (append_assoc x (messages_in xs) (messages_in ys))
 
-pub Asked-more : (own : ℕ) (requests : List Request) (request : Request) → Asked own (requests ++ request ∷ []) ≡ Asked own requests ++ messages_of own request
+pub Asked-more : (own : Configuration) (requests : List Request) (request : Request) → Asked own (requests ++ request ∷ []) ≡ Asked own requests ++ messages_of own request
 Asked-more own [] request = append-nil (messages_of own request)
 Asked-more own (r ∷ requests) request =
     ap (λ (l : List Message). messages_of own r ++ l) (Asked-more own requests request) ∙ sym (append_assoc (messages_of own r) (Asked own requests) (messages_of own request))
@@ -106,38 +108,39 @@ full-within limit ((m ∷ more) ∷ packets) h = ((λ e. (let none : ⊥ = cc in
 pub full-blocked : (limit : ℕ) (messages : List Message) → AreFull (Blocked limit messages)
 full-blocked limit messages = full-within limit (Blocked limit messages) (within_limit limit messages)
 
-pub asks_one : (request : Request) (old : AskingValue) (after : Present) (messages outbox : List (List ℕ)) (n : ℕ) → Asks request old.present after messages → after.own ≡ old.present.own
+pub asks_one : (request : Request) (old : AskingValue) (after : Present) (messages outbox : List (List ℕ)) (n : ℕ) → Asks request old.present after messages → after.own ≡ old.present.own → after.identity ≡ old.present.identity
     → outbox ≡ old.port.outbox ++ messages → n ≡ length messages → AskedOne request old (asking_of (record old.port { outbox = outbox }) after) n
-asks_one request old after messages outbox n asks own is count =
+asks_one request old after messages outbox n asks own identity is count =
     record {
       messages = messages;
       asks = asks;
       own = own;
+      identity = identity;
       port = ap (λ (l : List (List ℕ)). record old.port { outbox = l }) is;
       count = count;
     }
 
-pub asked_past : (request : Request) (old new : AskingValue) (n : ℕ) → AskedOne request old new n → (past : AskingPast) → HasAsked past old → HasAsked (asked_one past old.present.own request) new
+pub asked_past : (request : Request) (old new : AskingValue) (n : ℕ) → AskedOne request old new n → (past : AskingPast) → HasAsked past old → HasAsked (asked_one past old.present.identity request) new
 asked_past request old new n a past h =
     let asks = a.asks in
     let messages = a.messages in
     let limit = limit_after (Told past.requests past.answers) in
-    let block = Blocked limit (messages_of old.present.own request) in
+    let block = Blocked limit (messages_of old.present.identity request) in
     let is_limit : asks.limit ≡ limit = asks.is_limit past.requests past.answers h.asking in
     let outbox : new.port.outbox ≡ old.port.outbox ++ messages = ap (λ (p : PortValue). p.outbox) a.port in
     record {
       asking = asks.stands past.requests past.answers h.asking;
       gone = subst (λ (p : PortValue). GoneThrough past.given p.link.coming.inbox p.place past.answers) (sym a.port) h.gone;
       sends = subst (λ (p : PortValue). Sends p.link past.handed) (sym a.port) h.sends;
-      messages = in_append past.asked block ∙ ap (λ (l : List Message). messages_in past.asked ++ l) (messages_in-Blocked limit (messages_of old.present.own request))
-          ∙ ap (λ (l : List Message). l ++ messages_of old.present.own request) h.messages
-          ∙ sym (Asked-more old.present.own past.requests request) ∙ ap (λ (k : ℕ). Asked k (past.requests ++ request ∷ [])) (sym a.own);
+      messages = in_append past.asked block ∙ ap (λ (l : List Message). messages_in past.asked ++ l) (messages_in-Blocked limit (messages_of old.present.identity request))
+          ∙ ap (λ (l : List Message). l ++ messages_of old.present.identity request) h.messages
+          ∙ sym (Asked-more old.present.identity past.requests request) ∙ ap (λ (k : Configuration). Asked k (past.requests ++ request ∷ [])) (sym a.identity);
       waiting = ap (λ (l : List (List ℕ)). past.handed ++ l) outbox ∙ sym (append_assoc past.handed old.port.outbox messages)
-          ∙ ap (λ (l : List (List ℕ)). l ++ messages) h.waiting ∙ ap (λ (l : List (List ℕ)). all_joined past.asked ++ l) (asks.spelled ∙ ap (λ (n : ℕ). all_joined (Blocked n (messages_of old.present.own request))) is_limit) ∙ sym (map-append joined past.asked block);
+          ∙ ap (λ (l : List (List ℕ)). l ++ messages) h.waiting ∙ ap (λ (l : List (List ℕ)). all_joined past.asked ++ l) (asks.spelled ∙ ap (λ (n : ℕ). all_joined (Blocked n (messages_of old.present.identity request))) is_limit) ∙ sym (map-append joined past.asked block);
       fit =
-          subst AllFit (sym (in_append past.asked block ∙ ap (λ (l : List Message). messages_in past.asked ++ l) (messages_in-Blocked limit (messages_of old.present.own request))))
-          (fit-both (messages_in past.asked) (messages_of old.present.own request) h.fit (sendable-fit _ (messages_of old.present.own request) (asks.admissible past.requests past.answers h.asking).2));
-      full = full-both past.asked block h.full (full-blocked limit (messages_of old.present.own request));
+          subst AllFit (sym (in_append past.asked block ∙ ap (λ (l : List Message). messages_in past.asked ++ l) (messages_in-Blocked limit (messages_of old.present.identity request))))
+          (fit-both (messages_in past.asked) (messages_of old.present.identity request) h.fit (sendable-fit _ (messages_of old.present.identity request) (asks.admissible past.requests past.answers h.asking).2));
+      full = full-both past.asked block h.full (full-blocked limit (messages_of old.present.identity request));
     }
 
 -- none of its NSP messages is longer than an end takes
@@ -175,9 +178,9 @@ pub asks_short : (request : Request) (old after : Present) (messages : List (Lis
 asks_short request old after messages asks =
     let limit = asks.limit in
     subst AreShort (sym asks.spelled)
-    (all_short limit (all_joined (Blocked limit (messages_of old.own request))) asks.most
-    (packets-within limit (Blocked limit (messages_of old.own request)) (within_limit limit (messages_of old.own request))
-    (subst (AreWithin limit) (sym (messages_in-Blocked limit (messages_of old.own request))) (sendable-within limit (messages_of old.own request) asks.sendable))))
+    (all_short limit (all_joined (Blocked limit (messages_of old.identity request))) asks.most
+    (packets-within limit (Blocked limit (messages_of old.identity request)) (within_limit limit (messages_of old.identity request))
+    (subst (AreWithin limit) (sym (messages_in-Blocked limit (messages_of old.identity request))) (sendable-within limit (messages_of old.identity request) asks.sendable))))
 
 pub port_asks : (p : PortValue) (messages outbox : List (List ℕ)) → IsPort p → AreShort messages → outbox ≡ p.outbox ++ messages → IsPort (record p { outbox = outbox })
 port_asks p messages outbox h short is =
@@ -198,27 +201,40 @@ few_blocked limit (m ∷ messages) = omega (arith, blocked-few limit (m ∷ []) 
 
 -- ---- An answer.
 
+-- one answer more was read, where the client stands as after it
+read_past : (past : AskingPast) (port new : PortValue) (before after : Present) (bytes : List ℕ) (later : List (List ℕ)) (answer : Item) (next : ℕ) → AreBytes bytes → port.link.coming.inbox ≡ bytes ∷ later
+    → ItemAt bytes port.place answer next → next ≤ length bytes → after.identity ≡ before.identity → new ≡ gone_on port bytes later next → HasAsked past (asking_of port before)
+    → StandsAfter past.requests (past.answers ++ answer ∷ []) after → HasAsked (read_one past bytes answer next) (asking_of new after)
+read_past past port new before after bytes later answer next fits inbox reads within identity is h stands =
+    subst (λ (p : PortValue). HasAsked (read_one past bytes answer next) (asking_of p after)) (sym is) (record {
+      asking = stands;
+      gone = port_gone port bytes later next past.given past.answers answer fits inbox h.gone reads within;
+      sends = record { queue = h.sends.queue; acked = h.sends.acked; part = h.sends.part };
+      messages = h.messages ∙ ap (λ (k : Configuration). Asked k past.requests) (sym identity);
+      waiting = h.waiting;
+      fit = h.fit;
+      full = h.full;
+    })
+
 pub reads_one : (old : AskingValue) (bytes : List ℕ) (later : List (List ℕ)) → AreBytes bytes → (after : Present) (port : PortValue) (step : ReadStep) → old.port.link.coming.inbox ≡ bytes ∷ later → IsPlace old.port.place bytes
-    → (r : Reads bytes old.port.place old.present after step) → step.next ≤ length bytes → after.own ≡ old.present.own
+    → (r : Reads bytes old.port.place old.present after step) → ReadsOn bytes old.port.place old.present after step → step.next ≤ length bytes → after.own ≡ old.present.own → after.identity ≡ old.present.identity
     → port ≡ gone_on old.port bytes later step.next → ReadOne old (asking_of port after) step.report
-reads_one old bytes later fits after port step inbox place r within own is =
+reads_one old bytes later fits after port step inbox place r on within own identity is =
+    let same : on.answer ≡ r.answer = (one_item bytes old.port.place r.answer on.answer step.next step.next fits r.reads on.reads).0 in
     record {
       works = r.works;
       goes_on = r.goes_on;
       one = record { bytes = bytes; later = later; came = inbox; fits = fits; item = r.answer; next = step.next; reads = r.reads; place = place };
       port = is;
       own = own;
+      identity = identity;
       expected = λ past h. r.expected past.requests past.answers h.asking;
-      past = λ past h. subst (λ (p : PortValue). HasAsked (read_one past bytes r.answer step.next) (asking_of p after)) (sym is) (record {
-        asking = r.stands past.requests past.answers h.asking;
-        gone = port_gone old.port bytes later step.next past.given past.answers r.answer fits inbox h.gone r.reads within;
-        sends = record { queue = h.sends.queue; acked = h.sends.acked; part = h.sends.part };
-        messages = h.messages ∙ ap (λ (k : ℕ). Asked k past.requests) (sym own);
-        waiting = h.waiting;
-        fit = h.fit;
-        full = h.full;
-      });
+      past = λ past h. read_past past old.port port old.present after bytes later r.answer step.next fits inbox r.reads within identity is h (r.stands past.requests past.answers h.asking);
       told = λ past h. r.told past.requests past.answers h.asking;
+      past_on = λ told past b h. read_past past old.port port (put_back told old.present) (put_back told after) bytes later r.answer step.next fits inbox r.reads within identity is h
+          (subst (λ (i : Item). StandsAfter past.requests (past.answers ++ i ∷ []) (put_back told after)) same (on.stands told past.requests past.answers b h.asking));
+      told_on = λ told past b h. subst (λ (i : Item). Told past.requests (past.answers ++ i ∷ []) ≡ Told past.requests past.answers ++ option_to_list (option_map (reported_behind told) step.report)) same
+          (on.told told past.requests past.answers b h.asking);
     }
 
 pub some_first : (inbox : List (List ℕ)) → 0 < length inbox → (bytes : List ℕ) × (later : List (List ℕ)) × (inbox ≡ bytes ∷ later)
@@ -244,6 +260,7 @@ pub record ReadMore (old new : AskingValue) (reports : List Report) : Type 0 whe
   pub link : new.port.link ≡ with_inbox old.port.link new.port.link.coming.inbox
   pub outbox : new.port.outbox ≡ old.port.outbox
   pub own : new.present.own ≡ old.present.own
+  pub identity : new.present.identity ≡ old.present.identity
   pub past : (past : AskingPast) → HasAsked past old → (now : AskingPast) × HasRead past now old new reports
 
 read_nothing : (v : AskingValue) → ReadMore v v []
@@ -252,6 +269,7 @@ read_nothing v =
       link = refl;
       outbox = refl;
       own = refl;
+      identity = refl;
       past = λ past h. (
         past,
         record {
@@ -305,6 +323,7 @@ read_then a b c told report m r =
       link = here ∙ ap (λ (l : LinkValue). with_inbox l c.port.link.coming.inbox) m.link;
       outbox = ap (λ (p : PortValue). p.outbox) r.port ∙ m.outbox;
       own = r.own ∙ m.own;
+      identity = r.identity ∙ m.identity;
       past = λ past h. (let g = m.past past h in (read_one g.0 r.one.bytes r.one.item r.one.next, read_grew a b c report told past g.0 g.1 r));
     }
 

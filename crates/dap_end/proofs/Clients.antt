@@ -162,7 +162,7 @@ module _ (link : LinkValue) (handed given : List (List ℕ)) (wire : List Writte
   asks old new (Asks request) ws t more j =
       let a = t.1 in
       record {
-        asked = asked_one j.asked old.a.present.own request;
+        asked = asked_one j.asked old.a.present.identity request;
         asking = asked_past request old.a new.a t.0 a j.asked j.asking;
         requests = ap (λ (l : List Request). l ++ request ∷ []) j.requests ∙ sym more;
         told = t.3 ∙ j.told ∙ sym (a.asks.told j.asked.requests j.asked.answers j.asking.asking);

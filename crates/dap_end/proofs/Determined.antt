@@ -1,6 +1,7 @@
 -- What a call answers and leaves follows from what the end did and what came, want of memory aside.
 use Rattle.std.proofs.Common.{◌≡◌, ◌≢◌, ℕ, arith, refl, sym, ◌∙◌, subst, ap, false, true≢false, List, [], ◌∷◌, ◌++◌, length, inl, inr}
 use Rattle.std.specs.Prelude.{Bool, IsTrue, Result, Ok, Err}
+use Rattle.dap_accessed.specs.declared.setup.ServerSetup.{ServerSetup}
 use Rattle.dap_fields.specs.Spelling.{AreBytes}
 use Rattle.dap_msg.specs.declared.items.Item.{Item}
 use Rattle.dap_msg.specs.Items.{ItemAt}
@@ -42,15 +43,15 @@ same_back (x ∷ front) xs ys e = same_back front xs ys (let tails : front ++ xs
 
 -- ---- Serving one.
 
-pub present_one : (first : Files) (items more : List Item) (one two : Present) → items ≡ more → one.own ≡ two.own → one ≡ present_of one.own (stands_after one.own first items) → two ≡ present_of two.own (stands_after two.own first more) → one ≡ two
+pub present_one : (first : Files) (items more : List Item) (one two : Present) → items ≡ more → one.setup ≡ two.setup → one ≡ present_of one.setup (stands_after one.setup first items) → two ≡ present_of two.setup (stands_after two.setup first more) → one ≡ two
 present_one first items more one two same own a b =
-    a ∙ ap (λ (n : ℕ). present_of n (stands_after n first items)) own ∙ ap (λ (l : List Item). present_of two.own (stands_after two.own first l)) same ∙ sym b
+    a ∙ ap (λ (n : ServerSetup). present_of n (stands_after n first items)) own ∙ ap (λ (l : List Item). present_of two.setup (stands_after two.setup first l)) same ∙ sym b
 
-outbox_one : (first : Files) (handed xs ys : List (List ℕ)) (items more : List Item) (own other : ℕ) → items ≡ more → own ≡ other → handed ++ xs ≡ all_joined (answers_to own first [] items) → handed ++ ys ≡ all_joined (answers_to other first [] more)
+outbox_one : (first : Files) (handed xs ys : List (List ℕ)) (items more : List Item) (own other : ServerSetup) → items ≡ more → own ≡ other → handed ++ xs ≡ all_joined (answers_to own first [] items) → handed ++ ys ≡ all_joined (answers_to other first [] more)
     → xs ≡ ys
 outbox_one first handed xs ys items more own other same e a b =
     same_back handed xs ys
-    (a ∙ ap (λ (n : ℕ). all_joined (answers_to n first [] items)) e ∙ ap (λ (l : List Item). all_joined (answers_to other first [] l)) same ∙ sym b)
+    (a ∙ ap (λ (n : ServerSetup). all_joined (answers_to n first [] items)) e ∙ ap (λ (l : List Item). all_joined (answers_to other first [] l)) same ∙ sym b)
 
 pub serving_one : (past : Past) (old one two : ServingValue) (n m : ℕ) → IsAfter past old → ServedOne old one n → ServedOne old two m → (one ≡ two) × (n ≡ m)
 serving_one past old one two n m h a b =
@@ -58,12 +59,12 @@ serving_one past old one two n m h a b =
     let later : b.one.later ≡ a.one.later = (let both = sym b.one.came ∙ a.one.came in cc) in
     let same = one_item a.one.bytes old.port.place a.one.item b.one.item a.one.next b.one.next a.one.fits a.one.reads (subst (λ (l : List ℕ). ItemAt l old.port.place b.one.item b.one.next) bytes b.one.reads) in
     let items : past.items ++ a.one.item ∷ [] ≡ past.items ++ b.one.item ∷ [] = ap (λ (i : Item). past.items ++ i ∷ []) (sym same.0) in
-    let own : one.present.own ≡ two.present.own = a.own ∙ sym b.own in
+    let own : one.present.setup ≡ two.present.setup = a.setup ∙ sym b.setup in
     let ha = a.past past h in
     let hb = b.past past h in
     let accessed : one.present ≡ two.present = present_one past.first (past.items ++ a.one.item ∷ []) (past.items ++ b.one.item ∷ []) one.present two.present items own ha.serving hb.serving in
     let outbox : one.port.outbox ≡ two.port.outbox =
-    outbox_one past.first past.handed one.port.outbox two.port.outbox (past.items ++ a.one.item ∷ []) (past.items ++ b.one.item ∷ []) one.present.own two.present.own items own ha.answers hb.answers in
+    outbox_one past.first past.handed one.port.outbox two.port.outbox (past.items ++ a.one.item ∷ []) (past.items ++ b.one.item ∷ []) one.present.setup two.present.setup items own ha.answers hb.answers in
     let port : one.port ≡ two.port =
     a.port ∙ ap (λ (l : List (List ℕ)). record (gone_on old.port a.one.bytes a.one.later a.one.next) { outbox = l }) outbox
     ∙ ap (λ (k : ℕ). record (gone_on old.port a.one.bytes a.one.later k) { outbox = two.port.outbox }) (sym same.1)

@@ -2,6 +2,8 @@
 use Rattle.std.proofs.Common.{◌≡◌, ◌≢◌, ℕ, ◌≤◌, arith, sym, ◌∙◌, subst, ap, append_assoc, true, List, drop, [], ◌∷◌, ◌++◌, length, map, inl, inr}
 use Rattle.std.specs.List.{AllByRecursion}
 use Rattle.std.proofs.lemmas.List.{append-nil, length-drop, map-append}
+use Rattle.dap_accessed.specs.declared.setup.ServerSetup.{ServerSetup}
+use Rattle.dap_msg.specs.declared.message.Configuration.{Configuration}
 use Rattle.dap_msg.proofs.ForCallers.{stands_some}
 use Rattle.dap_fields.specs.Spelling.{AreBytes}
 use Rattle.dap_msg.specs.declared.message.Message.{Message}
@@ -41,26 +43,26 @@ use Rattle.dap_end.proofs.Joined.{IsLinked, first_ones, answers_full, pair_step}
 
 -- items that are a front of what was handed over are a front of all answers to all requests
 pub in_order : (first : Files) (p : Pair) (j : IsLinked first p) (items : List Item) → AreFrontOf j.served.handed items
-    → (back : List Item) × (items ++ back ≡ map Whole (asked_answers p.a.present.own p.b.present.own first p.requests))
+    → (back : List Item) × (items ++ back ≡ map Whole (asked_answers p.a.present.identity p.b.present.setup first p.requests))
 in_order first p j items front =
-    let own = p.b.present.own in
+    let own = p.b.present.setup in
     let t = first_ones j.asked.asked j.asked.handed p.a.port.outbox j.served.items j.asking.full j.asking.fit j.asking.waiting
     (served_front p.b.port.link p.a.port.link.setup.seg_size j.asked.handed j.served.given p.b.port.place j.served.items j.ways.there.positive j.ways.there.stands j.serving.gone) in
     let packets = answers_to own j.served.first [] j.served.items in
     let answers : messages_in packets ≡ Answers own j.served.first j.served.items = answers_from own j.served.first [] j.served.items in
     let r = first_ones packets j.served.handed p.b.port.outbox items (answers_full own j.served.first [] j.served.items) (subst AllFit (sym answers) j.serving.fit) j.serving.answers front in
     let more = answers-front own first (map Whole t.taken) (map Whole t.rest) in
-    let asked : map Whole t.taken ++ map Whole t.rest ≡ map Whole (Asked p.a.present.own p.requests) =
-    sym (map-append Whole t.taken t.rest) ∙ ap (map Whole) (t.split ∙ j.asking.messages ∙ ap (Asked p.a.present.own) j.requests) in
+    let asked : map Whole t.taken ++ map Whole t.rest ≡ map Whole (Asked p.a.present.identity p.requests) =
+    sym (map-append Whole t.taken t.rest) ∙ ap (map Whole) (t.split ∙ j.asking.messages ∙ ap (Asked p.a.present.identity) j.requests) in
     let some : r.taken ++ r.rest ≡ Answers own first (map Whole t.taken) =
     r.split ∙ answers ∙ ap (Answers own j.served.first) t.is ∙ ap (λ (f : Files). Answers own f (map Whole t.taken)) j.had in
-    let all : r.taken ++ (r.rest ++ more.0) ≡ asked_answers p.a.present.own own first p.requests =
+    let all : r.taken ++ (r.rest ++ more.0) ≡ asked_answers p.a.present.identity own first p.requests =
     sym (append_assoc r.taken r.rest more.0) ∙ ap (λ (l : List Message). l ++ more.0) some ∙ more.1 ∙ ap (Answers own first) asked in (
       map Whole (r.rest ++ more.0),
       ap (λ (l : List Item). l ++ map Whole (r.rest ++ more.0)) r.is ∙ sym (map-append Whole r.taken (r.rest ++ more.0)) ∙ ap (map Whole) all,
     )
 
-read_before : (first : Files) (p : Pair) (j : IsLinked first p) → (back : List Item) × (j.asked.answers ++ back ≡ map Whole (asked_answers p.a.present.own p.b.present.own first p.requests))
+read_before : (first : Files) (p : Pair) (j : IsLinked first p) → (back : List Item) × (j.asked.answers ++ back ≡ map Whole (asked_answers p.a.present.identity p.b.present.setup first p.requests))
 read_before first p j =
     in_order first p j j.asked.answers
     (served_front p.a.port.link p.b.port.link.setup.seg_size j.served.handed j.asked.given p.a.port.place j.asked.answers j.ways.back.positive j.ways.back.stands j.asking.gone)
@@ -70,77 +72,77 @@ read_before first p j =
 -- both ends, and the requests that were asked: all of them were admissible
 pub record IsSoundPair (first : Files) (p : Pair) : Type 0 where
   pub linked : IsLinked first p
-  pub own_a : IsBufsiz p.a.present.own
-  pub own_b : IsBufsiz p.b.present.own
-  pub admissible : AreAllAdmissible p.a.present.own p.b.present.own first [] p.requests
+  pub own_a : IsBufsiz p.a.present.identity.bufsiz
+  pub own_b : IsBufsiz p.b.present.setup.identity.bufsiz
+  pub admissible : AreAllAdmissible p.a.present.identity p.b.present.setup first [] p.requests
 
-all_expected : (first : Files) → AreFiles first → (p : Pair) → IsSoundPair first p → AreExpected p.a.present.own p.b.present.own first p.requests
-all_expected first good p s = none-unexpected p.a.present.own p.b.present.own s.own_a s.own_b first good p.requests s.admissible
+all_expected : (first : Files) → AreFiles first → (p : Pair) → IsSoundPair first p → AreExpected p.a.present.identity p.b.present.setup first p.requests
+all_expected first good p s = none-unexpected p.a.present.identity p.b.present.setup s.own_a s.own_b first good p.requests s.admissible
 
 one_more : (first : Files) → AreFiles first → (p : Pair) (new : AskingValue) (request : Request) (n : ℕ) → IsSoundPair first p → AskedOne request p.a new n
-    → AreAllAdmissible p.a.present.own p.b.present.own first [] (p.requests ++ request ∷ [])
+    → AreAllAdmissible p.a.present.identity p.b.present.setup first [] (p.requests ++ request ∷ [])
 one_more first good p new request n s a =
     let j = s.linked in
-    let may : IsAdmissible p.a.present.own p.requests j.asked.answers request =
-    subst (λ (l : List Request). IsAdmissible p.a.present.own l j.asked.answers request) j.requests (a.asks.admissible j.asked.requests j.asked.answers j.asking.asking) in
+    let may : IsAdmissible p.a.present.identity p.requests j.asked.answers request =
+    subst (λ (l : List Request). IsAdmissible p.a.present.identity l j.asked.answers request) j.requests (a.asks.admissible j.asked.requests j.asked.answers j.asking.asking) in
     let front = read_before first p j in
-    let all = all_read p.a.present.own p.b.present.own first p.requests j.asked.answers front.0 (all_expected first good p s) front.1 may.0 in
-    admissible-more p.a.present.own p.b.present.own first [] p.requests request s.admissible (subst (λ (l : List Item). IsAdmissible p.a.present.own p.requests l request) all may)
+    let all = all_read p.a.present.identity p.b.present.setup first p.requests j.asked.answers front.0 (all_expected first good p s) front.1 may.0 in
+    admissible-more p.a.present.identity p.b.present.setup first [] p.requests request s.admissible (subst (λ (l : List Item). IsAdmissible p.a.present.identity p.requests l request) all may)
 
 -- ---- Each end keeps its BUFSIZ.
 
-own_a : (old new : Pair) (event : AskingEvent) (ws : List Written) → PairStepped old (AtA event) ws new → new.a.present.own ≡ old.a.present.own
-own_a old new (Asks request) ws s = s.0.1.own
-own_a old new (By (Came bytes)) ws s = ap (λ (v : AskingValue). v.present.own) s.0.0.3
+own_a : (old new : Pair) (event : AskingEvent) (ws : List Written) → PairStepped old (AtA event) ws new → new.a.present.identity ≡ old.a.present.identity
+own_a old new (Asks request) ws s = s.0.1.identity
+own_a old new (By (Came bytes)) ws s = ap (λ (v : AskingValue). v.present.identity) s.0.0.3
 own_a old new (By GoesOn) ws s =
     let t = s.0.0 in
     let (heard, all, over) = t.2 in
-    ap (λ (v : AskingValue). v.present.own) t.4
+    ap (λ (v : AskingValue). v.present.identity) t.4
     ∙ elim over [
-      | inl same ↦ ap (λ (v : AskingValue). v.present.own) same
-      | inr h ↦ ap (λ (v : AskingValue). v.present.own) (handed_is heard t.0 h.0 h.1)
+      | inl same ↦ ap (λ (v : AskingValue). v.present.identity) same
+      | inr h ↦ ap (λ (v : AskingValue). v.present.identity) (handed_is heard t.0 h.0 h.1)
     ]
-    ∙ (read_grows old.a heard all.0 all.2).own
-own_a old new (By (Repeats k)) ws s = ap (λ (v : AskingValue). v.present.own) s.0.0.3
+    ∙ (read_grows old.a heard all.0 all.2).identity
+own_a old new (By (Repeats k)) ws s = ap (λ (v : AskingValue). v.present.identity) s.0.0.3
 
-own_b : (old new : Pair) (event : EndEvent) (ws : List Written) → PairStepped old (AtB event) ws new → new.b.present.own ≡ old.b.present.own
-own_b old new (Came bytes) ws s = ap (λ (v : ServingValue). v.present.own) s.0.0.3
+own_b : (old new : Pair) (event : EndEvent) (ws : List Written) → PairStepped old (AtB event) ws new → new.b.present.setup ≡ old.b.present.setup
+own_b old new (Came bytes) ws s = ap (λ (v : ServingValue). v.present.setup) s.0.0.3
 own_b old new GoesOn ws s =
     let t = s.0.0 in
-    ap (λ (v : ServingValue). v.present.own) t.4 ∙ (worked_grew old.b t.0 t.2).own
-own_b old new (Repeats k) ws s = ap (λ (v : ServingValue). v.present.own) s.0.0.3
+    ap (λ (v : ServingValue). v.present.setup) t.4 ∙ (worked_grew old.b t.0 t.2).setup
+own_b old new (Repeats k) ws s = ap (λ (v : ServingValue). v.present.setup) s.0.0.3
 
 -- ---- Every event.
 
-stays : (first : Files) (old new : Pair) → IsSoundPair first old → IsLinked first new → new.a.present.own ≡ old.a.present.own → new.b.present.own ≡ old.b.present.own
-    → AreAllAdmissible old.a.present.own old.b.present.own first [] new.requests → IsSoundPair first new
+stays : (first : Files) (old new : Pair) → IsSoundPair first old → IsLinked first new → new.a.present.identity ≡ old.a.present.identity → new.b.present.setup ≡ old.b.present.setup
+    → AreAllAdmissible old.a.present.identity old.b.present.setup first [] new.requests → IsSoundPair first new
 stays first old new s linked a b admissible =
     record {
       linked = linked;
-      own_a = subst IsBufsiz (sym a) s.own_a;
-      own_b = subst IsBufsiz (sym b) s.own_b;
-      admissible = subst (λ (n : ℕ). AreAllAdmissible n new.b.present.own first [] new.requests) (sym a)
-          (subst (λ (n : ℕ). AreAllAdmissible old.a.present.own n first [] new.requests) (sym b) admissible);
+      own_a = subst (λ (c : Configuration). IsBufsiz c.bufsiz) (sym a) s.own_a;
+      own_b = subst (λ (c : ServerSetup). IsBufsiz c.identity.bufsiz) (sym b) s.own_b;
+      admissible = subst (λ (n : Configuration). AreAllAdmissible n new.b.present.setup first [] new.requests) (sym a)
+          (subst (λ (n : ServerSetup). AreAllAdmissible old.a.present.identity n first [] new.requests) (sym b) admissible);
     }
 
-same_requests : (first : Files) (old new : Pair) → IsSoundPair first old → new.requests ≡ old.requests ++ [] → AreAllAdmissible old.a.present.own old.b.present.own first [] new.requests
+same_requests : (first : Files) (old new : Pair) → IsSoundPair first old → new.requests ≡ old.requests ++ [] → AreAllAdmissible old.a.present.identity old.b.present.setup first [] new.requests
 same_requests first old new s e =
-    subst (AreAllAdmissible old.a.present.own old.b.present.own first []) (sym (e ∙ append-nil old.requests)) s.admissible
+    subst (AreAllAdmissible old.a.present.identity old.b.present.setup first []) (sym (e ∙ append-nil old.requests)) s.admissible
 
 asked_sound : (first : Files) → AreFiles first → (old new : Pair) (event : AskingEvent) (ws : List Written) → PairStepped old (AtA event) ws new → IsSoundPair first old
-    → AreAllAdmissible old.a.present.own old.b.present.own first [] new.requests
+    → AreAllAdmissible old.a.present.identity old.b.present.setup first [] new.requests
 asked_sound first good old new (Asks request) ws s sound =
-    subst (AreAllAdmissible old.a.present.own old.b.present.own first []) (sym (ap (λ (p : Pair). p.requests) s.1)) (one_more first good old new.a request s.0.0 sound s.0.1)
+    subst (AreAllAdmissible old.a.present.identity old.b.present.setup first []) (sym (ap (λ (p : Pair). p.requests) s.1)) (one_more first good old new.a request s.0.0 sound s.0.1)
 asked_sound first good old new (By (Came bytes)) ws s sound = same_requests first old new sound (ap (λ (p : Pair). p.requests) s.1)
 asked_sound first good old new (By GoesOn) ws s sound = same_requests first old new sound (ap (λ (p : Pair). p.requests) s.1)
 asked_sound first good old new (By (Repeats k)) ws s sound = same_requests first old new sound (ap (λ (p : Pair). p.requests) s.1)
 
 step_sound : (first : Files) → AreFiles first → (old new : Pair) (event : PairEvent) (ws : List Written) → PairStepped old event ws new → IsSoundPair first old → IsSoundPair first new
 step_sound first good old new (AtA event) ws s sound =
-    stays first old new sound (pair_step first old new (AtA event) ws s sound.linked) (own_a old new event ws s) (ap (λ (p : Pair). p.b.present.own) s.1) (asked_sound first good old new event ws s sound)
+    stays first old new sound (pair_step first old new (AtA event) ws s sound.linked) (own_a old new event ws s) (ap (λ (p : Pair). p.b.present.setup) s.1) (asked_sound first good old new event ws s sound)
 step_sound first good old new (AtB event) ws s sound =
-    stays first old new sound (pair_step first old new (AtB event) ws s sound.linked) (ap (λ (p : Pair). p.a.present.own) s.1) (own_b old new event ws s)
-    (subst (AreAllAdmissible old.a.present.own old.b.present.own first []) (sym (ap (λ (p : Pair). p.requests) s.1)) sound.admissible)
+    stays first old new sound (pair_step first old new (AtB event) ws s sound.linked) (ap (λ (p : Pair). p.a.present.identity) s.1) (own_b old new event ws s)
+    (subst (AreAllAdmissible old.a.present.identity old.b.present.setup first []) (sym (ap (λ (p : Pair). p.requests) s.1)) sound.admissible)
 
 pub run_sound : (first : Files) → AreFiles first → (events : List PairEvent) (old new : Pair) → RunsBy PairStepped old events new → IsSoundPair first old → IsSoundPair first new
 run_sound first good [] old new r s = subst (IsSoundPair first) (sym r) s
@@ -163,7 +165,7 @@ next_expected first good p s bytes later answer next fits came reads =
     let q = gone_on p.a.port bytes later next in
     let front = served_front q.link size j.served.handed (given_then j.asked.given bytes next) q.place (j.asked.answers ++ answer ∷ []) j.ways.back.positive stands gone in
     let all = in_order first p j (j.asked.answers ++ answer ∷ []) front in
-    let split : j.asked.answers ++ answer ∷ all.0 ≡ map Whole (asked_answers p.a.present.own p.b.present.own first p.requests) = sym (append_assoc j.asked.answers (answer ∷ []) all.0) ∙ all.1 in
+    let split : j.asked.answers ++ answer ∷ all.0 ≡ map Whole (asked_answers p.a.present.identity p.b.present.setup first p.requests) = sym (append_assoc j.asked.answers (answer ∷ []) all.0) ∙ all.1 in
     λ wrong. all_expected first good p s j.asked.answers all.0 answer split (ap (λ (l : List Request). is_unexpected l j.asked.answers answer) (sym j.requests) ∙ wrong)
 
 pub none_refused : (first : Files) → AreFiles first → (p : Pair) (after : AskingValue) (f : ReadFault) → IsSoundPair first p → AllByRecursion AreBytes p.a.port.link.coming.inbox → ReadNone p.a after f → f ≢ read_fault.Unexpected

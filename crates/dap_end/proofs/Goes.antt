@@ -3,25 +3,28 @@ use Rattle.std.proofs.Common.{◌≡◌, ℕ, ◌+◌, ◌≤◌, ◌<◌, ◌^�
 use Rattle.std.specs.Prelude.{if◌then◌else◌, nat_lt, nat_le, ◌&&◌, unwrap_or, IsTrue, IfSome}
 use Rattle.std.specs.FinMap as finite
 use Rattle.std.proofs.lemmas.List.{append-nil}
+use Rattle.dap_accessed.specs.declared.setup.ServerSetup.{ServerSetup}
+use Rattle.dap_msg.specs.declared.message.Configuration.{Configuration}
 use Rattle.dap_msg.specs.declared.message.Message.{Message}
 use Rattle.dap_msg.specs.declared.message.StatusFields.{StatusFields}
 use Rattle.dap_msg.specs.declared.message.ControlFields.{ControlFields}
-use Rattle.dap_msg.specs.declared.message.Message.TheVariants.{Attrib, Status}
+use Rattle.dap_msg.specs.declared.message.Message.TheVariants.{Attrib, Config, Status}
 use Rattle.dap_msg.specs.declared.items.Item.{Item}
 use Rattle.dap_msg.specs.declared.items.Item.TheVariants.{Whole}
-use Rattle.dap_msg.specs.BothEnds.{number_of, four_bytes, config_of}
+use Rattle.dap_msg.specs.BothEnds.{number_of, four_bytes}
 use Rattle.rec_file.specs.declared.refusals.Refusal.{Refusal}
 use Rattle.rec_file.specs.declared.refusals.Refusal.TheVariants.{NotPermitted, NoCurrent, RecordNotFound, RecordExists, NumberOutOfRange, BadLength, BadAccessMode, DeleteNotAllowed, BadKey, EndOfFile, NoMemory}
 use Rattle.rec_file.specs.declared.picks.Pick.{Pick}
 use Rattle.rec_file.specs.Files.{records_from}
 use Rattle.rec_file.specs.Acts.{StreamVal, act, delete_record, update_record, put_record, get_record, Operation}
+use Rattle.dap_accessed.specs.Setup.{lacks}
 use Rattle.dap_accessed.specs.declared.phase.OpenFile.{OpenFile}
 use Rattle.std.specs.Prelude.{take_while, drop}
 use Rattle.std.specs.List.{prefix_len}
 use Rattle.dap_msg.specs.Codes as codes
-use Rattle.dap_accessed.specs.Standing.{Files, Place, Group, Standing, Scene, Effect, enters, the_file, place_of, file_at}
+use Rattle.dap_accessed.specs.Standing.{Files, Place, Group, Standing, Scene, Effect, enters, the_file, place_by, file_at}
 use Rattle.dap_accessed.specs.Standing as at
-use Rattle.dap_accessed.specs.Replies.{bare_status, record_status, reason_of, too_large}
+use Rattle.dap_accessed.specs.Replies.{reason_of, refused_access, bare_status, record_status, reason_of, too_large}
 use Rattle.dap_accessed.specs.Records.{uncurrent, at_number, filedata_of, fits_limit, get_pick, put_key, record_got, got, refused, settled, changed, Change, Putting, Updating}
 use Rattle.dap_accessed.specs.Transfers.{fetch, fetch_ends}
 use Rattle.dap_accessed.specs.Groups.{Grouped, over, answers_in}
@@ -49,10 +52,10 @@ use Rattle.dap_msg.specs.BothEnds.{limit_of, greatest_message}
 use Rattle.rec_file.specs.declared.shapes.Shape.{Shape}
 use Rattle.rec_file.specs.Limits.{greatest_number, longest_record}
 use Rattle.rec_file.specs.Shapes.{is_shape, is_seq, has_length}
-use Rattle.dap_accessed.specs.Accesses.{open_file, create_file}
+use Rattle.dap_accessed.specs.Accesses.{make_file, refuse_access, rights_to_create, rights_to_open, open_file, create_file}
 use Rattle.dap_msg.specs.BothEnds.{no_attributes}
 use Rattle.dap_accessed.specs.Past.{asked_shape, kept_attributes}
-use Rattle.dap_accessed.specs.Replies.{opened_with, org_number, format_number}
+use Rattle.dap_accessed.specs.Replies.{reason_of, refused_access, opened_with, org_number, format_number}
 use Rattle.dap_accessed.proofs.ForCallers.{AllFiles, file-there, one_more}
 use Rattle.dap_accessed.proofs.ForCallers.{good-shape, place-within}
 use Rattle.dap_accessing.specs.Told.{hear_attributes}
@@ -61,12 +64,12 @@ use Rattle.dap_end.specs.Agreement.{IsBufsiz}
 use Rattle.dap_end.specs.Agreement.{AgreeAt, AreLimits}
 
 -- the cut after more items
-abbrev pub more_items : ℕ → Grouped → List Item → Grouped
+abbrev pub more_items : (own : ServerSetup) → Grouped → List Item → Grouped
 more_items own c [] = c
 more_items own c (item ∷ items) = more_items own (one_more own c item) items
 
 -- The messages of a request go to answers that come to a report, and the two ends agree again.
-pub record Goes (own_a own_b : ℕ) (request : Request) (phase : Phase) (s : Standing) (limit_a : ℕ) : Type 0 where
+pub record Goes (own_a : Configuration) (own_b : ServerSetup) (request : Request) (phase : Phase) (s : Standing) (limit_a : ℕ) : Type 0 where
   pub answers : List Message
   pub done : Report
   pub new : Standing
@@ -174,7 +177,7 @@ shape-there : (files : Files) (found : Option ℕ) → AllFiles files → IfSome
 shape-there files None all h = tt
 shape-there files (Some n) all h = (file-there files n all h).shape
 
-module _ (own_a own_b : ℕ) (scene : Scene) (limit_a : ℕ) (h : AreLimits own_a own_b scene.limit limit_a) where
+module _ (own_a : Configuration) (own_b : ServerSetup) (scene : Scene) (limit_a : ℕ) (h : AreLimits own_a own_b scene.limit limit_a) where
   -- the answers of an effect come to a report by this hearing, and the ends agree after it
   abbrev pub Comes : Phase → (List Item → Hearing) → Effect → Type 0
   Comes phase hearing e =
@@ -255,18 +258,26 @@ module _ (own_a own_b : ℕ) (scene : Scene) (limit_a : ℕ) (h : AreLimits own_
 
   -- ---- Accesses.
 
-  pub opens : (fac : ℕ) (found : Option ℕ) → IfSome found (λ n. IsTrue (is_shape (file_at n scene.files).shape)) → Comes Ready hear_attributes (open_file scene fac found)
-  opens fac None g = (report.Refused 0x4032 0, refl, h)
-  opens fac (Some n) g = (_, hear_shape (file_at n scene.files).shape g, h)
+  -- a refusal, or what comes otherwise
+  comes_if : (lack : Bool) (e : Effect) → Comes Ready hear_attributes e → Comes Ready hear_attributes (if lack then refuse_access scene (refused_access (reason_of NotPermitted)) else e)
+  comes_if true e c = (report.Refused 0x4000 2, refl, h)
+  comes_if false e c = c
 
-  pub creates : (name : List ℕ) (fac : ℕ) (found : Option ℕ) (shape : Option Shape) → IfSome shape (λ s. IsTrue (is_shape s)) → Comes Ready hear_attributes (create_file scene name fac found shape)
+  pub opens : (fac : ℕ) (found : Option ℕ) → IfSome found (λ n. IsTrue (is_shape (file_at n scene.files).shape)) → Comes Ready hear_attributes (open_file own_b scene fac found)
+  opens fac None g = (report.Refused 0x4032 0, refl, h)
+  opens fac (Some n) g = comes_if (lacks own_b.most (rights_to_open fac)) _ (_, hear_shape (file_at n scene.files).shape g, h)
+
+  makes : (name : List ℕ) (fac : ℕ) (shape : Option Shape) → IfSome shape (λ s. IsTrue (is_shape s)) → Comes Ready hear_attributes (make_file scene name fac shape)
+  makes name fac None g = (report.Refused 0x4000 11, refl, h)
+  makes name fac (Some shape) g = (_, hear_shape shape g, h)
+
+  pub creates : (name : List ℕ) (fac : ℕ) (found : Option ℕ) (shape : Option Shape) → IfSome shape (λ s. IsTrue (is_shape s)) → Comes Ready hear_attributes (create_file own_b scene name fac found shape)
   creates name fac (Some n) shape g = (report.Refused 0x4000 1, refl, h)
-  creates name fac None None g = (report.Refused 0x4000 11, refl, h)
-  creates name fac None (Some shape) g = (_, hear_shape shape g, h)
+  creates name fac None shape g = comes_if (lacks own_b.most (rights_to_create fac)) _ (makes name fac shape g)
 
 -- ---- The requests of a file that is open.
 
-module _ (own_a own_b : ℕ) (files : Files) (limit : ℕ) (past : List Group) (limit_a : ℕ) (h : AreLimits own_a own_b limit limit_a) (o : OpenFile) where
+module _ (own_a : Configuration) (own_b : ServerSetup) (files : Files) (limit : ℕ) (past : List Group) (limit_a : ℕ) (h : AreLimits own_a own_b limit limit_a) (o : OpenFile) where
   pub connect_goes : Goes own_a own_b request.Connect Opened (standing_at (at.Opened o) files limit past) limit_a
   connect_goes = record { answers = _; done = report.Connected; new = _; cut_is = refl; adds = refl; heard = refl; agree = h }
 
@@ -331,11 +342,11 @@ module _ (own_a own_b : ℕ) (files : Files) (limit : ℕ) (past : List Group) (
 
 -- ---- The requests before a file is open.
 
-module _ (own_a own_b : ℕ) (files : Files) (limit : ℕ) (past : List Group) (limit_a : ℕ) where
+module _ (own_a : Configuration) (own_b : ServerSetup) (files : Files) (limit : ℕ) (past : List Group) (limit_a : ℕ) where
   pub open_goes : (name : List ℕ) (fac : ℕ) → AreLimits own_a own_b limit limit_a → AllFiles files → Goes own_a own_b (request.OpenFile name fac) Ready (standing_at at.Ready files limit past) limit_a
   open_goes name fac h all =
       let scene : Scene = record { limit = limit; files = files } in
-      let r = opens own_a own_b scene limit_a h fac (place_of name files) (shape-there files (place_of name files) all (place-within name files)) in
+      let r = opens own_a own_b scene limit_a h fac (place_by own_b.names name files) (shape-there files (place_by own_b.names name files) all (place-within own_b.names name files)) in
       record { answers = _; done = r.0; new = _; cut_is = refl; adds = adds-two past _; heard = r.1; agree = r.2 }
 
   pub create_goes : (name : List ℕ) (org rfm mrs mrn fac : ℕ) → AreLimits own_a own_b limit limit_a → Goes own_a own_b (request.Create name org rfm mrs mrn fac) Ready (standing_at at.Ready files limit past) limit_a
@@ -343,24 +354,24 @@ module _ (own_a own_b : ℕ) (files : Files) (limit : ℕ) (past : List Group) (
       let scene : Scene = record { limit = limit; files = files } in
       let a : Attributes = record no_attributes { org = Some org; rfm = Some rfm; mrs = Some mrs; mrn = Some (four_bytes mrn) } in
       let kept : Attributes = kept_attributes (record { place = at.Ready; first = Whole (Attrib a); answers = [] } ∷ past) in
-      let r = creates own_a own_b scene limit_a h name fac (place_of name files) (asked_shape kept) (good-shape kept) in
+      let r = creates own_a own_b scene limit_a h name fac (place_by own_b.names name files) (asked_shape kept) (good-shape kept) in
       record { answers = _; done = r.0; new = _; cut_is = refl; adds = adds-two past _; heard = r.1; agree = r.2 }
 
   abbrev configured : Scene → (bufsiz : ℕ) → Effect
-  configured scene bufsiz = enters (record scene { limit = limit_of bufsiz }) at.Ready (config_of own_b ∷ [])
+  configured scene bufsiz = enters (record scene { limit = limit_of bufsiz }) at.Ready (Config own_b.identity ∷ [])
 
   -- the ends' own BUFSIZ is at least 64
-  pub hello_goes : IsBufsiz own_a → IsBufsiz own_b → Goes own_a own_b request.Hello Fresh (standing_at at.Fresh files limit past) limit_a
+  pub hello_goes : IsBufsiz own_a.bufsiz → IsBufsiz own_b.identity.bufsiz → Goes own_a own_b request.Hello Fresh (standing_at at.Fresh files limit past) limit_a
   hello_goes a b =
-      let large_a = is-large own_a a in
-      let large_b : (nat_lt 0 own_b && nat_lt own_b 64) ≡ false = is-large own_b b in
+      let large_a = is-large own_a.bufsiz a in
+      let large_b : (nat_lt 0 own_b.identity.bufsiz && nat_lt own_b.identity.bufsiz 64) ≡ false = is-large own_b.identity.bufsiz b in
       let s = standing_at at.Fresh files limit past in
       record {
-        answers = config_of own_b ∷ [];
-        done = report.Ready own_b;
-        new = over s at.Fresh (Whole (config_of own_a)) (configured s.scene own_a);
-        cut_is = ap (λ b. let c : Grouped = record { standing = over s at.Fresh (Whole (config_of own_a)) (if b then enters s.scene at.Fresh (bare_status (codes.invalid codes.types.config) ∷ []) else configured s.scene own_a); begun = None } in c) large_a;
+        answers = Config own_b.identity ∷ [];
+        done = report.Ready own_b.identity.bufsiz;
+        new = over s at.Fresh (Whole (Config own_a)) (configured s.scene own_a.bufsiz);
+        cut_is = ap (λ b. let c : Grouped = record { standing = over s at.Fresh (Whole (Config own_a)) (if b then enters s.scene at.Fresh (bare_status (codes.invalid codes.types.config) ∷ []) else configured s.scene own_a.bufsiz); begun = None } in c) large_a;
         adds = refl;
         heard = rw large_b refl;
-        agree = (limit-own own_a a, limit-own own_b b);
+        agree = (limit-own own_a.bufsiz a, limit-own own_b.identity.bufsiz b);
       }

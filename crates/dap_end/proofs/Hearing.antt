@@ -117,7 +117,7 @@ step_so : (comes : LinkValue → List ℕ → Type 0) (requests : List Request) 
 step_so comes requests (old, reports, wrote) (new, after, all) (Asks request) ws s t =
     let a = s.1 in
     record {
-      past = asked_one t.past old.present.own request;
+      past = asked_one t.past old.present.identity request;
       is = asked_past request old new s.0 a t.past t.is;
       asked = ap (λ (l : List Request). l ++ request ∷ []) t.asked;
       told = s.3 ∙ t.told ∙ sym (a.asks.told t.past.requests t.past.answers t.is.asking);
@@ -176,7 +176,7 @@ step_listens size messages (old, _, _) (new, _, _) (By (Came bytes)) ws (s, e) t
     subst (Listens size messages) (sym s.3)
     (record { past = t.past; is = still_received old s.1 g s.2.sends t.past t.is; stands = then_stands old.port.link s.1 size messages t.past.given bytes s.0 s.6 t.stands s.2 })
 step_listens size messages (old, _, _) (new, _, _) (Asks request) ws s t =
-    record { past = asked_one t.past old.present.own request; is = asked_past request old new s.0 s.1 t.past t.is; stands = asked_stands old size messages t.past.given new request s.0 s.1 t.stands }
+    record { past = asked_one t.past old.present.identity request; is = asked_past request old new s.0 s.1 t.past t.is; stands = asked_stands old size messages t.past.given new request s.0 s.1 t.stands }
 step_listens size messages (old, _, _) (new, _, _) (By GoesOn) ws (s, e) t =
     let (heard, read, over) = s.2 in
     let m = read_grows old heard read.0 read.2 in

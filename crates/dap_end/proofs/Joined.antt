@@ -2,6 +2,7 @@
 use Rattle.std.proofs.Common.{◌≡◌, ℕ, ◌≤◌, refl, sym, ◌∙◌, subst, ap, append_assoc, List, [], ◌∷◌, ◌++◌, length, map}
 use Rattle.std.specs.Prelude.{None, Option, Some, IfSome}
 use Rattle.std.proofs.lemmas.List.{append-nil, map-append}
+use Rattle.dap_accessed.specs.declared.setup.ServerSetup.{ServerSetup}
 use Rattle.dap_msg.specs.declared.message.Message.{Message}
 use Rattle.dap_msg.specs.declared.items.Item.{Item}
 use Rattle.dap_msg.specs.declared.items.Item.TheVariants.{Whole}
@@ -116,7 +117,7 @@ first_ones packets handed waiting items full fit bytes front =
       split = sym (append_assoc t.taken t.rest (messages_in f.rest)) ∙ ap (λ (l : List Message). l ++ messages_in f.rest) t.split ∙ sym all;
     }
 
-pub answers_full : (own : ℕ) (first : Files) (before items : List Item) → AreFull (answers_to own first before items)
+pub answers_full : (own : ServerSetup) (first : Files) (before items : List Item) → AreFull (answers_to own first before items)
 answers_full own first before [] = tt
 answers_full own first before (item ∷ items) =
     full-both (Blocked (limit_for own first before) (added own first before item)) (answers_to own first (before ++ item ∷ []) items) (full-blocked (limit_for own first before) (added own first before item))
@@ -136,7 +137,7 @@ pub record IsLinked (first : Files) (p : Pair) : Type 0 where
 
 pub headline : (first : Files) (p : Pair) → IsLinked first p → PairHeadline first p
 headline first p j =
-    let own = p.b.present.own in
+    let own = p.b.present.setup in
     let t = first_ones j.asked.asked j.asked.handed p.a.port.outbox j.served.items j.asking.full j.asking.fit j.asking.waiting
     (served_front p.b.port.link p.a.port.link.setup.seg_size j.asked.handed j.served.given p.b.port.place j.served.items j.ways.there.positive j.ways.there.stands j.serving.gone) in
     let packets = answers_to own j.served.first [] j.served.items in
@@ -145,7 +146,7 @@ headline first p j =
     (served_front p.a.port.link p.b.port.link.setup.seg_size j.served.handed j.asked.given p.a.port.place j.asked.answers j.ways.back.positive j.ways.back.stands j.asking.gone) in
     record {
       taken = t.taken;
-      taken_in_order = (t.rest, t.split ∙ j.asking.messages ∙ ap (Asked p.a.present.own) j.requests);
+      taken_in_order = (t.rest, t.split ∙ j.asking.messages ∙ ap (Asked p.a.present.identity) j.requests);
       files_after = ap (λ (x : Present). x.files) j.serving.serving ∙ ap (After own j.served.first) t.is ∙ ap (λ (f : Files). After own f (map Whole t.taken)) j.had;
       read = r.taken;
       read_in_order = (r.rest, r.split ∙ answers ∙ ap (Answers own j.served.first) t.is ∙ ap (λ (f : Files). Answers own f (map Whole t.taken)) j.had);

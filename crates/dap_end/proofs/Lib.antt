@@ -38,5 +38,6 @@ pub mod Arriving
 pub mod Goes
 pub mod Stores
 pub mod Agreeing
+pub mod Each
 pub mod AllRead
 pub mod Expected

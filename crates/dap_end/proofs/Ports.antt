@@ -45,6 +45,10 @@ pub node-set : (before after : List (Option ℕ)) (v : NodeValue) (link : ℕ) (
 node-set before after v link noted o h many new right =
     record { links = length-set v.ports link o ∙ h.links ∙ sym many; ports = set-ports v.ports link o new h.ports; table = right }
 
+-- no port moved
+pub node-same : (table : List (Option ℕ)) (v : NodeValue) (noted : NotedValue) → IsNode table v → length noted.shared.sessions ≡ length v.noted.shared.sessions → IsNode table (record { noted = noted; ports = v.ports })
+node-same table v noted h many = record { links = h.links ∙ sym many; ports = h.ports; table = h.table }
+
 -- a port was taken out, and another put back
 pub node-again : (table : List (Option ℕ)) (v : NodeValue) (link : ℕ) (noted : NotedValue) (p : PortValue) → IsNode table v → length noted.shared.sessions ≡ length v.noted.shared.sessions → IsPort p
     → IsTable table (set v.ports link (Some p)) → IsNode table (record { noted = noted; ports = set (set v.ports link None) link (Some p) })

@@ -45,6 +45,7 @@ more_none v =
     record {
       link = refl;
       own = refl;
+      setup = refl;
       past = λ past h. (past, record { is = h; first = refl; items = ([], sym (append-nil past.items)); handed = ([], sym (append-nil past.handed), none_short v.port.link); given = refl; stands = λ size messages s. s });
     }
 
@@ -76,6 +77,7 @@ more_trans a b c ab bc =
     record {
       link = counts_trans a.port.link b.port.link c.port.link ab.link bc.link;
       own = bc.own ∙ ab.own;
+      setup = bc.setup ∙ ab.setup;
       past = λ past h. (let one = ab.past past h in let two = bc.past one.0 one.1.is in (two.0, grew_trans past one.0 two.0 a b c ab.link one.1 two.1));
     }
 
@@ -90,6 +92,7 @@ more_posted v new n p =
     (record {
       link = refl;
       own = refl;
+      setup = refl;
       past = λ past h. (record past { handed = past.handed ++ v.port.outbox }, posted_grew past v (may_queue_parts v.port.link v.port.outbox p.0).1 (subst (IsAfter (record past { handed = past.handed ++ v.port.outbox })) (posted_is v new n p) (posted_past v new n p past h)));
     })
 
@@ -108,6 +111,7 @@ more_served old new n s =
     record {
       link = subst (SameCounts old.port.link) (sym link) refl;
       own = s.own;
+      setup = s.setup;
       past = λ past h. (
         served past s.one.bytes s.one.item s.one.next,
         record {

@@ -2,6 +2,7 @@
 use Rattle.std.proofs.Common.{◌≡◌, ℕ, ◌+◌, ◌<◌, arith, refl, sym, ◌∙◌, subst, ap, append_assoc, false, List, [], ◌∷◌, ◌++◌, length, inl, inr}
 use Rattle.std.specs.Prelude.{◌⊎◌, max, ◌-◌, Option, Some, None, Result, Ok, Err}
 use Rattle.std.proofs.lemmas.List.{append-nil}
+use Rattle.dap_accessed.specs.declared.setup.ServerSetup.{ServerSetup}
 use Rattle.dap_msg.specs.declared.items.Item.{Item}
 use Rattle.dap_msg.specs.declared.message.Message.{Message}
 use Rattle.dap_msg.specs.Blocked.{NspMessage, Blocked, messages_in}
@@ -45,7 +46,7 @@ pub in_append : (xs ys : List NspMessage) → messages_in (xs ++ ys) ≡ message
 in_append [] ys = refl
 in_append (x ∷ xs) ys = ap (λ (l : List Message). x ++ l) (in_append xs ys) ∙ sym (append_assoc x (messages_in xs) (messages_in ys))
 
-pub answers_from : (own : ℕ) (first : Files) (before items : List Item) → Answers own first before ++ messages_in (answers_to own first before items) ≡ Answers own first (before ++ items)
+pub answers_from : (own : ServerSetup) (first : Files) (before items : List Item) → Answers own first before ++ messages_in (answers_to own first before items) ≡ Answers own first (before ++ items)
 answers_from own first before [] = append-nil (Answers own first before) ∙ ap (Answers own first) (sym (append-nil before))
 answers_from own first before (item ∷ items) =
     let block = Blocked (limit_for own first before) (added own first before item) in

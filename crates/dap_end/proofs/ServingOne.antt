@@ -4,6 +4,7 @@ use Rattle.std.specs.Prelude.{◌==◌, if◌then◌else◌, Some, None, slice_g
 use Rattle.std.proofs.lemmas.Bool.{cases_eq, ne_eqb}
 use Rattle.std.proofs.lemmas.List.{append-nil, map-append}
 use Rattle.std.proofs.lemmas.List.Elements.{All-cons}
+use Rattle.dap_accessed.specs.declared.setup.ServerSetup.{ServerSetup}
 use Rattle.dap_fields.specs.Spelling.{AreBytes}
 use Rattle.dap_msg.specs.declared.items.Item.{Item}
 use Rattle.dap_msg.specs.Items.{ItemAt, IsPlace}
@@ -81,23 +82,23 @@ module _ (old : ServingValue) (bytes : List ℕ) (later : List (List ℕ)) (inbo
       → (past : Past) → IsAfter past old
       → IsAfter (served past bytes serves.item s.next) (serving_of (record (gone_on old.port bytes later s.next) { outbox = bodies s.answers.items }) after)
   past_one after s serves idle within past h =
-      let limit : serves.limit ≡ limit_for old.present.own past.first past.items = serves.is_limit past.first past.items h.serving in
-      let block : List NspMessage = answer_to old.present.own past.first past.items serves.item in
+      let limit : serves.limit ≡ limit_for old.present.setup past.first past.items = serves.is_limit past.first past.items h.serving in
+      let block : List NspMessage = answer_to old.present.setup past.first past.items serves.item in
       record {
         serving = serves.stands past.first past.items h.serving;
         gone = port_gone old.port bytes later s.next past.given past.items serves.item fits inbox h.gone serves.reads within;
         sends = record { queue = h.sends.queue; acked = h.sends.acked; part = h.sends.part };
         answers =
             ap (λ (l : List (List ℕ)). past.handed ++ l)
-            (serves.answers past.first past.items h.serving ∙ ap (λ (n : ℕ). all_joined (Blocked n (added old.present.own past.first past.items serves.item))) limit)
+            (serves.answers past.first past.items h.serving ∙ ap (λ (n : ℕ). all_joined (Blocked n (added old.present.setup past.first past.items serves.item))) limit)
             ∙ ap (λ (l : List (List ℕ)). l ++ all_joined block) (sym (append-nil past.handed) ∙ ap (λ (l : List (List ℕ)). past.handed ++ l) (sym idle) ∙ h.answers)
-            ∙ sym (map-append joined (answers_to old.present.own past.first [] past.items) block)
-            ∙ ap all_joined (sym (answers-more old.present.own past.first past.items serves.item))
-            ∙ ap (λ (n : ℕ). all_joined (answers_to n past.first [] (past.items ++ serves.item ∷ []))) (sym serves.same_own);
+            ∙ sym (map-append joined (answers_to old.present.setup past.first [] past.items) block)
+            ∙ ap all_joined (sym (answers-more old.present.setup past.first past.items serves.item))
+            ∙ ap (λ (n : ServerSetup). all_joined (answers_to n past.first [] (past.items ++ serves.item ∷ []))) (sym serves.same_setup);
         fit =
-            subst (λ (n : ℕ). AllFit (Answers n past.first (past.items ++ serves.item ∷ []))) (sym serves.same_own)
-            (subst AllFit (sym (Answers-more old.present.own past.first past.items serves.item))
-            (fit-both (Answers old.present.own past.first past.items) (added old.present.own past.first past.items serves.item) h.fit (serves.fits past.first past.items h.serving)));
+            subst (λ (n : ServerSetup). AllFit (Answers n past.first (past.items ++ serves.item ∷ []))) (sym serves.same_setup)
+            (subst AllFit (sym (Answers-more old.present.setup past.first past.items serves.item))
+            (fit-both (Answers old.present.setup past.first past.items) (added old.present.setup past.first past.items serves.item) h.fit (serves.fits past.first past.items h.serving)));
       }
 
   pub served_one : (after : Present) (s : Served) (port : PortValue) (next n : ℕ)
@@ -113,6 +114,7 @@ module _ (old : ServingValue) (bytes : List ℕ) (later : List (List ℕ)) (inbo
         one = record { bytes = bytes; later = later; came = inbox; fits = fits; item = serves.item; next = s.next; reads = serves.reads; place = place };
         port = to ∙ ap (λ (l : List (List ℕ)). record (gone_on old.port bytes later s.next) { outbox = l }) (sym (ap (λ (p : PortValue). p.outbox) to));
         own = serves.same_own;
+        setup = serves.same_setup;
         count = count ∙ ap length (sym (ap (λ (p : PortValue). p.outbox) to));
         past = λ past h. subst (λ (p : PortValue). IsAfter (served past bytes serves.item s.next) (serving_of p after)) (sym to) (past_one after s serves idle le past h);
       }

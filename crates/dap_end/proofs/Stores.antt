@@ -2,6 +2,8 @@
 use Rattle.std.proofs.Common.{◌≡◌, ℕ, refl, sym, ◌∙◌, true, false, Bool, subst, ap, append_assoc, List, [], ◌∷◌, ◌++◌, map, Some, None, Result, Ok, Err}
 use Rattle.std.specs.Prelude.{if◌then◌else◌, ◌||◌}
 use Rattle.std.proofs.lemmas.List.{append-nil, map-append}
+use Rattle.dap_accessed.specs.declared.setup.ServerSetup.{ServerSetup}
+use Rattle.dap_msg.specs.declared.message.Configuration.{Configuration}
 use Rattle.dap_msg.specs.declared.message.Message.{Message}
 use Rattle.dap_msg.specs.declared.message.StatusFields.{StatusFields}
 use Rattle.dap_msg.specs.declared.message.Message.TheVariants.{Filedata, Status}
@@ -72,7 +74,7 @@ abbrev to_come : List (List ℕ) → List Item
 to_come bodies = map Whole (map (Filedata []) bodies ++ complete_with 4 ∷ [])
 
 -- such an end of a Store: its answers are refusals, and then the completion
-record Stores (own : ℕ) (bodies : List (List ℕ)) (s : Standing) (o : OpenFile) : Type 0 where
+record Stores (own : ServerSetup) (bodies : List (List ℕ)) (s : Standing) (o : OpenFile) : Type 0 where
   answers : List Message
   new : Standing
   cut_is : more_items own (record { standing = s; begun = None }) (to_come bodies) ≡ record { standing = new; begun = None }
@@ -82,7 +84,7 @@ record Stores (own : ℕ) (bodies : List (List ℕ)) (s : Standing) (o : OpenFil
   place : new.place ≡ at.Opened o
   same : new.scene.limit ≡ s.scene.limit
 
-stores : (own : ℕ) (bodies : List (List ℕ)) (files : Files) (limit : ℕ) (past : List Group) (o : OpenFile) (s : StreamVal)
+stores : (own : ServerSetup) (bodies : List (List ℕ)) (files : Files) (limit : ℕ) (past : List Group) (o : OpenFile) (s : StreamVal)
     → Stores own bodies (standing_at (at.Store o s) files limit past) o
 stores own [] files limit past o s =
     record { answers = complete_with 2 ∷ []; new = _; cut_is = refl; adds = refl; refused = refl; completed = refl; place = refl; same = refl }
@@ -112,7 +114,7 @@ hear_stores answers refused completed =
     ap (λ b. if b then Unexpected else hear_store_end (first_told (statuses_in_front answers)) (behind is_status answers)) refused
     ∙ ap (hear_store_end (first_told (statuses_in_front answers))) completed
 
-pub store_goes : (own_a own_b : ℕ) (files : Files) (limit : ℕ) (past : List Group) (limit_a : ℕ) → AreLimits own_a own_b limit limit_a → (o : OpenFile) (s : StreamVal) (bodies : List (List ℕ))
+pub store_goes : (own_a : Configuration) (own_b : ServerSetup) (files : Files) (limit : ℕ) (past : List Group) (limit_a : ℕ) → AreLimits own_a own_b limit limit_a → (o : OpenFile) (s : StreamVal) (bodies : List (List ℕ))
     → Goes own_a own_b (request.Store bodies) Connected (standing_at (at.Connected o s) files limit past) limit_a
 store_goes own_a own_b files limit past limit_a h o s bodies =
     let first : Item = Whole (control 4 (Some 3) None) in

@@ -1,6 +1,8 @@
 -- Two ends without a network: what requests ask, what is answered, and which requests are admissible.
 use Rattle.std.specs.Prelude.{ℕ, ◌≤◌, List, [], ◌∷◌, ◌++◌, map, ◌≡◌, ◌≢◌, None, true}
+use Rattle.dap_msg.specs.declared.message.Configuration.{Configuration}
 use Rattle.dap_msg.specs.declared.message.Message.{Message}
+use Rattle.dap_accessed.specs.declared.setup.ServerSetup.{ServerSetup}
 use Rattle.dap_msg.specs.BothEnds.{greatest_message, least_buffer}
 use Rattle.dap_msg.specs.declared.items.Item.{Item}
 use Rattle.dap_msg.specs.declared.items.Item.TheVariants.{Whole}
@@ -21,30 +23,30 @@ pub record IsBufsiz (n : ℕ) : Type 0 where
   pub most : n ≤ greatest_message
 
 -- what the server is sent for these requests
-abbrev pub asked_items : (own_a : ℕ) → List Request → List Item
+abbrev pub asked_items : (own_a : Configuration) → List Request → List Item
 asked_items own_a requests = map Whole (Asked own_a requests)
 
 -- what it answers, with these files at first
-abbrev pub asked_answers : (own_a own_b : ℕ) → Files → List Request → List Message
+abbrev pub asked_answers : (own_a : Configuration) (own_b : ServerSetup) → Files → List Request → List Message
 asked_answers own_a own_b first requests = Answers own_b first (asked_items own_a requests)
 
 -- what these answers report
-abbrev pub asked_reports : (own_a own_b : ℕ) → Files → List Request → List Report
+abbrev pub asked_reports : (own_a : Configuration) (own_b : ServerSetup) → Files → List Request → List Report
 asked_reports own_a own_b first requests = Told requests (map Whole (asked_answers own_a own_b first requests))
 
 -- each request is admissible after those before it and the answers to these
-abbrev pub AreAllAdmissible : (own_a own_b : ℕ) → Files → (before requests : List Request) → Type 0
+abbrev pub AreAllAdmissible : (own_a : Configuration) (own_b : ServerSetup) → Files → (before requests : List Request) → Type 0
 AreAllAdmissible own_a own_b first before [] = Unit {0}
 AreAllAdmissible own_a own_b first before (request ∷ requests) =
     IsAdmissible own_a before (map Whole (asked_answers own_a own_b first before)) request
     × AreAllAdmissible own_a own_b first (before ++ request ∷ []) requests
 
 -- after Hello each end takes for the other's limit the other's BUFSIZ
-abbrev pub AreLimits : (own_a own_b : ℕ) → (limit_b limit_a : ℕ) → Type 0
-AreLimits own_a own_b limit_b limit_a = (limit_b ≡ own_a) × (limit_a ≡ own_b)
+abbrev pub AreLimits : (own_a : Configuration) (own_b : ServerSetup) → (limit_b limit_a : ℕ) → Type 0
+AreLimits own_a own_b limit_b limit_a = (limit_b ≡ own_a.bufsiz) × (limit_a ≡ own_b.identity.bufsiz)
 
 -- the client's phase is that of the server's place
-abbrev pub AgreeAt : (own_a own_b : ℕ) → Phase → Place → (limit_b limit_a : ℕ) → Type 0
+abbrev pub AgreeAt : (own_a : Configuration) (own_b : ServerSetup) → Phase → Place → (limit_b limit_a : ℕ) → Type 0
 AgreeAt own_a own_b Fresh at.Fresh limit_b limit_a = limit_b ≡ least_buffer
 AgreeAt own_a own_b Ready at.Ready limit_b limit_a = AreLimits own_a own_b limit_b limit_a
 AgreeAt own_a own_b Opened (at.Opened _) limit_b limit_a = AreLimits own_a own_b limit_b limit_a
@@ -53,7 +55,7 @@ AgreeAt own_a own_b Stopped (at.Stopped _ _) limit_b limit_a = AreLimits own_a o
 AgreeAt own_a own_b _ _ limit_b limit_a = ⊥
 
 -- The two ends agree after these requests, and the server isn't inside a group.
-pub record AreAgreed (own_a own_b : ℕ) (first : Files) (requests : List Request) : Type 0 where
+pub record AreAgreed (own_a : Configuration) (own_b : ServerSetup) (first : Files) (requests : List Request) : Type 0 where
   pub whole : (stands_after own_b first (asked_items own_a requests)).begun ≡ None
   pub places :
       let s = (stands_after own_b first (asked_items own_a requests)).standing in
@@ -61,7 +63,7 @@ pub record AreAgreed (own_a own_b : ℕ) (first : Files) (requests : List Reques
       AgreeAt own_a own_b (phase_after reports) s.place s.scene.limit (limit_after reports)
 
 -- no answer so far, and not the next one, is unexpected
-abbrev pub AreExpected : (own_a own_b : ℕ) → Files → List Request → Type 0
+abbrev pub AreExpected : (own_a : Configuration) (own_b : ServerSetup) → Files → List Request → Type 0
 AreExpected own_a own_b first requests =
     (front back : List Item) (answer : Item) → front ++ answer ∷ back ≡ map Whole (asked_answers own_a own_b first requests)
     → is_unexpected requests front answer ≢ true

@@ -1,5 +1,5 @@
 -- A client with its link, whatever the peer is.
-use Rattle.std.specs.Prelude.{◌≡◌, ◌≢◌, ◌⊎◌, ℕ, List, [], ◌∷◌, ◌++◌, length, true, false, Option, option_to_list}
+use Rattle.std.specs.Prelude.{◌≡◌, ◌≢◌, ◌⊎◌, ℕ, List, [], ◌∷◌, ◌++◌, length, true, false, Option, option_map, option_to_list}
 use Rattle.std.specs.List.{AllByRecursion}
 use Rattle.dap_msg.specs.Blocked.{AllFit, all_joined, messages_in}
 use Rattle.nsp_link.specs.Link.{Sends}
@@ -12,7 +12,9 @@ use Rattle.dap_accessing.specs.Told.{Told, is_unexpected}
 use Rattle.dap_accessing.specs.Calls.{Asks, ReadRefused}
 use Rattle.dap_end.specs.Ports.{gone_on}
 use Rattle.dap_end.specs.Going.{given_then, NextItem, GoneThrough}
+use Rattle.dap_accessing.specs.Each.{IsBatch, reported_behind}
 use Rattle.dap_end.specs.Done.{AskingValue, AskingPast}
+use Rattle.dap_end.specs.Each.{with_told}
 
 -- The client is as after this history: it waits for what is due after these requests and answers. The answers are
 -- those of the NSP messages that it read, and of a prefix of the next one. What it passed to its link, and what
@@ -21,7 +23,7 @@ pub record HasAsked (past : AskingPast) (v : AskingValue) : Type 0 where
   pub asking : StandsAfter past.requests past.answers v.present
   pub gone : GoneThrough past.given v.port.link.coming.inbox v.port.place past.answers
   pub sends : Sends v.port.link past.handed
-  pub messages : messages_in past.asked ≡ Asked v.present.own past.requests
+  pub messages : messages_in past.asked ≡ Asked v.present.identity past.requests
   pub waiting : past.handed ++ v.port.outbox ≡ all_joined past.asked
   -- each message has a spelling, and no NSP message is without one
   pub fit : AllFit (messages_in past.asked)
@@ -40,6 +42,7 @@ pub record AskedOne (request : Request) (old new : AskingValue) (n : ℕ) : Type
   pub messages : List (List ℕ)
   pub asks : Asks request old.present new.present messages
   pub own : new.present.own ≡ old.present.own
+  pub identity : new.present.identity ≡ old.present.identity
   pub port : new.port ≡ record old.port { outbox = old.port.outbox ++ messages }
   pub count : n ≡ length messages
 
@@ -52,9 +55,13 @@ pub record ReadOne (old new : AskingValue) (report : Option Report) : Type 0 whe
   pub one : NextItem old.port
   pub port : new.port ≡ gone_on old.port one.bytes one.later one.next
   pub own : new.present.own ≡ old.present.own
+  pub identity : new.present.identity ≡ old.present.identity
   pub expected : (past : AskingPast) → HasAsked past old → is_unexpected past.requests past.answers one.item ≡ false
   pub past : (past : AskingPast) → HasAsked past old → HasAsked (record past { given = given_then past.given one.bytes one.next; answers = past.answers ++ one.item ∷ [] }) new
   pub told : (past : AskingPast) → HasAsked past old → Told past.requests (past.answers ++ one.item ∷ []) ≡ Told past.requests past.answers ++ option_to_list report
+  -- The same while a batch is under way of which records were taken out: they count, but the report comes without them.
+  pub past_on : (told : List (ℕ × List ℕ)) (past : AskingPast) → IsBatch old.present → HasAsked past (with_told told old) → HasAsked (record past { given = given_then past.given one.bytes one.next; answers = past.answers ++ one.item ∷ [] }) (with_told told new)
+  pub told_on : (told : List (ℕ × List ℕ)) (past : AskingPast) → IsBatch old.present → HasAsked past (with_told told old) → Told past.requests (past.answers ++ one.item ∷ []) ≡ Told past.requests past.answers ++ option_to_list (option_map (reported_behind told) report)
 
 -- why nothing was read, and the client then: after an unexpected answer it has failed
 pub record ReadNone (old new : AskingValue) (f : ReadFault) : Type 0 where
@@ -63,4 +70,5 @@ pub record ReadNone (old new : AskingValue) (f : ReadFault) : Type 0 where
   pub came : old.port.link.coming.inbox ≡ bytes ∷ later
   pub port : new.port ≡ old.port
   pub own : new.present.own ≡ old.present.own
+  pub identity : new.present.identity ≡ old.present.identity
   pub refused : ReadRefused bytes old.port.place old.present new.present f

@@ -2,6 +2,7 @@
 use Rattle.std.specs.Prelude.{ℕ, List, [], ◌∷◌, ◌++◌}
 use Rattle.dap_msg.specs.declared.items.Item.{Item}
 use Rattle.dap_msg.specs.Blocked.{NspMessage, Blocked}
+use Rattle.dap_accessed.specs.declared.setup.ServerSetup.{ServerSetup}
 use Rattle.dap_accessed.specs.Standing.{Files}
 use Rattle.dap_accessed.specs.Groups.{added, limit_for}
 use Rattle.dap_accessed.specs.Present as accessed
@@ -27,7 +28,7 @@ abbrev pub nothing_yet : Files → Past
 nothing_yet first = record { first = first; given = []; items = []; handed = [] }
 
 -- the answers to each item, joined within the peer's limit
-abbrev pub answers_to : (own : ℕ) → Files → (before items : List Item) → List NspMessage
+abbrev pub answers_to : (own : ServerSetup) → Files → (before items : List Item) → List NspMessage
 answers_to own first before [] = []
 answers_to own first before (item ∷ items) =
     Blocked (limit_for own first before) (added own first before item) ++ answers_to own first (before ++ item ∷ []) items

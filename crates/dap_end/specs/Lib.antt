@@ -8,6 +8,7 @@ pub mod Taking
 pub mod By
 pub mod Node
 pub mod Wanting
+pub mod Each
 pub mod Asking
 pub mod Hearing
 pub mod Runs

@@ -4,6 +4,8 @@ use Rattle.nsp_link.specs.declared.link.LinkSetup.{LinkSetup}
 use Rattle.nsp_link.specs.declared.fault.LinkFault.{LinkFault}
 use Rattle.nsp_link.specs.declared.fault.LinkFault.TheVariants.{BadSetup, NoMemory}
 use Rattle.nsp_link.specs.Link.{IsSetup}
+use Rattle.rec_file.specs.declared.picks.Rights.{Rights}
+use Rattle.dap_accessed.specs.Setup.{all_rights}
 use Rattle.dap_shared.specs.Shared.{SharedBegins}
 use Rattle.dap_shared.specs.Noted.{NotedServed, NotedValue}
 use Rattle.dap_accessed.specs.declared.fault.AddFault.{AddFault}
@@ -73,9 +75,9 @@ pub record HasAddress (link : ℕ) (address : ℕ) (old new : NotedValue) : Type
   pub addresses : new.addresses ≡ set old.addresses link address
   pub locked : new.locked ≡ old.locked
 
--- The link began anew with this setup, and every other port stayed: what was open on it is closed.
-pub record BeganOn (link : ℕ) (setup : LinkSetup) (old new : NodeValue) : Type 0 where
-  pub shared : SharedBegins link old.noted.shared new.noted.shared
+-- The link began anew with this setup and these rights, and every other port stayed: what was open on it is closed.
+pub record BeganOn (link : ℕ) (setup : LinkSetup) (most : Rights) (old new : NodeValue) : Type 0 where
+  pub shared : SharedBegins link most old.noted.shared new.noted.shared
   pub address : HasAddress link setup.local old.noted new.noted
   pub ports : new.ports ≡ set old.ports link (Some (new_port setup))
 
@@ -86,9 +88,9 @@ NotBegun link setup v f =
     ((f ≡ BadSetup) × ((IsSetup setup → ⊥) ⊎ IsTaken link setup.local v))
     ⊎ ((f ≡ NoMemory) × IsSetup setup × (IsTaken link setup.local v → ⊥))
 
--- The link ended, and every other port stayed. The address of a link that isn't there is 0.
+-- The link ended, and every other port stayed. The address of a link that ended is 0, and its rights are all.
 pub record EndedOn (link : ℕ) (old new : NodeValue) : Type 0 where
-  pub shared : SharedBegins link old.noted.shared new.noted.shared
+  pub shared : SharedBegins link all_rights old.noted.shared new.noted.shared
   pub address : HasAddress link 0 old.noted new.noted
   pub ports : new.ports ≡ set old.ports link None
 

@@ -1,6 +1,7 @@
 -- A history with one item or request more.
 use Rattle.std.specs.Prelude.{◌≢◌, ℕ, List, [], ◌∷◌, ◌++◌}
 use Rattle.std.specs.List.{AllByRecursion}
+use Rattle.dap_msg.specs.declared.message.Configuration.{Configuration}
 use Rattle.dap_msg.specs.declared.items.Item.{Item}
 use Rattle.dap_msg.specs.Blocked.{NspMessage, Blocked}
 use Rattle.dap_accessing.specs.Request.{Request}
@@ -24,7 +25,7 @@ abbrev pub read_one : AskingPast → (bytes : List ℕ) → Item → (next : ℕ
 read_one past bytes item next = record past { given = given_then past.given bytes next; answers = past.answers ++ item ∷ [] }
 
 -- a client's, with one request more
-abbrev pub asked_one : AskingPast → (own : ℕ) → Request → AskingPast
+abbrev pub asked_one : AskingPast → (own : Configuration) → Request → AskingPast
 asked_one past own request =
     record past {
       requests = past.requests ++ request ∷ [];

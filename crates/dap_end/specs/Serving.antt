@@ -17,9 +17,9 @@ pub record IsAfter (past : Past) (v : ServingValue) : Type 0 where
   pub serving : StandsAfter past.first past.items v.present
   pub gone : GoneThrough past.given v.port.link.coming.inbox v.port.place past.items
   pub sends : Sends v.port.link past.handed
-  pub answers : past.handed ++ v.port.outbox ≡ all_joined (answers_to v.present.own past.first [] past.items)
+  pub answers : past.handed ++ v.port.outbox ≡ all_joined (answers_to v.present.setup past.first [] past.items)
   -- each answer has a spelling
-  pub fit : AllFit (Answers v.present.own past.first past.items)
+  pub fit : AllFit (Answers v.present.setup past.first past.items)
 
 -- ---- Files that the end is given.
 
@@ -40,5 +40,6 @@ pub record ServedOne (old new : ServingValue) (n : ℕ) : Type 0 where
   pub one : NextItem old.port
   pub port : new.port ≡ record (gone_on old.port one.bytes one.later one.next) { outbox = new.port.outbox }
   pub own : new.present.own ≡ old.present.own
+  pub setup : new.present.setup ≡ old.present.setup
   pub count : n ≡ length new.port.outbox
   pub past : (past : Past) → IsAfter past old → IsAfter (record past { given = given_then past.given one.bytes one.next; items = past.items ++ one.item ∷ [] }) new

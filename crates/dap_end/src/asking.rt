@@ -1,7 +1,10 @@
 //! The end that asks.
 
-ghost use Rattle.std.specs.Prelude.{◌≡◌, ◌≢◌, ◌≤◌, ◌<◌, ◌+◌, ◌-◌, ℕ, [], ◌∷◌, Ok, Err, Some, None, true, false, length, IfOk, IfErr, IfSome, OnOk, OnErr, IsErrOf, IsTrue, ◌++◌, option_to_list, vec_len, vec_capacity};
-ghost use Rattle.dap_msg.specs.BothEnds.{four_bytes, least_buffer};
+ghost use Rattle.std.specs.Prelude.{◌≡◌, ◌≢◌, ◌≤◌, ◌<◌, ◌+◌, ◌-◌, ℕ, List, [], ◌∷◌, Ok, Err, Some, None, true, false, length, IfOk, IfErr, IfSome, OnOk, OnErr, IsErrOf, IsTrue, ◌++◌, option_to_list, vec_len, vec_capacity};
+ghost use Rattle.dap_msg.specs.BothEnds.{four_bytes, least_buffer, plain_identity};
+ghost use Rattle.dap_msg.specs.Fitting.{FieldsFit};
+ghost use Rattle.dap_msg.specs.declared.message.Configuration.{Configuration as Own};
+ghost use Rattle.dap_msg.specs.declared.message.Message.TheVariants.{Config};
 ghost use Rattle.dap_msg.specs.Blocked.{bodies};
 ghost use Rattle.nsp_link.specs.Limits.{largest_limit};
 ghost use Rattle.nsp_link.specs.Link.{IsSetup, SetupFault, may_send, IsSpelling};
@@ -9,6 +12,7 @@ ghost use Rattle.nsp_link.specs.Sending.{NextFault, may_queue, SendAllFault, Wri
 ghost use Rattle.nsp_link.specs.declared.fault.LinkFault.TheVariants.{Failed, NoSuchSegment, MessageTooLong};
 ghost use Rattle.nsp_link.specs.declared.fault.LinkFault.TheVariants as fault;
 ghost use Rattle.dap_accessing.specs.Asked.{messages_of};
+ghost use Rattle.dap_accessing.specs.Each.{none_kept, records_kept};
 ghost use Rattle.dap_accessing.specs.Calls.{AskRefused, IsAdmittedBy};
 ghost use Rattle.dap_accessing.specs.Outgoing.{number_carried};
 ghost use Rattle.dap_accessing.specs.Prepared.{IsPrepared};
@@ -21,6 +25,7 @@ ghost use Rattle.dap_end.specs.Going.{oldest};
 ghost use Rattle.nsp_link.specs.Receiving.{Receives};
 ghost use Rattle.dap_end.specs.Writing.{Behind, WroteMore};
 ghost use Rattle.dap_end.specs.Asking.{HasAsked, AskedOne, ReadOne, ReadNone};
+ghost use Rattle.dap_end.specs.Each.{with_told};
 ghost use Rattle.dap_end.specs.Hearing.{ReadOn, ReadsAll, asks};
 ghost use Rattle.dap_end.specs.declared.asking.Heard.TheVariants.{Nothing, Part, Report as Completed};
 ghost use Rattle.dap_accessing.specs.declared.report.Report.{Report as TheReport};
@@ -32,7 +37,8 @@ ghost use Rattle.dap_end.specs.Inner.AskingView.{asking_of};
 
 use crate::fault::{EndFault, TakeFault};
 use crate::port::{Port, is_end};
-use dap_accessing::{Accessing, AskFault, Prepared, ReadFault, Report, Request};
+use dap_accessing::{Accessing, AskFault, Numbered, Octets, Prepared, ReadFault, Report, Request};
+use dap_msg::Configuration;
 use nsp_link::{Got, LinkEnd, LinkFault, LinkSetup};
 use std::alloc::Global;
 use std::marker::Model;
@@ -75,6 +81,7 @@ impl AskingEnd {
         requires { least_buffer ≤ bufsiz }
         ensures ok { IfOk result (λ end. HasAsked nothing_asked end
             × (end.port ≡ new_port setup) × (end.present.own ≡ bufsiz)) }
+        ensures identity { IfOk result (λ end. end.present.identity ≡ plain_identity bufsiz) }
         ensures setup { OnOk result (IsSetup setup) }
         ensures err { IfErr result (SetupFault setup) }
     {
@@ -85,12 +92,33 @@ impl AskingEnd {
         })
     }
 
+    /// The same of a client that says this of itself, with a BUFSIZ of at least 64.
+    pub fn with_identity(
+        alloc: Global,
+        identity: Configuration,
+        setup: LinkSetup,
+    ) -> Result<AskingEnd, LinkFault>
+        requires low { least_buffer ≤ identity.bufsiz }
+        requires fits { FieldsFit (Config identity) }
+        ensures ok { IfOk result (λ end. HasAsked nothing_asked end
+            × (end.port ≡ new_port setup) × (end.present.identity ≡ identity)) }
+        ensures setup { OnOk result (IsSetup setup) }
+        ensures err { IfErr result (SetupFault setup) }
+    {
+        let port = Port::new(alloc, setup)?;
+        Ok(AskingEnd {
+            port,
+            accessing: Accessing::with_identity(alloc, identity),
+        })
+    }
+
     /// The same end for another link: nothing was asked of it, and all that waits is dropped. Refused, with nothing
     /// changed: `BadSetup` where a limit of the setup isn't in its range; `NoMemory`.
     pub fn renew(&mut self, alloc: Global, setup: LinkSetup) -> Result<(), LinkFault>
         ensures ok { OnOk result (HasAsked nothing_asked self.new
             × (self.new.port ≡ new_port setup)
             × (self.new.present.own ≡ self.old.present.own)) }
+        ensures identity { OnOk result (self.new.present.identity ≡ self.old.present.identity) }
         ensures setup { OnOk result (IsSetup setup) }
         ensures err { IfErr result (λ f. (self.new ≡ self.old) × SetupFault setup f) }
     {
@@ -206,6 +234,28 @@ impl AskingEnd {
         ensures err { IfErr result (λ f. ReadNone self.old self.new f) }
     {
         read_next(&mut self.port, &mut self.accessing)
+    }
+
+    /// The records that were read so far of a batch under way, and weren't taken out. None where no batch is under way.
+    pub fn records(&self) -> &[(u64, Octets)]
+        ensures { result.now ≡ records_kept self.now.present.pending }
+    {
+        self.accessing.records()
+    }
+
+    /// Takes out the records that were read so far of a batch under way, and weren't taken: the report of the batch comes
+    /// without them. None where no batch is under way. It takes no memory.
+    pub fn take_records(&mut self) -> Numbered
+        ensures records { result ≡ records_kept self.old.present.pending }
+        ensures rest { self.new ≡ record self.old {
+          present = record self.old.present { pending = none_kept self.old.present.pending };
+        } }
+        ensures none { result ≡ [] → self.new ≡ self.old }
+        // With all that were taken put back, the end is as if none were.
+        ensures told { (told : List (ℕ × List ℕ))
+            → with_told (told ++ result) self.new ≡ with_told told self.old }
+    {
+        self.accessing.take_records()
     }
 
     /// Reads all that came, and adds the reports after those in `reports`. Refused as `read` is; what was read before
@@ -432,7 +482,7 @@ fn keep(reports: &mut Vec<Report>, report: Option<Report>)
 
 /// How many messages a request has at most.
 fn most_messages(request: &Request) -> usize
-    ensures { (own : ℕ) → length (messages_of own request.now) ≤ result }
+    ensures { (own : Own) → length (messages_of own request.now) ≤ result }
 {
     match request {
         Request::Store(bodies) => bodies.0.len().saturating_add(2),

@@ -1,6 +1,6 @@
 //! Laws over the definitions alone. Each function does nothing: its contract is the law.
 
-ghost use Rattle.std.specs.Prelude.{◌≡◌, ◌≢◌, ◌⊎◌, ◌+◌, ◌-◌, ◌<◌, ℕ, List, [], ◌∷◌, ◌++◌, map, Option, Some, None, Result, Err, IfErr, false, option_to_list};
+ghost use Rattle.std.specs.Prelude.{◌≡◌, ◌≢◌, ◌⊎◌, ◌+◌, ◌-◌, ◌<◌, ℕ, List, [], ◌∷◌, ◌++◌, map, Option, Some, None, Result, Err, IfErr, false, option_map, option_to_list};
 ghost use Rattle.std.specs.List.{AllByRecursion};
 ghost use Rattle.dap_fields.specs.Spelling.{AreBytes};
 ghost use Rattle.nsp_link.specs.declared.link.LinkSetup.{LinkSetup as TheSetup};
@@ -14,11 +14,13 @@ ghost use Rattle.dap_msg.specs.declared.message.Message.{Message};
 ghost use Rattle.dap_msg.specs.declared.items.Item.TheVariants.{Whole};
 ghost use Rattle.dap_msg.specs.declared.items.Item.{Item};
 ghost use Rattle.dap_msg.specs.Items.{ItemsFrom};
+ghost use Rattle.dap_accessed.specs.declared.setup.ServerSetup.{ServerSetup};
 ghost use Rattle.dap_accessed.specs.Standing.{Files};
 ghost use Rattle.dap_accessed.specs.Groups.{After, Answers};
 ghost use Rattle.dap_accessed.specs.Present.{StandsAfter};
 ghost use Rattle.dap_accessing.specs.Present.{StandsAfter as WaitsAfter};
 ghost use Rattle.dap_accessing.specs.Asked.{Asked, messages_of};
+ghost use Rattle.dap_accessing.specs.Each.{IsBatch, none_kept, records_kept, reported_behind};
 ghost use Rattle.dap_accessing.specs.Phase.{limit_after};
 ghost use Rattle.dap_accessing.specs.Told.{Told};
 ghost use Rattle.dap_accessing.specs.Request.{Request as TheRequest};
@@ -38,6 +40,7 @@ ghost use Rattle.dap_end.specs.Taking.{IsBounded, ServedInTurn, serves};
 ghost use Rattle.dap_end.specs.Wanting.{is_want, why};
 ghost use Rattle.dap_end.specs.Hearing.{ReadOn, ReadsAll, asks};
 ghost use Rattle.dap_end.specs.Asking.{HasAsked, HasDone, AskedOne, ReadNone, ReadOne};
+ghost use Rattle.dap_end.specs.Each.{with_told};
 ghost use Rattle.dap_end.specs.Agreement.{IsBufsiz};
 ghost use Rattle.dap_accessed.specs.Sound.{AreFiles};
 ghost use Rattle.dap_end.specs.Done.{AskingValue, AskingPast, nothing_asked};
@@ -50,7 +53,7 @@ ghost use Rattle.dap_end.specs.Calls.{AskingRuns, PairRuns, Runs};
 /// over once it was; and what was served on comes after what was served before.
 pub fn serving_ends_stand()
     ensures files { (past : Past) (v : ServingValue) → IsAfter past v
-        → v.present.files ≡ After v.present.own past.first past.items }
+        → v.present.files ≡ After v.present.setup past.first past.items }
     ensures front { (past : Past) (v : ServingValue) → IsAfter past v
         → AreFrontOf (past.given ++ v.port.link.coming.inbox) past.items }
     // The next item is the one at the port's place.
@@ -76,7 +79,7 @@ pub fn serving_ends_stand()
           queue = new.port.link.queue;
         }) }
     // What is joined to NSP messages are all answers, in order.
-    ensures joined { (own : ℕ) (first : Files) (items : List Item)
+    ensures joined { (own : ServerSetup) (first : Files) (items : List Item)
         → messages_in (answers_to own first [] items) ≡ Answers own first items }
 {}
 
@@ -95,7 +98,7 @@ pub fn asking_ends_stand()
         → HasAsked past old → AskedOne request old new n → HasAsked (record past {
           requests = past.requests ++ request ∷ [];
           asked = past.asked ++ Blocked (limit_after (Told past.requests past.answers))
-              (messages_of old.present.own request);
+              (messages_of old.present.identity request);
         }) new }
     ensures posted { (past : AskingPast) (old new : AskingValue) (n : ℕ) → HasAsked past old
         → HandsOver old new n
@@ -112,6 +115,35 @@ pub fn asking_ends_stand()
     ensures rest { (old new : AskingValue) (reports : List TheReport) → ReadOn old new reports
         → (new.present.own ≡ old.present.own) × (new.port.outbox ≡ old.port.outbox)
         × (new.port.link ≡ with_inbox old.port.link new.port.link.coming.inbox) }
+{}
+
+/// Records of a batch under way may be taken out as they come. With all that were taken put back, a client stands as one that
+/// keeps them, whatever it does on its link and whatever it reads; but the report of the batch has the others alone.
+pub fn taken_records_count()
+    ensures taken { (told : List (ℕ × List ℕ)) (past : AskingPast) (v : AskingValue)
+        → HasAsked past (with_told told v)
+        → HasAsked past (with_told (told ++ records_kept v.present.pending)
+        (record v { present = record v.present { pending = none_kept v.present.pending } })) }
+    ensures read { (told : List (ℕ × List ℕ)) (past : AskingPast) (old new : AskingValue)
+        (report : Option TheReport) → IsBatch old.present → HasAsked past (with_told told old)
+        → ReadOne old new report → (given : List (List ℕ)) × (answer : Item)
+        × HasAsked (record past {
+          given = given;
+          answers = past.answers ++ answer ∷ [];
+        }) (with_told told new)
+        × (Told past.requests (past.answers ++ answer ∷ []) ≡ Told past.requests past.answers
+        ++ option_to_list (option_map (reported_behind told) report)) }
+    ensures received { (told : List (ℕ × List ℕ)) (past : AskingPast) (old new : AskingValue)
+        (packet : List ℕ) (r : Result TheGot TheFault) → HasAsked past (with_told told old)
+        → TookIn old new packet r → HasAsked past (with_told told new) }
+    ensures posted { (told : List (ℕ × List ℕ)) (past : AskingPast) (old new : AskingValue) (n : ℕ)
+        → HasAsked past (with_told told old) → HandsOver old new n
+        → HasAsked (record past { handed = past.handed ++ old.port.outbox })
+        (with_told told new) }
+    ensures wrote { (told : List (ℕ × List ℕ)) (past : AskingPast) (old new : AskingValue)
+        (packets : List (List ℕ)) → HasAsked past (with_told told old)
+        → new ≡ record old { port = new.port } → WroteMore old.port new.port packets
+        → HasAsked past (with_told told new) }
 {}
 
 /// Each call of a server, refused or not, is a run, with the packet that came in it. No call is one, and two are
@@ -218,7 +250,7 @@ pub fn every_run_is_served()
     ensures { (came : List Arrival) (first : Files) (old new : ServingValue)
         (wrote : List Written) → IsAfter (nothing_yet first) old → Runs came old new wrote
         → (past : Past) × IsAfter past new × (past.first ≡ first)
-        × (new.present.files ≡ After new.present.own past.first past.items)
+        × (new.present.files ≡ After new.present.setup past.first past.items)
         × AreWrittenOf new.port.link past.handed wrote }
 {}
 
@@ -343,13 +375,13 @@ pub fn a_peer_is_heard_in_order()
         → (past : AskingPast) × HasAsked past new × AreFrontOf messages past.answers }
 {}
 
-/// What an end holds follows from what it did, from its port, and from its own BUFSIZ. So whatever a call leaves by which an
+/// What an end holds follows from what it did, from its port, and from its setup or its Configuration. So whatever a call leaves by which an
 /// end is as after something known, as those do that make it, renew it or give it files, is determined.
 pub fn ends_are_one()
     ensures serving { (past : Past) (one two : ServingValue) → IsAfter past one → IsAfter past two
-        → one.port ≡ two.port → one.present.own ≡ two.present.own → one ≡ two }
+        → one.port ≡ two.port → one.present.setup ≡ two.present.setup → one ≡ two }
     ensures asking { (past : AskingPast) (one two : AskingValue) → HasAsked past one
-        → HasAsked past two → one.port ≡ two.port → one.present.own ≡ two.present.own
+        → HasAsked past two → one.port ≡ two.port → one.present.identity ≡ two.present.identity
         → one ≡ two }
 {}
 
@@ -430,9 +462,9 @@ pub fn two_ends_keep_the_headline()
           requests = [];
           reports = [];
         }) new → (taken more read rest : List Message)
-        × (taken ++ more ≡ Asked new.a.present.own new.requests)
-        × (new.b.present.files ≡ After new.b.present.own first (map Whole taken))
-        × (read ++ rest ≡ Answers new.b.present.own first (map Whole taken))
+        × (taken ++ more ≡ Asked new.a.present.identity new.requests)
+        × (new.b.present.files ≡ After new.b.present.setup first (map Whole taken))
+        × (read ++ rest ≡ Answers new.b.present.setup first (map Whole taken))
         × (new.reports ≡ Told new.requests (map Whole read)) }
 {}
 

@@ -18,7 +18,7 @@ pub use laws::{
     asking_calls_are_runs, asking_ends_stand, asking_is_determined, calls_are_runs, ends_are_one,
     every_run_is_served, every_run_is_told, no_answer_is_unexpected, packets_are_determined,
     peers_are_taken_in, posting_is_determined, runs_of_two_ends, serving_ends_stand,
-    serving_is_determined, taking_is_determined, two_ends_keep_the_headline,
+    serving_is_determined, taken_records_count, taking_is_determined, two_ends_keep_the_headline,
 };
 pub use node::ServingNode;
 pub use serving::ServingEnd;

@@ -1,6 +1,6 @@
 //! A node: several links, each with its port, before one table of files.
 
-ghost use Rattle.std.specs.Prelude.{◌≡◌, ◌≤◌, ◌<◌, ◌+◌, ◌-◌, ℕ, [], Some, None, length, replicate, IfOk, IfErr, IfSome, OnOk, OnErr, IsErrOf, IsTrue, slice_get, set, false, true};
+ghost use Rattle.std.specs.Prelude.{◌≡◌, ◌≤◌, ◌<◌, ◌+◌, ◌-◌, ℕ, List, [], Some, None, length, replicate, IfOk, IfErr, IfSome, OnOk, OnErr, IsErrOf, IsTrue, slice_get, set, false, true};
 ghost use Rattle.dap_msg.specs.BothEnds.{least_buffer};
 ghost use Rattle.dap_msg.specs.Blocked.{bodies};
 ghost use Rattle.rec_file.specs.Shapes.{is_shape};
@@ -8,10 +8,11 @@ ghost use Rattle.nsp_link.specs.Link.{IsSetup, IsSpelling};
 ghost use Rattle.nsp_link.specs.Sending.{WritesSent, ack_packet_of};
 ghost use Rattle.nsp_link.specs.declared.fault.LinkFault.TheVariants.{Failed, NoSuchSegment};
 ghost use Rattle.nsp_link.specs.declared.fault.LinkFault.TheVariants as fault;
-ghost use Rattle.dap_accessed.specs.Adding.{with_new_file, with_record};
-ghost use Rattle.dap_shared.specs.Nodes.{Gives, GivesRecord};
-ghost use Rattle.dap_shared.specs.Shared.{MayGiveRecord, NotAdded, RecordNotAdded, SharedAfter, SharedGiven};
-ghost use Rattle.dap_accessed.specs.Standing.{place_of};
+ghost use Rattle.dap_accessed.specs.Adding.{MayStore, with_new_file};
+ghost use Rattle.dap_accessed.specs.Setup.{IsServerSetup, plain_setup};
+ghost use Rattle.dap_shared.specs.Nodes.{Event, Gives, GivesRecord, exchange_at, node_after, with_record_at};
+ghost use Rattle.dap_shared.specs.Shared.{AtFile, NotAdded, NotRemoved, RecordNotAdded, SharedAfter, SharedDrops, SharedGiven, rights_on};
+ghost use Rattle.dap_accessed.specs.Standing.{Files, file_at, place_by};
 ghost use Rattle.dap_end.specs.Ports.{PortValue};
 ghost use Rattle.std.specs.List.{list_any, position};
 ghost use Rattle.dap_end.specs.Inner.Come.{come_on};
@@ -23,10 +24,10 @@ ghost use Rattle.std.specs.Result.{result_map_both};
 use crate::fault::TakeFault;
 use crate::port::Port;
 use crate::{places, turns};
-use dap_accessed::{AddFault, FileTable, NoMemory};
-use dap_shared::NotedFiles;
+use dap_accessed::{ALL_RIGHTS, AddFault, FileTable, NoMemory, ServerSetup};
+use dap_shared::{NotedFiles, RemoveFault};
 use nsp_link::{Got, LinkEnd, LinkFault, LinkSetup};
-use rec_file::Shape;
+use rec_file::{Rights, Shape};
 use std::alloc::Global;
 use std::marker::Model;
 
@@ -115,12 +116,31 @@ impl ServingNode {
         requires { least_buffer ≤ bufsiz }
         ensures stands { IfOk result (λ node. SharedAfter [] [] node.noted.shared) }
         ensures own { IfOk result (λ node. node.noted.shared.own ≡ bufsiz) }
+        ensures setup { IfOk result (λ node. node.noted.shared.setup ≡ plain_setup bufsiz) }
         ensures links { IfOk result (λ node. length node.noted.shared.sessions ≡ links) }
         ensures addresses { IfOk result (λ node. node.noted.addresses ≡ replicate links 0) }
         ensures locked { IfOk result (λ node. node.noted.locked ≡ []) }
         ensures ports { IfOk result (λ node. node.ports ≡ replicate links None) }
     {
-        let noted = NotedFiles::new(alloc, bufsiz, links)?;
+        ServingNode::with_setup(alloc, ServerSetup::plain(bufsiz), links)
+    }
+
+    /// The same of a node that is set up so.
+    pub fn with_setup(
+        alloc: Global,
+        own: ServerSetup,
+        links: usize,
+    ) -> Result<ServingNode, NoMemory>
+        requires { IsServerSetup own }
+        ensures stands { IfOk result (λ node. SharedAfter [] [] node.noted.shared) }
+        ensures setup { IfOk result (λ node. node.noted.shared.setup ≡ own) }
+        ensures own { IfOk result (λ node. node.noted.shared.own ≡ own.identity.bufsiz) }
+        ensures links { IfOk result (λ node. length node.noted.shared.sessions ≡ links) }
+        ensures addresses { IfOk result (λ node. node.noted.addresses ≡ replicate links 0) }
+        ensures locked { IfOk result (λ node. node.noted.locked ≡ []) }
+        ensures ports { IfOk result (λ node. node.ports ≡ replicate links None) }
+    {
+        let noted = NotedFiles::with_setup(alloc, own, links)?;
         let ports = no_ports(alloc, links)?;
         let by_local = places::no_links(alloc)?;
         Ok(ServingNode {
@@ -187,12 +207,31 @@ impl ServingNode {
         places::find_free(&self.ports)
     }
 
+    /// The most that an Access on a link may ask for: what it began with, where it is there.
+    pub fn rights(&self, link: usize) -> Rights
+        requires { link < length self.now.ports }
+        ensures held { result ≡ rights_on link self.now.noted.shared }
+        ensures after { (first : Files) (events : List Event)
+            → SharedAfter first events self.now.noted.shared
+            → result ≡ (exchange_at link (node_after self.now.noted.shared.setup first
+            (length self.now.noted.shared.sessions) events)).most }
+    {
+        self.noted.rights(link)
+    }
+
     /// Begins a link, or begins it anew, with the own address of the setup: what was open on it is closed, a PUT or an
-    /// UPDATE that waits for its record is dropped, and so is all that waits. Refused, with nothing changed: `BadSetup`
-    /// where a limit of the setup isn't in its range, or another link has its own address; `NoMemory`.
-    pub fn begin(&mut self, alloc: Global, link: usize, setup: LinkSetup) -> Result<(), LinkFault>
+    /// UPDATE that waits for its record is dropped, and so is all that waits. An Access on it may ask for so much until
+    /// it begins again. Refused, with nothing changed: `BadSetup` where a limit of the setup isn't in its range, or
+    /// another link has its own address; `NoMemory`.
+    pub fn begin(
+        &mut self,
+        alloc: Global,
+        link: usize,
+        setup: LinkSetup,
+        most: Rights,
+    ) -> Result<(), LinkFault>
         requires { link < length self.old.ports }
-        ensures ok { OnOk result (BeganOn link setup self.old self.new) }
+        ensures ok { OnOk result (BeganOn link setup most self.old self.new) }
         ensures setup { OnOk result (IsSetup setup) }
         ensures alone { OnOk result (IsTaken link setup.local self.old → ⊥) }
         ensures err { IfErr result (λ f. (self.new ≡ self.old) × NotBegun link setup self.old f) }
@@ -203,7 +242,7 @@ impl ServingNode {
         let port = Port::new(alloc, setup)?;
         places::list_anew(&mut self.by_local, &self.ports[link], link, setup.local);
         self.ports[link] = Some(port);
-        self.noted.begin(link, setup.local);
+        self.noted.begin(link, setup.local, most);
         Ok(())
     }
 
@@ -214,7 +253,7 @@ impl ServingNode {
     {
         places::unlist(&mut self.by_local, &self.ports[link]);
         self.ports[link] = None;
-        self.noted.begin(link, NO_ADDRESS);
+        self.noted.begin(link, NO_ADDRESS, ALL_RIGHTS);
     }
 
     /// What [`crate::ServingEnd::take`] does, on one of the links: no other link moves. What was noted before is
@@ -308,7 +347,8 @@ impl ServingNode {
     pub fn add(&mut self, name: &[u8], shape: Shape) -> Result<(), AddFault>
         requires { IsTrue (is_shape shape) }
         ensures idle { OnOk result (NoneHasCome self.old.ports) }
-        ensures may { OnOk result (place_of name.now self.old.noted.shared.files ≡ None) }
+        ensures may { OnOk result (place_by self.old.noted.shared.setup.names name.now
+            self.old.noted.shared.files ≡ None) }
         ensures given { OnOk result
             (SharedGiven (Gives name.now shape) self.old.noted.shared self.new.noted.shared) }
         ensures files { OnOk result (self.new.noted.shared.files
@@ -316,7 +356,7 @@ impl ServingNode {
         ensures ports { self.new.ports ≡ self.old.ports }
         ensures notes { self.new.noted ≡ record self.old.noted { shared = self.new.noted.shared } }
         ensures refused { IfErr result
-            (NodeNotGiven self.old (NotAdded self.old.noted.shared.files name.now)) }
+            (NodeNotGiven self.old (NotAdded self.old.noted.shared.setup.names self.old.noted.shared.files name.now)) }
         ensures unchanged { OnErr result (self.new ≡ self.old) }
     {
         if has_come(&self.ports) {
@@ -325,27 +365,45 @@ impl ServingNode {
         self.noted.add(name, shape)
     }
 
-    /// A record more in the newest file, under its number, before a segment came on any link. In a sequential file
-    /// the number is the next one.
+    /// A record more in the file of this name, under its number, before a segment came on any link. In a sequential
+    /// file the number is the next one.
     ///
     /// Refusals in order: Busy, NoFile; as of a PUT with this number BadLength, NumberOutOfRange, RecordExists;
     /// NoMemory. Each leaves the node unchanged.
-    pub fn add_record(&mut self, number: u32, body: &[u8]) -> Result<(), AddFault>
+    pub fn add_record(&mut self, name: &[u8], number: u32, body: &[u8]) -> Result<(), AddFault>
         ensures idle { OnOk result (NoneHasCome self.old.ports) }
-        ensures may { OnOk result (MayGiveRecord self.old.noted.shared.files number body.now) }
-        ensures given { OnOk result
-            (SharedGiven (GivesRecord number body.now) self.old.noted.shared self.new.noted.shared) }
-        ensures files { OnOk result
-            (self.new.noted.shared.files ≡ with_record number body.now self.old.noted.shared.files) }
+        ensures may { OnOk result (AtFile name.now self.old.noted.shared
+            (λ at. MayStore (file_at at self.old.noted.shared.files) number body.now)) }
+        ensures given { OnOk result (AtFile name.now self.old.noted.shared
+            (λ at. SharedGiven (GivesRecord at number body.now)
+            self.old.noted.shared self.new.noted.shared)) }
+        ensures files { OnOk result (AtFile name.now self.old.noted.shared
+            (λ at. self.new.noted.shared.files
+            ≡ with_record_at at number body.now self.old.noted.shared.files)) }
         ensures ports { self.new.ports ≡ self.old.ports }
         ensures notes { self.new.noted ≡ record self.old.noted { shared = self.new.noted.shared } }
         ensures refused { IfErr result
-            (NodeNotGiven self.old (RecordNotAdded self.old.noted.shared.files number body.now)) }
+            (NodeNotGiven self.old (RecordNotAdded self.old.noted.shared name.now number body.now)) }
         ensures unchanged { OnErr result (self.new ≡ self.old) }
     {
         if has_come(&self.ports) {
             return Err(AddFault::Busy);
         }
-        self.noted.add_record(number, body)
+        self.noted.add_record(name, number, body)
+    }
+
+    /// Removes the file of this name, at any time: those after it move up, also where a link has one of them open. It
+    /// takes no memory.
+    ///
+    /// Refusals in order: NoFile; Busy where a link has the file open. Each leaves the node unchanged.
+    pub fn remove(&mut self, name: &[u8]) -> Result<(), RemoveFault>
+        ensures drops { OnOk result (AtFile name.now self.old.noted.shared
+            (λ at. SharedDrops at self.old.noted.shared self.new.noted.shared)) }
+        ensures ports { self.new.ports ≡ self.old.ports }
+        ensures notes { self.new.noted ≡ record self.old.noted { shared = self.new.noted.shared } }
+        ensures refused { IfErr result (NotRemoved self.old.noted.shared name.now) }
+        ensures unchanged { OnErr result (self.new ≡ self.old) }
+    {
+        self.noted.remove(name)
     }
 }

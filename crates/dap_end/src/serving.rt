@@ -10,6 +10,7 @@ ghost use Rattle.nsp_link.specs.Link.{IsSetup, SetupFault, may_send, IsSpelling}
 ghost use Rattle.nsp_link.specs.Sending.{NextFault, may_queue, SendAllFault, WritesSent, ack_packet_of};
 ghost use Rattle.nsp_link.specs.declared.fault.LinkFault.TheVariants.{Failed, NoSuchSegment, MessageTooLong};
 ghost use Rattle.nsp_link.specs.declared.fault.LinkFault.TheVariants as fault;
+ghost use Rattle.dap_accessed.specs.Setup.{IsServerSetup, plain_setup};
 ghost use Rattle.dap_accessed.specs.Standing.{Files};
 ghost use Rattle.dap_accessed.specs.Groups.{After};
 ghost use Rattle.dap_accessed.specs.Adding.{MayAdd, MayAddRecord, AddRefused, RecordRefused, with_new_file, with_record};
@@ -28,9 +29,9 @@ ghost use Rattle.dap_end.specs.Inner.ServingView.{serving_of};
 use crate::fault::TakeFault;
 use crate::port::Port;
 use crate::turns;
-use dap_accessed::{Accessed, AddFault, FileTable, NoMemory};
+use dap_accessed::{Accessed, AddFault, FileTable, NoMemory, ServerSetup};
 use nsp_link::{Got, LinkEnd, LinkFault, LinkSetup};
-use rec_file::Shape;
+use rec_file::{Rights, Shape};
 use std::alloc::Global;
 use std::marker::Model;
 
@@ -69,6 +70,7 @@ impl ServingEnd {
         requires { least_buffer ≤ bufsiz }
         ensures ok { IfOk result (λ end. IsAfter (nothing_yet []) end
             × (end.port ≡ new_port setup) × (end.present.own ≡ bufsiz)) }
+        ensures plain { IfOk result (λ end. end.present.setup ≡ plain_setup bufsiz) }
         ensures setup { OnOk result (IsSetup setup) }
         ensures err { IfErr result (SetupFault setup) }
     {
@@ -79,11 +81,30 @@ impl ServingEnd {
         })
     }
 
+    /// The same of a server that is set up so.
+    pub fn with_setup(
+        alloc: Global,
+        own: ServerSetup,
+        setup: LinkSetup,
+    ) -> Result<ServingEnd, LinkFault>
+        requires { IsServerSetup own }
+        ensures ok { IfOk result (λ end. IsAfter (nothing_yet []) end
+            × (end.port ≡ new_port setup) × (end.present.setup ≡ own)) }
+        ensures setup { OnOk result (IsSetup setup) }
+        ensures err { IfErr result (SetupFault setup) }
+    {
+        let port = Port::new(alloc, setup)?;
+        Ok(ServingEnd {
+            port,
+            accessed: Accessed::with_setup(alloc, own),
+        })
+    }
+
     /// The files, in the order in which they were made: what all groups of messages so far have made of them.
     pub fn files(&self) -> &FileTable
         ensures held { result.now ≡ self.now.present.files }
         ensures after { (past : Past) → IsAfter past self.now
-            → result.now ≡ After self.now.present.own past.first past.items }
+            → result.now ≡ After self.now.present.setup past.first past.items }
     {
         self.accessed.files()
     }
@@ -95,12 +116,33 @@ impl ServingEnd {
         ensures ok { OnOk result (IsAfter (nothing_yet self.old.present.files) self.new
             × (self.new.port ≡ new_port setup)
             × (self.new.present.own ≡ self.old.present.own)) }
+        ensures own { OnOk result (self.new.present.setup ≡ self.old.present.setup) }
         ensures setup { OnOk result (IsSetup setup) }
         ensures err { IfErr result (λ f. (self.new ≡ self.old) × SetupFault setup f) }
     {
         let port = Port::new(alloc, setup)?;
         self.port = port;
         self.accessed.renew();
+        Ok(())
+    }
+
+    /// The same where an Access on the new link may ask for these rights at most.
+    pub fn renew_for(
+        &mut self,
+        alloc: Global,
+        setup: LinkSetup,
+        most: Rights,
+    ) -> Result<(), LinkFault>
+        ensures ok { OnOk result (IsAfter (nothing_yet self.old.present.files) self.new
+            × (self.new.port ≡ new_port setup)) }
+        ensures own { OnOk result
+            (self.new.present.setup ≡ record self.old.present.setup { most = most }) }
+        ensures setup { OnOk result (IsSetup setup) }
+        ensures err { IfErr result (λ f. (self.new ≡ self.old) × SetupFault setup f) }
+    {
+        let fresh = Port::new(alloc, setup)?;
+        self.port = fresh;
+        self.accessed.renew_for(most);
         Ok(())
     }
 
@@ -118,6 +160,7 @@ impl ServingEnd {
             → IsAfter (record past { first = self.new.present.files }) self.new) }
         ensures port { self.new.port ≡ self.old.port }
         ensures own { self.new.present.own ≡ self.old.present.own }
+        ensures setup { self.new.present.setup ≡ self.old.present.setup }
         ensures refused { IfErr result (NotGiven self.old (AddRefused self.old.present name.now)) }
         ensures unchanged { OnErr result (self.new ≡ self.old) }
     {
@@ -141,6 +184,7 @@ impl ServingEnd {
             → IsAfter (record past { first = self.new.present.files }) self.new) }
         ensures port { self.new.port ≡ self.old.port }
         ensures own { self.new.present.own ≡ self.old.present.own }
+        ensures setup { self.new.present.setup ≡ self.old.present.setup }
         ensures refused { IfErr result
             (NotGiven self.old (RecordRefused self.old.present number body.now)) }
         ensures unchanged { OnErr result (self.new ≡ self.old) }

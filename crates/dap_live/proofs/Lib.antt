@@ -1,6 +1,6 @@
 mod AgainLemmas
+mod EachLemmas
 pub mod OneLine
-pub mod OneServing
 pub mod OneAsking
 mod ReachLemmas
 mod ResultLemmas
@@ -11,3 +11,4 @@ pub mod NodeLemmas
 pub mod Forms
 pub mod OneTurn
 pub mod OneNode
+pub mod NewNode

@@ -1,23 +1,27 @@
 -- What is done on a link of a node, by what its calls say.
 use Rattle.std.proofs.Common.{◌≡◌, ◌⊎◌, inl, inr, ℕ, true, false, List, Some, refl, ap, sym, subst, ◌∙◌}
-use Rattle.std.specs.Prelude.{IfErr, MatchOption, Option, None, Ok, Err, Result}
-use Rattle.std.specs.List.{position}
+use Rattle.std.specs.Prelude.{IfErr, MatchOption, OnOk, Option, None, Ok, Err, Result}
+use Rattle.dap_accessed.specs.Adding.{MayStore}
+use Rattle.dap_accessed.specs.Standing.{file_at, place_by}
+use Rattle.dap_shared.specs.Nodes.{GivesRecord, with_record_at}
+use Rattle.dap_shared.specs.Shared.{AtFile, SharedGiven}
 use Rattle.nsp_link.specs.Link.{IsSetup, LinkValue, SetupFault}
 use Rattle.nsp_link.specs.declared.link.LinkSetup.{LinkSetup}
 use Rattle.nsp_link.specs.declared.fault.LinkFault.{LinkFault}
 use Rattle.nsp_link.specs.declared.fault.LinkFault.TheVariants.{BadSetup, Failed}
 use Rattle.dap_end.specs.Ports.{PortValue}
-use Rattle.dap_end.specs.Node.{AtPort, HasPort, IsTaken, NodeValue, NotBegun, has_local}
+use Rattle.dap_end.specs.Node.{AtPort, HasPort, IsTaken, NodeValue, NoneHasCome, NotBegun}
 use Rattle.linewise.specs.declared.talking.Became.{Became}
 use Rattle.linewise.specs.declared.talking.Became.TheVariants as became_of
 use Rattle.dap_live.specs.declared.node.Node.{Node}
 use Rattle.dap_live.specs.Both.{Stays}
-use Rattle.dap_live.specs.NodeOrders.{setup_beside}
+use Rattle.dap_live.specs.declared.orders.Between.{Between}
+use Rattle.dap_live.specs.Orders.{setup_beside}
 use Rattle.dap_live.specs.Sending.{AllAgain, UnlessFailed}
 use Rattle.dap_live.specs.Texts.{link_refusal, packets_text}
 use Rattle.dap_live.specs.declared.node_orders.NodeOrder.TheVariants as order
 use Rattle.dap_live.specs.Inner.NodeReaching.{Done, NodeReaches}
-use Rattle.dap_live.specs.Node.{FindsLink, GoesOnWith, ResendsOn, TakesOn, about, about_any, is_behind_at}
+use Rattle.dap_live.specs.Node.{GivesRecordTo, GoesOnWith, ResendsOn, TakesOn, TakesPacketBy, about, about_any, is_behind_at, meant, one_link}
 use Rattle.dap_live.proofs.ReachLemmas.{unless_failed, unless_runs, where_left, where_none}
 
 module _ (link : ℕ) (old : Node) (l : LinkValue) (at : AtPort link old.node (λ p. l ≡ p.link)) where
@@ -73,15 +77,20 @@ about-none None old new e is = is
 about-none (Some l) old new e is = absurd (let none : ⊥ = cc in none)
 
 -- how far `resend` was done
-pub reaches-resend : (local link : ℕ) (old new : Node) → Some link ≡ position (has_local local) old.node.ports
+pub reaches-resend : (local : Option ℕ) (link : ℕ) (old new : Node) → Some link ≡ meant local old.node.ports
     → ((new ≡ about link old) ⊎ Done (λ said became. AtPort link old.node (λ p. UnlessFailed p.link said (Stays became_of.Done (about link old) new became) (ResendsOn link p old new said became))))
     → NodeReaches old (order.Resend local) new
 reaches-resend local link old new found (inl same) = inl (about-some _ link old new found same)
 reaches-resend local link old new found (inr done) = inr (done.0, done.1, on-some _ link found _ _ done.2)
 
--- and a packet
-pub reaches-packet : (link : ℕ) (old new : Node) (bytes : List ℕ) → FindsLink old.node.ports bytes (Ok link) → Done (TakesOn link old bytes new) → NodeReaches old (order.Packet bytes) new
-reaches-packet link old new bytes found done = inr (done.0, done.1, (Ok link, found, done.2))
+-- and a packet of the only link
+pub reaches-one : (link : ℕ) (old new : Node) (bytes : List ℕ) → Some link ≡ one_link old.node.ports → Done (TakesOn link old bytes new) → NodeReaches old (order.Packet bytes) new
+reaches-one link old new bytes one done = inr (done.0, done.1, on-some _ link one _ _ done.2)
+
+-- and one by its addresses
+pub reaches-by : (old new : Node) (bytes : List ℕ) → None ≡ one_link old.node.ports → (new ≡ old) ⊎ Done (TakesPacketBy old bytes new) → NodeReaches old (order.Packet bytes) new
+reaches-by old new bytes none (inl same) = inl same
+reaches-by old new bytes none (inr done) = inr (done.0, done.1, on-none _ none _ _ done.2)
 
 -- ---- A link begins whose own address no other link has.
 
@@ -99,9 +108,8 @@ begun-err link setup old new (Ok u) alone h = tt
 begun-err link setup old new (Err f) alone h = (h.0, not-begun link setup old f (λ taken. taken.4 (alone taken.0 taken.1 taken.2 taken.3)) h.1)
 
 -- the own address of such a setup
-pub beside-local : (setup : LinkSetup) (local remote : ℕ) (segment : Option ℕ) → (setup_beside setup local remote segment).local ≡ local
-beside-local setup local remote None = refl
-beside-local setup local remote (Some n) = refl
+pub beside-local : (setup : LinkSetup) (b : Between) → (setup_beside setup b).local ≡ b.local
+beside-local setup b = refl
 
 -- the link that was found is the only one
 pub only-link : (o : Option ℕ) (i j : ℕ) → o ≡ Some i → o ≡ Some j → j ≡ i
@@ -110,3 +118,34 @@ only-link o i j e f = let same : Some j ≡ Some i = sym f ∙ e in (let is : j 
 -- and where none was found, there is none
 pub no-link : (o : Option ℕ) (j : ℕ) → o ≡ None → o ≡ Some j → ⊥
 no-link o j e f = let same : Some j ≡ None = sym f ∙ e in (let none : ⊥ = cc in none)
+
+-- ---- A record is given to the file of a name.
+
+place-one : (o : Option ℕ) (i j : ℕ) → o ≡ Some i → o ≡ Some j → i ≡ j
+place-one o i j e f = (let both : Some i ≡ Some j = sym e ∙ f in cc)
+
+pub gives-record : (name : List ℕ) (number : ℕ) (body : List ℕ) (old new : NodeValue) → NoneHasCome old.ports
+    → AtFile name old.noted.shared (λ at. MayStore (file_at at old.noted.shared.files) number body)
+    → AtFile name old.noted.shared (λ at. SharedGiven (GivesRecord at number body) old.noted.shared new.noted.shared)
+    → AtFile name old.noted.shared (λ at. new.noted.shared.files ≡ with_record_at at number body old.noted.shared.files)
+    → new.ports ≡ old.ports → new.noted ≡ record old.noted { shared = new.noted.shared } → GivesRecordTo name number body old new
+gives-record name number body old new idle (i, here, may) (j, there, given) (k, then, files) ports notes =
+    let place = place_by old.noted.shared.setup.names name old.noted.shared.files in (
+      i,
+      here,
+      (
+        may,
+        record {
+          files = subst (λ (n : ℕ). new.noted.shared.files ≡ with_record_at n number body old.noted.shared.files) (place-one place k i then here) files;
+          idle = idle;
+          given = subst (λ (n : ℕ). SharedGiven (GivesRecord n number body) old.noted.shared new.noted.shared) (place-one place j i there here) given;
+          notes = notes;
+          ports = ports;
+        },
+      ),
+    )
+
+-- what four facts of a result that is good come to
+pub on-all : {T F : Type 0} {A B C D R : Type 0} (r : Result T F) → OnOk r A → OnOk r B → OnOk r C → OnOk r D → (A → B → C → D → R) → OnOk r R
+on-all (Ok x) a b c d next = next a b c d
+on-all (Err f) a b c d next = tt

@@ -1,20 +1,41 @@
--- Rows: what lines of a node say.
-use Rattle.std.proofs.Common.{◌≡◌, None, [], ◌∷◌, refl}
+-- Rows: what lines of a server say.
+use Rattle.std.proofs.Common.{◌≡◌, true, false, Some, None, [], ◌∷◌, refl}
 use Rattle.std.specs.Prelude.{codes}
+use Rattle.hex.specs.Hex.{decode_pairs}
+use Rattle.dap_live.specs.declared.node_orders.NodeOrder.TheVariants as order
+use Rattle.dap_live.specs.Orders.{between}
 use Rattle.dap_live.specs.NodeOrders.{node_order_of}
-use Rattle.dap_live.specs.Node.{locked_text}
+use Rattle.dap_live.specs.Texts.{locked_text}
 
-new-names-its-link : node_order_of (codes "new") ≡ None
+new-names-its-link : node_order_of false (codes "new") ≡ None
 new-names-its-link = refl
 
-resend-names-its-link : node_order_of (codes "resend") ≡ None
+resend-names-its-link : node_order_of false (codes "resend") ≡ None
 resend-names-its-link = refl
 
-ack-names-its-link : node_order_of (codes "ack") ≡ None
+ack-names-its-link : node_order_of false (codes "ack") ≡ None
 ack-names-its-link = refl
 
-nothing-is-asked : node_order_of (codes "ask hello") ≡ None
+one-link-has-no-name : node_order_of true (codes "ack 0202") ≡ None
+one-link-has-no-name = refl
+
+one-link-stays : node_order_of true (codes "close 0202") ≡ None
+one-link-stays = refl
+
+nothing-is-asked : node_order_of true (codes "ask hello") ≡ None
 nothing-is-asked = refl
+
+rights-are-named : node_order_of false (codes "new 0202 0101 512 2") ≡ Some (order.New (between 514 257 (Some 512) (Some 2)))
+unfolding decode_pairs
+rights-are-named = refl
+
+rights-have-four-bits : node_order_of false (codes "new 0202 0101 512 16") ≡ None
+unfolding decode_pairs
+rights-have-four-bits = refl
+
+a-file-is-dropped : node_order_of true (codes "drop 46") ≡ Some (order.Drop (70 ∷ []))
+unfolding decode_pairs
+a-file-is-dropped = refl
 
 one-locks : locked_text (0x0301 ∷ []) ≡ codes "locked 0301\n"
 one-locks = refl

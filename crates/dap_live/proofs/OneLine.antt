@@ -1,7 +1,7 @@
 -- What both ends say to a line is one text.
-use Rattle.std.proofs.Common.{◌≡◌, ◌≢◌, ℕ, ◌+◌, ◌<◌, ◌≤◌, ◌%◌, ◌==◌, arith, refl, sym, ◌∙◌, subst, ap, true, false, true≢false, List, [], ◌∷◌, length, inl, inr}
-use Rattle.std.specs.Prelude.{◌⊎◌, MatchBool, Bool, Option, Some, None, Result, Ok, Err, bytes_eq, codes, option_map, if◌then◌else◌}
-use Rattle.std.specs.Option.{option_and_then, option_or}
+use Rattle.std.proofs.Common.{◌≡◌, ◌≢◌, ℕ, ◌+◌, ◌<◌, ◌≤◌, ◌%◌, ◌==◌, arith, refl, sym, ◌∙◌, subst, ap, true, false, true≢false, List, length, inl, inr}
+use Rattle.std.specs.Prelude.{◌⊎◌, MatchBool, Bool, Option, Some, None, Result, Ok, Err, codes, option_map, if◌then◌else◌}
+use Rattle.std.specs.Option.{option_and_then}
 use Rattle.std.specs.Result.{result_ok}
 use Rattle.hex.specs.Hex.{IsBytes as AreBytes}
 use Rattle.hex.specs.Hex.{decode_of, decode_pairs}
@@ -22,22 +22,20 @@ use Rattle.dap_end.specs.declared.fault.TakeFault.{TakeFault}
 use Rattle.dap_end.specs.declared.fault.TakeFault.TheVariants as take
 use Rattle.dap_end.specs.Wanting.{is_want}
 use Rattle.dap_end.specs.Inner.Wanting.{went_wanting, took_wanting}
-use Rattle.dap_text.specs.Words.{Words, ends, field, hex_of, is_hex_text, long, one_of, word, words_of}
-use Rattle.dap_text.specs.Filed.{file_of, record_of}
+use Rattle.dap_text.specs.Words.{Words, ends, hex_of, is_hex_text, word, words_of}
 use Rattle.dap_text.specs.Requests.{request_of}
 use Rattle.linewise.specs.declared.talking.Became.{Became}
 use Rattle.linewise.specs.declared.talking.Became.TheVariants.{BadLine, NoMemory}
 use Rattle.linewise.proofs.ForCallers.{OneAnswer}
 use Rattle.linewise.specs.Talks.{Answering, AnswersLine, is_given, longest, said_of}
 use Rattle.dap_end.proofs.ForCallers.{segments_one}
-use Rattle.dap_live.specs.declared.orders.Anew.TheVariants.{Same, Between, Cut}
-use Rattle.dap_live.specs.declared.orders.Order.{Order}
-use Rattle.dap_live.specs.declared.orders.Order.TheVariants as order
-use Rattle.dap_live.specs.Orders.{address_of, order_of}
-use Rattle.dap_live.specs.Inner.Orders.{addresses, order_forms, packet_of}
+use Rattle.dap_live.specs.declared.orders.Between.{Between}
+use Rattle.dap_live.specs.declared.ask_orders.AskOrder.{AskOrder}
+use Rattle.dap_live.specs.declared.ask_orders.AskOrder.TheVariants as order
+use Rattle.dap_live.specs.Orders.{anew_of, hex_alone}
+use Rattle.dap_live.specs.AskOrders.{ask_order_of, asked_of, each_of, names_fac, new_link}
 use Rattle.dap_live.specs.Sending.{AllAgain, SaysAck}
-use Rattle.dap_live.proofs.Forms.{AllFit, all_fit, also, ends_fit, field_fits, form_fits, none_fit}
-use Rattle.dap_accessing.specs.declared.report.Report.{Report}
+use Rattle.dap_live.proofs.Forms.{all_fit, also, ends_fit, field_fits, form_fits, none_fit}
 use Rattle.dap_live.specs.Texts.{done_said, end_refusal, link_refusal, packet_text, taken_said}
 
 -- ---- A packet's line says bytes.
@@ -61,53 +59,49 @@ test_fits word false = tt
 pub hex_fits : (word : List ℕ) → HexFits (hex_of word)
 hex_fits word = test_fits word (is_hex_text word)
 
-abbrev pub Fits : Option Order → Type 0
+abbrev pub Fits : Option AskOrder → Type 0
 Fits (Some (order.Packet bytes)) = AreBytes bytes
 Fits _ = Unit {0}
 
-packet_fits : (words : Words) → Fits (packet_of words)
-packet_fits = field_fits Fits tt hex_of (λ bytes. ends (order.Packet bytes))
-    (λ w bytes read more. ends_fit Fits tt (order.Packet bytes) more (subst HexFits read (hex_fits w)))
+packet_fits : (o : Option (List ℕ)) → HexFits o → Fits (option_map order.Packet o)
+packet_fits None h = tt
+packet_fits (Some bytes) h = h
 
--- two addresses, and what follows
-addresses_fit : (next : ℕ → ℕ → Words → Option Order) → ((local remote : ℕ) (words : Words) → Fits (next local remote words))
-    → (words : Words) → Fits (addresses next words)
-addresses_fit next h = field_fits Fits tt address_of (λ local. field address_of (next local))
-    (λ w local read. field_fits Fits tt address_of (next local) (λ v remote read'. h local remote))
+-- the one word of a packet
+alone_fits : (words : Words) → HexFits (hex_alone words)
+alone_fits = field_fits HexFits tt hex_of ends (λ w bytes read more. ends_fit HexFits tt bytes more (subst HexFits read (hex_fits w)))
 
-abbrev between : ℕ → ℕ → Words → Option Order
-between local remote = ends (order.New (Between local remote))
-
-abbrev cut : ℕ → ℕ → Words → Option Order
-cut local remote = field long (λ segment. ends (order.New (Cut local remote segment)))
-
-between_fits : (local remote : ℕ) (words : Words) → Fits (between local remote words)
-between_fits local remote words = ends_fit Fits tt (order.New (Between local remote)) words tt
-
-cut_fits : (local remote : ℕ) (words : Words) → Fits (cut local remote words)
-cut_fits local remote = field_fits Fits tt long (λ segment. ends (order.New (Cut local remote segment)))
-    (λ w segment read more. ends_fit Fits tt (order.New (Cut local remote segment)) more tt)
-
-map_fits : {X : Type 0} (of : X → Order) → ((x : X) → Fits (Some (of x))) → (o : Option X) → Fits (option_map of o)
+map_fits : {X : Type 0} (of : X → AskOrder) → ((x : X) → Fits (Some (of x))) → (o : Option X) → Fits (option_map of o)
 map_fits of h None = tt
 map_fits of h (Some x) = h x
 
-forms_fit : (line : List ℕ) → AllFit Fits tt (order_forms line)
-forms_fit line =
-    also Fits tt _ _ (form_fits Fits tt (codes ">") packet_of packet_fits)
+-- a new link, if it is one
+if_new : (named : Bool) (anew : Option Between) → Fits (if named then None else Some (order.New anew))
+if_new true anew = tt
+if_new false anew = tt
+
+new_fits : (o : Option (Option Between)) → Fits (option_and_then new_link o)
+new_fits None = tt
+new_fits (Some anew) = if_new (names_fac anew) anew
+
+each_fits : (words : Words) → Fits (each_of words)
+each_fits = form_fits Fits tt (codes "fetch") (word (codes "each") (ends order.FetchEach))
+    (form_fits Fits tt (codes "each") (ends order.FetchEach) (λ words. ends_fit Fits tt order.FetchEach words tt))
+
+asked_fits : (words : Words) → Fits (asked_of words)
+asked_fits = all_fit Fits tt _
+    (also Fits tt _ _ each_fits
+    (also Fits tt _ _ (λ words. map_fits order.Ask (λ request. tt) (request_of words))
+    (none_fit Fits tt)))
+
+pub line_fits : (line : List ℕ) → Fits (ask_order_of line)
+line_fits line = all_fit Fits tt _
+    (also Fits tt _ _ (form_fits Fits tt (codes ">") (λ words. option_map order.Packet (hex_alone words)) (λ words. packet_fits (hex_alone words) (alone_fits words)))
     (also Fits tt _ _ (form_fits Fits tt (codes "resend") (ends order.Resend) (λ words. ends_fit Fits tt order.Resend words tt))
     (also Fits tt _ _ (form_fits Fits tt (codes "ack") (ends order.Ack) (λ words. ends_fit Fits tt order.Ack words tt))
-    (also Fits tt _ _ (form_fits Fits tt (codes "new") (ends (order.New Same)) (λ words. ends_fit Fits tt (order.New Same) words tt))
-    (also Fits tt _ _ (form_fits Fits tt (codes "new") (addresses between) (addresses_fit between between_fits))
-    (also Fits tt _ _ (form_fits Fits tt (codes "new") (addresses cut) (addresses_fit cut cut_fits))
-    (also Fits tt _ _ (form_fits Fits tt (codes "files") (ends order.Files) (λ words. ends_fit Fits tt order.Files words tt))
-    (also Fits tt _ _ (form_fits Fits tt (codes "file") (λ words. option_map order.File (file_of line)) (λ words. map_fits order.File (λ file. tt) (file_of line)))
-    (also Fits tt _ _ (form_fits Fits tt [] (λ words. option_map order.Record (record_of line)) (λ words. map_fits order.Record (λ r. tt) (record_of line)))
-    (also Fits tt _ _ (form_fits Fits tt (codes "ask") (λ words. option_map order.Ask (request_of words)) (λ words. map_fits order.Ask (λ request. tt) (request_of words)))
-    (none_fit Fits tt))))))))))
-
-pub line_fits : (line : List ℕ) → Fits (order_of line)
-line_fits line = all_fit Fits tt (order_forms line) (forms_fit line) (words_of line)
+    (also Fits tt _ _ (form_fits Fits tt (codes "new") (λ words. option_and_then new_link (anew_of words)) (λ words. new_fits (anew_of words)))
+    (also Fits tt _ _ (form_fits Fits tt (codes "ask") asked_of asked_fits)
+    (none_fit Fits tt)))))) (words_of line)
 
 -- ---- What a link sends again.
 
@@ -137,14 +131,14 @@ end_wants (end.Link f) want = link_wants f want
 end_wants (end.Read read.NoMemory) want = absurd (want refl)
 end_wants (end.Read f) want = refl
 
-pub gone_wants : (r : Result (Unit {0}) EndFault) (reports : List Report) (packets : List (List ℕ)) → (done_said reports packets r).1 ≢ NoMemory → went_wanting r ≡ false
-gone_wants (Ok done) reports packets want = refl
-gone_wants (Err f) reports packets want = end_wants f want
+pub gone_wants : (r : Result (Unit {0}) EndFault) (told : List ℕ) (packets : List (List ℕ)) → (done_said told packets r).1 ≢ NoMemory → went_wanting r ≡ false
+gone_wants (Ok done) told packets want = refl
+gone_wants (Err f) told packets want = end_wants f want
 
-pub taken_wants : (r : Result Got TakeFault) (reports : List Report) (packets : List (List ℕ)) → (taken_said r reports packets).1 ≢ NoMemory → took_wanting r ≡ false
-taken_wants (Ok got) reports packets want = refl
-taken_wants (Err (take.Refused f)) reports packets want = link_wants f want
-taken_wants (Err (take.Unfinished got f)) reports packets want = end_wants f want
+pub taken_wants : (r : Result Got TakeFault) (told : List ℕ) (packets : List (List ℕ)) → (taken_said r told packets).1 ≢ NoMemory → took_wanting r ≡ false
+taken_wants (Ok got) told packets want = refl
+taken_wants (Err (take.Refused f)) told packets want = link_wants f want
+taken_wants (Err (take.Unfinished got f)) told packets want = end_wants f want
 
 -- a setup is good or bad
 pub setup_apart : (s : LinkSetup) (f : LinkFault) → (link_refusal f).1 ≢ NoMemory → IsSetup s → SetupFault s f → ⊥

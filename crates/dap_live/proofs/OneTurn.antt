@@ -1,5 +1,5 @@
 -- What going on and a packet leave on one link of a node, and what is answered, follow from the node, want of memory aside.
-use Rattle.std.proofs.Common.{◌≡◌, ◌≢◌, ℕ, ◌<◌, ◌≤◌, arith, refl, sym, ◌∙◌, subst, ap, Bool, false, true≢false, List, [], ◌∷◌, ◌++◌, length, get_or, inl, inr}
+use Rattle.std.proofs.Common.{◌≡◌, ◌≢◌, ℕ, ◌≤◌, arith, refl, sym, ◌∙◌, subst, ap, Bool, false, true≢false, List, [], ◌∷◌, ◌++◌, length, inl, inr}
 use Rattle.std.specs.Prelude.{IsTrue, Option, Some, None, Result, Ok, Err}
 use Rattle.std.specs.Option.{option_to_list}
 use Rattle.std.specs.Global.{Vec}
@@ -15,14 +15,15 @@ use Rattle.nsp_link.specs.Link.{Sends}
 use Rattle.nsp_link.specs.Sending.{may_queue, SendAllFault}
 use Rattle.nsp_link.proofs.ForCallers.{sends_all}
 use Rattle.dap_accessed.specs.Standing.{Files}
-use Rattle.dap_shared.specs.Nodes.{Event, Serves, locks_out, node_after}
+use Rattle.dap_accessed.specs.declared.setup.ServerSetup.{ServerSetup}
+use Rattle.dap_shared.specs.Nodes.{Event, Serves, node_after}
 use Rattle.dap_shared.specs.Noted.{LeastOf, NotedServed, NotedServes, NotedValue}
 use Rattle.dap_shared.specs.Shared.{SharedAfter, SharedValue, shared_of}
 use Rattle.dap_end.specs.declared.fault.EndFault.{EndFault}
 use Rattle.dap_end.specs.declared.fault.EndFault.TheVariants as end_fault
 use Rattle.dap_end.specs.declared.fault.TakeFault.{TakeFault}
-use Rattle.dap_end.specs.Ports.{HandsOver, PortValue, bytes_waiting, gone_on}
-use Rattle.dap_end.specs.Moved.{posted, sent_more, with_link}
+use Rattle.dap_end.specs.Ports.{HandsOver, PortValue, gone_on}
+use Rattle.dap_end.specs.Moved.{posted}
 use Rattle.dap_end.specs.By.{PortRests, ServedBy, TurnsBy, begins, goes}
 use Rattle.dap_end.specs.Node.{LinkValue, serves_on}
 use Rattle.dap_end.specs.Taking.{HasRoom}
@@ -34,10 +35,10 @@ use Rattle.dap_live.specs.Inner.OneText.{HasCarried}
 -- ---- One item.
 
 -- what is kept of all links follows from the history
-pub shared_one : (first : Files) (events : List Event) (one two : SharedValue) → one.own ≡ two.own → length one.sessions ≡ length two.sessions → SharedAfter first events one → SharedAfter first events two → one ≡ two
+pub shared_one : (first : Files) (events : List Event) (one two : SharedValue) → one.setup ≡ two.setup → length one.sessions ≡ length two.sessions → SharedAfter first events one → SharedAfter first events two → one ≡ two
 shared_one first events one two own links a b =
-    a.stands ∙ ap (λ (n : ℕ). shared_of n (node_after n first (length one.sessions) events)) own
-    ∙ ap (λ (k : ℕ). shared_of two.own (node_after two.own first k events)) links ∙ sym b.stands
+    a.stands ∙ ap (λ (s : ServerSetup). shared_of s (node_after s first (length one.sessions) events)) own
+    ∙ ap (λ (k : ℕ). shared_of two.setup (node_after two.setup first k events)) links ∙ sym b.stands
 
 passes : (b : Bool) → b ≡ false → IsTrue b → ⊥
 passes b none some = true≢false (sym some ∙ none)
@@ -64,7 +65,7 @@ noted_one link item old one two x y first events h a b =
     let low = a.noted first events h in
     let other = b.noted first events h in
     let lowest = least_one _ _ _ low.0 other.0 low.1 other.1 in
-    let shared = shared_one first (events ++ Serves link item ∷ []) one.shared two.shared (a.shared.same_own ∙ sym b.shared.same_own) (a.shared.same_links ∙ sym b.shared.same_links)
+    let shared = shared_one first (events ++ Serves link item ∷ []) one.shared two.shared (a.shared.same_setup ∙ sym b.shared.same_setup) (a.shared.same_links ∙ sym b.shared.same_links)
     (a.shared.stands first events h) (b.shared.stands first events h) in (
       noted_parts one two shared (a.same_addresses ∙ sym b.same_addresses)
           (low.2 ∙ ap (λ (o : Option ℕ). old.locked ++ option_to_list o) lowest ∙ sym other.2),

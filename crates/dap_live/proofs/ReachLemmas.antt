@@ -1,23 +1,9 @@
 -- How far an order was done.
-use Rattle.std.proofs.Common.{◌≡◌, ◌⊎◌, inl, inr, ℕ, Bool, true, false, List, [], refl, ap, sym, true≢false}
+use Rattle.std.proofs.Common.{◌≡◌, ◌⊎◌, inl, inr, ℕ, Bool, true, false, List, sym, true≢false}
 use Rattle.std.specs.Prelude.{MatchBool}
 use Rattle.nsp_link.specs.Link.{LinkValue}
-use Rattle.linewise.specs.declared.talking.Became.{Became}
-use Rattle.linewise.specs.declared.talking.Became.TheVariants.{Done}
-use Rattle.dap_end.specs.Done.{ServingValue}
-use Rattle.dap_live.specs.declared.orders.Order.TheVariants as order
-use Rattle.dap_live.specs.declared.serving.Serving.{Serving}
-use Rattle.dap_end.specs.Taking.{serves}
-use Rattle.dap_live.specs.Both.{Stays, TakesPacket}
-use Rattle.dap_live.specs.Inner.Reaching.{Reaches}
-use Rattle.dap_live.specs.Serving as serving
+use Rattle.dap_live.specs.Both.{Stays}
 use Rattle.dap_live.specs.Sending.{UnlessFailed}
-
-pub reaches_packet : (old : Serving) (bytes : List ℕ) (end : ServingValue)
-    → ((end ≡ old.end) ⊎ ((said : List ℕ) × (became : Became) × TakesPacket (serves old.most_waiting) [] (λ taken became. became) old.end bytes end said became))
-    → Reaches serving.Does old (order.Packet bytes) (record old { end = end })
-reaches_packet old bytes end (inl same) = inl (ap (λ e. record old { end = e }) same)
-reaches_packet old bytes end (inr done) = inr (done.0, done.1, (refl, done.2))
 
 -- ---- What is left.
 
@@ -44,9 +30,3 @@ pub unless_reached : {E C : Type 0} (link : LinkValue) → link.failed ≡ false
     → (new ≡ old) ⊎ ((said : List ℕ) × (came : C) × UnlessFailed link said (Stays was old new came) (This said came))
 unless_reached link works was old new This (inl same) = inl same
 unless_reached link works was old new This (inr done) = inr (done.0, done.1, unless_runs link.failed works _ _ done.2)
-
-pub reaches_resend : (old : Serving) (end : ServingValue)
-    → ((end ≡ old.end) ⊎ ((said : List ℕ) × (became : Became) × UnlessFailed old.end.port.link said (Stays Done old.end end became) (serving.Resends old.most_waiting old.end end said became)))
-    → Reaches serving.Does old order.Resend (record old { end = end })
-reaches_resend old end (inl same) = inl (ap (λ e. record old { end = e }) same)
-reaches_resend old end (inr done) = inr (done.0, done.1, (refl, done.2))

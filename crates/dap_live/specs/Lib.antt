@@ -2,7 +2,8 @@ pub mod Orders
 pub mod Texts
 pub mod Sending
 pub mod Both
-pub mod Serving
+pub mod AskOrders
+pub mod Each
 pub mod Asking
 pub mod NodeOrders
 pub mod Node

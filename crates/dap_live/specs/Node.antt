@@ -1,7 +1,10 @@
--- What a server of several links does by a line, and what it answers. A line concerns one link, or none.
-use Rattle.std.specs.Prelude.{◌≡◌, ◌⊎◌, ◌++◌, Bool, ℕ, length, MatchBool, MatchOption, MatchResult, List, [], ◌∷◌, codes, replicate, slice_get, Option, Some, None, Result, Ok, Err}
-use Rattle.std.specs.List.{concat, flat_map, position}
+-- What a server does by a line, and what it answers. A line concerns one link, or none; where there is room for one link
+-- alone, that link.
+use Rattle.std.specs.Prelude.{◌≡◌, ◌⊎◌, ◌++◌, ◌==◌, Bool, false, true, ℕ, length, MatchBool, MatchOption, MatchResult, List, [], ◌∷◌, codes, replicate, set, slice_get, if◌then◌else◌, Option, Some, None, Result, Ok, Err}
+use Rattle.std.specs.List.{list_any, position}
 use Rattle.rec_file.specs.Shapes.{checked_shape}
+use Rattle.rec_file.specs.declared.picks.Rights.{Rights}
+use Rattle.rec_file.specs.declared.shapes.Shape.{Shape}
 use Rattle.nsp_seg.specs.declared.packet.Packet.{Packet}
 use Rattle.nsp_seg.specs.declared.packet.Packet.TheVariants.{Segment, DataAck}
 use Rattle.nsp_seg.specs.declared.packet.SegFault.{SegFault}
@@ -12,18 +15,21 @@ use Rattle.nsp_link.specs.declared.fault.LinkFault.{LinkFault}
 use Rattle.nsp_link.specs.declared.fault.LinkFault.TheVariants as fault
 use Rattle.nsp_link.specs.Link.{IsSetup, LinkValue, Sends, SetupFault}
 use Rattle.dap_msg.specs.Codes.{stscode, reasons}
-use Rattle.dap_accessed.specs.Adding.{with_new_file, with_record}
-use Rattle.dap_accessed.specs.Standing.{Files, place_of}
-use Rattle.dap_shared.specs.Nodes.{Event, Gives, GivesRecord}
-use Rattle.dap_shared.specs.Shared.{MayGiveRecord, NotAdded, RecordNotAdded, SharedAfter, SharedGiven}
+use Rattle.dap_accessed.specs.declared.fault.AddFault.{AddFault}
+use Rattle.dap_accessed.specs.declared.fault.AddFault.TheVariants as add
+use Rattle.dap_accessed.specs.declared.setup.Names.{Names}
+use Rattle.dap_accessed.specs.declared.setup.ServerSetup.{ServerSetup}
+use Rattle.dap_accessed.specs.Adding.{MayStore, with_new_file}
+use Rattle.dap_accessed.specs.Setup.{all_rights, same_name}
+use Rattle.dap_accessed.specs.Standing.{Files, file_at, place_by}
+use Rattle.dap_shared.specs.Nodes.{Begins, Event, Gives, GivesRecord, with_record_at}
+use Rattle.dap_shared.specs.Shared.{AtFile, NotAdded, NotRemoved, RecordNotAdded, SharedAfter, SharedDrops, SharedGiven, rights_on}
 use Rattle.dap_end.specs.declared.fault.EndFault.{EndFault}
 use Rattle.dap_end.specs.declared.fault.TakeFault.{TakeFault}
 use Rattle.dap_end.specs.declared.fault.TakeFault.TheVariants as take
-use Rattle.dap_end.specs.Ports.{PortValue}
+use Rattle.dap_end.specs.Ports.{PortValue, new_port}
 use Rattle.dap_end.specs.Node.{AtPort, BeganOn, EndedOn, HasPort, NodeNotGiven, NodeValue, NoneHasCome, OnLink, has_local, is_between, is_free, serves_on}
 use Rattle.dap_end.specs.Turns.{Takes, WentOn}
-use Rattle.dap_text.specs.Answers.{got_text}
-use Rattle.dap_text.specs.Text.{line_feed, word_text}
 use Rattle.dap_text.specs.declared.filed.FileLine.{FileLine}
 use Rattle.dap_text.specs.declared.filed.RecordLine.{RecordLine}
 use Rattle.dap_text.specs.declared.tables.FilesPlace.{FilesPlace}
@@ -34,24 +40,37 @@ use Rattle.linewise.specs.declared.talking.Became.TheVariants.{Done, BadLine, No
 use Rattle.dap_live.specs.declared.node.Node.{Node}
 use Rattle.dap_live.specs.declared.node_orders.NodeOrder.{NodeOrder}
 use Rattle.dap_live.specs.declared.node_orders.NodeOrder.TheVariants as order
-use Rattle.dap_live.specs.NodeOrders.{node_order_of, setup_beside}
+use Rattle.dap_live.specs.declared.orders.Between.{Between}
+use Rattle.dap_live.specs.NodeOrders.{node_order_of}
+use Rattle.dap_live.specs.Orders.{most_anew, most_beside, setup_anew, setup_beside}
 use Rattle.dap_live.specs.Sending.{AllAgain, SaysAck, UnlessFailed, is_left, is_served_next, waits_of}
-use Rattle.dap_live.specs.Texts.{LineAnswer, add_refusal, end_refusal, link_refusal, packets_text, refused, status_line}
+use Rattle.dap_live.specs.Texts.{LineAnswer, add_refusal, done_said, link_refusal, locked_text, packets_text, refused, remove_refusal, status_line, taken_said}
 use Rattle.dap_live.specs.Both.{DoneOr, Stays}
 
 -- ---- A new node.
 
--- a node without files and links, with room for so many
-pub record IsNew (usual : LinkSetup) (buffer links most : ℕ) (node : Node) : Type 0 where
-  pub stands : SharedAfter [] [] node.node.noted.shared
-  pub own : node.node.noted.shared.own ≡ buffer
+-- what became of a link that is there from the start
+abbrev pub first_events : (links : ℕ) → List Event
+first_events links = if links == 1 then Begins 0 all_rights ∷ [] else []
+
+-- the links to begin with: the only one, or room for more
+abbrev pub first_ports : (links : ℕ) → LinkSetup → List (Option PortValue)
+first_ports links usual = if links == 1 then Some (new_port usual) ∷ [] else replicate links None
+
+-- A node without files that is set up so, with room for so many links. Where that is one, it is there, with every right.
+pub record IsNew (own : ServerSetup) (links : ℕ) (usual : LinkSetup) (most : ℕ) (node : Node) : Type 0 where
+  pub stands : SharedAfter [] (first_events links) node.node.noted.shared
+  pub setup : node.node.noted.shared.setup ≡ own
   pub sessions : length node.node.noted.shared.sessions ≡ links
   pub locked : node.node.noted.locked ≡ []
-  pub addresses : node.node.noted.addresses ≡ replicate links 0
-  pub ports : node.node.ports ≡ replicate links None
-  pub setup : node.usual ≡ usual
+  pub addresses : node.node.noted.addresses ≡ (if links == 1 then usual.local ∷ [] else replicate links 0)
+  pub ports : node.node.ports ≡ first_ports links usual
+  pub its : node.own ≡ own
+  pub is_usual : node.usual ≡ usual
   pub most_waiting : node.most_waiting ≡ most
-  pub last : node.last ≡ None
+  pub last : node.last ≡ (if links == 1 then Some 0 else None)
+  pub used : node.used ≡ replicate links false
+  pub given : node.given ≡ None
 
 -- ---- What it came by.
 
@@ -63,24 +82,6 @@ HasSent link = (handed : List (List ℕ)) × Sends link handed
 abbrev pub HasRun : NodeValue → Type 0
 HasRun v = (first : Files) × (events : List Event) × SharedAfter first events v.noted.shared
     × ((link : ℕ) (p : PortValue) → HasPort link v p → HasSent p.link)
-
--- ---- Texts.
-
--- for each Access that was refused, as another link has the file open, the own address of a link that locks it out
-abbrev pub locked_text : List ℕ → List ℕ
-locked_text locked = flat_map (λ local. concat (codes "locked " ∷ word_text local ∷ line_feed ∷ [])) locked
-
--- these lines, the packets, and why not all was done
-abbrev pub served_said : (locked : List ℕ) → (packets : List (List ℕ)) → Result (Unit {0}) EndFault → LineAnswer
-served_said locked packets (Ok done) = (locked_text locked ++ packets_text packets, Done)
-served_said locked packets (Err f) = (locked_text locked ++ (packets_text packets ++ (end_refusal f).0), (end_refusal f).1)
-
--- the same after what the packet was
-abbrev pub node_taken_said : Result Got TakeFault → (locked : List ℕ) → (packets : List (List ℕ)) → LineAnswer
-node_taken_said (Ok got) locked packets = ((got_text got ++ line_feed) ++ (served_said locked packets (Ok tt)).0, Done)
-node_taken_said (Err (take.Refused f)) locked packets = link_refusal f
-node_taken_said (Err (take.Unfinished got f)) locked packets =
-    ((got_text got ++ line_feed) ++ (served_said locked packets (Err f)).0, (end_refusal f).1)
 
 -- ---- The link of a line.
 
@@ -94,16 +95,39 @@ about_any None node = node
 about_any (Some link) node = about link node
 
 -- the node is as this one, and this is answered
-abbrev pub Says : LineAnswer → (then new : Node) → List ℕ → Became → Type 0
-Says said then new text became = (new ≡ then) × (text ≡ said.0) × (became ≡ said.1)
+abbrev pub Says : LineAnswer → (base new : Node) → List ℕ → Became → Type 0
+Says said base new text became = (new ≡ base) × (text ≡ said.0) × (became ≡ said.1)
 
 -- a link is refused so, and nothing changed
-abbrev pub Refuses : LinkFault → (then new : Node) → List ℕ → Became → Type 0
+abbrev pub Refuses : LinkFault → (base new : Node) → List ℕ → Became → Type 0
 Refuses f = Says (link_refusal f)
 
--- what is done on the link that has this own address; where there is none, the line is refused as of a wrong link
-abbrev pub OnLocal : (local : ℕ) → (Does : ℕ → Type 0) → (old new : Node) → List ℕ → Became → Type 0
-OnLocal local Does old new text became = MatchOption (position (has_local local) old.node.ports) (Refuses fault.WrongLink old new text became) Does
+-- there is room for one link alone
+abbrev pub is_alone : NodeValue → Bool
+is_alone v = length v.ports == 1
+
+-- the only link, where there is room for one alone
+abbrev pub one_link : List (Option PortValue) → Option ℕ
+one_link (Some p ∷ []) = Some 0
+one_link ports = None
+
+-- the link that a line means: the one that has this own address; or the only one, where the line names none
+abbrev pub meant : (local : Option ℕ) → List (Option PortValue) → Option ℕ
+meant None ports = one_link ports
+meant (Some local) ports = position (has_local local) ports
+
+-- what is done on the link that is meant; where there is none, the line is refused as of a wrong link
+abbrev pub OnMeant : Option ℕ → (Does : ℕ → Type 0) → (old new : Node) → List ℕ → Became → Type 0
+OnMeant link Does old new text became = MatchOption link (Refuses fault.WrongLink old new text became) Does
+
+-- a packet came on the link that it didn't refuse
+abbrev pub used_by : Result Got TakeFault → (link : ℕ) → List Bool → List Bool
+used_by (Err (take.Refused f)) link used = used
+used_by _ link used = set used link true
+
+-- such a packet came on some link since it began
+abbrev pub is_used : Node → Bool
+is_used node = list_any (λ used. used) node.used
 
 -- ---- A packet.
 
@@ -129,14 +153,20 @@ pub record TakesOn (link : ℕ) (old : Node) (bytes : List ℕ) (new : Node) (te
   pub taken : Result Got TakeFault
   pub packets : List (List ℕ)
   pub took : OnLink link (λ before after. Takes (serves_on link old.most_waiting) before after bytes [] packets taken) old.node new.node
-  pub rest : new ≡ record (about link old) { node = new.node }
-  pub says : text ≡ (node_taken_said taken new.node.noted.locked packets).0
-  pub ended : became ≡ (node_taken_said taken new.node.noted.locked packets).1
+  pub rest : new ≡ record (about link old) { node = new.node; used = new.used }
+  pub used : new.used ≡ used_by taken link old.used
+  pub says : text ≡ (taken_said taken (locked_text new.node.noted.locked) packets).0
+  pub ended : became ≡ (taken_said taken (locked_text new.node.noted.locked) packets).1
 
--- the same on the link that it is of
-abbrev pub TakesPacketOf : Node → List ℕ → Node → List ℕ → Became → Type 0
-TakesPacketOf old bytes new text became = (found : Result ℕ LinkFault) × FindsLink old.node.ports bytes found
+-- the same on the link that it is of by its addresses
+abbrev pub TakesPacketBy : Node → List ℕ → Node → List ℕ → Became → Type 0
+TakesPacketBy old bytes new text became = (found : Result ℕ LinkFault) × FindsLink old.node.ports bytes found
     × MatchResult found (λ link. TakesOn link old bytes new text became) (λ f. Refuses f old new text became)
+
+-- the same on the only link, or by its addresses
+abbrev pub TakesPacketOf : Node → List ℕ → Node → List ℕ → Became → Type 0
+TakesPacketOf old bytes new text became =
+    MatchOption (one_link old.node.ports) (TakesPacketBy old bytes new text became) (λ link. TakesOn link old bytes new text became)
 
 -- ---- Going on.
 
@@ -150,8 +180,8 @@ pub record GoesOnWith (link : ℕ) (old : Node) (front : List ℕ) (new : Node) 
   pub packets : List (List ℕ)
   pub went : OnLink link (λ before after. WentOn (serves_on link old.most_waiting) before after [] packets gone) old.node new.node
   pub rest : new ≡ record (about link old) { node = new.node }
-  pub says : text ≡ front ++ (served_said new.node.noted.locked packets gone).0
-  pub ended : became ≡ (served_said new.node.noted.locked packets gone).1
+  pub says : text ≡ front ++ (done_said (locked_text new.node.noted.locked) packets gone).0
+  pub ended : became ≡ (done_said (locked_text new.node.noted.locked) packets gone).1
 
 -- the packets of all segments of a link that aren't acknowledged, then what going on does, if something is left
 abbrev pub ResendsOn : (link : ℕ) → PortValue → Node → Node → List ℕ → Became → Type 0
@@ -162,10 +192,17 @@ ResendsOn link port old new text became = (packets : List (List ℕ)) × AllAgai
 
 -- ---- Links that begin and end.
 
--- the link began with this setup, and the line concerns it; or it is refused
-abbrev pub BeginsOn : (link : ℕ) → LinkSetup → Node → Node → List ℕ → Became → Type 0
-BeginsOn link setup old new text became =
-    (IsSetup setup × BeganOn link setup old.node new.node × (new ≡ record (about link old) { node = new.node }) × (text ≡ []) × (became ≡ Done))
+-- The link began with this setup and these rights, it isn't used, and the line concerns it.
+pub record BeginsNow (link : ℕ) (setup : LinkSetup) (most : Rights) (old new : Node) : Type 0 where
+  pub is_setup : IsSetup setup
+  pub began : BeganOn link setup most old.node new.node
+  pub rest : new ≡ record (about link old) { node = new.node; used = new.used }
+  pub used : new.used ≡ set old.used link false
+
+-- it began so, or that is refused
+abbrev pub BeginsOn : (link : ℕ) → LinkSetup → (most : Rights) → Node → Node → List ℕ → Became → Type 0
+BeginsOn link setup most old new text became =
+    (BeginsNow link setup most old new × (text ≡ []) × (became ≡ Done))
     ⊎ ((f : LinkFault) × SetupFault setup f × Refuses f old new text became)
 
 -- why no link is added where all are there: a bad setup comes first
@@ -174,22 +211,33 @@ NoLink setup said =
     ((IsSetup setup → ⊥) × (said ≡ link_refusal fault.BadSetup)) ⊎ (IsSetup setup × (said ≡ refused (codes "no-links")))
 
 -- a link is added
-abbrev pub AddsLink : LinkSetup → Node → Node → List ℕ → Became → Type 0
-AddsLink setup old new text became = MatchOption (position is_free old.node.ports)
+abbrev pub AddsLink : LinkSetup → (most : Rights) → Node → Node → List ℕ → Became → Type 0
+AddsLink setup most old new text became = MatchOption (position is_free old.node.ports)
     ((said : LineAnswer) × NoLink setup said × Says said old new text became)
-    (λ link. BeginsOn link setup old new text became)
+    (λ link. BeginsOn link setup most old new text became)
 
--- the link that has this own address is renewed, and the line concerns it also where that is refused; or one is added
-abbrev pub Renews : (local remote : ℕ) → (segment : Option ℕ) → Node → Node → List ℕ → Became → Type 0
-Renews local remote segment old new text became = MatchOption (position (has_local local) old.node.ports)
-    (AddsLink (setup_beside old.usual local remote segment) old new text became)
-    (λ link. AtPort link old.node (λ p. BeginsOn link (setup_beside p.link.setup local remote segment) (about link old) new text became))
+-- The link is renewed: what isn't named is as before. The line concerns it also where that is refused.
+abbrev pub RenewsOn : (link : ℕ) → Option Between → Node → Node → List ℕ → Became → Type 0
+RenewsOn link anew old new text became = AtPort link old.node (λ p.
+    BeginsOn link (setup_anew p.link.setup anew) (most_anew (rights_on link old.node.noted.shared) anew) (about link old) new text became)
 
--- the link ended
-abbrev pub EndsOn : (link : ℕ) → Node → Node → List ℕ → Became → Type 0
-EndsOn link old new text became = EndedOn link old.node new.node × (new ≡ record old { node = new.node }) × (text ≡ []) × (became ≡ Done)
+-- the link that has this own address is renewed; or one is added, with the usual setup and every right where nothing else is named
+abbrev pub Renews : Between → Node → Node → List ℕ → Became → Type 0
+Renews b old new text became = MatchOption (position (has_local b.local) old.node.ports)
+    (AddsLink (setup_beside old.usual b) (most_beside all_rights b) old new text became)
+    (λ link. RenewsOn link (Some b) old new text became)
+
+-- The link ended, and it isn't used.
+pub record EndsOn (link : ℕ) (old new : Node) : Type 0 where
+  pub ended : EndedOn link old.node new.node
+  pub rest : new ≡ record old { node = new.node; used = new.used }
+  pub used : new.used ≡ set old.used link false
 
 -- ---- Files that it is given.
+
+-- no file takes records
+abbrev pub ungiven : Node → Node
+ungiven node = record node { given = None }
 
 -- A file or record was added, these are the files now, and no link moved.
 pub record GivenTo (made : Files) (event : Event) (old new : NodeValue) : Type 0 where
@@ -199,54 +247,107 @@ pub record GivenTo (made : Files) (event : Event) (old new : NodeValue) : Type 0
   pub notes : new.noted ≡ record old.noted { shared = new.noted.shared }
   pub ports : new.ports ≡ old.ports
 
--- A file is added, or the reason why not is answered. Bad attributes come first.
-abbrev pub AddsFileTo : NodeValue → FileLine → NodeValue → List ℕ → Became → Type 0
-AddsFileTo old file new text became = MatchOption (checked_shape file.org file.rfm file.mrs file.mrn)
-    ((new ≡ old) × (text ≡ status_line stscode.access_refused reasons.bad_attributes) × (became ≡ Done))
-    (λ shape. DoneOr (λ became. became)
-    ((place_of file.name old.noted.shared.files ≡ None) × GivenTo (with_new_file file.name shape old.noted.shared.files) (Gives file.name shape) old new)
-    (NodeNotGiven old (NotAdded old.noted.shared.files file.name)) add_refusal old new text became)
+-- A file was added, while no link is used: no file had its name. The next records are added to it.
+pub record GivesFile (name : List ℕ) (shape : Shape) (old new : Node) : Type 0 where
+  pub idle : is_used old ≡ false
+  pub first : place_by old.node.noted.shared.setup.names name old.node.noted.shared.files ≡ None
+  pub given : GivenTo (with_new_file name shape old.node.noted.shared.files) (Gives name shape) old.node new.node
+  pub named : new.given ≡ Some name
+  pub rest : new ≡ record old { node = new.node; given = new.given }
 
--- a record is added to the newest file, or the reason why not is answered
-abbrev pub AddsRecordTo : NodeValue → RecordLine → NodeValue → List ℕ → Became → Type 0
-AddsRecordTo old r new =
-    DoneOr (λ became. became)
-    (MayGiveRecord old.noted.shared.files r.number r.body × GivenTo (with_record r.number r.body old.noted.shared.files) (GivesRecord r.number r.body) old new)
-    (NodeNotGiven old (RecordNotAdded old.noted.shared.files r.number r.body)) add_refusal old new
+-- why none was: a link is used, or the table refuses it
+abbrev pub FileNotGiven : (name : List ℕ) → Node → AddFault → Type 0
+FileNotGiven name node f = MatchBool (is_used node) (f ≡ add.Busy)
+    (NodeNotGiven node.node (NotAdded node.node.noted.shared.setup.names node.node.noted.shared.files name) f)
+
+-- A file is added, or the reason why not is answered, and no file takes records. Bad attributes come first.
+abbrev pub AddsFileTo : Node → FileLine → Node → List ℕ → Became → Type 0
+AddsFileTo old file new text became = MatchOption (checked_shape file.org file.rfm file.mrs file.mrn)
+    (Says (status_line stscode.access_refused reasons.bad_attributes, Done) (ungiven old) new text became)
+    (λ shape. DoneOr (λ became. became) (GivesFile file.name shape old new) (FileNotGiven file.name old) add_refusal (ungiven old) new text became)
+
+-- a record was added to the file of this name
+abbrev pub GivesRecordTo : (name : List ℕ) → (number : ℕ) → (body : List ℕ) → NodeValue → NodeValue → Type 0
+GivesRecordTo name number body old new = AtFile name old.noted.shared (λ at.
+    MayStore (file_at at old.noted.shared.files) number body
+    × GivenTo (with_record_at at number body old.noted.shared.files) (GivesRecord at number body) old new)
+
+-- the same to the file of the last `file` line, while no link is used
+pub record GivesNext (r : RecordLine) (old new : Node) : Type 0 where
+  pub idle : is_used old ≡ false
+  pub name : List ℕ
+  pub named : old.given ≡ Some name
+  pub given : GivesRecordTo name r.number r.body old.node new.node
+  pub rest : new ≡ record old { node = new.node }
+
+-- why it isn't: a link is used, there is no such file, or the table refuses it
+abbrev pub RecordNotGiven : RecordLine → Node → AddFault → Type 0
+RecordNotGiven r node f = MatchBool (is_used node) (f ≡ add.Busy)
+    (MatchOption node.given (f ≡ add.NoFile)
+    (λ name. NodeNotGiven node.node (RecordNotAdded node.node.noted.shared name r.number r.body) f))
+
+-- a record is added, or the reason why not is answered
+abbrev pub AddsRecordTo : Node → RecordLine → Node → List ℕ → Became → Type 0
+AddsRecordTo old r new text became = DoneOr (λ became. became) (GivesNext r old new) (RecordNotGiven r old) add_refusal old new text became
+
+-- ---- A file that is dropped.
+
+-- no file takes records where that is the one that was dropped
+abbrev pub given_beside : Names → (dropped : List ℕ) → Option (List ℕ) → Option (List ℕ)
+given_beside names dropped None = None
+given_beside names dropped (Some given) = if same_name names dropped given then None else Some given
+
+-- The file of this name was dropped: no link had it open.
+pub record Dropped (name : List ℕ) (old new : Node) : Type 0 where
+  pub drops : AtFile name old.node.noted.shared (λ at. SharedDrops at old.node.noted.shared new.node.noted.shared)
+  pub notes : new.node.noted ≡ record old.node.noted { shared = new.node.noted.shared }
+  pub ports : new.node.ports ≡ old.node.ports
+  pub given : new.given ≡ given_beside old.own.names name old.given
+  pub rest : new ≡ record old { node = new.node; given = new.given }
+
+-- it is dropped, or the reason why not is answered
+abbrev pub DropsFile : Node → (name : List ℕ) → Node → List ℕ → Became → Type 0
+DropsFile old name new text became =
+    DoneOr (λ became. became) (Dropped name old new) (NotRemoved old.node.noted.shared name) remove_refusal old new text became
 
 -- ---- A line.
 
--- only the table and the links changed
-abbrev pub OnNode : Node → Node → Type 0
-OnNode old new = new ≡ record old { node = new.node }
-
--- What the node does by each order, and its answer. It comes with no link, and then the line concerns none.
+-- What the node does by each order, and its answer. It comes with the only link, or none, and then the line concerns that.
 abbrev pub Does : Node → NodeOrder → Node → List ℕ → Became → Type 0
 Does old (order.Packet bytes) new text became = TakesPacketOf old bytes new text became
-Does old (order.Resend local) new text became = OnLocal local (λ link. AtPort link old.node (λ p.
+Does old (order.Resend local) new text became = OnMeant (meant local old.node.ports) (λ link. AtPort link old.node (λ p.
     UnlessFailed p.link text (Stays Done (about link old) new became) (ResendsOn link p old new text became))) old new text became
-Does old (order.Ack local) new text became = OnLocal local (λ link. AtPort link old.node (λ p.
+Does old (order.Ack local) new text became = OnMeant (meant local old.node.ports) (λ link. AtPort link old.node (λ p.
     Stays Done (about link old) new became × SaysAck p.link text)) old new text became
-Does old (order.Close local) new text became = OnLocal local (λ link. EndsOn link old new text became) old new text became
-Does old (order.New local remote segment) new text became = Renews local remote segment old new text became
+Does old (order.Close local) new text became = OnMeant (position (has_local local) old.node.ports)
+    (λ link. EndsOn link old new × (text ≡ []) × (became ≡ Done)) old new text became
+Does old (order.Renew anew) new text became = OnMeant (one_link old.node.ports) (λ link. RenewsOn link anew old new text became) old new text became
+Does old (order.New between) new text became = Renews between old new text became
 Does old order.Files new text became = (new ≡ old) × ComesIn (files_lines old.node.noted.shared.files) text became
-Does old (order.File file) new text became = OnNode old new × AddsFileTo old.node file new.node text became
-Does old (order.Record r) new text became = OnNode old new × AddsRecordTo old.node r new.node text became
+Does old (order.File file) new text became = AddsFileTo old file new text became
+Does old (order.Record r) new text became = AddsRecordTo old r new text became
+Does old (order.Drop name) new text became = DropsFile old name new text became
 
--- the link that an order names by its own address: a packet names none, as its bytes have to be read first
+-- the link that an order means before its bytes are read: those of a packet have to be read first
 abbrev pub named_by : Node → NodeOrder → Option ℕ
-named_by node (order.Resend local) = position (has_local local) node.node.ports
-named_by node (order.Ack local) = position (has_local local) node.node.ports
-named_by node (order.New local remote segment) = position (has_local local) node.node.ports
+named_by node (order.Resend local) = meant local node.node.ports
+named_by node (order.Ack local) = meant local node.node.ports
+named_by node (order.Renew anew) = one_link node.node.ports
+named_by node (order.New between) = position (has_local between.local) node.node.ports
 named_by node o = None
 
--- nothing is done, and the line concerns the link that it names
-abbrev pub IsNotDone : Node → NodeOrder → Node → Type 0
-IsNotDone old o new = new ≡ about_any (named_by old o) old
+-- the node where an order isn't done: the line concerns the link that it means, and a file that isn't added takes no records
+abbrev pub undone : Node → NodeOrder → Node
+undone old (order.File file) = ungiven old
+undone old o = about_any (named_by old o) old
 
--- the node before a line, which concerns no link so far
-abbrev pub of_none : Node → Node
-of_none node = record node { last = None }
+-- nothing is done
+abbrev pub IsNotDone : Node → NodeOrder → Node → Type 0
+IsNotDone old o new = new ≡ undone old o
+
+-- the node before a line, which concerns the only link, or none so far
+abbrev pub before_line : Node → Node
+before_line node = record node { last = one_link node.node.ports }
 
 -- A line that is no order changes nothing and is a bad line. Otherwise the order is done; or memory is refused to its
 -- answer, and nothing else is answered, whether it was done or not.
@@ -256,10 +357,10 @@ DoesNodeOrder old (Some o) new text became =
     Does old o new text became
     ⊎ ((IsNotDone old o new ⊎ ((said : List ℕ) × (came : Became) × Does old o new said came)) × (text ≡ []) × (became ≡ NoMemory))
 
--- what a node does by a line; one that it misses concerns no link, and changes nothing else
+-- what a node does by a line; one that it misses changes nothing but what link a line concerns
 abbrev pub answered : Node → Option (List ℕ) → Node → List ℕ → Became → Type 0
-answered old None new text became = new ≡ of_none old
-answered old (Some line) new text became = DoesNodeOrder (of_none old) (node_order_of line) new text became
+answered old None new text became = new ≡ before_line old
+answered old (Some line) new text became = DoesNodeOrder (before_line old) (node_order_of (is_alone old.node) line) new text became
 
 -- the lines of the files from a place on
 abbrev pub pieces : Node → FilesPlace → List (List ℕ)

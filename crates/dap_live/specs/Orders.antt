@@ -1,39 +1,66 @@
--- The orders that a line of a live end may be.
-use Rattle.std.specs.Prelude.{ℕ, List, [], ◌∷◌, codes, Option, option_map}
+-- What lines of both live ends say of a link.
+use Rattle.std.specs.Prelude.{ℕ, List, [], ◌∷◌, Option, Some, None, option_map, unwrap_or}
 use Rattle.std.specs.Int.{from_be_bytes, w16}
+use Rattle.std.specs.Option.{option_map_or}
 use Rattle.std.specs.Result.{result_ok}
 use Rattle.hex.specs.Hex.{decode_sized}
 use Rattle.nsp_link.specs.declared.link.LinkSetup.{LinkSetup}
-use Rattle.dap_text.specs.Words.{ends, field, hex_of, long, one_of, word, words_of}
-use Rattle.dap_text.specs.Filed.{file_of, record_of}
-use Rattle.dap_text.specs.Requests.{request_of}
-use Rattle.dap_live.specs.declared.orders.Anew.{Anew}
-use Rattle.dap_live.specs.declared.orders.Anew.TheVariants.{Same, Between, Cut}
-use Rattle.dap_live.specs.declared.orders.Order.{Order}
-use Rattle.dap_live.specs.declared.orders.Order.TheVariants as order
+use Rattle.rec_file.specs.declared.picks.Rights.{Rights}
+use Rattle.dap_accessed.specs.Accesses.{rights_of}
+use Rattle.dap_text.specs.Words.{Words, decimal_of, ends, field, hex_of, long, one_of}
+use Rattle.dap_live.specs.declared.orders.Between.{Between}
+
+-- HEX, and nothing more
+abbrev pub hex_alone : Words → Option (List ℕ)
+hex_alone = field hex_of ends
 
 -- a link address: the number of four hex digits
 abbrev pub address_of : List ℕ → Option ℕ
 address_of word = option_map (from_be_bytes w16) (result_ok (decode_sized word 2))
 
--- The order of a line, by its first word. A line of a record begins with two spaces, so its first word is empty.
-abbrev pub order_of : List ℕ → Option Order
-order_of line = one_of (
-    word (codes ">") (field hex_of (λ bytes. ends (order.Packet bytes)))
-    ∷ word (codes "resend") (ends order.Resend)
-    ∷ word (codes "ack") (ends order.Ack)
-    ∷ word (codes "new") (ends (order.New Same))
-    ∷ word (codes "new") (field address_of (λ local. field address_of (λ remote. ends (order.New (Between local remote)))))
-    ∷ word (codes "new")
-    (field address_of (λ local. field address_of (λ remote. field long (λ segment. ends (order.New (Cut local remote segment))))))
-    ∷ word (codes "files") (ends order.Files)
-    ∷ word (codes "file") (λ words. option_map order.File (file_of line))
-    ∷ word [] (λ words. option_map order.Record (record_of line))
-    ∷ word (codes "ask") (λ words. option_map order.Ask (request_of words))
-    ∷ []) (words_of line)
+-- a link begins between these addresses, with this segment size and FAC where they are named
+abbrev pub between : (local remote : ℕ) → (segment fac : Option ℕ) → Between
+between local remote segment fac = record { local = local; remote = remote; segment = segment; fac = fac }
 
--- the setup of a new link: what isn't named is as before
-abbrev pub setup_anew : LinkSetup → Anew → LinkSetup
-setup_anew setup Same = setup
-setup_anew setup (Between local remote) = record setup { local = local; remote = remote }
-setup_anew setup (Cut local remote segment) = record setup { local = local; remote = remote; seg_size = segment }
+-- nothing, or FAC: the bits of four rights
+abbrev pub fac_from : (local remote segment : ℕ) → Words → Option Between
+fac_from local remote segment = one_of (
+    ends (between local remote (Some segment) None)
+    ∷ field (decimal_of 15) (λ fac. ends (between local remote (Some segment) (Some fac)))
+    ∷ [])
+
+-- nothing, or SEGMENT, and FAC or not
+abbrev pub limits_from : (local remote : ℕ) → Words → Option Between
+limits_from local remote = one_of (
+    ends (between local remote None None)
+    ∷ field long (fac_from local remote)
+    ∷ [])
+
+-- LOCAL REMOTE, and what follows
+abbrev pub between_of : Words → Option Between
+between_of = field address_of (λ local. field address_of (limits_from local))
+
+-- nothing, or LOCAL REMOTE and what follows
+abbrev pub anew_of : Words → Option (Option Between)
+anew_of [] = Some None
+anew_of (word ∷ words) = option_map Some (between_of (word ∷ words))
+
+-- ---- What a link has then.
+
+-- the setup of a link that begins so: what isn't named is as in this one
+abbrev pub setup_beside : LinkSetup → Between → LinkSetup
+setup_beside setup b = record setup { local = b.local; remote = b.remote; seg_size = unwrap_or b.segment setup.seg_size }
+
+-- the same of a link that may begin as it was
+abbrev pub setup_anew : LinkSetup → Option Between → LinkSetup
+setup_anew setup None = setup
+setup_anew setup (Some b) = setup_beside setup b
+
+-- its rights: these where none are named
+abbrev pub most_beside : Rights → Between → Rights
+most_beside most b = option_map_or rights_of b.fac most
+
+-- the same of a link that may begin as it was
+abbrev pub most_anew : Rights → Option Between → Rights
+most_anew most None = most
+most_anew most (Some b) = most_beside most b

@@ -18,7 +18,9 @@ use Rattle.dap_end.specs.declared.fault.EndFault.TheVariants as end
 use Rattle.dap_end.specs.declared.fault.TakeFault.{TakeFault}
 use Rattle.dap_end.specs.declared.fault.TakeFault.TheVariants as take
 use Rattle.dap_text.specs.Answers.{ask_text, fault_line, got_text}
-use Rattle.dap_text.specs.Text.{line_feed}
+use Rattle.dap_shared.specs.declared.fault.RemoveFault.{RemoveFault}
+use Rattle.dap_shared.specs.declared.fault.RemoveFault.TheVariants as removing
+use Rattle.dap_text.specs.Text.{line_feed, word_text}
 use Rattle.dap_text.specs.Reports.{refused_text, report_text}
 use Rattle.linewise.specs.declared.talking.Became.{Became}
 use Rattle.linewise.specs.declared.talking.Became.TheVariants.{Done, NoMemory}
@@ -33,9 +35,13 @@ packet_text bytes = concat (codes "< " ∷ encode_lower bytes ∷ line_feed ∷ 
 abbrev pub packets_text : List (List ℕ) → List ℕ
 packets_text packets = flat_map packet_text packets
 
+-- a report
+abbrev pub report_line : Report → List ℕ
+report_line report = concat (codes "report " ∷ report_text report ∷ line_feed ∷ [])
+
 -- reports, one a line
 abbrev pub reports_text : List Report → List ℕ
-reports_text reports = flat_map (λ report. concat (codes "report " ∷ report_text report ∷ line_feed ∷ [])) reports
+reports_text reports = flat_map report_line reports
 
 -- ---- Refusals.
 
@@ -83,16 +89,25 @@ add_refusal add.NoFile = (status_line codes_of.stscode.file_not_found 0, Done)
 add_refusal (add.Record why) = (status_line codes_of.stscode.record_refused (reason_of why), Done)
 add_refusal add.NoMemory = ([], NoMemory)
 
+-- why a file isn't dropped
+abbrev pub remove_refusal : RemoveFault → LineAnswer
+remove_refusal removing.NoFile = (status_line codes_of.stscode.file_not_found 0, Done)
+remove_refusal removing.Busy = refused (codes "busy")
+
 -- ---- What was done.
 
--- the reports, the packets, and why not all was done
-abbrev pub done_said : List Report → List (List ℕ) → Result (Unit {0}) EndFault → LineAnswer
-done_said reports packets (Ok done) = (reports_text reports ++ packets_text packets, Done)
-done_said reports packets (Err f) = (reports_text reports ++ (packets_text packets ++ (end_refusal f).0), (end_refusal f).1)
+-- for each Access that was refused, as another link has the file open, the own address of a link that locks it out
+abbrev pub locked_text : List ℕ → List ℕ
+locked_text locked = flat_map (λ local. concat (codes "locked " ∷ word_text local ∷ line_feed ∷ [])) locked
+
+-- what is told, the packets, and why not all was done
+abbrev pub done_said : (told : List ℕ) → (packets : List (List ℕ)) → Result (Unit {0}) EndFault → LineAnswer
+done_said told packets (Ok done) = (told ++ packets_text packets, Done)
+done_said told packets (Err f) = (told ++ (packets_text packets ++ (end_refusal f).0), (end_refusal f).1)
 
 -- the same after what the packet was
-abbrev pub taken_said : Result Got TakeFault → List Report → List (List ℕ) → LineAnswer
-taken_said (Ok got) reports packets = ((got_text got ++ line_feed) ++ (done_said reports packets (Ok tt)).0, Done)
-taken_said (Err (take.Refused f)) reports packets = link_refusal f
-taken_said (Err (take.Unfinished got f)) reports packets =
-    ((got_text got ++ line_feed) ++ (done_said reports packets (Err f)).0, (end_refusal f).1)
+abbrev pub taken_said : Result Got TakeFault → (told : List ℕ) → (packets : List (List ℕ)) → LineAnswer
+taken_said (Ok got) told packets = ((got_text got ++ line_feed) ++ (done_said told packets (Ok tt)).0, Done)
+taken_said (Err (take.Refused f)) told packets = link_refusal f
+taken_said (Err (take.Unfinished got f)) told packets =
+    ((got_text got ++ line_feed) ++ (done_said told packets (Err f)).0, (end_refusal f).1)

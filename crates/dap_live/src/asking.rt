@@ -1,8 +1,10 @@
 //! The end that asks, over lines.
 
-ghost use Rattle.std.specs.Prelude.{◌≡◌, ◌≢◌, ◌≤◌, ◌++◌, ◌⊎◌, [], ℕ, List, Some, OnOk, OnErr, IfOk, IfErr, MatchBool, ◌||◌, nat_lt, length};
+ghost use Rattle.std.specs.Prelude.{◌≡◌, ◌≤◌, ◌⊎◌, [], ℕ, List, Some, OnOk, OnErr, IfOk, IfErr, MatchBool, ◌||◌, ◌&&◌, false, length, nat_lt};
 ghost use Rattle.dap_msg.specs.BothEnds.{least_buffer};
 ghost use Rattle.dap_msg.specs.Blocked.{bodies};
+ghost use Rattle.dap_msg.specs.Fitting.{FieldsFit};
+ghost use Rattle.dap_msg.specs.declared.message.Message.TheVariants.{Config};
 ghost use Rattle.nsp_link.specs.Link.{SetupFault};
 ghost use Rattle.dap_end.specs.Ports.{new_port};
 ghost use Rattle.dap_end.specs.Asking.{HasAsked};
@@ -11,19 +13,20 @@ ghost use Rattle.dap_end.specs.Done.{nothing_asked};
 ghost use Rattle.dap_end.specs.Turns.{WentOn, Takes};
 ghost use Rattle.dap_text.specs.Adding.{Adds};
 ghost use Rattle.dap_live.specs.declared.asking.Came.{Came as TheCame};
-ghost use Rattle.dap_live.specs.Texts.{end_refusal, packets_text, reports_text};
-ghost use Rattle.dap_live.specs.Both.{DoesOrder};
 ghost use Rattle.dap_live.specs.Inner.Reaching.{Reaches};
-ghost use Rattle.dap_live.specs.Asking.{Asks, Does, DoesAll, Ends, GoesOn, IsForAsking, OnEnd, Resends, came_by, goes_on as goes_on_by};
+ghost use Rattle.dap_live.specs.Each.{each_after, waits_told};
+ghost use Rattle.dap_live.specs.Asking.{Asks, Does, DoesAskOrder, Ends, GoesOn, Resends, TellsAlone, WasTold, begun, came_by, goes_on as goes_on_by};
 ghost use Rattle.dap_live.specs.Inner.Saying.{front_text};
 
-use crate::orders::{Anew, Order, read_order, set_up};
+use crate::ask_orders::{AskOrder, read_ask_order};
+use crate::orders::{Between, set_up_anew};
 use crate::sending::{has_message, is_left, push_again, say_ack, waits};
 use crate::texts::{
-    push_ask_refusal, push_done, push_link_refusal, push_refused, push_reports, push_taken,
+    push_ask_refusal, push_done, push_link_refusal, push_refused, push_taken, push_told,
 };
 use dap_accessing::{AskFault, Report, Request};
 use dap_end::{AskingEnd, EndFault, TakeFault};
+use dap_msg::Configuration;
 use dap_text::{RequestText, Text, push_number, push_str};
 use linewise::{Answer, Answers, Became};
 use nsp_link::{Got, LinkFault, LinkSetup};
@@ -39,27 +42,39 @@ pub struct Asking {
     pub setup: LinkSetup,
     /// The reports that wait to be printed: more than those of one line only where memory was refused.
     pub reports: Vec<Report>,
+    /// Each record of a fetch is told by itself.
+    pub is_each: bool,
+    /// How many records of the batch under way were told by themselves.
+    pub told: usize,
 }
 
 impl Asking {
-    /// An end of which nothing was asked, with a buffer of this many bytes, at least 64. Refused as
-    /// [`AskingEnd::new`] is.
-    pub fn new(alloc: Global, bufsiz: u16, setup: LinkSetup) -> Result<Asking, LinkFault>
-        requires { least_buffer ≤ bufsiz }
+    /// An end of which nothing was asked, which says this of itself, with a BUFSIZ of at least 64. Refused as
+    /// [`AskingEnd::with_identity`] is.
+    pub fn new(
+        alloc: Global,
+        identity: Configuration,
+        setup: LinkSetup,
+    ) -> Result<Asking, LinkFault>
+        requires low { least_buffer ≤ identity.bufsiz }
+        requires fits { FieldsFit (Config identity) }
         ensures after { IfOk result (λ a. HasAsked nothing_asked a.end) }
         ensures port { IfOk result (λ a. a.end.port ≡ new_port setup) }
-        ensures own { IfOk result (λ a. a.end.present.own ≡ bufsiz) }
+        ensures identity { IfOk result (λ a. a.end.present.identity ≡ identity) }
         ensures setup { IfOk result (λ a. a.setup ≡ setup) }
         ensures reports { IfOk result (λ a. a.reports.items ≡ []) }
+        ensures each { IfOk result (λ a. (a.is_each ≡ false) × (a.told ≡ 0)) }
         ensures err { IfErr result (SetupFault setup) }
     {
-        match AskingEnd::new(alloc, bufsiz, setup) {
+        match AskingEnd::with_identity(alloc, identity, setup) {
             Ok(end) => {
                 Ok(Asking {
                     alloc,
                     end,
                     setup,
                     reports: Vec::new(alloc),
+                    is_each: false,
+                    told: 0,
                 })
             }
             Err(fault) => Err(fault),
@@ -107,13 +122,14 @@ fn take_packet(
     text: &mut Vec<u8>,
 ) -> Result<Came, AllocError>
     requires { text.old.items ≡ [] }
-    ensures ok { IfOk result (Does asking.old (Order.Packet digits.now) asking.new text.new.items) }
-    ensures err { OnErr result (Reaches Does asking.old (Order.Packet digits.now) asking.new) }
+    ensures ok { IfOk result
+        (Does asking.old (AskOrder.Packet digits.now) asking.new text.new.items) }
+    ensures err { OnErr result (Reaches asking.old (AskOrder.Packet digits.now) asking.new) }
 {
     let bytes = digits.to_vec(asking.alloc)?;
     let mut packets = Vec::new(asking.alloc);
     let taken = take(&mut asking.end, &bytes, &mut packets, &mut asking.reports);
-    let became = push_taken(text, taken, &asking.reports, &packets)?;
+    let became = push_taken(text, taken, asking, &packets)?;
     Ok(came_of(taken, became))
 }
 
@@ -155,16 +171,14 @@ fn push_front(text: &mut Vec<u8>, front: Front) -> Result<(), AllocError>
 /// Goes on, and says what comes of it after this.
 fn go_on_behind(asking: &mut Asking, front: Front, text: &mut Vec<u8>) -> Result<Came, AllocError>
     requires { text.old.items ≡ [] }
-    ensures end { OnEnd asking.old asking.new }
-    ensures ok { IfOk result (GoesOn asking.old.end asking.old.reports.items (front_text front)
-        asking.new text.new.items) }
+    ensures ok { IfOk result (GoesOn asking.old (front_text front) asking.new text.new.items) }
     ensures err { OnErr result ((said : List ℕ) × (came : TheCame)
-        × GoesOn asking.old.end asking.old.reports.items (front_text front) asking.new said came) }
+        × GoesOn asking.old (front_text front) asking.new said came) }
 {
     let mut packets = Vec::new(asking.alloc);
     let gone = go_on(&mut asking.end, &mut packets, &mut asking.reports);
     push_front(text, front)?;
-    Ok(Came::Told(push_done(text, &asking.reports, &packets, gone)?))
+    Ok(Came::Told(push_done(text, asking, &packets, gone)?))
 }
 
 /// Whether an unexpected answer failed the end.
@@ -183,37 +197,29 @@ fn goes_on(end: &AskingEnd) -> bool
 
 /// Goes on after segments that are sent again, and says what comes of it after their lines.
 fn go_on_again(asking: &mut Asking, text: &mut Vec<u8>) -> Result<Came, AllocError>
-    ensures end { OnEnd asking.old asking.new }
-    ensures ok { IfOk result (GoesOn asking.old.end asking.old.reports.items text.old.items
-        asking.new text.new.items) }
+    ensures ok { IfOk result (GoesOn asking.old text.old.items asking.new text.new.items) }
     ensures err { OnErr result ((said : List ℕ) × (came : TheCame)
-        × GoesOn asking.old.end asking.old.reports.items text.old.items asking.new said came) }
+        × GoesOn asking.old text.old.items asking.new said came) }
 {
     let mut packets = Vec::new(asking.alloc);
     let gone = go_on(&mut asking.end, &mut packets, &mut asking.reports);
-    Ok(Came::Told(push_done(text, &asking.reports, &packets, gone)?))
+    Ok(Came::Told(push_done(text, asking, &packets, gone)?))
 }
 
-/// Goes on where something is left, or prints the reports that wait.
+/// Goes on where something is left, or prints what waits to be told.
 fn go_on_if_left(asking: &mut Asking, text: &mut Vec<u8>) -> Result<Came, AllocError>
-    ensures end { OnEnd asking.old asking.new }
     ensures ok { IfOk result (λ came. MatchBool (goes_on_by asking.old.end)
-        (GoesOn asking.old.end asking.old.reports.items text.old.items asking.new text.new.items
-        came)
-        ((asking.new.end ≡ asking.old.end) × (asking.new.reports.items ≡ asking.old.reports.items)
-        × (text.new.items ≡ text.old.items ++ reports_text asking.old.reports.items)
-        × (came ≡ Came.Told Became.Done))) }
+        (GoesOn asking.old text.old.items asking.new text.new.items came)
+        (TellsAlone asking.old text.old.items asking.new text.new.items came)) }
     ensures err { OnErr result ((said : List ℕ) × (came : TheCame)
         × MatchBool (goes_on_by asking.old.end)
-        (GoesOn asking.old.end asking.old.reports.items text.old.items asking.new said came)
-        ((asking.new.end ≡ asking.old.end) × (asking.new.reports.items ≡ asking.old.reports.items)
-        × (said ≡ text.old.items ++ reports_text asking.old.reports.items)
-        × (came ≡ Came.Told Became.Done))) }
+        (GoesOn asking.old text.old.items asking.new said came)
+        (TellsAlone asking.old text.old.items asking.new said came)) }
 {
     if goes_on(&asking.end) {
         go_on_again(asking, text)
     } else {
-        push_reports(text, &asking.reports)?;
+        push_told(text, asking)?;
         Ok(Came::Told(Became::Done))
     }
 }
@@ -232,8 +238,8 @@ fn resend_running(asking: &mut Asking, text: &mut Vec<u8>) -> Result<Came, Alloc
 /// Sends all segments again that aren't acknowledged, and goes on.
 fn resend(asking: &mut Asking, text: &mut Vec<u8>) -> Result<Came, AllocError>
     requires { text.old.items ≡ [] }
-    ensures ok { IfOk result (Does asking.old Order.Resend asking.new text.new.items) }
-    ensures err { OnErr result (Reaches Does asking.old Order.Resend asking.new) }
+    ensures ok { IfOk result (Does asking.old AskOrder.Resend asking.new text.new.items) }
+    ensures err { OnErr result (Reaches asking.old AskOrder.Resend asking.new) }
 {
     if asking.end.link().has_failed() {
         return Ok(Came::Untold(push_link_refusal(text, LinkFault::Failed)?));
@@ -241,48 +247,111 @@ fn resend(asking: &mut Asking, text: &mut Vec<u8>) -> Result<Came, AllocError>
     resend_running(asking, text)
 }
 
+/// Whether each record is told by itself after this request, which says so or doesn't.
+fn is_each_after(each: bool, request: &Request, before: bool) -> bool
+    ensures { result ≡ each_after each request.now before }
+{
+    match request {
+        Request::Fetch => each,
+        _ => before,
+    }
+}
+
+/// Notes that a request was asked: none of its records was told.
+fn begin_request(asking: &mut Asking, each: bool, request: &Request)
+    ensures { asking.new ≡ begun each request.now asking.old }
+{
+    asking.is_each = is_each_after(each, request, asking.is_each);
+    asking.told = 0;
+}
+
 /// Asks a request, on a link that runs.
 fn ask_request(
     asking: &mut Asking,
+    each: bool,
     request: &Request,
     text: &mut Vec<u8>,
 ) -> Result<Came, AllocError>
     requires { text.old.items ≡ [] }
-    ensures ok { IfOk result (Asks asking.old request.now asking.new text.new.items) }
+    ensures ok { IfOk result (Asks each asking.old request.now asking.new text.new.items) }
     ensures err { OnErr result ((asking.new ≡ asking.old) ⊎ ((said : List ℕ) × (came : TheCame)
-        × Asks asking.old request.now asking.new said came)) }
+        × Asks each asking.old request.now asking.new said came)) }
 {
     match asking.end.ask(request) {
-        Ok(count) => go_on_behind(asking, Front::Asked(count), text),
+        Ok(count) => {
+            begin_request(asking, each, request);
+            go_on_behind(asking, Front::Asked(count), text)
+        }
         Err(AskFault::Busy) => go_on_behind(asking, Front::Busy, text),
         Err(fault) => Ok(Came::Untold(push_ask_refusal(text, fault)?)),
     }
 }
 
+/// Whether reports wait that would be told in another way after a request that says this.
+fn has_untold(asking: &Asking, each: bool) -> bool
+    ensures { result
+        ≡ ((each || asking.now.is_each) && nat_lt 0 (length asking.now.reports.items)) }
+{
+    (each || asking.is_each) && !asking.reports.is_empty()
+}
+
+/// Asks a request, which says that each record is told by itself or doesn't, on a link that runs. While reports wait to
+/// which memory was refused, none is asked that would have them told in another way.
+fn ask_running(
+    asking: &mut Asking,
+    each: bool,
+    request: &Request,
+    text: &mut Vec<u8>,
+) -> Result<Came, AllocError>
+    requires { text.old.items ≡ [] }
+    ensures ok { IfOk result (Asks each asking.old request.now asking.new text.new.items) }
+    ensures err { OnErr result ((asking.new ≡ asking.old) ⊎ ((said : List ℕ) × (came : TheCame)
+        × Asks each asking.old request.now asking.new said came)) }
+{
+    if has_untold(asking, each) {
+        return Err(AllocError);
+    }
+    ask_request(asking, each, request, text)
+}
+
 /// Asks what the words say.
 fn ask(asking: &mut Asking, asked: &RequestText<'_>, text: &mut Vec<u8>) -> Result<Came, AllocError>
     requires { text.old.items ≡ [] }
-    ensures ok { IfOk result (Does asking.old (Order.Ask asked.now) asking.new text.new.items) }
-    ensures err { OnErr result (Reaches Does asking.old (Order.Ask asked.now) asking.new) }
+    ensures ok { IfOk result (Does asking.old (AskOrder.Ask asked.now) asking.new text.new.items) }
+    ensures err { OnErr result (Reaches asking.old (AskOrder.Ask asked.now) asking.new) }
 {
     if asking.end.link().has_failed() {
         return Ok(Came::Untold(push_link_refusal(text, LinkFault::Failed)?));
     }
     let request = asked.to_request(asking.alloc)?;
-    ask_request(asking, &request, text)
+    ask_running(asking, false, &request, text)
+}
+
+/// Asks for all records, each of which is told by itself.
+fn fetch_each(asking: &mut Asking, text: &mut Vec<u8>) -> Result<Came, AllocError>
+    requires { text.old.items ≡ [] }
+    ensures ok { IfOk result (Does asking.old AskOrder.FetchEach asking.new text.new.items) }
+    ensures err { OnErr result (Reaches asking.old AskOrder.FetchEach asking.new) }
+{
+    if asking.end.link().has_failed() {
+        return Ok(Came::Untold(push_link_refusal(text, LinkFault::Failed)?));
+    }
+    ask_running(asking, true, &Request::Fetch, text)
 }
 
 /// Makes the link anew.
-fn renew(asking: &mut Asking, anew: Anew, text: &mut Vec<u8>) -> Result<Came, AllocError>
+fn renew(asking: &mut Asking, anew: Option<Between>, text: &mut Vec<u8>) -> Result<Came, AllocError>
     requires { text.old.items ≡ [] }
-    ensures ok { IfOk result (Does asking.old (Order.New anew) asking.new text.new.items) }
+    ensures ok { IfOk result (Does asking.old (AskOrder.New anew) asking.new text.new.items) }
     ensures err { OnErr result (asking.new ≡ asking.old) }
 {
-    let setup = set_up(asking.setup, anew);
+    let setup = set_up_anew(asking.setup, anew);
     match asking.end.renew(asking.alloc, setup) {
         Ok(()) => {
             asking.setup = setup;
             asking.reports.clear();
+            asking.is_each = false;
+            asking.told = 0;
             Ok(Came::Untold(Became::Done))
         }
         Err(fault) => Ok(Came::Untold(push_link_refusal(text, fault)?)),
@@ -290,19 +359,28 @@ fn renew(asking: &mut Asking, anew: Anew, text: &mut Vec<u8>) -> Result<Came, Al
 }
 
 /// Does what a line says.
-fn act(asking: &mut Asking, order: Order<'_>, text: &mut Vec<u8>) -> Result<Came, AllocError>
+fn act(asking: &mut Asking, order: AskOrder<'_>, text: &mut Vec<u8>) -> Result<Came, AllocError>
     requires { text.old.items ≡ [] }
     ensures ok { IfOk result (Does asking.old order.entry asking.new text.new.items) }
-    ensures err { OnErr result (Reaches Does asking.old order.entry asking.new) }
-    ensures known { OnErr result (IsForAsking order.entry) }
+    ensures err { OnErr result (Reaches asking.old order.entry asking.new) }
 {
     match order {
-        Order::Packet(digits) => take_packet(asking, &digits, text),
-        Order::Ask(asked) => ask(asking, &asked, text),
-        Order::Resend => resend(asking, text),
-        Order::Ack => Ok(Came::Untold(say_ack(asking.end.link(), text)?)),
-        Order::New(anew) => renew(asking, anew, text),
-        Order::Files | Order::File(_) | Order::Record(_) => Ok(Came::Untold(Became::BadLine)),
+        AskOrder::Packet(digits) => take_packet(asking, &digits, text),
+        AskOrder::Ask(asked) => ask(asking, &asked, text),
+        AskOrder::FetchEach => fetch_each(asking, text),
+        AskOrder::Resend => resend(asking, text),
+        AskOrder::Ack => Ok(Came::Untold(say_ack(asking.end.link(), text)?)),
+        AskOrder::New(anew) => renew(asking, anew, text),
+    }
+}
+
+/// Notes that all was told that waited: the reports, and where each record is told by itself those of a batch under way.
+fn note_told(asking: &mut Asking)
+    ensures { WasTold asking.old asking.new }
+{
+    asking.reports.clear();
+    if asking.is_each {
+        asking.told = asking.end.records().len();
     }
 }
 
@@ -312,7 +390,7 @@ fn end_answer(asking: &mut Asking, came: Came) -> Became
 {
     match came {
         Came::Told(became) => {
-            asking.reports.clear();
+            note_told(asking);
             became
         }
         Came::Untold(became) => became,
@@ -320,10 +398,9 @@ fn end_answer(asking: &mut Asking, came: Came) -> Became
 }
 
 /// Answers an order.
-fn answer_one(asking: &mut Asking, order: Order<'_>, text: &mut Vec<u8>) -> Became
+fn answer_one(asking: &mut Asking, order: AskOrder<'_>, text: &mut Vec<u8>) -> Became
     requires { text.old.items ≡ [] }
-    ensures { DoesOrder IsForAsking Does DoesAll asking.old (Some order.entry) asking.new text.new.items
-        result }
+    ensures { DoesAskOrder asking.old (Some order.entry) asking.new text.new.items result }
 {
     match act(asking, order, text) {
         Ok(came) => end_answer(asking, came),
@@ -335,9 +412,9 @@ fn answer_one(asking: &mut Asking, order: Order<'_>, text: &mut Vec<u8>) -> Beca
 }
 
 /// Answers what a line says.
-fn answer_order(asking: &mut Asking, order: Option<Order<'_>>, text: &mut Vec<u8>) -> Became
+fn answer_order(asking: &mut Asking, order: Option<AskOrder<'_>>, text: &mut Vec<u8>) -> Became
     requires { text.old.items ≡ [] }
-    ensures { DoesOrder IsForAsking Does DoesAll asking.old order.entry asking.new text.new.items result }
+    ensures { DoesAskOrder asking.old order.entry asking.new text.new.items result }
 {
     match order {
         Some(order) => answer_one(asking, order, text),
@@ -345,11 +422,18 @@ fn answer_order(asking: &mut Asking, order: Option<Order<'_>>, text: &mut Vec<u8
     }
 }
 
-/// Whether the end would do something by going on, or has reports to tell.
-fn is_behind(asking: &Asking) -> bool
-    ensures { result ≡ (goes_on_by asking.now.end || nat_lt 0 (length asking.now.reports.items)) }
+/// Whether something waits to be told.
+fn has_told(asking: &Asking) -> bool
+    ensures { result ≡ waits_told asking.now }
 {
-    goes_on(&asking.end) || !asking.reports.is_empty()
+    !asking.reports.is_empty() || (asking.is_each && asking.told < asking.end.records().len())
+}
+
+/// Whether the end would do something by going on, or has something to tell.
+fn is_behind(asking: &Asking) -> bool
+    ensures { result ≡ (goes_on_by asking.now.end || waits_told asking.now) }
+{
+    goes_on(&asking.end) || has_told(asking)
 }
 
 impl Answers for Asking {
@@ -365,7 +449,7 @@ impl Answers for Asking {
     ghost pieces = { λ asking place. [] };
 
     fn answer(&mut self, line: &[u8], text: &mut Vec<u8>) -> Answer<()> {
-        Answer::Whole(answer_order(self, read_order(line), text))
+        Answer::Whole(answer_order(self, read_ask_order(line), text))
     }
 
     fn miss(&mut self) {}

@@ -1,83 +1,151 @@
-//! The server of several links, over lines.
+//! The server, over lines: one link, or several before one table of files.
 
-ghost use Rattle.std.specs.Prelude.{◌≡◌, ◌≤◌, ◌<◌, ◌⊎◌, ◌++◌, [], ℕ, List, length, Some, None, OnOk, OnErr, IfOk, IfErr, IfSome, IsTrue, MatchBool, MatchOption};
+ghost use Rattle.std.specs.Prelude.{◌≡◌, ◌<◌, ◌⊎◌, ◌==◌, [], ℕ, length, Some, None, OnOk, OnErr, IfOk, IfErr, IfSome, IsTrue, set, true, false};
 ghost use Rattle.std.specs.List.{position};
-ghost use Rattle.dap_msg.specs.BothEnds.{least_buffer};
 ghost use Rattle.dap_msg.specs.Blocked.{bodies};
 ghost use Rattle.rec_file.specs.Shapes.{is_shape};
-ghost use Rattle.dap_accessed.specs.Adding.{with_new_file};
-ghost use Rattle.dap_accessed.specs.Standing.{place_of};
-ghost use Rattle.dap_shared.specs.Nodes.{Gives};
-ghost use Rattle.dap_shared.specs.Shared.{NotAdded};
+ghost use Rattle.dap_accessed.specs.Setup.{IsServerSetup, all_rights, same_name};
 ghost use Rattle.nsp_link.specs.Link.{IsSetup, SetupFault};
+ghost use Rattle.nsp_link.specs.declared.fault.LinkFault.TheVariants as link_fault;
 ghost use Rattle.dap_end.specs.Ports.{PortValue};
-ghost use Rattle.dap_end.specs.Node.{AtPort, BeganOn, HasPort, NodeNotGiven, OnLink, has_local, serves_on};
+ghost use Rattle.dap_end.specs.Node.{AtPort, BeganOn, HasPort, NotBegun, OnLink, has_local, serves_on};
 ghost use Rattle.dap_end.specs.Turns.{Takes, WentOn};
 ghost use Rattle.linewise.specs.Talks.{Begins};
-ghost use Rattle.linewise.specs.declared.talking.Became.{Became as TheBecame};
-ghost use Rattle.nsp_seg.specs.declared.packet.Packet.{Packet as ThePacket};
-ghost use Rattle.dap_live.specs.Both.{DoneOr, Stays};
+ghost use Rattle.dap_live.specs.Both.{Stays};
 ghost use Rattle.dap_live.specs.Sending.{SaysAck, UnlessFailed};
-ghost use Rattle.dap_live.specs.Texts.{LineAnswer, add_refusal};
+ghost use Rattle.dap_live.specs.Texts.{LineAnswer};
 ghost use Rattle.dap_live.specs.Inner.NodeReaching.{Done, NodeReaches};
-ghost use Rattle.dap_live.specs.NodeOrders.{setup_beside};
-ghost use Rattle.dap_live.specs.Node.{AddsFileTo, AddsLink, AddsRecordTo, BeginsOn, Does, DoesNodeOrder, FindsLink, GivenTo, GoesOnWith, IsNew, IsNotDone, NoLink, ResendsOn, TakesOn, about, is_behind_at, of_none, pieces, receiver_of, sender_of, waits_on as waits_by};
+ghost use Rattle.dap_live.specs.Inner.Filing.{AddsShapedTo, GivesRecordBy, IsEmpty, RecordNotBy};
+ghost use Rattle.dap_live.specs.Orders.{most_anew, most_beside, setup_anew};
+ghost use Rattle.dap_live.specs.Node.{AddsFileTo, AddsLink, AddsRecordTo, BeginsOn, Does, DoesNodeOrder, DropsFile, FindsLink, GoesOnWith, IsNew, IsNotDone, NoLink, ResendsOn, TakesOn, TakesPacketBy, RenewsOn, about, before_line, given_beside, is_alone, is_behind_at, is_used, meant, one_link, pieces, receiver_of, sender_of, ungiven, used_by, waits_on as waits_by};
 
-use crate::node_orders::{NodeOrder, read_node_order, set_up_beside};
+use crate::node_orders::{NodeOrder, read_node_order};
+use crate::orders::{Between, set_up_anew, set_up_beside};
 use crate::sending::{has_message, is_left, push_again, say_ack, waits};
 use crate::texts::{
-    push_add_refusal, push_link_refusal, push_node_taken, push_refused, push_served, push_status,
+    push_add_refusal, push_link_refusal, push_node_taken, push_refused, push_remove_refusal,
+    push_served, push_status,
 };
-use dap_accessed::NoMemory;
+use crate::used::Used;
+use dap_accessed::{ALL_RIGHTS, AddFault, Names, NoMemory, ServerSetup, rights_of_fac};
+use dap_accessing::Octets;
 use dap_end::{EndFault, ServingNode, TakeFault};
 use dap_msg::codes::{ACCESS_REFUSED, REASON_BAD_ATTRIBUTES};
 use dap_text::{FileLine, FilesPlace, RecordLine, Text, push_files_line};
+use file_names::is_alike;
 use linewise::{Answer, Answers, Became};
 use nsp_link::{Got, LinkEnd, LinkFault, LinkSetup, is_setup};
 use nsp_seg::{PacketValue, decode_value};
-use rec_file::Shape;
+use rec_file::{Rights, Shape};
 use std::alloc::{AllocError, Global};
 
-/// A server of several links before one table of files, as an answerer of lines.
+/// A server of one link, or of several before one table of files, as an answerer of lines.
 #[derive(Drop)]
 pub struct Node {
     alloc: Global,
     /// The table and the links.
     pub node: ServingNode,
-    /// How a link is set up that is added, but for its addresses.
+    /// What it is set up with.
+    pub own: ServerSetup,
+    /// How a link is set up that is added, but for its addresses; the only link, to begin with.
     pub usual: LinkSetup,
     /// It serves the next message that came on a link while fewer bytes wait there than this.
     pub most_waiting: u64,
     /// The link that the last line concerns, if it concerns one: its answer ends with what waits there.
     pub last: Option<usize>,
+    /// Of each link, whether a packet came on it since it began that wasn't refused.
+    pub used: Used,
+    /// The name of the file that the last `file` line added, unless it was dropped: records are added to it.
+    pub given: Option<Octets>,
+}
+
+/// A node without files and links.
+fn no_links(
+    alloc: Global,
+    own: ServerSetup,
+    links: usize,
+    usual: LinkSetup,
+    most_waiting: u64,
+) -> Result<Node, NoMemory>
+    requires { IsServerSetup own }
+    ensures { IfOk result (IsEmpty own links usual most_waiting) }
+{
+    let node = ServingNode::with_setup(alloc, own, links)?;
+    let used = Used::none(alloc, links)?;
+    Ok(Node {
+        alloc,
+        node,
+        own,
+        usual,
+        most_waiting,
+        last: None,
+        used,
+        given: None,
+    })
+}
+
+/// Begins the only link of a node.
+fn begin_only(node: &mut Node) -> Result<(), LinkFault>
+    requires { IsTrue (is_alone node.old.node) }
+    ensures ok { OnOk result (BeganOn 0 node.old.usual all_rights node.old.node node.new.node) }
+    ensures rest { OnOk result
+        (node.new ≡ record node.old { node = node.new.node; last = Some 0 }) }
+    ensures setup { OnOk result (IsSetup node.old.usual) }
+    ensures err { IfErr result (λ f. NotBegun 0 node.old.usual node.old.node f) }
+{
+    node.node.begin(node.alloc, 0, node.usual, ALL_RIGHTS)?;
+    node.last = Some(0);
+    Ok(())
 }
 
 impl Node {
-    /// A node without files and links, with a buffer of this many bytes, at least 64, and room for so many links. It
-    /// serves what came on a link while fewer than `most_waiting` bytes wait there.
+    /// A node without files that is set up so, with room for so many links. It serves what came on a link while fewer
+    /// than `most_waiting` bytes wait there. Where there is room for one, that link is there from the start, as `usual`
+    /// says, and lines name no link; otherwise none is. Refused: `BadSetup` where there is one link and a limit of its
+    /// setup isn't in its range; `NoMemory`.
+    #[tactic(auto, using(crate::proofs::NewNode::new_several, crate::proofs::NewNode::new_only))]
     pub fn new(
         alloc: Global,
-        bufsiz: u16,
+        own: ServerSetup,
         links: usize,
         usual: LinkSetup,
         most_waiting: u64,
-    ) -> Result<Node, NoMemory>
-        requires { least_buffer ≤ bufsiz }
-        ensures { IfOk result (IsNew usual bufsiz links most_waiting) }
+    ) -> Result<Node, LinkFault>
+        requires { IsServerSetup own }
+        ensures ok { IfOk result (IsNew own links usual most_waiting) }
+        ensures err { IfErr result (λ f. (f ≡ link_fault.NoMemory)
+            ⊎ ((links ≡ 1) × SetupFault usual f)) }
     {
-        let node = ServingNode::new(alloc, bufsiz, links)?;
-        Ok(Node {
-            alloc,
-            node,
-            usual,
-            most_waiting,
-            last: None,
-        })
+        let Ok(mut node) = no_links(alloc, own, links, usual, most_waiting) else {
+            return Err(LinkFault::NoMemory);
+        };
+        if links == 1 {
+            begin_only(&mut node)?;
+        }
+        Ok(node)
+    }
+}
+
+/// The only link, of a node that has room for one.
+#[tactic(auto, using(crate::proofs::Places::one_is, crate::proofs::Places::one_none, crate::proofs::Places::one_several, crate::proofs::Places::one_only))]
+fn find_one(node: &ServingNode) -> Option<usize>
+    ensures found { result ≡ one_link node.now.ports }
+    ensures there { IfSome result (λ link. (p : PortValue) × HasPort link node.now p) }
+    ensures within { IfSome result (λ link. link < length node.now.ports) }
+    ensures only { IfSome result (λ link. (other : ℕ) (p : PortValue) → HasPort other node.now p
+        → other ≡ link) }
+{
+    if node.links() != 1 {
+        return None;
+    }
+    match node.link(0) {
+        Some(_) => Some(0),
+        None => None,
     }
 }
 
 /// The link that has this own address.
-fn find(node: &ServingNode, local: u16) -> Option<usize>
+fn find_local(node: &ServingNode, local: u16) -> Option<usize>
     ensures found { result ≡ position (has_local local) node.now.ports }
     ensures there { IfSome result (λ link. (p : PortValue) × HasPort link node.now p) }
     ensures within { IfSome result (λ link. link < length node.now.ports) }
@@ -85,6 +153,17 @@ fn find(node: &ServingNode, local: u16) -> Option<usize>
         → p.link.setup.local ≡ local → result ≡ Some link }
 {
     node.find_local(local)
+}
+
+/// The link that a line means: it names its own address, or no link where there is one alone.
+fn find(node: &ServingNode, local: Option<u16>) -> Option<usize>
+    ensures found { result ≡ meant local node.now.ports }
+    ensures there { IfSome result (λ link. (p : PortValue) × HasPort link node.now p) }
+{
+    match local {
+        None => find_one(node),
+        Some(local) => find_local(node, local),
+    }
 }
 
 /// A link that is there.
@@ -141,6 +220,16 @@ fn take(
     node.take(link, bytes, most_waiting, packets)
 }
 
+/// Notes that a link is used, unless it refused the packet.
+fn use_link(used: &mut Used, link: usize, taken: &Result<Got, TakeFault>)
+    ensures { used.new ≡ used_by taken.now link used.old }
+{
+    match taken {
+        Err(TakeFault::Refused(_)) => {}
+        _ => used.set(link, true),
+    }
+}
+
 /// Takes a packet on a link, and says what comes of it.
 fn take_on(
     node: &mut Node,
@@ -156,10 +245,24 @@ fn take_on(
     node.last = Some(link);
     let mut packets = Vec::new(node.alloc);
     let taken = take(&mut node.node, link, node.most_waiting, bytes, &mut packets);
+    use_link(&mut node.used, link, &taken);
     push_node_taken(text, taken, node.node.locked(), &packets)
 }
 
-/// The answer to a packet.
+/// Takes a packet on the link of its addresses.
+fn take_of(node: &mut Node, bytes: &[u8], text: &mut Vec<u8>) -> Result<Became, AllocError>
+    requires { text.old.items ≡ [] }
+    ensures ok { IfOk result (TakesPacketBy node.old bytes.now node.new text.new.items) }
+    ensures err { OnErr result ((node.new ≡ node.old)
+        ⊎ Done (TakesPacketBy node.old bytes.now node.new)) }
+{
+    match find_of(&node.node, bytes) {
+        Ok(link) => take_on(node, link, bytes, text),
+        Err(fault) => push_link_refusal(text, fault),
+    }
+}
+
+/// The answer to a packet: the only link takes it, or that of its addresses.
 fn take_packet(node: &mut Node, digits: &Text<'_>, text: &mut Vec<u8>) -> Result<Became, AllocError>
     requires { text.old.items ≡ [] }
     ensures ok { IfOk result (Does node.old (NodeOrder.Packet digits.now)
@@ -167,9 +270,9 @@ fn take_packet(node: &mut Node, digits: &Text<'_>, text: &mut Vec<u8>) -> Result
     ensures err { OnErr result (NodeReaches node.old (NodeOrder.Packet digits.now) node.new) }
 {
     let bytes = digits.to_vec(node.alloc)?;
-    match find_of(&node.node, &bytes) {
-        Ok(link) => take_on(node, link, &bytes, text),
-        Err(fault) => push_link_refusal(text, fault),
+    match find_one(&node.node) {
+        Some(link) => take_on(node, link, &bytes, text),
+        None => take_of(node, &bytes, text),
     }
 }
 
@@ -251,8 +354,8 @@ fn resend_on(node: &mut Node, link: usize, text: &mut Vec<u8>) -> Result<Became,
     resend_running(node, link, text)
 }
 
-/// Sends all segments again that aren't acknowledged, of the link that has this own address.
-fn resend(node: &mut Node, local: u16, text: &mut Vec<u8>) -> Result<Became, AllocError>
+/// Sends all segments again that aren't acknowledged, of the link that a line means.
+fn resend(node: &mut Node, local: Option<u16>, text: &mut Vec<u8>) -> Result<Became, AllocError>
     requires { text.old.items ≡ [] }
     ensures ok { IfOk result (Does node.old (NodeOrder.Resend local) node.new text.new.items) }
     ensures err { OnErr result (NodeReaches node.old (NodeOrder.Resend local) node.new) }
@@ -276,8 +379,8 @@ fn ack_on(node: &mut Node, link: usize, text: &mut Vec<u8>) -> Result<Became, Al
     say_ack(link_of(&node.node, link), text)
 }
 
-/// Acknowledges all segments that were taken, on the link that has this own address.
-fn ack(node: &mut Node, local: u16, text: &mut Vec<u8>) -> Result<Became, AllocError>
+/// Acknowledges all segments that were taken, on the link that a line means.
+fn ack(node: &mut Node, local: Option<u16>, text: &mut Vec<u8>) -> Result<Became, AllocError>
     requires { text.old.items ≡ [] }
     ensures ok { IfOk result (Does node.old (NodeOrder.Ack local) node.new text.new.items) }
     ensures err { OnErr result (IsNotDone node.old (NodeOrder.Ack local) node.new) }
@@ -294,9 +397,10 @@ fn close(node: &mut Node, local: u16, text: &mut Vec<u8>) -> Result<Became, Allo
     ensures ok { IfOk result (Does node.old (NodeOrder.Close local) node.new text.new.items) }
     ensures err { OnErr result (node.new ≡ node.old) }
 {
-    match find(&node.node, local) {
+    match find_local(&node.node, local) {
         Some(link) => {
             node.node.end(link);
+            node.used.set(link, false);
             Ok(Became::Done)
         }
         None => push_link_refusal(text, LinkFault::WrongLink),
@@ -309,34 +413,37 @@ fn begin(
     alloc: Global,
     link: usize,
     setup: LinkSetup,
+    most: Rights,
 ) -> Result<(), LinkFault>
     requires link { link < length node.old.ports }
     requires alone { (other : ℕ) (p : PortValue) → HasPort other node.old p
         → p.link.setup.local ≡ setup.local → other ≡ link }
-    ensures ok { OnOk result (BeganOn link setup node.old node.new) }
+    ensures ok { OnOk result (BeganOn link setup most node.old node.new) }
     ensures setup { OnOk result (IsSetup setup) }
     ensures err { IfErr result (λ f. (node.new ≡ node.old) × SetupFault setup f) }
 {
-    node.begin(alloc, link, setup)
+    node.begin(alloc, link, setup, most)
 }
 
-/// Begins a link with this setup, which the line concerns then. No other link has its own address.
+/// Begins a link with this setup and these rights, which the line concerns then. No other link has its own address.
 fn begin_on(
     node: &mut Node,
     link: usize,
     setup: LinkSetup,
+    most: Rights,
     text: &mut Vec<u8>,
 ) -> Result<Became, AllocError>
     requires link { link < length node.old.node.ports }
     requires alone { (other : ℕ) (p : PortValue) → HasPort other node.old.node p
         → p.link.setup.local ≡ setup.local → other ≡ link }
     requires text { text.old.items ≡ [] }
-    ensures ok { IfOk result (BeginsOn link setup node.old node.new text.new.items) }
+    ensures ok { IfOk result (BeginsOn link setup most node.old node.new text.new.items) }
     ensures err { OnErr result (node.new ≡ node.old) }
 {
-    match begin(&mut node.node, node.alloc, link, setup) {
+    match begin(&mut node.node, node.alloc, link, setup, most) {
         Ok(()) => {
             node.last = Some(link);
+            node.used.set(link, false);
             Ok(Became::Done)
         }
         Err(fault) => push_link_refusal(text, fault),
@@ -357,101 +464,137 @@ fn refuse_link(setup: LinkSetup, text: &mut Vec<u8>) -> Result<Became, AllocErro
     }
 }
 
-/// Adds a link with this setup, whose own address no link has.
-fn add_link(node: &mut Node, setup: LinkSetup, text: &mut Vec<u8>) -> Result<Became, AllocError>
+/// The rights of a link that begins so, where it has these or they are usual.
+fn rights_beside(most: Rights, between: Between) -> Rights
+    ensures { result ≡ most_beside most between }
+{
+    match between.fac {
+        None => most,
+        Some(fac) => rights_of_fac(fac),
+    }
+}
+
+/// The same of a link that may begin as it was.
+fn rights_anew(most: Rights, anew: Option<Between>) -> Rights
+    ensures { result ≡ most_anew most anew }
+{
+    match anew {
+        None => most,
+        Some(between) => rights_beside(most, between),
+    }
+}
+
+/// Adds a link with this setup and these rights, whose own address no link has.
+fn add_link(
+    node: &mut Node,
+    setup: LinkSetup,
+    most: Rights,
+    text: &mut Vec<u8>,
+) -> Result<Became, AllocError>
     requires unused { (other : ℕ) (p : PortValue) → HasPort other node.old.node p
         → p.link.setup.local ≡ setup.local → ⊥ }
     requires text { text.old.items ≡ [] }
-    ensures ok { IfOk result (AddsLink setup node.old node.new text.new.items) }
+    ensures ok { IfOk result (AddsLink setup most node.old node.new text.new.items) }
     ensures err { OnErr result (node.new ≡ node.old) }
 {
     match node.node.find_free() {
-        Some(link) => begin_on(node, link, setup, text),
+        Some(link) => begin_on(node, link, setup, most, text),
         None => refuse_link(setup, text),
     }
 }
 
-/// Renews a link, with its own address, which no other link has, and this peer.
+/// Renews a link: what isn't named is as before. No other link has the own address that it has then.
 fn renew_on(
     node: &mut Node,
     link: usize,
-    local: u16,
-    remote: u16,
-    segment: Option<u32>,
+    anew: Option<Between>,
     text: &mut Vec<u8>,
 ) -> Result<Became, AllocError>
     requires there { (p : PortValue) × HasPort link node.old.node p }
     requires within { link < length node.old.node.ports }
-    requires alone { (other : ℕ) (p : PortValue) → HasPort other node.old.node p
-        → p.link.setup.local ≡ local → other ≡ link }
+    requires alone { (mine other : PortValue) (at : ℕ) → HasPort link node.old.node mine
+        → HasPort at node.old.node other
+        → other.link.setup.local ≡ (setup_anew mine.link.setup anew).local → at ≡ link }
     requires text { text.old.items ≡ [] }
-    ensures ok { IfOk result (λ became. AtPort link node.old.node (λ p. BeginsOn link
-        (setup_beside p.link.setup local remote segment) (about link node.old) node.new
-        text.new.items became)) }
+    ensures ok { IfOk result (RenewsOn link anew node.old node.new text.new.items) }
     ensures err { OnErr result (node.new ≡ about link node.old) }
 {
     node.last = Some(link);
-    let old = link_of(&node.node, link).setup();
-    begin_on(node, link, set_up_beside(old, local, remote, segment), text)
+    let setup = set_up_anew(link_of(&node.node, link).setup(), anew);
+    let most = rights_anew(node.node.rights(link), anew);
+    begin_on(node, link, setup, most, text)
 }
 
-/// Renews the link that has this own address, or adds one.
-fn renew(
+/// Renews the only link.
+fn renew_one(
     node: &mut Node,
-    local: u16,
-    remote: u16,
-    segment: Option<u32>,
+    anew: Option<Between>,
     text: &mut Vec<u8>,
 ) -> Result<Became, AllocError>
     requires { text.old.items ≡ [] }
-    ensures ok { IfOk result (Does node.old (NodeOrder.New local remote segment)
-        node.new text.new.items) }
-    ensures err { OnErr result (IsNotDone node.old (NodeOrder.New local remote segment) node.new) }
+    ensures ok { IfOk result (Does node.old (NodeOrder.Renew anew) node.new text.new.items) }
+    ensures err { OnErr result (IsNotDone node.old (NodeOrder.Renew anew) node.new) }
 {
-    match find(&node.node, local) {
-        Some(link) => renew_on(node, link, local, remote, segment, text),
+    match find_one(&node.node) {
+        Some(link) => renew_on(node, link, anew, text),
+        None => push_link_refusal(text, LinkFault::WrongLink),
+    }
+}
+
+/// Renews the link that has this own address, or adds one.
+fn renew(node: &mut Node, between: Between, text: &mut Vec<u8>) -> Result<Became, AllocError>
+    requires { text.old.items ≡ [] }
+    ensures ok { IfOk result (Does node.old (NodeOrder.New between) node.new text.new.items) }
+    ensures err { OnErr result (IsNotDone node.old (NodeOrder.New between) node.new) }
+{
+    match find_local(&node.node, between.local) {
+        Some(link) => renew_on(node, link, Some(between), text),
         None => add_link(
             node,
-            set_up_beside(node.usual, local, remote, segment),
+            set_up_beside(node.usual, between),
+            rights_beside(ALL_RIGHTS, between),
             text,
         ),
     }
 }
 
-/// Adds a file of a shape.
+/// Whether some link is used.
+fn is_in_use(node: &Node) -> bool
+    ensures { result ≡ is_used node.now }
+{
+    node.used.any()
+}
+
+/// Adds a file of a shape, to which the next records belong then.
 fn add_shaped(
-    node: &mut ServingNode,
-    name: &[u8],
+    node: &mut Node,
+    name: Octets,
     shape: Shape,
     text: &mut Vec<u8>,
 ) -> Result<Became, AllocError>
+    requires idle { is_used node.old ≡ false }
     requires shape { IsTrue (is_shape shape) }
     requires text { text.old.items ≡ [] }
-    ensures ok { IfOk result (DoneOr (λ became. became)
-        ((place_of name.now node.old.noted.shared.files ≡ None)
-        × GivenTo (with_new_file name.now shape node.old.noted.shared.files)
-        (Gives name.now shape) node.old node.new)
-        (NodeNotGiven node.old (NotAdded node.old.noted.shared.files name.now)) add_refusal
-        node.old node.new text.new.items) }
+    ensures ok { IfOk result
+        (AddsShapedTo node.old name shape node.new text.new.items) }
     ensures err { OnErr result (node.new ≡ node.old) }
 {
-    match node.add(name, shape) {
-        Ok(()) => Ok(Became::Done),
+    match node.node.add(&name.0, shape) {
+        Ok(()) => {
+            node.given = Some(name);
+            Ok(Became::Done)
+        }
         Err(fault) => push_add_refusal(text, fault),
     }
 }
 
-/// Adds a file.
-fn add_file(
-    alloc: Global,
-    node: &mut ServingNode,
-    file: &FileLine<'_>,
-    text: &mut Vec<u8>,
-) -> Result<Became, AllocError>
+/// Adds a file; where it is refused, no file takes the next records.
+fn add_file(node: &mut Node, file: &FileLine<'_>, text: &mut Vec<u8>) -> Result<Became, AllocError>
     requires { text.old.items ≡ [] }
     ensures ok { IfOk result (AddsFileTo node.old file.now node.new text.new.items) }
-    ensures err { OnErr result (node.new ≡ node.old) }
+    ensures err { OnErr result (node.new ≡ ungiven node.old) }
 {
+    node.given = None;
     let shape = match Shape::check(file.org, file.rfm, file.mrs, u64::from(file.mrn)) {
         Some(shape) => shape,
         None => {
@@ -459,25 +602,87 @@ fn add_file(
             return Ok(Became::Done);
         }
     };
-    let name = file.name.to_vec(alloc)?;
-    add_shaped(node, &name, shape, text)
+    if is_in_use(node) {
+        return push_add_refusal(text, AddFault::Busy);
+    }
+    let name = Octets(file.name.to_vec(node.alloc)?);
+    add_shaped(node, name, shape, text)
 }
 
-/// Adds a record to the newest file.
-fn add_record(
-    alloc: Global,
+/// Adds a record to the file of this name, if there is one.
+fn add_body(
     node: &mut ServingNode,
-    record: &RecordLine<'_>,
+    given: &Option<Octets>,
+    number: u32,
+    body: &[u8],
+) -> Result<(), AddFault>
+    ensures ok { OnOk result (GivesRecordBy given.now number body.now
+        node.old node.new) }
+    ensures err { IfErr result (λ f. (node.new ≡ node.old)
+        × RecordNotBy given.now node.old number body.now f) }
+{
+    match given {
+        None => Err(AddFault::NoFile),
+        Some(name) => node.add_record(&name.0, number, body),
+    }
+}
+
+/// Adds a record to the file of the last `file` line.
+fn add_record(
+    node: &mut Node,
+    line: &RecordLine<'_>,
     text: &mut Vec<u8>,
 ) -> Result<Became, AllocError>
     requires { text.old.items ≡ [] }
-    ensures ok { IfOk result (AddsRecordTo node.old «record».now node.new text.new.items) }
+    ensures ok { IfOk result (AddsRecordTo node.old line.now node.new text.new.items) }
     ensures err { OnErr result (node.new ≡ node.old) }
 {
-    let body = record.body.to_vec(alloc)?;
-    match node.add_record(record.number, &body) {
+    if is_in_use(node) {
+        return push_add_refusal(text, AddFault::Busy);
+    }
+    let body = line.body.to_vec(node.alloc)?;
+    match add_body(&mut node.node, &node.given, line.number, &body) {
         Ok(()) => Ok(Became::Done),
         Err(fault) => push_add_refusal(text, fault),
+    }
+}
+
+/// Whether two names are one, so compared.
+fn are_same(names: Names, one: &[u8], other: &[u8]) -> bool
+    ensures { result ≡ same_name names one.now other.now }
+{
+    match names {
+        Names::Exact => one == other,
+        Names::Folded => is_alike(one, other),
+    }
+}
+
+/// Where this name was dropped and is the given one, none is given any more.
+fn forget_given(given: &mut Option<Octets>, names: Names, name: &[u8])
+    ensures { given.new ≡ given_beside names name.now given.old }
+{
+    let is_dropped = match given {
+        None => false,
+        Some(last) => are_same(names, name, &last.0),
+    };
+    if is_dropped {
+        *given = None;
+    }
+}
+
+/// Drops the file of a name.
+fn drop_file(node: &mut Node, digits: &Text<'_>, text: &mut Vec<u8>) -> Result<Became, AllocError>
+    requires { text.old.items ≡ [] }
+    ensures ok { IfOk result (DropsFile node.old digits.now node.new text.new.items) }
+    ensures err { OnErr result (node.new ≡ node.old) }
+{
+    let name = digits.to_vec(node.alloc)?;
+    match node.node.remove(&name) {
+        Ok(()) => {
+            forget_given(&mut node.given, node.own.names, &name);
+            Ok(Became::Done)
+        }
+        Err(fault) => push_remove_refusal(text, fault),
     }
 }
 
@@ -492,27 +697,17 @@ fn act(
         node.new text.new.items) }
     ensures err { OnErr result (NodeReaches node.old order.entry node.new) }
 {
-    let alloc = node.alloc;
     match order {
-        NodeOrder::Packet(digits) => {
-            let became = take_packet(node, &digits, text)?;
-            Ok(Answer::Whole(became))
-        }
+        NodeOrder::Packet(digits) => Ok(Answer::Whole(take_packet(node, &digits, text)?)),
         NodeOrder::Resend(local) => Ok(Answer::Whole(resend(node, local, text)?)),
         NodeOrder::Ack(local) => Ok(Answer::Whole(ack(node, local, text)?)),
         NodeOrder::Close(local) => Ok(Answer::Whole(close(node, local, text)?)),
-        NodeOrder::New(local, remote, segment) => {
-            Ok(Answer::Whole(renew(node, local, remote, segment, text)?))
-        }
+        NodeOrder::Renew(anew) => Ok(Answer::Whole(renew_one(node, anew, text)?)),
+        NodeOrder::New(between) => Ok(Answer::Whole(renew(node, between, text)?)),
         NodeOrder::Files => Ok(Answer::Begun(FilesPlace::File(0))),
-        NodeOrder::File(file) => {
-            let became = add_file(alloc, &mut node.node, &file, text)?;
-            Ok(Answer::Whole(became))
-        }
-        NodeOrder::Record(record) => {
-            let became = add_record(alloc, &mut node.node, &record, text)?;
-            Ok(Answer::Whole(became))
-        }
+        NodeOrder::File(file) => Ok(Answer::Whole(add_file(node, &file, text)?)),
+        NodeOrder::Record(record) => Ok(Answer::Whole(add_record(node, &record, text)?)),
+        NodeOrder::Drop(name) => Ok(Answer::Whole(drop_file(node, &name, text)?)),
     }
 }
 
@@ -531,21 +726,28 @@ fn answer_one(node: &mut Node, order: NodeOrder<'_>, text: &mut Vec<u8>) -> Answ
     }
 }
 
-/// Answers what a line says, which concerns no link so far.
+/// Answers what a line says, which concerns the only link so far, or none.
 fn answer_order(
     node: &mut Node,
     order: Option<NodeOrder<'_>>,
     text: &mut Vec<u8>,
 ) -> Answer<FilesPlace>
     requires { text.old.items ≡ [] }
-    ensures { Begins DoesNodeOrder pieces (of_none node.old) order.entry
+    ensures { Begins DoesNodeOrder pieces (before_line node.old) order.entry
         node.new text.new.items result }
 {
-    node.last = None;
+    node.last = find_one(&node.node);
     match order {
         Some(order) => answer_one(node, order, text),
         None => Answer::Whole(Became::BadLine),
     }
+}
+
+/// Whether there is room for one link alone.
+fn is_for_one(node: &ServingNode) -> bool
+    ensures { result ≡ is_alone node.now }
+{
+    node.links() == 1
 }
 
 /// What the link waits for that the last line concerns.
@@ -573,11 +775,12 @@ impl Answers for Node {
     ghost pieces = { pieces };
 
     fn answer(&mut self, line: &[u8], text: &mut Vec<u8>) -> Answer<FilesPlace> {
-        answer_order(self, read_node_order(line), text)
+        let order = read_node_order(is_for_one(&self.node), line);
+        answer_order(self, order, text)
     }
 
     fn miss(&mut self) {
-        self.last = None;
+        self.last = find_one(&self.node);
     }
 
     fn more(

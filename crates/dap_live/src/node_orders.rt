@@ -1,36 +1,31 @@
-//! What the lines of a node say.
+//! What the lines of a server say.
 
-ghost use Rattle.std.specs.Prelude.{◌≡◌};
-ghost use Rattle.dap_text.specs.Words.{ends};
-ghost use Rattle.dap_live.specs.NodeOrders.{address_alone, hex_alone, new_from, node_order_of, segment_from, setup_beside};
+ghost use Rattle.std.specs.Prelude.{◌≡◌, ◌∷◌};
+ghost use Rattle.dap_text.specs.Words.{ends, one_of};
+ghost use Rattle.dap_live.specs.NodeOrders.{address_alone, filing_forms, links_order_of, node_order_of, one_order_of, text_alone};
 
-use crate::orders::read_address;
+use crate::orders::{Between, read_address, read_anew, read_between, read_hex_alone};
 use dap_text::{
-    FileLine, RecordLine, Text, Words, is, read_file_line, read_hex, read_number, read_record_line,
+    FileLine, RecordLine, Text, Words, is, read_file_line, read_record_line, read_text,
 };
-use nsp_link::LinkSetup;
 
-/// What a line says. A link is named by its own address. The bytes of a packet are still digits.
+/// What a line says. The bytes of a packet and of a name are still digits. A line names a link by its own address; where
+/// there is one link alone, it names none.
 #[derive(Drop)]
 pub(crate) enum NodeOrder<'a> {
     Packet(Text<'a>),
-    Resend(u16),
-    Ack(u16),
+    Resend(Option<u16>),
+    Ack(Option<u16>),
     Close(u16),
-    /// The own address, the peer's, and how many bytes a segment has at most, where that is named.
-    New(u16, u16, Option<u32>),
+    /// The one link begins anew: as it was, or between these addresses.
+    Renew(Option<Between>),
+    /// A link between these addresses.
+    New(Between),
     Files,
     File(FileLine<'a>),
     Record(RecordLine<'a>),
-}
-
-/// `HEX`
-fn read_hex_alone<'a>(mut words: Words<'a>) -> Option<Text<'a>>
-    ensures { result ≡ hex_alone words.entry }
-{
-    let bytes = read_hex(words.next()?)?;
-    words.end()?;
-    Some(bytes)
+    /// The file of a name.
+    Drop(Text<'a>),
 }
 
 /// `LOCAL`
@@ -42,73 +37,72 @@ fn read_address_alone(mut words: Words<'_>) -> Option<u16>
     Some(local)
 }
 
-/// Nothing, or `SEGMENT`
-fn read_segment<'a>(local: u16, remote: u16, mut words: Words<'a>) -> Option<NodeOrder<'a>>
-    ensures { result ≡ segment_from local remote words.entry }
+/// `NAME`
+fn read_text_alone<'a>(mut words: Words<'a>) -> Option<Text<'a>>
+    ensures { result ≡ text_alone words.entry }
 {
-    let Some(word) = words.next() else {
-        return Some(NodeOrder::New(local, remote, None));
-    };
-    let segment = read_number(word, u32::MAX)?;
+    let name = read_text(words.next()?)?;
     words.end()?;
-    Some(NodeOrder::New(local, remote, Some(segment)))
-}
-
-/// `LOCAL REMOTE`, or `LOCAL REMOTE SEGMENT`
-fn read_new<'a>(mut words: Words<'a>) -> Option<NodeOrder<'a>>
-    ensures { result ≡ new_from words.entry }
-{
-    let local = read_address(words.next()?)?;
-    let remote = read_address(words.next()?)?;
-    read_segment(local, remote, words)
+    Some(name)
 }
 
 /// A line with one word.
-fn read_files<'a>(words: Words<'a>) -> Option<NodeOrder<'a>>
-    ensures { result ≡ ends NodeOrder.Files words.entry }
+fn read_plain<'a>(words: Words<'a>, order: NodeOrder<'a>) -> Option<NodeOrder<'a>>
+    ensures { result ≡ ends order.entry words.entry }
 {
     words.end()?;
-    Some(NodeOrder::Files)
+    Some(order)
 }
 
-/// What a line says.
-pub(crate) fn read_node_order(line: &[u8]) -> Option<NodeOrder<'_>>
-    ensures { result ≡ node_order_of line.now }
+/// What a line says of files, with this word first.
+fn read_filing<'a>(word: &'a [u8], words: Words<'a>, line: &'a [u8]) -> Option<NodeOrder<'a>>
+    ensures { result ≡ one_of (filing_forms line.now) (word.now ∷ words.entry) }
 {
-    let mut words = Words::of(line);
-    match words.next()? {
-        word if is(word, ">") => Some(NodeOrder::Packet(read_hex_alone(words)?)),
-        word if is(word, "resend") => Some(NodeOrder::Resend(read_address_alone(words)?)),
-        word if is(word, "ack") => Some(NodeOrder::Ack(read_address_alone(words)?)),
-        word if is(word, "close") => Some(NodeOrder::Close(read_address_alone(words)?)),
-        word if is(word, "new") => read_new(words),
-        word if is(word, "files") => read_files(words),
+    match word {
+        word if is(word, "files") => read_plain(words, NodeOrder::Files),
         word if is(word, "file") => Some(NodeOrder::File(read_file_line(line)?)),
         word if is(word, "") => Some(NodeOrder::Record(read_record_line(line)?)),
+        word if is(word, "drop") => Some(NodeOrder::Drop(read_text_alone(words)?)),
         _ => None,
     }
 }
 
-/// How a link between these addresses is set up, where one is set up so.
-pub(crate) fn set_up_beside(
-    setup: LinkSetup,
-    local: u16,
-    remote: u16,
-    segment: Option<u32>,
-) -> LinkSetup
-    ensures { result ≡ setup_beside setup local remote segment }
+/// What a line says where there is one link.
+fn read_one_order(line: &[u8]) -> Option<NodeOrder<'_>>
+    ensures { result ≡ one_order_of line.now }
 {
-    match segment {
-        None => LinkSetup {
-            local,
-            remote,
-            ..setup
-        },
-        Some(segment) => LinkSetup {
-            local,
-            remote,
-            seg_size: segment as usize,
-            ..setup
-        },
+    let mut words = Words::of(line);
+    match words.next()? {
+        word if is(word, ">") => Some(NodeOrder::Packet(read_hex_alone(words)?)),
+        word if is(word, "resend") => read_plain(words, NodeOrder::Resend(None)),
+        word if is(word, "ack") => read_plain(words, NodeOrder::Ack(None)),
+        word if is(word, "new") => Some(NodeOrder::Renew(read_anew(words)?)),
+        word => read_filing(word, words, line),
+    }
+}
+
+/// What a line says where there is room for several links.
+fn read_links_order(line: &[u8]) -> Option<NodeOrder<'_>>
+    ensures { result ≡ links_order_of line.now }
+{
+    let mut words = Words::of(line);
+    match words.next()? {
+        word if is(word, ">") => Some(NodeOrder::Packet(read_hex_alone(words)?)),
+        word if is(word, "resend") => Some(NodeOrder::Resend(Some(read_address_alone(words)?))),
+        word if is(word, "ack") => Some(NodeOrder::Ack(Some(read_address_alone(words)?))),
+        word if is(word, "close") => Some(NodeOrder::Close(read_address_alone(words)?)),
+        word if is(word, "new") => Some(NodeOrder::New(read_between(words)?)),
+        word => read_filing(word, words, line),
+    }
+}
+
+/// What a line says, where there is one link alone or room for several.
+pub(crate) fn read_node_order(alone: bool, line: &[u8]) -> Option<NodeOrder<'_>>
+    ensures { result ≡ node_order_of alone line.now }
+{
+    if alone {
+        read_one_order(line)
+    } else {
+        read_links_order(line)
     }
 }

@@ -1,46 +1,32 @@
-//! What the lines of a live end say.
+//! What lines of both live ends say of a link.
 
-ghost use Rattle.std.specs.Prelude.{◌≡◌};
-ghost use Rattle.dap_live.specs.Orders.{address_of, order_of, setup_anew};
-ghost use Rattle.dap_live.specs.Inner.Orders.{anew_of, between_of, packet_of};
-ghost use Rattle.dap_text.specs.Words.{ends};
+ghost use Rattle.std.specs.Prelude.{◌≡◌, Some};
+ghost use Rattle.dap_live.specs.Orders.{address_of, anew_of, between_of, fac_from, hex_alone, limits_from, setup_anew, setup_beside};
 
-use dap_text::{
-    FileLine, RecordLine, RequestText, Text, Words, is, read_file_line, read_hex, read_number,
-    read_record_line, read_request,
-};
+use dap_text::{Text, Words, read_hex, read_number};
 use nsp_link::LinkSetup;
 
-/// How a link is set up anew; what isn't said is as before.
-#[derive(Clone, Copy)]
-pub(crate) enum Anew {
-    Same,
-    /// Between these addresses, the own one first.
-    Between(u16, u16),
-    /// Between these, with this many bytes in a segment at most.
-    Cut(u16, u16, u32),
-}
+/// The greatest FAC: every right.
+const GREATEST_FAC: u32 = 15;
 
-/// What a line says. Its bytes are still digits.
-#[derive(Drop)]
-pub(crate) enum Order<'a> {
-    Packet(Text<'a>),
-    Resend,
-    Ack,
-    New(Anew),
-    Files,
-    File(FileLine<'a>),
-    Record(RecordLine<'a>),
-    Ask(RequestText<'a>),
+/// How a link begins: between these addresses, the own one first. What isn't named is as before.
+#[derive(Clone, Copy)]
+pub(crate) struct Between {
+    pub(crate) local: u16,
+    pub(crate) remote: u16,
+    /// How many bytes a segment has at most.
+    pub(crate) segment: Option<u32>,
+    /// What an Access on it may ask for at most, by the bits of a FAC.
+    pub(crate) fac: Option<u32>,
 }
 
 /// `HEX`
-fn read_packet<'a>(mut words: Words<'a>) -> Option<Order<'a>>
-    ensures { result ≡ packet_of words.entry }
+pub(crate) fn read_hex_alone<'a>(mut words: Words<'a>) -> Option<Text<'a>>
+    ensures { result ≡ hex_alone words.entry }
 {
     let bytes = read_hex(words.next()?)?;
     words.end()?;
-    Some(Order::Packet(bytes))
+    Some(bytes)
 }
 
 /// A link address, by four hex digits of either case; or None.
@@ -54,76 +40,86 @@ pub fn read_address(word: &[u8]) -> Option<u16>
     }
 }
 
-/// Nothing, or `SEGMENT`
-fn read_between<'a>(local: u16, remote: u16, mut words: Words<'a>) -> Option<Order<'a>>
-    ensures { result ≡ between_of local remote words.entry }
+/// Nothing, or `FAC`
+fn read_fac<'a>(local: u16, remote: u16, segment: u32, mut words: Words<'a>) -> Option<Between>
+    ensures { result ≡ fac_from local remote segment words.entry }
+{
+    let segment = Some(segment);
+    let Some(word) = words.next() else {
+        return Some(Between {
+            local,
+            remote,
+            segment,
+            fac: None,
+        });
+    };
+    let fac = Some(read_number(word, GREATEST_FAC)?);
+    words.end()?;
+    Some(Between {
+        local,
+        remote,
+        segment,
+        fac,
+    })
+}
+
+/// Nothing, or `SEGMENT`, or `SEGMENT FAC`
+fn read_limits<'a>(local: u16, remote: u16, mut words: Words<'a>) -> Option<Between>
+    ensures { result ≡ limits_from local remote words.entry }
 {
     let Some(word) = words.next() else {
-        return Some(Order::New(Anew::Between(local, remote)));
+        return Some(Between {
+            local,
+            remote,
+            segment: None,
+            fac: None,
+        });
     };
     let segment = read_number(word, u32::MAX)?;
-    words.end()?;
-    Some(Order::New(Anew::Cut(local, remote, segment)))
+    read_fac(local, remote, segment, words)
 }
 
-/// Nothing, or `LOCAL REMOTE`, or `LOCAL REMOTE SEGMENT`
-fn read_anew<'a>(mut words: Words<'a>) -> Option<Order<'a>>
+/// `LOCAL REMOTE`, and what follows
+pub(crate) fn read_between<'a>(mut words: Words<'a>) -> Option<Between>
+    ensures { result ≡ between_of words.entry }
+{
+    let local = read_address(words.next()?)?;
+    let remote = read_address(words.next()?)?;
+    read_limits(local, remote, words)
+}
+
+/// Nothing, or `LOCAL REMOTE` and what follows
+pub(crate) fn read_anew<'a>(words: Words<'a>) -> Option<Option<Between>>
     ensures { result ≡ anew_of words.entry }
 {
-    let Some(word) = words.next() else {
-        return Some(Order::New(Anew::Same));
+    if words.end().is_some() {
+        return Some(None);
+    }
+    Some(Some(read_between(words)?))
+}
+
+/// How a link is set up that begins so, where one is set up so.
+pub(crate) fn set_up_beside(setup: LinkSetup, between: Between) -> LinkSetup
+    ensures { result ≡ setup_beside setup between }
+{
+    let seg_size = match between.segment {
+        None => setup.seg_size,
+        Some(segment) => segment as usize,
     };
-    let local = read_address(word)?;
-    let remote = read_address(words.next()?)?;
-    read_between(local, remote, words)
-}
-
-/// A line with one word.
-fn read_plain<'a>(words: Words<'a>, order: Order<'a>) -> Option<Order<'a>>
-    ensures { result ≡ ends order.entry words.entry }
-{
-    words.end()?;
-    Some(order)
-}
-
-/// What a line says.
-pub(crate) fn read_order(line: &[u8]) -> Option<Order<'_>>
-    ensures { result ≡ order_of line.now }
-{
-    let mut words = Words::of(line);
-    match words.next()? {
-        word if is(word, ">") => read_packet(words),
-        word if is(word, "resend") => read_plain(words, Order::Resend),
-        word if is(word, "ack") => read_plain(words, Order::Ack),
-        word if is(word, "new") => read_anew(words),
-        word if is(word, "files") => read_plain(words, Order::Files),
-        word if is(word, "file") => Some(Order::File(read_file_line(line)?)),
-        word if is(word, "") => Some(Order::Record(read_record_line(line)?)),
-        word if is(word, "ask") => Some(Order::Ask(read_request(words)?)),
-        _ => None,
+    LinkSetup {
+        local: between.local,
+        remote: between.remote,
+        seg_size,
+        ..setup
     }
 }
 
-/// How a link is set up that was set up so.
-pub(crate) fn set_up(setup: LinkSetup, anew: Anew) -> LinkSetup
+/// The same of a link that may begin as it was.
+pub(crate) fn set_up_anew(setup: LinkSetup, anew: Option<Between>) -> LinkSetup
     ensures { result ≡ setup_anew setup anew }
 {
     match anew {
-        Anew::Same => setup,
-        Anew::Between(local, remote) => {
-            LinkSetup {
-                local,
-                remote,
-                ..setup
-            }
-        }
-        Anew::Cut(local, remote, segment) => {
-            LinkSetup {
-                local,
-                remote,
-                seg_size: segment as usize,
-                ..setup
-            }
-        }
+        None => setup,
+        Some(between) => set_up_beside(setup, between),
     }
 }

@@ -1,10 +1,9 @@
 //! What a link sends again, and what it waits for.
 
-ghost use Rattle.std.specs.Prelude.{◌≡◌, ◌++◌, [], OnOk, OnErr, IfOk};
+ghost use Rattle.std.specs.Prelude.{◌≡◌, [], OnOk, IfOk};
 ghost use Rattle.dap_msg.specs.Blocked.{bodies};
-ghost use Rattle.dap_text.specs.Adding.{Adds};
 ghost use Rattle.nsp_link.specs.Sending.{may_queue as may_queue_on};
-ghost use Rattle.dap_live.specs.Sending.{AllAgain, SaysAck, has_message as has_message_on, is_left as is_left_of, waits_of};
+ghost use Rattle.dap_live.specs.Sending.{SaysAck, has_message as has_message_on, is_left as is_left_of, waits_of};
 ghost use Rattle.dap_live.specs.Inner.Again.{AddsAgain, AddsOneAgain};
 
 use crate::texts::{push_link_refusal, push_packet};

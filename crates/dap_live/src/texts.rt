@@ -1,25 +1,28 @@
 //! How answers are printed.
 
-ghost use Rattle.std.specs.Prelude.{◌≡◌, ◌++◌, [], ◌∷◌, codes, OnOk, IfOk};
-ghost use Rattle.std.specs.List.{concat};
+ghost use Rattle.std.specs.Prelude.{◌≡◌, ◌++◌, [], ◌∷◌, codes, drop, OnOk, IfOk};
+ghost use Rattle.std.specs.List.{concat, flat_map};
 ghost use Rattle.dap_msg.specs.Blocked.{bodies};
 ghost use Rattle.dap_end.specs.declared.fault.EndFault.TheVariants as end_fault;
 ghost use Rattle.nsp_link.specs.declared.fault.LinkFault.TheVariants as fault;
 ghost use Rattle.dap_text.specs.Adding.{Adds};
 ghost use Rattle.dap_text.specs.Answers.{got_text};
-ghost use Rattle.dap_text.specs.Reports.{report_text};
+ghost use Rattle.dap_text.specs.Reports.{ending_text};
 ghost use Rattle.dap_text.specs.Text.{line_feed};
-ghost use Rattle.dap_live.specs.Texts.{add_refusal, ask_refusal, done_said, end_refusal, link_refusal, packet_text, packets_text, refused, reports_text, status_line, taken_said};
+ghost use Rattle.dap_live.specs.Texts.{add_refusal, ask_refusal, done_said, end_refusal, link_refusal, locked_text, packet_text, packets_text, refused, remove_refusal, report_line, reports_text, status_line, taken_said};
+ghost use Rattle.dap_live.specs.Each.{batch_line, each_text, records_text, told_text};
 ghost use Rattle.dap_text.specs.Text.{word_text};
-ghost use Rattle.dap_live.specs.Node.{locked_text, node_taken_said, served_said};
 ghost use Rattle.dap_live.specs.Inner.Saying.{AddsSaid};
 
+use crate::asking::Asking;
 use dap_accessed::{AddFault, reason_number};
-use dap_accessing::{AskFault, ReadFault, Report};
+use dap_accessing::{AskFault, Ending, Octets, ReadFault, Report};
 use dap_end::{EndFault, TakeFault};
 use dap_msg::codes::{ACCESS_REFUSED, FILE_NOT_FOUND, REASON_FILE_EXISTS, RECORD_REFUSED};
+use dap_shared::RemoveFault;
 use dap_text::{
-    ask_word, got_word, push_hex, push_number, push_packet_fault, push_report, push_str, push_word,
+    ask_word, got_word, push_hex, push_image, push_number, push_packet_fault, push_report,
+    push_str, push_word,
 };
 use linewise::Became;
 use nsp_link::{Got, LinkFault};
@@ -47,8 +50,7 @@ fn push_packets(text: &mut Vec<u8>, packets: &Vec<Vec<u8>>) -> Result<(), AllocE
 
 /// The line of a report.
 fn push_report_line(text: &mut Vec<u8>, report: &Report) -> Result<(), AllocError>
-    ensures { OnOk result (Adds text.old text.new
-        (concat (codes "report " ∷ report_text report.now ∷ line_feed ∷ []))) }
+    ensures { OnOk result (Adds text.old text.new (report_line report.now)) }
 {
     push_str(text, "report ")?;
     push_report(text, report)?;
@@ -56,13 +58,91 @@ fn push_report_line(text: &mut Vec<u8>, report: &Report) -> Result<(), AllocErro
 }
 
 /// The lines of reports.
-pub(crate) fn push_reports(text: &mut Vec<u8>, reports: &Vec<Report>) -> Result<(), AllocError>
+fn push_reports(text: &mut Vec<u8>, reports: &Vec<Report>) -> Result<(), AllocError>
     ensures { OnOk result (Adds text.old text.new (reports_text reports.now.items)) }
 {
     for report in reports.iter() {
         push_report_line(text, report)?;
     }
     Ok(())
+}
+
+/// The lines of records that are told one by one.
+fn push_records(text: &mut Vec<u8>, records: &[(u64, Octets)]) -> Result<(), AllocError>
+    ensures { OnOk result (Adds text.old text.new (records_text records.now)) }
+{
+    for record in records {
+        push_number(text, "report record ", record.0)?;
+        push_image(text, " ", &record.1.0)?;
+        push_str(text, "\n")?;
+    }
+    Ok(())
+}
+
+/// How a batch ended, and the end of its line.
+fn push_ending(text: &mut Vec<u8>, ending: Ending) -> Result<(), AllocError>
+    ensures { OnOk result (Adds text.old text.new (ending_text ending ++ line_feed)) }
+{
+    match ending {
+        Ending::Complete => push_str(text, "complete\n"),
+        Ending::Stopped => push_str(text, "stopped\n"),
+        Ending::Refused(code, reason) => push_status(text, code, reason),
+    }
+}
+
+/// The records that are left after so many.
+fn untold(records: &[(u64, Octets)], told: usize) -> &[(u64, Octets)]
+    ensures { result.now ≡ drop told records.now }
+{
+    if told < records.len() {
+        &records[told..]
+    } else {
+        &[]
+    }
+}
+
+/// The line of a batch of so many records, each of which was told by itself.
+fn push_batch_line(text: &mut Vec<u8>, count: usize, ending: Ending) -> Result<(), AllocError>
+    ensures { OnOk result (Adds text.old text.new (batch_line count ending)) }
+{
+    push_number(text, "report batch ", count)?;
+    push_str(text, " ")?;
+    push_ending(text, ending)
+}
+
+/// The lines of a report where each record is told by itself, and so many of a batch were.
+fn push_each(text: &mut Vec<u8>, told: usize, report: &Report) -> Result<(), AllocError>
+    ensures { OnOk result (Adds text.old text.new (each_text told report.now)) }
+{
+    match report {
+        Report::Batch { bodies, ending } => {
+            push_records(text, untold(&bodies.0, told))?;
+            push_batch_line(text, bodies.0.len(), *ending)
+        }
+        _ => push_report_line(text, report),
+    }
+}
+
+/// The lines of reports where each record is told by itself.
+fn push_eaches(text: &mut Vec<u8>, told: usize, reports: &Vec<Report>) -> Result<(), AllocError>
+    ensures { OnOk result (Adds text.old text.new (flat_map (each_text told) reports.now.items)) }
+{
+    for report in reports.iter() {
+        push_each(text, told, report)?;
+    }
+    Ok(())
+}
+
+/// The lines of what waits to be told: the reports, and records of a batch under way where each is told by itself.
+pub(crate) fn push_told(text: &mut Vec<u8>, asking: &Asking) -> Result<(), AllocError>
+    ensures { OnOk result (Adds text.old text.new (told_text asking.now)) }
+{
+    if asking.is_each {
+        push_eaches(text, asking.told, &asking.reports)?;
+        push_records(text, untold(asking.end.records(), asking.told))
+    } else {
+        push_reports(text, &asking.reports)
+    }
 }
 
 /// The line of what became of a packet.
@@ -137,17 +217,17 @@ fn push_end_refusal(text: &mut Vec<u8>, fault: EndFault) -> Result<Became, Alloc
     }
 }
 
-/// Says what was done: the reports, the packets, and why not all was done.
+/// Says what was done: what waits to be told, the packets, and why not all was done.
 pub(crate) fn push_done(
     text: &mut Vec<u8>,
-    reports: &Vec<Report>,
+    asking: &Asking,
     packets: &Vec<Vec<u8>>,
     done: Result<(), EndFault>,
 ) -> Result<Became, AllocError>
     ensures { IfOk result (AddsSaid text.old text.new
-        (done_said reports.now.items (bodies packets.now.items) done)) }
+        (done_said (told_text asking.now) (bodies packets.now.items) done)) }
 {
-    push_reports(text, reports)?;
+    push_told(text, asking)?;
     push_packets(text, packets)?;
     match done {
         Ok(()) => Ok(Became::Done),
@@ -195,25 +275,38 @@ pub(crate) fn push_add_refusal(text: &mut Vec<u8>, fault: AddFault) -> Result<Be
     }
 }
 
+/// Says why a file isn't removed.
+pub(crate) fn push_remove_refusal(
+    text: &mut Vec<u8>,
+    fault: RemoveFault,
+) -> Result<Became, AllocError>
+    ensures { IfOk result (AddsSaid text.old text.new (remove_refusal fault)) }
+{
+    match fault {
+        RemoveFault::NoFile => refuse_by(text, FILE_NOT_FOUND, 0),
+        RemoveFault::Busy => refuse(text, "busy"),
+    }
+}
+
 /// The answer to a packet.
 pub(crate) fn push_taken(
     text: &mut Vec<u8>,
     taken: Result<Got, TakeFault>,
-    reports: &Vec<Report>,
+    asking: &Asking,
     packets: &Vec<Vec<u8>>,
 ) -> Result<Became, AllocError>
     ensures { IfOk result (AddsSaid text.old text.new
-        (taken_said taken reports.now.items (bodies packets.now.items))) }
+        (taken_said taken (told_text asking.now) (bodies packets.now.items))) }
 {
     match taken {
         Ok(got) => {
             push_got(text, got)?;
-            push_done(text, reports, packets, Ok(()))
+            push_done(text, asking, packets, Ok(()))
         }
         Err(TakeFault::Refused(fault)) => push_link_refusal(text, fault),
         Err(TakeFault::Unfinished(got, fault)) => {
             push_got(text, got)?;
-            push_done(text, reports, packets, Err(fault))
+            push_done(text, asking, packets, Err(fault))
         }
     }
 }
@@ -245,7 +338,7 @@ pub(crate) fn push_served(
     done: Result<(), EndFault>,
 ) -> Result<Became, AllocError>
     ensures { IfOk result (AddsSaid text.old text.new
-        (served_said locked.now (bodies packets.now.items) done)) }
+        (done_said (locked_text locked.now) (bodies packets.now.items) done)) }
 {
     push_locked(text, locked)?;
     push_packets(text, packets)?;
@@ -263,7 +356,7 @@ pub(crate) fn push_node_taken(
     packets: &Vec<Vec<u8>>,
 ) -> Result<Became, AllocError>
     ensures { IfOk result (AddsSaid text.old text.new
-        (node_taken_said taken locked.now (bodies packets.now.items))) }
+        (taken_said taken (locked_text locked.now) (bodies packets.now.items))) }
 {
     match taken {
         Ok(got) => {

@@ -4,16 +4,16 @@ use Rattle.std.proofs.lemmas.Bool.Decides.{nat_tests}
 use Rattle.dap_fields.specs.Spelling.{little_bytes}
 use Rattle.std.proofs.lemmas.List.{length-append}
 use Rattle.dap_fields.specs.Writing.{groups}
-use Rattle.dap_msg.specs.Message.{Message, StatusFields, Ack, Filedata, Status}
+use Rattle.dap_msg.specs.Message.{Message, Configuration, StatusFields, Ack, Config, Filedata, Status}
 use Rattle.dap_msg.specs.Formats.{type_number, header_bytes}
 use Rattle.dap_msg.specs.Canon.{Fits}
 use Rattle.dap_msg.specs.Canon.{operand_bytes, canon}
 use Rattle.dap_msg.specs.Fitting.{FieldsFit}
 use Rattle.dap_msg.specs.Sizes.{header_size, file_data_size}
-use Rattle.dap_msg.specs.BothEnds.{config_of, complete_with, attributes_of}
+use Rattle.dap_msg.specs.BothEnds.{plain_identity, config_of, complete_with, attributes_of}
 use Rattle.dap_msg.specs.Inner.Answers.{IsShortAnswer, AnswersFit}
 use Rattle.dap_msg.proofs.Canonical.{closed_spelling}
-use Rattle.dap_msg.proofs.Sizes.{IsPlainMessage, plain_short}
+use Rattle.dap_msg.proofs.Sizes.{IsPlainMessage, plain_short, groups_short}
 
 header_length : (number len : ℕ) → length (header_bytes number len) ≡ header_size len
 header_length number len = grind (arith, nat_tests)
@@ -46,9 +46,12 @@ short_answer_of m fields plain short = record {
   short = omega (arith, canon_length m, (header_extent (length (operand_bytes m))).1);
 }
 
+identity_short : (own : Configuration) → FieldsFit (Config own) → IsShortAnswer (Config own)
+identity_short own fits =
+    short_answer_of (Config own) fits tt (omega (arith, length-append (groups 12 own.syscap) [], groups_short 12 own.syscap))
+
 config_short : (bufsiz : ℕ) → bufsiz < 2 ^ 16 → IsShortAnswer (config_of bufsiz)
-unfolding groups
-config_short bufsiz lt = short_answer_of (config_of bufsiz) (omega arith, lit< tt, lit< tt, lit< tt, lit< tt, lit< tt, lit< tt, lit< tt, lit< tt) tt (lit≤ tt)
+config_short bufsiz lt = identity_short (plain_identity bufsiz) (omega arith, lit< tt, lit< tt, lit< tt, lit< tt, lit< tt, lit< tt, lit< tt, lit< tt)
 
 attributes_short : (org rfm mrs mrn : ℕ) → org < 2 ^ 8 → rfm < 2 ^ 8 → mrs < 2 ^ 16 → IsShortAnswer (attributes_of org rfm mrs mrn)
 unfolding groups
@@ -76,6 +79,7 @@ unnumbered_fits payload short =
 pub answers_fit : AnswersFit
 answers_fit = record {
   config = config_short;
+  identity = identity_short;
   attributes = attributes_short;
   ack = short_answer_of Ack tt tt (lit≤ tt);
   complete = complete_short;

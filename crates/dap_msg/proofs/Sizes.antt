@@ -8,7 +8,7 @@ use Rattle.dap_msg.specs.Message.{Message, Config, Attrib, Access, Control, Cont
 use Rattle.dap_msg.specs.Canon.{option_bytes, operand_fields, operand_bytes}
 use Rattle.dap_msg.specs.Fitting.{FitsField, FitsOption, FieldsFit}
 
-groups_short : (n v : ℕ) → length (groups n v) ≤ n
+pub groups_short : (n v : ℕ) → length (groups n v) ≤ n
 unfolding groups
 groups_short zero v = lit≤ tt
 groups_short (suc n) v = grind (arith, nat_tests, groups_short n (v / 128))

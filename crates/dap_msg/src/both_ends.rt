@@ -11,14 +11,36 @@ pub const GREATEST_MESSAGE: u16 = 65535;
 /// The least BUFSIZ, in bytes, but for 0, which sets no limit.
 pub const LEAST_BUFFER: u16 = 64;
 
-/// OSTYPE, FILESYS and the version of the protocol, as each end sends them in its Configuration.
-const OSTYPE: u8 = 7;
+/// OSTYPE and FILESYS of an end of which nothing else is asked.
+const PLAIN_OSTYPE: u8 = 7;
 
-const FILESYS: u8 = 3;
+const PLAIN_FILESYS: u8 = 3;
 
+/// OSTYPE and FILESYS of a system whose files are read and written by record (from memory).
+const RECORD_OSTYPE: u8 = 18;
+
+const RECORD_FILESYS: u8 = 13;
+
+/// The version of the protocol, as each end sends it in its Configuration.
 const VERNUM: u8 = 5;
 
 const ECONUM: u8 = 6;
+
+/// What both ends can do, as bits of SYSCAP (DAP 5.6.0, Configuration message; the table of bits is from memory): sequential
+/// and relative files (1, 2), sequential transfer (5), access by record number (6) and by record file address (10),
+/// switching the access (12), append (13), blocking up to a response and without limit (18, 19), two bytes of LENGTH
+/// (20), sequential record access (33).
+const ABILITIES: u128 = 1 << 1
+    | 1 << 2
+    | 1 << 5
+    | 1 << 6
+    | 1 << 10
+    | 1 << 12
+    | 1 << 13
+    | 1 << 18
+    | 1 << 19
+    | 1 << 20
+    | 1 << 33;
 
 /// A law: the limits are those that the definitions name.
 pub fn names_the_limits()
@@ -53,6 +75,39 @@ pub fn number_of(image: &[u8]) -> u64
     ensures small { result < 256 ^ length image.now }
 {
     dap_fields::number_of(image)
+}
+
+impl Configuration {
+    /// What an end says of itself where nothing else is asked for, with its BUFSIZ in bytes: OSTYPE 7, FILESYS 3, DAP version
+    /// 5.6, no SYSCAP (DAP 5.6.0, Configuration message).
+    pub fn plain(bufsiz: u16) -> Configuration
+        ensures { result ≡ both.plain_identity bufsiz }
+    {
+        Configuration {
+            bufsiz,
+            ostype: PLAIN_OSTYPE,
+            filesys: PLAIN_FILESYS,
+            vernum: VERNUM,
+            econum: ECONUM,
+            usrnum: 0,
+            softver: 0,
+            usrsoft: 0,
+            syscap: 0,
+        }
+    }
+
+    /// What is true of both ends, with a BUFSIZ in bytes: OSTYPE 18, FILESYS 13, DAP version 5.6, and SYSCAP with what they can
+    /// do (DAP 5.6.0, Configuration message; the bits are from memory).
+    pub fn truthful(bufsiz: u16) -> Configuration
+        ensures { result ≡ both.true_identity bufsiz }
+    {
+        Configuration {
+            ostype: RECORD_OSTYPE,
+            filesys: RECORD_FILESYS,
+            syscap: ABILITIES,
+            ..Configuration::plain(bufsiz)
+        }
+    }
 }
 
 impl<'a> Attributes<'a> {
@@ -91,17 +146,7 @@ impl<'a> Message<'a> {
     pub fn config_of(bufsiz: u16) -> Message<'a>
         ensures { result ≡ both.config_of bufsiz }
     {
-        Message::Config(Configuration {
-            bufsiz,
-            ostype: OSTYPE,
-            filesys: FILESYS,
-            vernum: VERNUM,
-            econum: ECONUM,
-            usrnum: 0,
-            softver: 0,
-            usrsoft: 0,
-            syscap: 0,
-        })
+        Message::Config(Configuration::plain(bufsiz))
     }
 
     /// An Access Complete with this CMPFUNC and nothing else (DAP 5.6.0, Access Complete message).

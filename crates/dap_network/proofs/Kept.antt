@@ -3,7 +3,7 @@ use Rattle.std.proofs.Common.{◌≡◌, ◌≢◌, ℕ, ◌+◌, ◌<◌, ◌�
 use Rattle.std.specs.Prelude.{IfSome, Option, Some, None, set, slice_get}
 use Rattle.std.specs.Global.{Vec}
 use Rattle.std.proofs.lemmas.Bool.{cases_eq}
-use Rattle.std.proofs.lemmas.List.{append-nil, map-append}
+use Rattle.std.proofs.lemmas.List.{append-nil, length-map, map-append}
 use Rattle.dap_msg.specs.declared.items.Item.{Item}
 use Rattle.dap_msg.specs.declared.message.Message.{Message}
 use Rattle.dap_msg.specs.Blocked.{Blocked, NspMessage, bodies}
@@ -11,10 +11,13 @@ use Rattle.dap_msg.specs.Items.{ItemAt}
 use Rattle.dap_shared.specs.Keeping.{AreOf}
 use Rattle.nsp_link.specs.declared.link.LinkSetup.{LinkSetup}
 use Rattle.dap_accessed.specs.Served.{Answered}
+use Rattle.rec_file.specs.declared.picks.Rights.{Rights}
+use Rattle.dap_accessed.specs.Setup.{all_rights}
+use Rattle.dap_accessed.specs.declared.setup.ServerSetup.{ServerSetup}
 use Rattle.dap_accessed.specs.Standing.{Files}
 use Rattle.dap_accessed.specs.Sessions.{SessionValue}
-use Rattle.dap_shared.specs.Nodes.{AnswersOn, Event, Serves, Begins, Gives, GivesRecord, added_on, items_on, limit_on}
-use Rattle.dap_shared.specs.Shared.{SharedAfter, SharedBegins, SharedGiven, SharedServed, SharedValue}
+use Rattle.dap_shared.specs.Nodes.{AnswersOn, Event, Serves, Begins, Drops, Gives, GivesRecord, added_on, items_on, limit_on}
+use Rattle.dap_shared.specs.Shared.{SharedAfter, SharedBegins, SharedDrops, SharedGiven, SharedServed, SharedValue, session_without}
 use Rattle.dap_shared.proofs.ForCallers.{answers-grow}
 use Rattle.dap_end.specs.By.{ServedBy}
 use Rattle.dap_end.specs.Calls.{AskingEvent, Came, EndEvent, GoesOn, Repeats, WroteOne}
@@ -26,33 +29,33 @@ use Rattle.dap_end.specs.Ports.{EndValue, HandsOver, PortValue, gone_on, new_por
 use Rattle.dap_end.proofs.ForCallers.{again_sent}
 use Rattle.dap_network.specs.History.{IsHistory, Tells}
 use Rattle.dap_network.specs.Headline.{LinkHeadline, NetworkHeadline}
-use Rattle.dap_network.specs.Network.{AtNode, AtPeer, FileGiven, IsNew, IsNewPeer, LinkBegan, LinkBegins, LinkEnds, Network, NetworkEvent, NetworkRuns, NetworkStepped, Peer, PeerStepped, RecordGiven, SteppedBefore, SteppedOn, WorkedBy, hands_over, link_of, rests, serves_one}
-use Rattle.dap_network.proofs.Histories.{IsSame, another_begins, answers_begin, file_given, items_begin, items_own, link_there, others_serve, record_given, same}
+use Rattle.dap_network.specs.Network.{AtNode, AtPeer, FileDropped, FileGiven, IsNew, IsNewPeer, LinkBegan, LinkBegins, LinkEnds, Network, NetworkEvent, NetworkRuns, NetworkStepped, Peer, PeerStepped, RecordGiven, SteppedBefore, SteppedOn, WorkedBy, hands_over, link_of, rests, serves_one}
+use Rattle.dap_network.proofs.Histories.{IsSame, another_begins, answers_begin, file_dropped, file_given, items_begin, items_own, link_there, others_serve, record_given, same}
 use Rattle.dap_network.proofs.Linked.{LinkStands, kept, link_new, link_went, packet_again, packet_came, peer_called}
 use Rattle.dap_network.proofs.Sets.{set_other, set_there}
 use Rattle.dap_network.proofs.Standing.{PortGrew, PortStands, grew_none, grew_on, grew_posted, grew_served, stands_posted, stands_served}
 
-module _ (own links : ℕ) (first : Files) where
+module _ (own : ServerSetup) (links : ℕ) (first : Files) where
   -- what is kept of all links stands after this history
   pub record Holds (history : List Event) (v : SharedValue) : Type 0 where
     pub after : SharedAfter first history v
-    pub is_own : v.own ≡ own
+    pub is_own : v.setup ≡ own
     pub as_many : length v.sessions ≡ links
 
   -- the answers by the numbers of the node
   answered_here : (v : SharedValue) (link : ℕ) (history : List Event) (item : Item) (out : Vec (Vec ℕ)) → Holds history v
-      → Answered (limit_on link v.own first (length v.sessions) history) (added_on link v.own first (length v.sessions) history item) out
+      → Answered (limit_on link v.setup first (length v.sessions) history) (added_on link v.setup first (length v.sessions) history item) out
       → Answered (limit_on link own first links history) (added_on link own first links history item) out
   answered_here v link history item out h a =
       subst (λ (n : ℕ). Answered (limit_on link own first n history) (added_on link own first n history item) out) h.as_many
-      (subst (λ (o : ℕ). Answered (limit_on link o first (length v.sessions) history) (added_on link o first (length v.sessions) history item) out) h.is_own a)
+      (subst (λ (o : ServerSetup). Answered (limit_on link o first (length v.sessions) history) (added_on link o first (length v.sessions) history item) out) h.is_own a)
 
   -- ---- Items of a link are served.
 
   -- one item more, whoever sent it
   held_item : (link : ℕ) (history : List Event) (old new : EndValue SharedValue) (n : ℕ) → (s : ServedBy (SharedServed link) old new n) → Holds history old.present → Holds (history ++ Serves link s.by.item ∷ []) new.present
   held_item link history old new n s h =
-      let serves = s.by.serves in record { after = serves.stands first history h.after; is_own = serves.same_own ∙ h.is_own; as_many = serves.same_links ∙ h.as_many }
+      let serves = s.by.serves in record { after = serves.stands first history h.after; is_own = serves.same_setup ∙ h.is_own; as_many = serves.same_links ∙ h.as_many }
 
   any_worked : (link : ℕ) (history : List Event) (a b : EndValue SharedValue) → WorkedBy (SharedServed link) a b → Holds history a.present → (items : List Item) × Holds (history ++ map (Serves link) items) b.present
   any_worked link history a b rests h = ([], subst (λ (l : List Event). Holds l a.present) (sym (append-nil history)) h)
@@ -348,52 +351,52 @@ module _ (own links : ℕ) (first : Files) where
 
   -- ---- Links that begin and end.
 
-  began : (link : ℕ) (history : List Event) (port : PortValue) (peer : Peer) → LinkStands [] [] port peer → Linked link (history ++ Begins link ∷ []) port peer
-  began link history port peer j =
-      let now = history ++ Begins link ∷ [] in
-      subst (λ (l : List Message). LinkStands (items_on link now) l port peer) (sym (answers_begin own links first link history)) (subst (λ (l : List Item). LinkStands l [] port peer) (sym (items_begin link history)) j)
+  began : (link : ℕ) (most : Rights) (history : List Event) (port : PortValue) (peer : Peer) → LinkStands [] [] port peer → Linked link (history ++ Begins link most ∷ []) port peer
+  began link most history port peer j =
+      let now = history ++ Begins link most ∷ [] in
+      subst (λ (l : List Message). LinkStands (items_on link now) l port peer) (sym (answers_begin own links first link most history)) (subst (λ (l : List Item). LinkStands l [] port peer) (sym (items_begin link most history)) j)
 
-  held_on : (link : ℕ) (history : List Event) (old new : SharedValue) → SharedBegins link old new → Holds history old → Holds (history ++ Begins link ∷ []) new
-  held_on link history old new b h = record { after = b.stands first history h.after; is_own = b.same_own ∙ h.is_own; as_many = b.same_links ∙ h.as_many }
+  held_on : (link : ℕ) (most : Rights) (history : List Event) (old new : SharedValue) → SharedBegins link most old new → Holds history old → Holds (history ++ Begins link most ∷ []) new
+  held_on link most history old new b h = record { after = b.stands first history h.after; is_own = b.same_setup ∙ h.is_own; as_many = b.same_links ∙ h.as_many }
 
-  on_begin : (link : ℕ) (setup : LinkSetup) (history : List Event) (old new : Network) → LinkBegan link setup old new → NetworkStands history old → Next (LinkBegins link setup) history new
-  on_begin link setup history old new s h =
+  on_begin : (link : ℕ) (setup : LinkSetup) (most : Rights) (history : List Event) (old new : Network) → LinkBegan link setup most old new → NetworkStands history old → Next (LinkBegins link setup most) history new
+  on_begin link setup most history old new s h =
       let b = s.began in
-      let now = history ++ Begins link ∷ [] in
+      let now = history ++ Begins link most ∷ [] in
       record {
-        told = Begins link ∷ [];
+        told = Begins link most ∷ [];
         tells = refl;
         now = now;
         is = refl;
         stands = moved link history now old new
             (record {
-              holds = held_on link history old.node.noted.shared new.node.noted.shared b.shared h.holds;
+              holds = held_on link most history old.node.noted.shared new.node.noted.shared b.shared h.holds;
               ports = λ j apart. ap (λ (l : List (Option PortValue)). slice_get l j) b.ports ∙ set_other old.node.ports link j (Some (new_port setup)) apart;
               peers = λ j apart. ap (λ (l : List (Option Peer)). slice_get l j) s.peers ∙ set_other old.peers link j s.peer apart;
-              others = λ j apart. another_begins own links first j link history apart;
+              others = λ j apart. another_begins own links first j link most history apart;
               here = λ port peer at with_peer. (let p : Some port ≡ Some (new_port setup) = set_there old.node.ports link (Some (new_port setup)) (Some port) (sym (ap (λ (l : List (Option PortValue)). slice_get l link) b.ports) ∙ at) in
                   let q : Some peer ≡ s.peer = set_there old.peers link s.peer (Some peer) (sym (ap (λ (l : List (Option Peer)). slice_get l link) s.peers) ∙ with_peer) in
                   let is_new : IsNewPeer setup peer = subst (λ (o : Option Peer). IfSome o (IsNewPeer setup)) (sym q) s.is_new in
                   let same_port : new_port setup ≡ port = cc in
-                  began link history port peer (subst (λ (x : PortValue). LinkStands [] [] x peer) same_port (link_new setup peer is_new)));
+                  began link most history port peer (subst (λ (x : PortValue). LinkStands [] [] x peer) same_port (link_new setup peer is_new)));
             })
             h;
       }
 
   on_end : (link : ℕ) (history : List Event) (old new : Network) → EndedOn link old.node new.node → new.peers ≡ old.peers → NetworkStands history old → Next (LinkEnds link) history new
   on_end link history old new e peers h =
-      let now = history ++ Begins link ∷ [] in
+      let now = history ++ Begins link all_rights ∷ [] in
       record {
-        told = Begins link ∷ [];
+        told = Begins link all_rights ∷ [];
         tells = refl;
         now = now;
         is = refl;
         stands = moved link history now old new
             (record {
-              holds = held_on link history old.node.noted.shared new.node.noted.shared e.shared h.holds;
+              holds = held_on link all_rights history old.node.noted.shared new.node.noted.shared e.shared h.holds;
               ports = λ j apart. ap (λ (l : List (Option PortValue)). slice_get l j) e.ports ∙ set_other old.node.ports link j None apart;
               peers = λ j apart. ap (λ (l : List (Option Peer)). slice_get l j) peers;
-              others = λ j apart. another_begins own links first j link history apart;
+              others = λ j apart. another_begins own links first j link all_rights history apart;
               here = λ port peer at with_peer. (let p : Some port ≡ None = set_there old.node.ports link None (Some port) (sym (ap (λ (l : List (Option PortValue)). slice_get l link) e.ports) ∙ at) in
                   let none : ⊥ = cc in absurd none);
             })
@@ -412,9 +415,30 @@ module _ (own links : ℕ) (first : Files) where
         now = now;
         is = refl;
         stands = record {
-          holds = record { after = g.stands first history h.holds.after; is_own = g.same_own ∙ h.holds.is_own; as_many = ap (λ (l : List SessionValue). length l) g.same_sessions ∙ h.holds.as_many };
+          holds = record { after = g.stands first history h.holds.after; is_own = g.same_setup ∙ h.holds.is_own; as_many = ap (λ (l : List SessionValue). length l) g.same_sessions ∙ h.holds.as_many };
           each = λ j port peer at with_peer. still j history now port peer (all j)
               (h.each j port peer (sym (ap (λ (l : List (Option PortValue)). slice_get l j) ports) ∙ at) (sym (ap (λ (l : List (Option Peer)). slice_get l j) peers) ∙ with_peer));
+        };
+      }
+
+  -- ---- A file that is dropped.
+
+  on_dropped : (at : ℕ) (history : List Event) (old new : Network) → SharedDrops at old.node.noted.shared new.node.noted.shared → new.node.ports ≡ old.node.ports → new.peers ≡ old.peers → NetworkStands history old → Next (FileDropped at) history new
+  on_dropped at history old new d ports peers h =
+      let now = history ++ Drops at ∷ [] in
+      record {
+        told = Drops at ∷ [];
+        tells = refl;
+        now = now;
+        is = refl;
+        stands = record {
+          holds = record {
+            after = d.stands first history h.holds.after;
+            is_own = d.same_setup ∙ h.holds.is_own;
+            as_many = ap (λ (l : List SessionValue). length l) d.sessions ∙ length-map old.node.noted.shared.sessions (session_without at) ∙ h.holds.as_many;
+          };
+          each = λ j port peer here with_peer. still j history now port peer (file_dropped own links first j history at)
+              (h.each j port peer (sym (ap (λ (l : List (Option PortValue)). slice_get l j) ports) ∙ here) (sym (ap (λ (l : List (Option Peer)). slice_get l j) peers) ∙ with_peer));
         };
       }
 
@@ -424,10 +448,11 @@ module _ (own links : ℕ) (first : Files) where
   next (AtPeer link event) history old new more s h = on_peer link history old new event more s h
   next (AtNode link event) history old new more (inl s) h = on_link link history old new event more s h
   next (AtNode link event) history old new more (inr s) h = on_stranger link history old new event more s h
-  next (LinkBegins link setup) history old new more s h = on_begin link setup history old new s.0 h
+  next (LinkBegins link setup most) history old new more s h = on_begin link setup most history old new s.0 h
   next (LinkEnds link) history old new more s h = on_end link history old new s.0 s.1 h
   next (FileGiven name shape) history old new more s h = on_given (FileGiven name shape) (Gives name shape) history old new refl (λ link. file_given own links first link history name shape) s.0 s.1 s.2 h
-  next (RecordGiven number body) history old new more s h = on_given (RecordGiven number body) (GivesRecord number body) history old new refl (λ link. record_given own links first link history number body) s.0 s.1 s.2 h
+  next (RecordGiven at number body) history old new more s h = on_given (RecordGiven at number body) (GivesRecord at number body) history old new refl (λ link. record_given own links first link history at number body) s.0 s.1 s.2 h
+  next (FileDropped at) history old new more s h = on_dropped at history old new s.0 s.1 s.2 h
 
   -- after all events
   record After (events : List NetworkEvent) (history : List Event) (new : Network) : Type 0 where
@@ -460,10 +485,10 @@ module _ (own links : ℕ) (first : Files) where
         files_after = ap (λ (x : SharedValue). x.files) h.holds.after.stands;
         links = λ link port peer at with_peer. (let k = kept (items_on link history) (AnswersOn link own first links history) port peer (h.each link port peer at with_peer) in
             let one : LinkHeadline link own first links history peer = record { taken = k.taken; served = k.served; taken_in_order = k.taken_in_order; read = k.read; read_in_order = k.read_in_order; reports_told = k.reports_told } in
-            subst (λ (n : ℕ). LinkHeadline link v.own first n history peer) (sym h.holds.as_many) (subst (λ (o : ℕ). LinkHeadline link o first links history peer) (sym h.holds.is_own) one));
+            subst (λ (n : ℕ). LinkHeadline link v.setup first n history peer) (sym h.holds.as_many) (subst (λ (o : ServerSetup). LinkHeadline link o first links history peer) (sym h.holds.is_own) one));
       }
 
-  pub network_keeps : (events : List NetworkEvent) (old new : Network) → IsNew first old → old.node.noted.shared.own ≡ own → length old.node.noted.shared.sessions ≡ links → NetworkRuns old events new → NetworkHeadline first events new
+  pub network_keeps : (events : List NetworkEvent) (old new : Network) → IsNew first old → old.node.noted.shared.setup ≡ own → length old.node.noted.shared.sessions ≡ links → NetworkRuns old events new → NetworkHeadline first events new
   network_keeps events old new n is_own as_many r =
       let start : NetworkStands [] old = record { holds = record { after = n.shared; is_own = is_own; as_many = as_many }; each = λ link port peer at with_peer. absurd (n.none link port at) } in
       let end = runs events [] old new r start in

@@ -41,7 +41,7 @@ pub record LinkStands (items : List Item) (answers : List Message) (port : PortV
 pub record IsKept (items : List Item) (answers : List Message) (peer : Peer) : Type 0 where
   pub taken : List Message
   pub served : items ≡ map Whole taken
-  pub taken_in_order : (rest : List Message) × (taken ++ rest ≡ Asked peer.client.present.own peer.requests)
+  pub taken_in_order : (rest : List Message) × (taken ++ rest ≡ Asked peer.client.present.identity peer.requests)
   pub read : List Message
   pub read_in_order : (rest : List Message) × (read ++ rest ≡ answers)
   pub reports_told : peer.reports ≡ Told peer.requests (map Whole read)
@@ -57,7 +57,7 @@ kept items answers port peer j =
     record {
       taken = t.taken;
       served = t.is;
-      taken_in_order = (t.rest, t.split ∙ c.asking.messages ∙ ap (Asked peer.client.present.own) c.requests);
+      taken_in_order = (t.rest, t.split ∙ c.asking.messages ∙ ap (Asked peer.client.present.identity) c.requests);
       read = r.taken;
       read_in_order = (r.rest, r.split ∙ j.stands.told);
       reports_told = c.told ∙ ap (λ (l : List Request). Told l c.asked.answers) c.requests ∙ ap (Told peer.requests) r.is;

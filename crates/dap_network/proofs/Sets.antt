@@ -1,6 +1,6 @@
 -- Lists in which one place was set.
 use Rattle.std.proofs.Common.{◌≡◌, ◌≢◌, ℕ, zero, suc, List, [], ◌∷◌, Some, refl, ap}
-use Rattle.std.specs.Prelude.{get_or, set, slice_get}
+use Rattle.std.specs.Prelude.{set, slice_get}
 
 pub set_there : {A : Type 0} (xs : List A) (i : ℕ) (a b : A) → slice_get (set xs i a) i ≡ Some b → b ≡ a
 set_there [] i a b e = let none : ⊥ = cc in absurd none
@@ -13,12 +13,6 @@ set_other (x ∷ xs) zero zero a d = absurd (d refl)
 set_other (x ∷ xs) zero (suc j) a d = refl
 set_other (x ∷ xs) (suc i) zero a d = refl
 set_other (x ∷ xs) (suc i) (suc j) a d = set_other xs i j a (λ e. d (ap suc e))
-
--- what stands for a place that isn't there was set
-pub set_plain : {A : Type 0} (xs : List A) (i : ℕ) (d : A) → get_or (set xs i d) i d ≡ d
-set_plain [] i d = refl
-set_plain (x ∷ xs) zero d = refl
-set_plain (x ∷ xs) (suc i) d = set_plain xs i d
 
 -- what was set is there, where something was
 pub set_here : {A : Type 0} (xs : List A) (i : ℕ) (a b : A) → slice_get xs i ≡ Some a → slice_get (set xs i b) i ≡ Some b

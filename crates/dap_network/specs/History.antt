@@ -1,9 +1,10 @@
 -- The order in which all links of a node were served.
-use Rattle.std.specs.Prelude.{◌≡◌, ℕ, List, [], ◌∷◌, ◌++◌, map}
+use Rattle.std.specs.Prelude.{◌≡◌, List, [], ◌∷◌, ◌++◌, map}
 use Rattle.dap_msg.specs.declared.items.Item.{Item}
-use Rattle.dap_shared.specs.Nodes.{Event, Begins, Gives, GivesRecord, Serves}
+use Rattle.dap_accessed.specs.Setup.{all_rights}
+use Rattle.dap_shared.specs.Nodes.{Event, Begins, Drops, Gives, GivesRecord, Serves}
 use Rattle.dap_end.specs.Calls.{Came, GoesOn, Repeats}
-use Rattle.dap_network.specs.Network.{NetworkEvent, AtPeer, AtNode, LinkBegins, LinkEnds, FileGiven, RecordGiven}
+use Rattle.dap_network.specs.Network.{NetworkEvent, AtPeer, AtNode, LinkBegins, LinkEnds, FileGiven, RecordGiven, FileDropped}
 
 -- What an event of the network adds to a history. Where the node goes on, on a link, that is some items of this link.
 abbrev pub Tells : NetworkEvent → List Event → Type 0
@@ -11,10 +12,11 @@ Tells (AtNode link GoesOn) told = (items : List Item) × (told ≡ map (Serves l
 Tells (AtNode link (Came bytes)) told = told ≡ []
 Tells (AtNode link (Repeats place)) told = told ≡ []
 Tells (AtPeer link event) told = told ≡ []
-Tells (LinkBegins link setup) told = told ≡ Begins link ∷ []
-Tells (LinkEnds link) told = told ≡ Begins link ∷ []
+Tells (LinkBegins link setup most) told = told ≡ Begins link most ∷ []
+Tells (LinkEnds link) told = told ≡ Begins link all_rights ∷ []
 Tells (FileGiven name shape) told = told ≡ Gives name shape ∷ []
-Tells (RecordGiven number body) told = told ≡ GivesRecord number body ∷ []
+Tells (RecordGiven at number body) told = told ≡ GivesRecord at number body ∷ []
+Tells (FileDropped at) told = told ≡ Drops at ∷ []
 
 -- the history of all these events, in their order
 abbrev pub IsHistory : List NetworkEvent → List Event → Type 0

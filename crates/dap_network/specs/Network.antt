@@ -2,13 +2,14 @@
 -- the law `many_links_keep_the_headline`. A peer is a client of this implementation, or a stranger, which may send anything.
 use Rattle.std.specs.Prelude.{◌≡◌, ◌⊎◌, ℕ, List, [], ◌∷◌, ◌++◌, set, IfSome, Option, Some, None, slice_get}
 use Rattle.rec_file.specs.declared.shapes.Shape.{Shape}
+use Rattle.rec_file.specs.declared.picks.Rights.{Rights}
 use Rattle.nsp_link.specs.declared.link.LinkSetup.{LinkSetup}
 use Rattle.nsp_link.specs.Link.{IsSetup, LinkValue}
 use Rattle.dap_accessed.specs.Standing.{Files}
 use Rattle.dap_accessing.specs.Request.{Request}
 use Rattle.dap_accessing.specs.declared.report.Report.{Report}
 use Rattle.dap_shared.specs.Nodes.{Gives, GivesRecord}
-use Rattle.dap_shared.specs.Shared.{SharedAfter, SharedGiven, SharedServed, SharedValue}
+use Rattle.dap_shared.specs.Shared.{SharedAfter, SharedDrops, SharedGiven, SharedServed, SharedValue}
 use Rattle.dap_end.specs.Ports.{EndValue, HandsOver, PortValue, new_port}
 use Rattle.dap_end.specs.By.{ServedBy, ServesAt, end_with}
 use Rattle.dap_end.specs.Asking.{HasAsked}
@@ -35,15 +36,17 @@ pub record Network : Type 0 where
 
 -- ---- Events.
 
--- The peer of a link is called. Or the node is called on a link; it begins a link with a setup, and another peer, or ends
--- one; it is given a file without records, or a record of the newest file.
+-- The peer of a link is called. Or the node is called on a link; it begins a link with a setup, the most that an Access on
+-- it may ask for, and another peer, or ends one; it is given a file without records, or a record of the file at an index; or
+-- the file at an index is dropped.
 pub data NetworkEvent : Type 0 where
   AtPeer : (link : ℕ) → AskingEvent → NetworkEvent
   AtNode : (link : ℕ) → EndEvent → NetworkEvent
-  LinkBegins : (link : ℕ) → LinkSetup → NetworkEvent
+  LinkBegins : (link : ℕ) → LinkSetup → (most : Rights) → NetworkEvent
   LinkEnds : (link : ℕ) → NetworkEvent
   FileGiven : (name : List ℕ) → Shape → NetworkEvent
-  RecordGiven : (number : ℕ) → (body : List ℕ) → NetworkEvent
+  RecordGiven : (at number : ℕ) → (body : List ℕ) → NetworkEvent
+  FileDropped : (at : ℕ) → NetworkEvent
 
 -- items that came were served so, and what waited was passed on, in any order
 pub data WorkedBy {P : Type 0} (serves : ServesAt P) : EndValue P → EndValue P → Type 0 where
@@ -102,9 +105,9 @@ pub record IsNewPeer (setup : LinkSetup) (peer : Peer) : Type 0 where
   pub asking : HasAsked nothing_asked peer.client
   pub none : peer ≡ record { client = peer.client; from_peer = []; from_node = []; requests = []; reports = [] }
 
--- a link began, with a new peer, or a stranger
-pub record LinkBegan (link : ℕ) (setup : LinkSetup) (old new : Network) : Type 0 where
-  pub began : BeganOn link setup old.node new.node
+-- a link began with these rights, with a new peer, or a stranger
+pub record LinkBegan (link : ℕ) (setup : LinkSetup) (most : Rights) (old new : Network) : Type 0 where
+  pub began : BeganOn link setup most old.node new.node
   pub peer : Option Peer
   pub is_new : IfSome peer (IsNewPeer setup)
   pub peers : new.peers ≡ set old.peers link peer
@@ -113,12 +116,14 @@ pub record LinkBegan (link : ℕ) (setup : LinkSetup) (old new : Network) : Type
 abbrev pub NetworkStepped : Network → NetworkEvent → List Written → Network → Type 0
 NetworkStepped old (AtPeer link event) more new = PeerStepped link old event more new
 NetworkStepped old (AtNode link event) more new = SteppedOn link old event more new ⊎ SteppedBefore link old event more new
-NetworkStepped old (LinkBegins link setup) more new = LinkBegan link setup old new × (more ≡ [])
+NetworkStepped old (LinkBegins link setup most) more new = LinkBegan link setup most old new × (more ≡ [])
 NetworkStepped old (LinkEnds link) more new = EndedOn link old.node new.node × (new.peers ≡ old.peers) × (more ≡ [])
 NetworkStepped old (FileGiven name shape) more new =
     SharedGiven (Gives name shape) old.node.noted.shared new.node.noted.shared × (new.node.ports ≡ old.node.ports) × (new.peers ≡ old.peers) × (more ≡ [])
-NetworkStepped old (RecordGiven number body) more new =
-    SharedGiven (GivesRecord number body) old.node.noted.shared new.node.noted.shared × (new.node.ports ≡ old.node.ports) × (new.peers ≡ old.peers) × (more ≡ [])
+NetworkStepped old (RecordGiven at number body) more new =
+    SharedGiven (GivesRecord at number body) old.node.noted.shared new.node.noted.shared × (new.node.ports ≡ old.node.ports) × (new.peers ≡ old.peers) × (more ≡ [])
+NetworkStepped old (FileDropped at) more new =
+    SharedDrops at old.node.noted.shared new.node.noted.shared × (new.node.ports ≡ old.node.ports) × (new.peers ≡ old.peers) × (more ≡ [])
 
 -- events, one after another
 abbrev pub NetworkRuns : Network → List NetworkEvent → Network → Type 0

@@ -6,9 +6,11 @@ ghost use Rattle.nsp_link.specs.declared.link.Got.{Got as TheGot};
 ghost use Rattle.nsp_link.specs.Link.{IsSpelling};
 ghost use Rattle.nsp_link.specs.Sending.{WritesSent, ack_packet_of};
 ghost use Rattle.dap_msg.specs.declared.items.Item.{Item};
+ghost use Rattle.rec_file.specs.declared.picks.Rights.{Rights};
+ghost use Rattle.dap_accessed.specs.declared.setup.ServerSetup.{ServerSetup};
 ghost use Rattle.dap_accessed.specs.Standing.{Files};
 ghost use Rattle.dap_accessed.specs.Groups.{After, Answers};
-ghost use Rattle.dap_shared.specs.Nodes.{AnswersOn, Begins, FilesAfter, Serves, items_on};
+ghost use Rattle.dap_shared.specs.Nodes.{AnswersOn, Begins, FilesAfter, Serves, items_on, setup_with};
 ghost use Rattle.dap_accessing.specs.Request.{Request as TheRequest};
 ghost use Rattle.dap_accessing.specs.declared.report.Report.{Report as TheReport};
 ghost use Rattle.dap_end.specs.declared.fault.EndFault.{EndFault as TheEndFault};
@@ -35,21 +37,23 @@ pub fn many_links_keep_the_headline()
 {}
 
 /// With one link that began once, the history is what was served on it, and its files and answers are those of a server of one
-/// link. So the headline is that of two ends (`two_ends_keep_the_headline` of `dap_end`).
+/// link with the rights of this one. So the headline is that of two ends (`two_ends_keep_the_headline` of `dap_end`).
 pub fn one_link_is_as_before()
-    ensures items { (items : List Item)
-        → items_on 0 (Begins 0 ∷ map (Serves 0) items) ≡ items }
-    ensures files { (own : ℕ) (first : Files) (items : List Item)
-        → FilesAfter own first 1 (Begins 0 ∷ map (Serves 0) items) ≡ After own first items }
-    ensures answers { (own : ℕ) (first : Files) (items : List Item)
-        → AnswersOn 0 own first 1 (Begins 0 ∷ map (Serves 0) items) ≡ Answers own first items }
+    ensures items { (most : Rights) (items : List Item)
+        → items_on 0 (Begins 0 most ∷ map (Serves 0) items) ≡ items }
+    ensures files { (own : ServerSetup) (most : Rights) (first : Files) (items : List Item)
+        → FilesAfter own first 1 (Begins 0 most ∷ map (Serves 0) items)
+        ≡ After (setup_with most own) first items }
+    ensures answers { (own : ServerSetup) (most : Rights) (first : Files) (items : List Item)
+        → AnswersOn 0 own first 1 (Begins 0 most ∷ map (Serves 0) items)
+        ≡ Answers (setup_with most own) first items }
 {
     dap_shared::one_link_is_as_before();
 }
 
 /// Each call of a node on a link, refused or not, is some events of the network: where the packet that comes is one that the
 /// link's peer wrote, and not more than 2,047 numbers old. The calls by which a link begins or ends, and by which a file or a
-/// record is given, are events as they are.
+/// record is given or a file is dropped, are events as they are.
 pub fn node_calls_are_events()
     ensures take { (link most : ℕ) (old : Network) (node : NodeValue) (peer : Peer)
         (bytes : List ℕ) (out all : List (List ℕ)) (r : Result TheGot TheTakeFault)

@@ -2,6 +2,7 @@
 use Rattle.std.proofs.Common.{◌≡◌, ℕ, ◌<◌, Bool, true, false, List, [], ◌∷◌, ◌++◌, length, Option, Some, None, Result, Ok, Err, refl, ap, sym, subst, ◌∙◌}
 use Rattle.std.specs.Prelude.{◌+◌, IfSome, if◌then◌else◌, ◌==◌, ◌||◌, not, take_while, drop, option_map}
 use Rattle.std.specs.List.{prefix_len, remove}
+use Rattle.dap_accessed.specs.declared.setup.ServerSetup.{ServerSetup}
 use Rattle.dap_msg.specs.Codes as codes
 use Rattle.dap_msg.specs.BothEnds.{is_too_small}
 use Rattle.dap_msg.specs.declared.message.Message.{Message}
@@ -20,9 +21,11 @@ use Rattle.rec_file.specs.Acts.{Operation, StreamVal, outcome_of, act, get_recor
 use Rattle.dap_accessed.specs.declared.phase.OpenFile.{OpenFile}
 use Rattle.dap_accessed.specs.declared.verbs.Verb.{Verb}
 use Rattle.dap_accessed.specs.declared.verbs.Verb.TheVariants as verbs
-use Rattle.dap_accessed.specs.Standing.{Files, place_of, with_file, the_file, new_file, Place, Fresh, Ready, Opened, Connected, Store, Stopped, Group, Standing, Scene, Effect, enters}
+use Rattle.dap_accessed.specs.Standing.{Files, place_by, file_at, with_file, the_file, new_file, Place, Fresh, Ready, Opened, Connected, Store, Stopped, Group, Standing, Scene, Effect, enters}
 use Rattle.dap_accessed.specs.Past.{asked_shape, kept_attributes, is_dropping, ordinal_so_far}
-use Rattle.dap_accessed.specs.Accesses.{open_file, create_file, access_file, end_stream, complete, rights_of, fac_or}
+use Rattle.dap_accessed.specs.Accesses.{make_file, open_file, create_file, access_file, end_stream, complete, refuse_access, rights_to_create, rights_to_open}
+use Rattle.dap_accessed.specs.Replies.{opened_with, reason_of, refused_access}
+use Rattle.dap_accessed.specs.Setup.{lacks}
 use Rattle.dap_accessed.specs.Records.{at_number, verb_of, get_pick, got, record_got, settled, Change, Putting, Updating, changed, fits_limit, uncurrent}
 use Rattle.dap_accessed.specs.Transfers.{fetch, fetch_ends, continue_fetch, store_one}
 use Rattle.dap_accessed.specs.Effects.{Begun, Turn, Does, Begins, control_opened, control_connected, turn_in, turn_of, effect_with}
@@ -30,7 +33,7 @@ use Rattle.dap_accessed.specs.Groups.{Grouped, after_two}
 use Rattle.dap_accessed.specs.Groups.{next_group, more_after, one_more}
 use Rattle.dap_accessed.proofs.ForCallers.{with-same}
 use Rattle.dap_accessed.proofs.ForCallers.{place-within}
-use Rattle.dap_accessed.specs.Sessions.{would_open}
+use Rattle.dap_accessed.specs.Sessions.{there_at, there_if, would_open}
 use Rattle.dap_shared.specs.Sharing.{open_in, asks_to_open}
 
 abbrev pub may_write : Rights → Bool
@@ -123,25 +126,36 @@ module _ (scene : Scene) (asks : Option OpenFile) where
 
   -- ---- Accesses.
 
-  opening : (a : AccessFields) (at : Option ℕ) → asks ≡ would_open scene.files a → place_of a.name scene.files ≡ at → (a.func == codes.accfunc.opening) ≡ true → Left None (open_file scene a.fac at)
-  opening a None w p e = entering Ready _ tt
-  opening a (Some at) w p e =
-      let o : ℕ → OpenFile = λ n. record { at = n; is_new = false; rights = rights_of (fac_or a.fac codes.fac_bits.get) } in
+  opening-if : (own : ServerSetup) (a : AccessFields) (at : ℕ) (lack : Bool) → lacks own.most (rights_to_open a.fac) ≡ lack → asks ≡ would_open own scene.files a → place_by own.names a.name scene.files ≡ Some at
+      → (a.func == codes.accfunc.opening) ≡ true
+      → Left None (if lack then refuse_access scene (refused_access (reason_of NotPermitted)) else enters scene (Opened (there_at a.fac at)) (opened_with (file_at at scene.files).shape))
+  opening-if own a at true l w p e = entering Ready _ tt
+  opening-if own a at false l w p e =
+      let found = place_by own.names a.name scene.files in
       record {
-        moved = opens (o at) (subst (λ (x : Option ℕ). IfSome x (λ n. n < length scene.files)) p (place-within a.name scene.files))
-            (w ∙ ap (λ (b : Bool). if b then option_map o (place_of a.name scene.files) else None) e ∙ ap (option_map o) p);
+        moved = opens (there_at a.fac at) (subst (λ (x : Option ℕ). IfSome x (λ n. n < length scene.files)) p (place-within own.names a.name scene.files))
+            (w ∙ ap (λ (b : Bool). if b then there_if own a.fac found else None) e
+            ∙ ap (λ (b : Bool). if b then None else option_map (there_at a.fac) found) l ∙ ap (option_map (there_at a.fac)) p);
         rights = tt;
       }
 
-  creating : (name : List ℕ) (fac : ℕ) (at : Option ℕ) (shape : Option Shape) → Left None (create_file scene name fac at shape)
-  creating name fac (Some at) shape = entering Ready _ tt
-  creating name fac None None = entering Ready _ tt
-  creating name fac None (Some shape) = record { moved = makes (name, new_file shape) _ refl; rights = tt }
+  opening : (own : ServerSetup) (a : AccessFields) (at : Option ℕ) → asks ≡ would_open own scene.files a → place_by own.names a.name scene.files ≡ at → (a.func == codes.accfunc.opening) ≡ true → Left None (open_file own scene a.fac at)
+  opening own a None w p e = entering Ready _ tt
+  opening own a (Some at) w p e = opening-if own a at (lacks own.most (rights_to_open a.fac)) refl w p e
 
-  accessing : (a : AccessFields) (shape : Option Shape) → asks ≡ would_open scene.files a → Left None (access_file scene a shape)
-  accessing a shape w =
-      either-is None (a.func == codes.accfunc.opening) _ _ (opening a (place_of a.name scene.files) w refl)
-      (either None (a.func == codes.accfunc.creating) _ _ (creating a.name a.fac (place_of a.name scene.files) shape) (entering Ready _ tt))
+  making : (name : List ℕ) (fac : ℕ) (shape : Option Shape) → Left None (make_file scene name fac shape)
+  making name fac None = entering Ready _ tt
+  making name fac (Some shape) = record { moved = makes (name, new_file shape) _ refl; rights = tt }
+
+  creating : (own : ServerSetup) (name : List ℕ) (fac : ℕ) (at : Option ℕ) (shape : Option Shape) → Left None (create_file own scene name fac at shape)
+  creating own name fac (Some at) shape = entering Ready _ tt
+  creating own name fac None shape = either None (lacks own.most (rights_to_create fac)) _ _ (entering Ready _ tt) (making name fac shape)
+
+  accessing : (own : ServerSetup) (a : AccessFields) (shape : Option Shape) → asks ≡ would_open own scene.files a → Left None (access_file own scene a shape)
+  accessing own a shape w =
+      let found = place_by own.names a.name scene.files in
+      either-is None (a.func == codes.accfunc.opening) _ _ (opening own a found w refl)
+      (either None (a.func == codes.accfunc.creating) _ _ (creating own a.name a.fac found shape) (entering Ready _ tt))
 
   purging : (o : OpenFile) (new : Bool) (answers : List Message) → o.is_new ≡ new → Left (Some o) (enters (record scene { files = if new then remove scene.files o.at else scene.files }) Ready answers)
   purging o true answers e = record { moved = removes o e; rights = tt }
@@ -236,10 +250,10 @@ module _ (scene : Scene) (asks : Option OpenFile) where
     with-second change s (Whole (Filedata k body)) r = second change s body r
     with-second change s (Whole message) r = entering (Connected o s) _ r
 
-  of-message : (own : ℕ) (past : List Group) (place : Place) → HasRights place → (m : Message) → asks ≡ asks_to_open scene.files place (Whole m) → LeftIn (open_in place) (turn_in own scene past place m)
+  of-message : (own : ServerSetup) (past : List Group) (place : Place) → HasRights place → (m : Message) → asks ≡ asks_to_open own scene.files place (Whole m) → LeftIn (open_in place) (turn_in own scene past place m)
   of-message own past Fresh h (Config c) w = either None (is_too_small c.bufsiz) _ _ (entering Fresh _ tt) (record { moved = keeps None; rights = tt })
   of-message own past Fresh h m w = entering Fresh _ tt
-  of-message own past Ready h (Access a) w = accessing a (asked_shape (kept_attributes past)) w
+  of-message own past Ready h (Access a) w = accessing own a (asked_shape (kept_attributes past)) w
   of-message own past Ready h m w = entering Ready _ tt
   of-message own past (Opened o) h (Control c) w = opened-control o (verb_of c)
   of-message own past (Opened o) h (Accomp c) w = completed c.func o (Opened o) refl h
@@ -255,7 +269,7 @@ module _ (scene : Scene) (asks : Option OpenFile) where
   of-message own past (Stopped o s) h (Accomp c) w = completed c.func o (Stopped o s) refl h
   of-message own past (Stopped o s) h m w = entering (Stopped o s) _ h
 
-  pub of-item : (own : ℕ) (past : List Group) (place : Place) → HasRights place → (item : Item) → asks ≡ asks_to_open scene.files place item
+  pub of-item : (own : ServerSetup) (past : List Group) (place : Place) → HasRights place → (item : Item) → asks ≡ asks_to_open own scene.files place item
       → LeftIn (open_in place) (turn_of own (record { scene = scene; place = place; past = past }) item)
   of-item own past place h (Malformed fault) w = entering place _ h
   of-item own past place h (Whole m) w = of-message own past place h m w
@@ -275,16 +289,16 @@ pub next-goes : (asks : Option OpenFile) (s : Standing) (item : Item) (t : Turn)
 next-goes asks s item (Does e) h l = record { moved = l.moved; steady = record { rights = l.rights; begun = tt } }
 next-goes asks s item (Begins b) h l = record { moved = keeps (open_in s.place); steady = record { rights = h; begun = l } }
 
-by-begun : (own : ℕ) (s : Standing) (begun : Option Begun) (item : Item) → HasRights s.place → IfSome begun (λ b. (open_in s.place ≡ Some b.opened) × (b.stream.rights ≡ b.opened.rights))
-    → Goes (record { standing = s; begun = begun }) (more_after own s begun item) (asks_to_open s.scene.files s.place item)
+by-begun : (own : ServerSetup) (s : Standing) (begun : Option Begun) (item : Item) → HasRights s.place → IfSome begun (λ b. (open_in s.place ≡ Some b.opened) × (b.stream.rights ≡ b.opened.rights))
+    → Goes (record { standing = s; begun = begun }) (more_after own s begun item) (asks_to_open own s.scene.files s.place item)
 by-begun own s None item h n = next-goes _ s item (turn_of own s item) h (of-item s.scene _ own s.past s.place h item refl)
 by-begun own s (Some b) item h n =
-    let asks = asks_to_open s.scene.files s.place item in
+    let asks = asks_to_open own s.scene.files s.place item in
     let l = with-second s.scene asks b.opened b.change b.stream item n.1 in
     record {
       moved = subst (λ (held : Option OpenFile). Moved s.scene.files asks held (after_two s b item).scene.files (open_in (after_two s b item).place)) (sym n.0) l.moved;
       steady = record { rights = l.rights; begun = tt };
     }
 
-pub one-goes : (own : ℕ) (c : Grouped) (item : Item) → IsSteady c → Goes c (one_more own c item) (asks_to_open c.standing.scene.files c.standing.place item)
+pub one-goes : (own : ServerSetup) (c : Grouped) (item : Item) → IsSteady c → Goes c (one_more own c item) (asks_to_open own c.standing.scene.files c.standing.place item)
 one-goes own c item h = by-begun own c.standing c.begun item h.rights h.begun

@@ -5,22 +5,26 @@ use Rattle.std.specs.List.{list_any}
 use Rattle.std.proofs.lemmas.Bool.{cases_eq, ne_eqb}
 use Rattle.std.proofs.lemmas.List.{get_or-set_same, get_or-set_other, length-append, length-map, length-set, length-replicate}
 use Rattle.std.proofs.Math.ListN.{get_or-map}
+use Rattle.dap_accessed.specs.declared.setup.ServerSetup.{ServerSetup}
 use Rattle.dap_msg.specs.declared.items.Item.{Item}
 use Rattle.dap_accessed.specs.declared.phase.OpenFile.{OpenFile}
 use Rattle.dap_accessed.specs.Replies.{bare_status}
 use Rattle.rec_file.specs.Files.{stored}
-use Rattle.dap_accessed.specs.Adding.{newest, with_new_file, with_record}
+use Rattle.rec_file.specs.declared.picks.Rights.{Rights}
+use Rattle.dap_accessed.specs.Adding.{with_new_file}
+use Rattle.dap_accessed.specs.Sessions.{moved_up}
 use Rattle.dap_accessed.proofs.ForCallers.{length-with}
+use Rattle.dap_accessed.specs.Setup.{all_rights}
 use Rattle.dap_accessed.specs.Standing.{file_at, new_file, Files, Place, Fresh, Ready, Opened, Connected, Store, Stopped}
 use Rattle.dap_accessed.specs.Accesses.{refuse_access}
 use Rattle.dap_accessed.specs.Effects.{Begun, Does}
 use Rattle.dap_accessed.specs.Groups.{Grouped}
 use Rattle.dap_accessed.specs.Groups.{one_more, next_group}
-use Rattle.dap_shared.specs.Sharing.{open_in, has_alone, are_apart, bars, is_locked, asks_to_open, file_locked, place_moved_up}
-use Rattle.dap_shared.specs.Nodes.{Exchange, Node, new_exchange, new_node, exchange_at, exchange_of, end_at, before_files, open_on, open_beside, more_beside, begun_moved_up, exchange_moved_up, removed_by, after_event, after_all, node_after, Event, Serves, Begins, Gives, GivesRecord}
+use Rattle.dap_shared.specs.Sharing.{open_in, has_alone, are_apart, bars, is_file, is_locked, asks_to_open, file_locked, place_moved_up}
+use Rattle.dap_shared.specs.Nodes.{Exchange, Node, new_exchange, no_exchange, new_node, exchange_at, exchange_of, end_at, before_files, open_on, open_beside, more_beside, begun_moved_up, exchange_moved_up, exchange_without, removed_by, is_open, without_file, with_record_at, setup_on, after_event, after_all, node_after, Event, Serves, Begins, Gives, GivesRecord, Drops}
 use Rattle.dap_shared.proofs.Changes.{closes, HasRights, IsSteady, Goes, one-goes}
 use Rattle.dap_shared.specs.Keeping.{AreOf, AreApart, HoldsStill}
-use Rattle.dap_shared.proofs.Shares.{shifted, Aside, aside, two-options, own-within}
+use Rattle.dap_shared.proofs.Shares.{shifted, Aside, aside, dropped, aside-dropped, two-options, own-within}
 
 -- the link's stream has the rights of its Access
 abbrev pub IsSteadyExchange : Exchange → Type 0
@@ -33,7 +37,7 @@ pub record IsShared (node : Node) : Type 0 where
 
 -- ---- Exchanges.
 
-pub new-stays : (r : Option OpenFile) → exchange_moved_up r new_exchange ≡ new_exchange
+pub new-stays : (r : Option OpenFile) → exchange_moved_up r no_exchange ≡ no_exchange
 new-stays None = refl
 new-stays (Some removed) = refl
 
@@ -105,15 +109,21 @@ nothing (Some o) = tt
 
 -- ---- An item.
 
-module _ (own : ℕ) (node : Node) (link : ℕ) (item : Item) (there : link < length node.exchanges) (h : IsShared node) where
+module _ (own : ServerSetup) (node : Node) (link : ℕ) (item : Item) (there : link < length node.exchanges) (h : IsShared node) where
   abbrev old : Grouped
   old = end_at link node
 
   abbrev others : List (Option OpenFile)
   others = open_beside link node.exchanges
 
+  abbrev its : ServerSetup
+  its = setup_on own link node
+
+  abbrev most : Rights
+  most = (exchange_at link node).most
+
   abbrev new : Grouped
-  new = more_beside own others old item
+  new = more_beside its others old item
 
   abbrev after : Node
   after = after_event own node (Serves link item)
@@ -122,29 +132,29 @@ module _ (own : ℕ) (node : Node) (link : ℕ) (item : Item) (there : link < le
   removed = removed_by old new
 
   abbrev asked : Option OpenFile
-  asked = asks_to_open node.files old.standing.place item
+  asked = asks_to_open its node.files old.standing.place item
 
   abbrev asks : Bool → Option OpenFile
   asks locked = if locked then None else asked
 
-  by-lock : (locked : Bool) → Goes old (if locked then next_group old.standing item (Does (refuse_access old.standing.scene (bare_status file_locked))) else one_more own old item) (asks locked)
+  by-lock : (locked : Bool) → Goes old (if locked then next_group old.standing item (Does (refuse_access old.standing.scene (bare_status file_locked))) else one_more its old item) (asks locked)
   by-lock true = record { moved = closes (open_in old.standing.place); steady = record { rights = tt; begun = tt } }
-  by-lock false = one-goes own old item (record { rights = (h.steady link).rights; begun = (h.steady link).begun })
+  by-lock false = one-goes its old item (record { rights = (h.steady link).rights; begun = (h.steady link).begun })
 
   went : Goes old new (asks (is_locked others asked))
   went = by-lock (is_locked others asked)
 
-  exchange-own : exchange_at link after ≡ exchange_of new
-  exchange-own = get_or-set_same (map (exchange_moved_up removed) node.exchanges) link (exchange_of new) new_exchange (omega (arith, there, length-map node.exchanges (exchange_moved_up removed)))
+  exchange-own : exchange_at link after ≡ exchange_of most new
+  exchange-own = get_or-set_same (map (exchange_moved_up removed) node.exchanges) link (exchange_of most new) no_exchange (omega (arith, there, length-map node.exchanges (exchange_moved_up removed)))
 
   exchange-other : (j : ℕ) → j ≢ link → exchange_at j after ≡ exchange_moved_up removed (exchange_at j node)
   exchange-other j d =
-      get_or-set_other (map (exchange_moved_up removed) node.exchanges) link j (exchange_of new) new_exchange d
+      get_or-set_other (map (exchange_moved_up removed) node.exchanges) link j (exchange_of most new) no_exchange d
       ∙ ap (get_or (map (exchange_moved_up removed) node.exchanges) j) (sym (new-stays removed))
-      ∙ get_or-map (exchange_moved_up removed) node.exchanges j new_exchange
+      ∙ get_or-map (exchange_moved_up removed) node.exchanges j no_exchange
 
   beside : (j : ℕ) → j ≢ link → get_or others j None ≡ open_on (exchange_at j node)
-  beside j d = get_or-map open_on (set node.exchanges link new_exchange) j new_exchange ∙ ap open_on (get_or-set_other node.exchanges link j new_exchange new_exchange d)
+  beside j d = get_or-map open_on (set node.exchanges link no_exchange) j no_exchange ∙ ap open_on (get_or-set_other node.exchanges link j no_exchange no_exchange d)
 
   free-by : (locked : Bool) → is_locked others asked ≡ locked → (j : ℕ) → j ≢ link → (p o : OpenFile) → open_on (exchange_at j node) ≡ Some p → asks locked ≡ Some o → are_apart o p ≡ false
   free-by true e j d p o is a = cc
@@ -231,24 +241,26 @@ none-first : (o : Option OpenFile) → AreApart None o
 none-first None = tt
 none-first (Some o) = tt
 
--- a exchange of a list in which one is new
-pub one-new : (exchanges : List Exchange) (link j : ℕ) (P : Exchange → Type 0) → P new_exchange → P (get_or exchanges j new_exchange) → P (get_or (set exchanges link new_exchange) j new_exchange)
-one-new [] link j P n p = p
-one-new (exchange ∷ exchanges) zero zero P n p = n
-one-new (exchange ∷ exchanges) zero (suc j) P n p = p
-one-new (exchange ∷ exchanges) (suc link) zero P n p = p
-one-new (exchange ∷ exchanges) (suc link) (suc j) P n p = one-new exchanges link j P n p
+-- an exchange of a list in which one is new
+pub one-new : (exchanges : List Exchange) (link j : ℕ) (new : Exchange) (P : Exchange → Type 0) → P new → P (get_or exchanges j no_exchange) → P (get_or (set exchanges link new) j no_exchange)
+one-new [] link j new P n p = p
+one-new (exchange ∷ exchanges) zero zero new P n p = n
+one-new (exchange ∷ exchanges) zero (suc j) new P n p = p
+one-new (exchange ∷ exchanges) (suc link) zero new P n p = p
+one-new (exchange ∷ exchanges) (suc link) (suc j) new P n p = one-new exchanges link j new P n p
 
 still-within : (o : Option OpenFile) (few many : ℕ) → few ≤ many → IfSome o (λ p. p.at < few) → IfSome o (λ p. p.at < many)
 still-within None few many le h = tt
 still-within (Some p) few many le h = omega (arith, le, h)
 
-begin-shares : (own : ℕ) (node : Node) (link : ℕ) → IsShared node → IsShared (after_event own node (Begins link))
-begin-shares own node link h =
+begin-shares : (own : ServerSetup) (node : Node) (link : ℕ) (most : Rights) → IsShared node → IsShared (after_event own node (Begins link most))
+begin-shares own node link most h =
+    let new = new_exchange most in
     record {
-      steady = λ j. one-new node.exchanges link j IsSteadyExchange (record { rights = tt; begun = tt }) (h.steady j);
-      within = λ j. one-new node.exchanges link j (λ exchange. IfSome (open_on exchange) (λ o. o.at < length node.files)) tt (h.within j);
-      apart = λ i j d. one-new node.exchanges link i (λ exchange. AreApart (open_on exchange) (open_on (exchange_at j (after_event own node (Begins link))))) (none-first (open_on (exchange_at j (after_event own node (Begins link))))) (one-new node.exchanges link j (λ exchange. AreApart (open_on (exchange_at i node)) (open_on exchange)) (nothing (open_on (exchange_at i node))) (h.apart i j d));
+      steady = λ j. one-new node.exchanges link j new IsSteadyExchange (record { rights = tt; begun = tt }) (h.steady j);
+      within = λ j. one-new node.exchanges link j new (λ exchange. IfSome (open_on exchange) (λ o. o.at < length node.files)) tt (h.within j);
+      apart = λ i j d. one-new node.exchanges link i new (λ exchange. AreApart (open_on exchange) (open_on (exchange_at j (after_event own node (Begins link most))))) (none-first (open_on (exchange_at j (after_event own node (Begins link most)))))
+          (one-new node.exchanges link j new (λ exchange. AreApart (open_on (exchange_at i node)) (open_on exchange)) (nothing (open_on (exchange_at i node))) (h.apart i j d));
     }
 
 -- files that are given leave what is open
@@ -260,37 +272,116 @@ given-shares node files le h =
       apart = h.apart;
     }
 
-pub count-item : (own : ℕ) (node : Node) (link : ℕ) (item : Item) → length (after_event own node (Serves link item)).exchanges ≡ length node.exchanges
+-- ---- A file that is dropped.
+
+none-any : {A : Type 0} (test : A → Bool) (xs : List A) (j : ℕ) (d : A) → test d ≡ false → list_any test xs ≡ false → test (get_or xs j d) ≡ false
+none-any test [] j d n e = n
+none-any test (x ∷ xs) zero d n e = (neither (test x) (list_any test xs) e).0
+none-any test (x ∷ xs) (suc j) d n e = none-any test xs j d n (neither (test x) (list_any test xs) e).1
+
+some-moved : (P : OpenFile → Type 0) (f : OpenFile → OpenFile) (o : Option OpenFile) → ((p : OpenFile) → o ≡ Some p → P (f p)) → IfSome (option_map f o) P
+some-moved P f None g = tt
+some-moved P f (Some p) g = g p refl
+
+module _ (node : Node) (at : ℕ) (h : IsShared node) (closed : is_open at node ≡ false) where
+  abbrev later : Node
+  later = without_file at node
+
+  exchange-later : (j : ℕ) → exchange_at j later ≡ exchange_moved_up (Some (dropped at)) (exchange_at j node)
+  exchange-later j = get_or-map (exchange_without at) node.exchanges j no_exchange
+
+  open-later : (j : ℕ) → open_on (exchange_at j later) ≡ option_map (shifted (Some (dropped at))) (open_on (exchange_at j node))
+  open-later j = ap open_on (exchange-later j) ∙ open-shifted (Some (dropped at)) (exchange_at j node)
+
+  elsewhere : (j : ℕ) (p : OpenFile) → open_on (exchange_at j node) ≡ Some p → at ≢ p.at
+  elsewhere j p is same =
+      let none : is_file at (open_on (exchange_at j node)) ≡ false = none-any (λ (exchange : Exchange). is_file at (open_on exchange)) node.exchanges j no_exchange refl closed in
+      let both : true ≡ false = sym (eq-eqb p.at at (sym same)) ∙ sym (ap (is_file at) is) ∙ none in cc
+
+  aside-later : (j : ℕ) (p : OpenFile) → open_on (exchange_at j node) ≡ Some p → Aside node.files later.files None (Some (dropped at)) p
+  aside-later j p is =
+      aside-dropped node.files at p (subst (λ (x : Option OpenFile). IfSome x (λ o. o.at < length node.files)) is (h.within j)) (elsewhere j p is)
+
+  without-shares : IsShared later
+  without-shares =
+      record {
+        steady = λ j. subst IsSteadyExchange (sym (exchange-later j)) (steady-moved (Some (dropped at)) (exchange_at j node) (h.steady j));
+        within = λ j. subst (λ (x : Option OpenFile). IfSome x (λ o. o.at < length later.files)) (sym (open-later j))
+            (some-moved (λ o. o.at < length later.files) (shifted (Some (dropped at))) (open_on (exchange_at j node)) (λ p is. (aside-later j p is).within));
+        apart = λ i j d. subst (λ (x : Option OpenFile). AreApart x (open_on (exchange_at j later))) (sym (open-later i))
+            (subst (AreApart (option_map (shifted (Some (dropped at))) (open_on (exchange_at i node)))) (sym (open-later j))
+            (two-options (Some (dropped at)) (open_on (exchange_at i node)) (open_on (exchange_at j node)) (h.apart i j d) (λ p is. (aside-later i p is).elsewhere) (λ p is. (aside-later j p is).elsewhere)));
+      }
+
+  without-holds : (j : ℕ) (p : OpenFile) → open_on (exchange_at j node) ≡ Some p → HoldsStill j node later p
+  without-holds j p is =
+      let a = aside-later j p is in (moved_up at p, open-later j ∙ ap (option_map (shifted (Some (dropped at)))) is, refl, a.within, a.same)
+
+drops-by : (node : Node) (at : ℕ) (b : Bool) → is_open at node ≡ b → IsShared node → IsShared (if b then node else without_file at node)
+drops-by node at true e h = h
+drops-by node at false e h = without-shares node at h e
+
+drop-shares : (own : ServerSetup) (node : Node) (at : ℕ) → IsShared node → IsShared (after_event own node (Drops at))
+drop-shares own node at h = drops-by node at (is_open at node) refl h
+
+holds-by : (node : Node) (at : ℕ) (b : Bool) → is_open at node ≡ b → IsShared node → (j : ℕ) (p : OpenFile) → open_on (exchange_at j node) ≡ Some p → HoldsStill j node (if b then node else without_file at node) p
+holds-by node at true e h j p is = (p, is, refl, subst (λ (x : Option OpenFile). IfSome x (λ o. o.at < length node.files)) is (h.within j), refl)
+holds-by node at false e h j p is = without-holds node at h e j p is
+
+-- what a link has open stays so where a file is dropped
+pub drop-holds : (own : ServerSetup) (node : Node) (at : ℕ) → IsShared node → (j : ℕ) (p : OpenFile) → open_on (exchange_at j node) ≡ Some p → HoldsStill j node (after_event own node (Drops at)) p
+drop-holds own node at h j p is = holds-by node at (is_open at node) refl h j p is
+
+open-stays : (own : ServerSetup) (node : Node) (at : ℕ) (b : Bool) → is_open at node ≡ b → b ≡ true → (if b then node else without_file at node) ≡ node
+open-stays own node at true e is = refl
+open-stays own node at false e is = cc
+
+-- a file that is open isn't dropped
+pub drop-refused : (own : ServerSetup) (node : Node) (at : ℕ) → is_open at node ≡ true → after_event own node (Drops at) ≡ node
+drop-refused own node at is = open-stays own node at (is_open at node) refl is
+
+counts-by : (node : Node) (at : ℕ) (b : Bool) → length (if b then node else without_file at node).exchanges ≡ length node.exchanges
+counts-by node at true = refl
+counts-by node at false = length-map node.exchanges (exchange_without at)
+
+pub count-drop : (own : ServerSetup) (node : Node) (at : ℕ) → length (after_event own node (Drops at)).exchanges ≡ length node.exchanges
+count-drop own node at = counts-by node at (is_open at node)
+
+-- ---- Every event.
+
+pub count-item : (own : ServerSetup) (node : Node) (link : ℕ) (item : Item) → length (after_event own node (Serves link item)).exchanges ≡ length node.exchanges
 count-item own node link item =
     let c = end_at link node in
-    let d = more_beside own (open_beside link node.exchanges) c item in
-    length-set (map (exchange_moved_up (removed_by c d)) node.exchanges) link (exchange_of d) ∙ length-map node.exchanges (exchange_moved_up (removed_by c d))
+    let d = more_beside (setup_on own link node) (open_beside link node.exchanges) c item in
+    length-set (map (exchange_moved_up (removed_by c d)) node.exchanges) link (exchange_of (exchange_at link node).most d) ∙ length-map node.exchanges (exchange_moved_up (removed_by c d))
 
-pub all-share : (own : ℕ) (links : ℕ) (node : Node) (events : List Event) → length node.exchanges ≡ links → AreOf links events → IsShared node → IsShared (after_all own node events) × (length (after_all own node events).exchanges ≡ links)
+pub all-share : (own : ServerSetup) (links : ℕ) (node : Node) (events : List Event) → length node.exchanges ≡ links → AreOf links events → IsShared node → IsShared (after_all own node events) × (length (after_all own node events).exchanges ≡ links)
 all-share own links node [] n o h = (h, n)
 all-share own links node (Serves link item ∷ events) n o h =
     all-share own links (after_event own node (Serves link item)) events (count-item own node link item ∙ n) o.1 (item-shares own node link item (omega (arith, n, o.0)) h)
-all-share own links node (Begins link ∷ events) n o h =
-    all-share own links (after_event own node (Begins link)) events (length-set node.exchanges link new_exchange ∙ n) o.1 (begin-shares own node link h)
+all-share own links node (Begins link most ∷ events) n o h =
+    all-share own links (after_event own node (Begins link most)) events (length-set node.exchanges link (new_exchange most) ∙ n) o.1 (begin-shares own node link most h)
 all-share own links node (Gives name shape ∷ events) n o h =
     let longer = length-append node.files ((name, new_file shape) ∷ []) in
     all-share own links (after_event own node (Gives name shape)) events n o (given-shares node (with_new_file name shape node.files) (omega (arith, longer)) h)
-all-share own links node (GivesRecord number body ∷ events) n o h =
-    let same = length-with node.files (newest node.files) (stored (file_at (newest node.files) node.files) number body) in
-    all-share own links (after_event own node (GivesRecord number body)) events n o (given-shares node (with_record number body node.files) (omega (arith, same)) h)
+all-share own links node (GivesRecord at number body ∷ events) n o h =
+    let same = length-with node.files at (stored (file_at at node.files) number body) in
+    all-share own links (after_event own node (GivesRecord at number body)) events n o (given-shares node (with_record_at at number body node.files) (omega (arith, same)) h)
+all-share own links node (Drops at ∷ events) n o h =
+    all-share own links (after_event own node (Drops at)) events (count-drop own node at ∙ n) o (drop-shares own node at h)
 
-all-new : (links link : ℕ) → get_or (replicate links new_exchange) link new_exchange ≡ new_exchange
-all-new zero link = refl
-all-new (suc links) zero = refl
-all-new (suc links) (suc link) = all-new links link
+all-new : (own : ServerSetup) (P : Exchange → Type 0) → ((most : Rights) → P (new_exchange most)) → (links link : ℕ) → P (get_or (replicate links (new_exchange own.most)) link no_exchange)
+all-new own P p zero link = p all_rights
+all-new own P p (suc links) zero = p own.most
+all-new own P p (suc links) (suc link) = all-new own P p links link
 
-new-shares : (first : Files) (links : ℕ) → IsShared (new_node first links)
-new-shares first links =
+new-shares : (own : ServerSetup) (first : Files) (links : ℕ) → IsShared (new_node own first links)
+new-shares own first links =
     record {
-      steady = λ link. subst IsSteadyExchange (sym (all-new links link)) (record { rights = tt; begun = tt });
-      within = λ link. subst (λ (exchange : Exchange). IfSome (open_on exchange) (λ o. o.at < length first)) (sym (all-new links link)) tt;
-      apart = λ one two d. subst (λ (exchange : Exchange). AreApart (open_on exchange) (open_on (exchange_at two (new_node first links)))) (sym (all-new links one)) (none-first (open_on (exchange_at two (new_node first links))));
+      steady = all-new own IsSteadyExchange (λ most. record { rights = tt; begun = tt }) links;
+      within = all-new own (λ exchange. IfSome (open_on exchange) (λ o. o.at < length first)) (λ most. tt) links;
+      apart = λ one two d. all-new own (λ exchange. AreApart (open_on exchange) (open_on (exchange_at two (new_node own first links)))) (λ most. none-first (open_on (exchange_at two (new_node own first links)))) links one;
     }
 
-pub history-shares : (own : ℕ) (first : Files) (links : ℕ) (events : List Event) → AreOf links events → IsShared (node_after own first links events) × (length (node_after own first links events).exchanges ≡ links)
-history-shares own first links events o = all-share own links (new_node first links) events (length-replicate links new_exchange) o (new-shares first links)
+pub history-shares : (own : ServerSetup) (first : Files) (links : ℕ) (events : List Event) → AreOf links events → IsShared (node_after own first links events) × (length (node_after own first links events).exchanges ≡ links)
+history-shares own first links events o = all-share own links (new_node own first links) events (length-replicate links (new_exchange own.most)) o (new-shares own first links)

@@ -2,5 +2,5 @@
 
 -- after one event more
 pub use Rattle.dap_shared.proofs.Stepping.{all-more}
--- one item more adds its answers on its link, and none on the others
-pub use Rattle.dap_shared.proofs.Growing.{answers-grow, answers-stay}
+-- one item more adds its answers on its link, and none on the others; nor does a file that is dropped
+pub use Rattle.dap_shared.proofs.Growing.{answers-grow, answers-stay, answers-dropped}

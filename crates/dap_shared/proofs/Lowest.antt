@@ -1,7 +1,8 @@
 -- The lowest address, one link more.
-use Rattle.std.proofs.Common.{◌≡◌, ℕ, suc, ◌+◌, ◌<◌, ◌≤◌, ◌⊎◌, Bool, true, false, List, [], length, get_or, Option, Some, None, refl, ap, sym, subst, ◌∙◌, inl, inr, arith}
+use Rattle.std.proofs.Common.{◌≡◌, ℕ, ◌+◌, ◌<◌, ◌≤◌, ◌⊎◌, Bool, true, false, List, length, Option, Some, None, refl, sym, subst, ◌∙◌, inl, inr, arith}
 use Rattle.std.specs.Prelude.{IfOk, IfSome, IsTrue, Result, Ok, Err, ◌++◌}
 use Rattle.std.specs.Option.{option_to_list}
+use Rattle.dap_accessed.specs.declared.setup.ServerSetup.{ServerSetup}
 use Rattle.dap_msg.specs.Items.{ItemAt}
 use Rattle.dap_accessed.specs.Standing.{Files}
 use Rattle.dap_accessed.specs.declared.fault.NoMemory.{NoMemory}
@@ -63,18 +64,18 @@ module _ (test : ℕ → Bool) (number : ℕ → ℕ) (k : ℕ) where
   step low new address false is own still lower h =
       subst (λ (x : Option ℕ). LeastOf test number (k + 1) x) (sym (still refl)) (not-more test number k low (sym is) h)
 
-free : (node : Node) (link other : ℕ) (item : Item) (b : Bool) → locks_out other link node item ≡ b → other < length node.exchanges → is_locked_out link node item ≡ false → b ≡ false
-free node link other item true is lt none = sym (is-holder node link other item lt is) ∙ none
-free node link other item false is lt none = refl
+free : (own : ServerSetup) (node : Node) (link other : ℕ) (item : Item) (b : Bool) → locks_out own other link node item ≡ b → other < length node.exchanges → is_locked_out own link node item ≡ false → b ≡ false
+free own node link other item true is lt none = sym (is-holder own node link other item lt is) ∙ none
+free own node link other item false is lt none = refl
 
 -- where none is refused, none locks out
-pub none-lowest : (addresses : List ℕ) (link : ℕ) (node : Node) (item : Item) → length addresses ≡ length node.exchanges → is_locked_out link node item ≡ false → IsLowest addresses link node item None
-none-lowest addresses link node item many none i lt = free node link i item (locks_out i link node item) refl (omega (arith, lt, many)) none
+pub none-lowest : (own : ServerSetup) (addresses : List ℕ) (link : ℕ) (node : Node) (item : Item) → length addresses ≡ length node.exchanges → is_locked_out own link node item ≡ false → IsLowest own addresses link node item None
+none-lowest own addresses link node item many none i lt = free own node link i item (locks_out own i link node item) refl (omega (arith, lt, many)) none
 
 -- ---- What is noted.
 
 pub noted-served : (link : ℕ) (item : Item) (bytes : List ℕ) (at next : ℕ) (old new : NotedValue) (served : Served) (told lowest : Option ℕ) (addresses : List ℕ) → ItemAt bytes at item next → served.next ≡ next → SharedServes link item old.shared new.shared served.answers
-    → ((first : Files) (events : List Event) → SharedAfter first events old.shared → IsLowest addresses link (node_after old.shared.own first (length old.shared.sessions) events) item told) → told ≡ lowest → addresses ≡ old.addresses
+    → ((first : Files) (events : List Event) → SharedAfter first events old.shared → IsLowest old.shared.setup addresses link (node_after old.shared.setup first (length old.shared.sessions) events) item told) → told ≡ lowest → addresses ≡ old.addresses
     → new.locked ≡ old.locked ++ option_to_list lowest → new.addresses ≡ old.addresses → NotedServed link bytes at old new served
 noted-served link item bytes at next old new served told lowest addresses reads n s low is all locked same =
     record {
@@ -84,8 +85,8 @@ noted-served link item bytes at next old new served told lowest addresses reads 
         shared = s;
         noted = λ first events h. (
           lowest,
-          subst (λ (l : List ℕ). IsLowest l link (node_after old.shared.own first (length old.shared.sessions) events) item lowest) all
-              (subst (λ (o : Option ℕ). IsLowest addresses link (node_after old.shared.own first (length old.shared.sessions) events) item o) is (low first events h)),
+          subst (λ (l : List ℕ). IsLowest old.shared.setup l link (node_after old.shared.setup first (length old.shared.sessions) events) item lowest) all
+              (subst (λ (o : Option ℕ). IsLowest old.shared.setup addresses link (node_after old.shared.setup first (length old.shared.sessions) events) item o) is (low first events h)),
           locked,
         );
         same_addresses = same;
@@ -94,7 +95,7 @@ noted-served link item bytes at next old new served told lowest addresses reads 
 
 pub noted-result : (link : ℕ) (item : Item) (bytes : List ℕ) (at next : ℕ) (old new : NotedValue) (r : Result Served NoMemory) (told lowest : Option ℕ) (addresses : List ℕ) → ItemAt bytes at item next → IfOk r (λ served. served.next ≡ next)
     → IfOk r (λ served. SharedServes link item old.shared new.shared served.answers)
-    → ((first : Files) (events : List Event) → SharedAfter first events old.shared → IsLowest addresses link (node_after old.shared.own first (length old.shared.sessions) events) item told) → told ≡ lowest → addresses ≡ old.addresses
+    → ((first : Files) (events : List Event) → SharedAfter first events old.shared → IsLowest old.shared.setup addresses link (node_after old.shared.setup first (length old.shared.sessions) events) item told) → told ≡ lowest → addresses ≡ old.addresses
     → new.locked ≡ old.locked ++ option_to_list lowest → new.addresses ≡ old.addresses → IfOk r (NotedServed link bytes at old new)
 noted-result link item bytes at next old new (Ok served) told lowest addresses reads n s low is all locked same = noted-served link item bytes at next old new served told lowest addresses reads n s low is all locked same
 noted-result link item bytes at next old new (Err f) told lowest addresses reads n s low is all locked same = tt

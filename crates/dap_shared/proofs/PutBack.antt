@@ -1,5 +1,5 @@
 -- One session was taken out of the list, and put back.
-use Rattle.std.proofs.Common.{◌≡◌, ℕ, zero, suc, List, [], ◌∷◌, map, refl, ap}
+use Rattle.std.proofs.Common.{◌≡◌, ℕ, zero, suc, ◌<◌, List, [], ◌∷◌, length, map, refl, ap, arith}
 use Rattle.std.specs.Prelude.{get_or, set}
 use Rattle.dap_accessed.specs.Sessions.{SessionValue}
 
@@ -12,3 +12,9 @@ pub put-back : (xs : List SessionValue) (i : ℕ) (a s : SessionValue) → s ≡
 put-back [] i a s e = refl
 put-back (x ∷ xs) zero a s e = ap (λ (y : SessionValue). y ∷ xs) e
 put-back (x ∷ xs) (suc i) a s e = ap (λ (l : List SessionValue). x ∷ l) (put-back xs i a s e)
+
+-- what was read stands there, whatever stands for a place that isn't there
+pub read-at : (xs : List SessionValue) (i : ℕ) (s d : SessionValue) → i < length xs → s ≡ get_or xs i s → s ≡ get_or xs i d
+read-at [] i s d lt e = absurd (let none : ⊥ = omega (arith, lt) in none)
+read-at (x ∷ xs) zero s d lt e = e
+read-at (x ∷ xs) (suc i) s d lt e = read-at xs i s d (omega (arith, lt)) e

@@ -1,11 +1,12 @@
 -- No two links share a file that one of them may change, and what a link has open stays as it is while others are served.
-use Rattle.std.proofs.Common.{◌≡◌, ◌≢◌, ℕ, ◌+◌, ◌-◌, ◌<◌, ◌≤◌, Bool, true, false, [], ◌∷◌, ◌++◌, length, Option, Some, None, refl, ap, sym, subst, ◌∙◌, inl, inr, arith, eq-eqb}
-use Rattle.std.specs.Prelude.{IfSome, if◌then◌else◌, ◌==◌, ◌||◌, ◌&&◌, nat_lt, option_map}
+use Rattle.std.proofs.Common.{◌≡◌, ◌≢◌, ℕ, suc, ◌+◌, ◌-◌, ◌<◌, ◌≤◌, Bool, true, false, [], ◌∷◌, ◌++◌, length, Option, Some, None, refl, ap, sym, subst, ◌∙◌, inl, inr, arith, eq-eqb}
+use Rattle.std.specs.Prelude.{IfSome, if◌then◌else◌, ◌==◌, ◌||◌, ◌&&◌, drop, nat_lt, option_map}
 use Rattle.std.specs.List.{remove}
 use Rattle.std.proofs.lemmas.Bool.{cases_lt, cases_eq, lt-ltb, le-ltb, ne_eqb}
-use Rattle.std.proofs.lemmas.List.{get_or-set_other, get_or_append_left, length-append}
+use Rattle.std.proofs.lemmas.List.{append-nil, drop_all, get_or-set_other, get_or_append_left, length-append, take_all}
 use Rattle.std.proofs.lemmas.List.Edits.{length-remove, get_or-remove_below, get_or-remove_above}
 use Rattle.dap_accessed.specs.declared.phase.OpenFile.{OpenFile}
+use Rattle.dap_accessed.specs.Setup.{all_rights}
 use Rattle.dap_accessed.specs.Standing.{Files, plain_shape, new_file, with_file, name_at}
 use Rattle.dap_accessed.proofs.ForCallers.{length-with}
 use Rattle.dap_accessed.specs.Sessions.{moved_up}
@@ -141,6 +142,31 @@ module _ (before : Files) (asks : Option OpenFile) (p : OpenFile) (there : p.at 
               elsewhere = λ r e same. d (place-of o r e ∙ sym same);
             }
       ])
+
+-- ---- A file that is dropped, as if a link that made it had removed it.
+
+abbrev pub dropped : ℕ → OpenFile
+dropped at = record { at = at; is_new = true; rights = all_rights }
+
+remove-beyond : (files : Files) (at : ℕ) → length files ≤ at → remove files at ≡ files
+remove-beyond files at le =
+    ap (λ (l : Files). l ++ drop (suc at) files) (take_all at files le) ∙ ap (λ (l : Files). files ++ l) (drop_all (suc at) files (omega (arith, le))) ∙ append-nil files
+
+pub aside-dropped : (before : Files) (at : ℕ) (p : OpenFile) → p.at < length before → at ≢ p.at → Aside before (remove before at) None (Some (dropped at)) p
+aside-dropped before at p there d =
+    elim (cases_lt at (length before)) [
+      | inl lt ↦
+          let n = length-remove before at lt in
+          let gone-is : gone before (remove before at) (Some (dropped at)) ≡ Some (dropped at) =
+          ap (λ b. if b then Some (dropped at) else None) (lt-ltb (length (remove before at)) (length before) (omega (arith, n))) in
+          subst (λ (r : Option OpenFile). Aside before (remove before at) None r p) gone-is
+          (aside before None p there (λ o e. cc) (Some (dropped at)) (remove before at) None (removes (dropped at) refl) lt (apart-by (dropped at) p d))
+      | inr le ↦
+          let same = remove-beyond before at le in
+          let low = below-at at p (omega (arith, there, le)) in
+          subst (λ (l : Files). Aside before l None (Some (dropped at)) p) (sym same)
+          (record { within = omega (arith, low, there); same = ap (λ k. entry_at k before) low; apart = tt; elsewhere = λ r e equal. d (place-of (dropped at) r e ∙ sym equal) })
+    ]
 
 -- ---- Two other links.
 

@@ -10,7 +10,7 @@ use Rattle.dap_shared.specs.Nodes.{Node, Event, Serves, Begins, exchange_at, ope
 abbrev pub AreOf : (links : ℕ) → List Event → Type 0
 AreOf links [] = Unit {0}
 AreOf links (Serves link item ∷ events) = (link < links) × AreOf links events
-AreOf links (Begins link ∷ events) = (link < links) × AreOf links events
+AreOf links (Begins link most ∷ events) = (link < links) × AreOf links events
 AreOf links (event ∷ events) = AreOf links events
 
 -- two links may have these open at once

@@ -5,6 +5,7 @@ use Rattle.std.specs.Option.{option_to_list}
 use Rattle.std.specs.Global.{Vec}
 use Rattle.dap_msg.specs.Items.{ItemAt}
 use Rattle.dap_msg.specs.declared.items.Item.{Item}
+use Rattle.dap_accessed.specs.declared.setup.ServerSetup.{ServerSetup}
 use Rattle.dap_accessed.specs.Standing.{Files}
 use Rattle.dap_accessed.specs.declared.served.Served.{Served}
 use Rattle.dap_shared.specs.Nodes.{Event, Node, locks_out, node_after}
@@ -25,15 +26,15 @@ LeastOf test number count (Some n) =
     ((i : ℕ) × (i < count) × IsTrue (test i) × (n ≡ number i)) × ((i : ℕ) → i < count → IsTrue (test i) → n ≤ number i)
 
 -- the lowest address of a link that locks an item out
-abbrev pub IsLowest : (addresses : List ℕ) → (link : ℕ) → Node → Item → Option ℕ → Type 0
-IsLowest addresses link node item =
-    LeastOf (λ other. locks_out other link node item) (λ other. get_or addresses other 0) (length addresses)
+abbrev pub IsLowest : (own : ServerSetup) → (addresses : List ℕ) → (link : ℕ) → Node → Item → Option ℕ → Type 0
+IsLowest own addresses link node item =
+    LeastOf (λ other. locks_out own other link node item) (λ other. get_or addresses other 0) (length addresses)
 
 -- An item of a link was served. The address of a link that locks it out is noted, if any does.
 pub record NotedServes (link : ℕ) (item : Item) (old new : NotedValue) (answers : Vec (Vec ℕ)) : Type 0 where
   pub shared : SharedServes link item old.shared new.shared answers
   pub noted : (first : Files) (events : List Event) → SharedAfter first events old.shared
-      → (lowest : Option ℕ) × IsLowest old.addresses link (node_after old.shared.own first (length old.shared.sessions) events) item lowest
+      → (lowest : Option ℕ) × IsLowest old.shared.setup old.addresses link (node_after old.shared.setup first (length old.shared.sessions) events) item lowest
       × (new.locked ≡ old.locked ++ option_to_list lowest)
   pub same_addresses : new.addresses ≡ old.addresses
 

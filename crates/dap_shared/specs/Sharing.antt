@@ -5,6 +5,7 @@ use Rattle.std.specs.List.{list_any}
 use Rattle.dap_msg.specs.declared.message.Message.TheVariants.{Access}
 use Rattle.dap_msg.specs.declared.items.Item.{Item}
 use Rattle.dap_msg.specs.declared.items.Item.TheVariants.{Whole}
+use Rattle.dap_accessed.specs.declared.setup.ServerSetup.{ServerSetup}
 use Rattle.dap_accessed.specs.declared.phase.OpenFile.{OpenFile}
 use Rattle.dap_accessed.specs.Standing.{Files, Place, Fresh, Ready, Opened, Connected, Store, Stopped}
 use Rattle.dap_accessed.specs.Sessions.{moved_up, would_open}
@@ -30,10 +31,15 @@ has_alone opened = opened.is_new || (opened.rights.put || (opened.rights.upd || 
 abbrev pub are_apart : OpenFile → OpenFile → Bool
 are_apart one two = (one.at == two.at) && (has_alone one || has_alone two)
 
+-- it is the file at this index that is open
+abbrev pub is_file : (at : ℕ) → Option OpenFile → Bool
+is_file at None = false
+is_file at (Some opened) = opened.at == at
+
 -- what an item asks to open: only an Access in Ready does
-abbrev pub asks_to_open : Files → Place → Item → Option OpenFile
-asks_to_open files Ready (Whole (Access access)) = would_open files access
-asks_to_open files place item = None
+abbrev pub asks_to_open : (own : ServerSetup) → Files → Place → Item → Option OpenFile
+asks_to_open own files Ready (Whole (Access access)) = would_open own files access
+asks_to_open own files place item = None
 
 -- what is asked for can't be opened beside this
 abbrev pub bars : OpenFile → Option OpenFile → Bool

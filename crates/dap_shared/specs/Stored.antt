@@ -1,7 +1,9 @@
 -- What a node keeps is stored as its parts.
 use Rattle.std.specs.Prelude.{ℕ, List, refl}
 use Rattle.std.specs.Coded.{Coded, code_by, coded×, coded_ℕ, coded_list}
+use Rattle.dap_accessed.specs.declared.setup.ServerSetup.{ServerSetup}
 use Rattle.dap_accessed.specs.Standing.{Files}
+use Rattle.dap_accessed.specs.contracts.setup.ServerSetup as setup_type
 use Rattle.dap_accessed.specs.Tables.{files_code}
 use Rattle.dap_accessed.specs.Sessions.{SessionValue}
 use Rattle.dap_accessed.specs.Stored.{session_code}
@@ -11,9 +13,9 @@ use Rattle.dap_shared.specs.Shared.{SharedValue}
 -- the parts as one value
 abbrev pub shared_code : Coded SharedValue
 shared_code =
-    code_by (ℕ × (Files × List SessionValue)) (coded× coded_ℕ (coded× files_code (coded_list session_code)))
-    (λ v. (v.own, (v.files, v.sessions)))
-    (λ p. record { own = p.0; files = p.1.0; sessions = p.1.1 })
+    code_by (ℕ × (ServerSetup × (Files × List SessionValue))) (coded× coded_ℕ (coded× setup_type.the_row.coded (coded× files_code (coded_list session_code))))
+    (λ v. (v.own, (v.setup, (v.files, v.sessions))))
+    (λ p. record { own = p.0; setup = p.1.0; files = p.1.1.0; sessions = p.1.1.1 })
     (λ _. refl)
 
 -- the same with addresses and what was noted

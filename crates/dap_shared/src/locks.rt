@@ -3,7 +3,7 @@
 ghost use Rattle.std.specs.Prelude.{◌≡◌};
 ghost use Rattle.std.specs.List.{list_any};
 ghost use Rattle.dap_accessed.specs.Sessions.{open_at};
-ghost use Rattle.dap_shared.specs.Sharing.{barred_by, bars, has_alone};
+ghost use Rattle.dap_shared.specs.Sharing.{barred_by, bars, has_alone, is_file};
 ghost use Rattle.dap_shared.specs.Inner.Beside.{is_barred};
 
 use dap_accessed::{OpenFile, Session};
@@ -56,4 +56,23 @@ pub(crate) fn is_barred(others: &[Session], asked: Option<OpenFile>) -> bool
         None => false,
         Some(asked) => is_barred_by(others, asked),
     }
+}
+
+/// Whether it is the file at this place of the table that is open.
+fn is_file(held: Option<OpenFile>, at: usize) -> bool
+    ensures { result ≡ is_file at held }
+{
+    match held {
+        None => false,
+        Some(opened) => opened.at == at,
+    }
+}
+
+/// Whether a link has the file at this place of the table open.
+pub(crate) fn is_held(sessions: &[Session], at: usize) -> bool
+    ensures { result ≡ list_any (λ s. is_file at (open_at s.phase)) sessions.now }
+{
+    sessions
+        .iter()
+        .any(|session| is_file(session.open_file(), at))
 }

@@ -3,18 +3,20 @@
 ghost use Rattle.std.specs.Prelude.{◌≡◌, ◌⊎◌, ◌≤◌, ◌<◌, ℕ, List, [], length, IfOk, IfErr, IsTrue, OnOk, OnErr, Some, None, true, false, set, replicate, IfSome};
 ghost use Rattle.dap_msg.specs.BothEnds.{least_buffer};
 ghost use Rattle.rec_file.specs.Shapes.{is_shape};
-ghost use Rattle.dap_accessed.specs.Adding.{with_new_file, with_record};
-ghost use Rattle.dap_accessed.specs.Standing.{Files, place_of};
-ghost use Rattle.dap_shared.specs.Nodes.{Event, Gives, GivesRecord, node_after};
+ghost use Rattle.dap_accessed.specs.Adding.{MayStore, with_new_file};
+ghost use Rattle.dap_accessed.specs.Setup.{IsServerSetup, plain_setup};
+ghost use Rattle.dap_accessed.specs.Standing.{Files, file_at, place_by};
+ghost use Rattle.dap_shared.specs.Nodes.{Event, Gives, GivesRecord, exchange_at, node_after, with_record_at};
 ghost use Rattle.dap_shared.specs.Noted.{IsLowest, NotedServed};
 ghost use Rattle.dap_shared.specs.Inner.Lower.{IsLower};
-ghost use Rattle.dap_shared.specs.Shared.{MayGiveRecord, NotAdded, RecordNotAdded, SharedAfter, SharedBegins, SharedGiven};
+ghost use Rattle.dap_shared.specs.Shared.{AtFile, NotAdded, NotRemoved, RecordNotAdded, SharedAfter, SharedBegins, SharedDrops, SharedGiven, rights_on};
 
+use crate::fault::RemoveFault;
 use crate::server::Serving;
 use crate::shared::SharedFiles;
-use dap_accessed::{AddFault, FileTable, NoMemory, Served};
+use dap_accessed::{AddFault, FileTable, NoMemory, Served, ServerSetup};
 use dap_msg::Item;
-use rec_file::Shape;
+use rec_file::{Rights, Shape};
 use std::alloc::Global;
 use std::marker::Model;
 
@@ -71,8 +73,8 @@ fn lowest_of(shared: &SharedFiles, addresses: &[u16], link: usize, item: &Item<'
     requires link { link < length shared.now.sessions }
     requires all { length addresses.now ≡ length shared.now.sessions }
     ensures { (first : Files) (events : List Event) → SharedAfter first events shared.now
-        → IsLowest addresses.now link
-        (node_after shared.now.own first (length shared.now.sessions) events) item.now result }
+        → IsLowest shared.now.setup addresses.now link
+        (node_after shared.now.setup first (length shared.now.sessions) events) item.now result }
 {
     let mut lowest = None;
     for other in 0..addresses.len() {
@@ -90,8 +92,8 @@ fn locking(shared: &SharedFiles, addresses: &[u16], link: usize, item: &Item<'_>
     requires link { link < length shared.now.sessions }
     requires all { length addresses.now ≡ length shared.now.sessions }
     ensures { (first : Files) (events : List Event) → SharedAfter first events shared.now
-        → IsLowest addresses.now link
-        (node_after shared.now.own first (length shared.now.sessions) events) item.now result }
+        → IsLowest shared.now.setup addresses.now link
+        (node_after shared.now.setup first (length shared.now.sessions) events) item.now result }
 {
     if shared.is_locked_out(link, item) {
         lowest_of(shared, addresses, link, item)
@@ -118,11 +120,29 @@ impl NotedFiles {
         requires { least_buffer ≤ bufsiz }
         ensures stands { IfOk result (λ noted. SharedAfter [] [] noted.shared) }
         ensures own { IfOk result (λ noted. noted.shared.own ≡ bufsiz) }
+        ensures setup { IfOk result (λ noted. noted.shared.setup ≡ plain_setup bufsiz) }
         ensures links { IfOk result (λ noted. length noted.shared.sessions ≡ links) }
         ensures addresses { IfOk result (λ noted. noted.addresses ≡ replicate links 0) }
         ensures locked { IfOk result (λ noted. noted.locked ≡ []) }
     {
-        let shared = SharedFiles::new(alloc, bufsiz, links)?;
+        NotedFiles::with_setup(alloc, ServerSetup::plain(bufsiz), links)
+    }
+
+    /// The same of a node that is set up so.
+    pub fn with_setup(
+        alloc: Global,
+        setup: ServerSetup,
+        links: usize,
+    ) -> Result<NotedFiles, NoMemory>
+        requires { IsServerSetup setup }
+        ensures stands { IfOk result (λ noted. SharedAfter [] [] noted.shared) }
+        ensures setup { IfOk result (λ noted. noted.shared.setup ≡ setup) }
+        ensures own { IfOk result (λ noted. noted.shared.own ≡ setup.identity.bufsiz) }
+        ensures links { IfOk result (λ noted. length noted.shared.sessions ≡ links) }
+        ensures addresses { IfOk result (λ noted. noted.addresses ≡ replicate links 0) }
+        ensures locked { IfOk result (λ noted. noted.locked ≡ []) }
+    {
+        let shared = SharedFiles::with_setup(alloc, setup, links)?;
         let addresses = no_addresses(alloc, links)?;
         Ok(NotedFiles {
             shared,
@@ -152,45 +172,70 @@ impl NotedFiles {
         self.locked.clear();
     }
 
+    /// The most that an Access on a link may ask for.
+    pub fn rights(&self, link: usize) -> Rights
+        requires { link < length self.now.shared.sessions }
+        ensures held { result ≡ rights_on link self.now.shared }
+        ensures after { (first : Files) (events : List Event) → SharedAfter first events self.now.shared
+            → result ≡ (exchange_at link (node_after self.now.shared.setup first
+            (length self.now.shared.sessions) events)).most }
+    {
+        self.shared.rights(link)
+    }
+
     /// Another link in this one's place, with this address: what was open on it is closed, and a PUT or an UPDATE that
-    /// waits for its record is dropped.
-    pub fn begin(&mut self, link: usize, address: u16)
+    /// waits for its record is dropped. An Access on it may ask for so much until it begins again.
+    pub fn begin(&mut self, link: usize, address: u16, most: Rights)
         requires { link < length self.old.shared.sessions }
-        ensures begins { SharedBegins link self.old.shared self.new.shared }
+        ensures begins { SharedBegins link most self.old.shared self.new.shared }
         ensures addresses { self.new.addresses ≡ set self.old.addresses link address }
         ensures locked { self.new.locked ≡ self.old.locked }
     {
-        self.shared.begin(link);
+        self.shared.begin(link, most);
         self.addresses[link] = address;
     }
 
     /// What [`SharedFiles::add`] does.
     pub fn add(&mut self, name: &[u8], shape: Shape) -> Result<(), AddFault>
         requires { IsTrue (is_shape shape) }
-        ensures may { OnOk result (place_of name.now self.old.shared.files ≡ None) }
+        ensures may { OnOk result
+            (place_by self.old.shared.setup.names name.now self.old.shared.files ≡ None) }
         ensures given { OnOk result
             (SharedGiven (Gives name.now shape) self.old.shared self.new.shared) }
         ensures files { OnOk result (self.new.shared.files
             ≡ with_new_file name.now shape self.old.shared.files) }
         ensures rest { self.new ≡ record self.old { shared = self.new.shared } }
-        ensures refused { IfErr result (NotAdded self.old.shared.files name.now) }
+        ensures refused { IfErr result (NotAdded self.old.shared.setup.names self.old.shared.files name.now) }
         ensures unchanged { OnErr result (self.new ≡ self.old) }
     {
         self.shared.add(name, shape)
     }
 
     /// What [`SharedFiles::add_record`] does.
-    pub fn add_record(&mut self, number: u32, body: &[u8]) -> Result<(), AddFault>
-        ensures may { OnOk result (MayGiveRecord self.old.shared.files number body.now) }
-        ensures given { OnOk result
-            (SharedGiven (GivesRecord number body.now) self.old.shared self.new.shared) }
-        ensures files { OnOk result (self.new.shared.files
-            ≡ with_record number body.now self.old.shared.files) }
+    pub fn add_record(&mut self, name: &[u8], number: u32, body: &[u8]) -> Result<(), AddFault>
+        ensures may { OnOk result (AtFile name.now self.old.shared
+            (λ at. MayStore (file_at at self.old.shared.files) number body.now)) }
+        ensures given { OnOk result (AtFile name.now self.old.shared
+            (λ at. SharedGiven (GivesRecord at number body.now) self.old.shared self.new.shared)) }
+        ensures files { OnOk result (AtFile name.now self.old.shared
+            (λ at. self.new.shared.files ≡ with_record_at at number body.now self.old.shared.files)) }
         ensures rest { self.new ≡ record self.old { shared = self.new.shared } }
-        ensures refused { IfErr result (RecordNotAdded self.old.shared.files number body.now) }
+        ensures refused { IfErr result
+            (RecordNotAdded self.old.shared name.now number body.now) }
         ensures unchanged { OnErr result (self.new ≡ self.old) }
     {
-        self.shared.add_record(number, body)
+        self.shared.add_record(name, number, body)
+    }
+
+    /// What [`SharedFiles::remove`] does.
+    pub fn remove(&mut self, name: &[u8]) -> Result<(), RemoveFault>
+        ensures drops { OnOk result (AtFile name.now self.old.shared
+            (λ at. SharedDrops at self.old.shared self.new.shared)) }
+        ensures rest { self.new ≡ record self.old { shared = self.new.shared } }
+        ensures refused { IfErr result (NotRemoved self.old.shared name.now) }
+        ensures unchanged { OnErr result (self.new ≡ self.old) }
+    {
+        self.shared.remove(name)
     }
 }
 

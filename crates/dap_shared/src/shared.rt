@@ -6,18 +6,22 @@ ghost use Rattle.dap_msg.specs.Decoding.{IsSpelled};
 ghost use Rattle.dap_msg.specs.declared.items.Item.TheVariants.{Whole};
 ghost use Rattle.dap_msg.specs.declared.message.Message.{Message as TheMessage};
 ghost use Rattle.rec_file.specs.Shapes.{is_shape};
-ghost use Rattle.dap_accessed.specs.Standing.{Files, place_of};
-ghost use Rattle.dap_accessed.specs.Adding.{with_new_file, with_record};
-ghost use Rattle.dap_accessed.specs.Sessions.{IsOpenIn, new_session};
-ghost use Rattle.dap_shared.specs.Nodes.{Event, FilesAfter, Gives, GivesRecord, is_locked_out, locks_out, node_after};
-ghost use Rattle.dap_shared.specs.Shared.{MayGiveRecord, NotAdded, RecordNotAdded, SharedAfter, SharedBegins, SharedGiven, SharedServes};
+ghost use Rattle.dap_accessed.specs.Standing.{Files, file_at, place_by};
+ghost use Rattle.dap_accessed.specs.Adding.{MayStore, with_new_file};
+ghost use Rattle.dap_accessed.specs.Sessions.{IsOpenIn, session_with};
+ghost use Rattle.dap_accessed.specs.Setup.{IsServerSetup, plain_setup};
+ghost use Rattle.dap_shared.specs.Nodes.{Event, FilesAfter, Gives, GivesRecord, exchange_at, is_locked_out, locks_out, node_after, with_record_at};
+ghost use Rattle.dap_shared.specs.Shared.{AtFile, NotAdded, NotRemoved, RecordNotAdded, SharedAfter, SharedBegins, SharedDrops, SharedGiven, SharedServes, no_session, rights_on, session_without};
 ghost use Rattle.dap_shared.specs.Inner.Beside.{MovesBeside, session_moved_up};
 ghost use Rattle.dap_shared.specs.Inner.Held.{MovesOn, session_at};
 
-use crate::locks::{FILE_LOCKED, is_barred, is_barred_by_file};
-use dap_accessed::{AddFault, FileTable, NoMemory, OpenFile, Served, Session};
+use crate::fault::RemoveFault;
+use crate::locks::{FILE_LOCKED, is_barred, is_barred_by_file, is_held};
+use dap_accessed::{
+    ALL_RIGHTS, AddFault, FileTable, NoMemory, OpenFile, Served, ServerSetup, Session,
+};
 use dap_msg::Item;
-use rec_file::Shape;
+use rec_file::{Rights, Shape};
 use std::alloc::Global;
 use std::marker::Model;
 use std::mem;
@@ -27,8 +31,7 @@ use std::mem;
 #[derive(Drop)]
 pub struct SharedFiles {
     alloc: Global,
-    /// The BUFSIZ of the node's own Config.
-    bufsiz: u16,
+    setup: ServerSetup,
     files: FileTable,
     sessions: Vec<Session>,
 }
@@ -42,30 +45,40 @@ impl Model for SharedFiles {
 
     ghost coded = { shared_code };
 
-    ghost view = { λ a. record { own = a.bufsiz; files = a.files; sessions = a.sessions.items } };
+    ghost view = { λ a. record {
+      own = a.setup.identity.bufsiz;
+      setup = a.setup;
+      files = a.files;
+      sessions = a.sessions.items;
+    } };
 
-    ghost invariant = { λ a. IsHeld (record { own = a.bufsiz; files = a.files; sessions = a.sessions.items }) };
+    ghost invariant = { λ a. IsHeld (record {
+      own = a.setup.identity.bufsiz;
+      setup = a.setup;
+      files = a.files;
+      sessions = a.sessions.items;
+    }) };
 }
 
 /// So many links on which no Config was served.
-fn new_sessions(alloc: Global, bufsiz: u16, links: usize) -> Result<Vec<Session>, NoMemory>
-    requires { least_buffer ≤ bufsiz }
-    ensures { IfOk result (λ sessions. sessions.items ≡ replicate links (new_session bufsiz)) }
+fn new_sessions(alloc: Global, setup: ServerSetup, links: usize) -> Result<Vec<Session>, NoMemory>
+    requires { IsServerSetup setup }
+    ensures { IfOk result (λ sessions. sessions.items ≡ replicate links (session_with setup)) }
 {
     let mut sessions = Vec::with_capacity(alloc, links)?;
     for _ in 0..links {
-        sessions.push(Session::new(alloc, bufsiz))?;
+        sessions.push(Session::with_setup(alloc, setup))?;
     }
     Ok(sessions)
 }
 
-/// A file was removed: those after it have moved up.
+/// The file at a place of the table was removed: those after it have moved up.
 #[tactic(auto, using(std::proofs::lemmas::List::Edits::map_over_more))]
-fn move_up(sessions: &mut Vec<Session>, removed: OpenFile)
-    ensures { sessions.new.items ≡ map (session_moved_up (Some removed)) sessions.old.items }
+fn move_up(sessions: &mut Vec<Session>, removed: usize)
+    ensures { sessions.new.items ≡ map (session_without removed) sessions.old.items }
 {
     for session in sessions.iter_mut() {
-        session.move_up(removed.at);
+        session.move_up(removed);
     }
 }
 
@@ -74,7 +87,7 @@ fn close_up(sessions: &mut Vec<Session>, gone: Option<OpenFile>)
     ensures { sessions.new.items ≡ map (session_moved_up gone) sessions.old.items }
 {
     if let Some(removed) = gone {
-        move_up(sessions, removed);
+        move_up(sessions, removed.at);
     }
 }
 
@@ -113,27 +126,41 @@ fn serve_beside(
     Ok(served)
 }
 
+/// What stands in a link's place while its session is taken out.
+fn no_session(alloc: Global, setup: ServerSetup) -> Session
+    requires { IsServerSetup setup }
+    ensures { result ≡ no_session setup }
+{
+    Session::with_setup(
+        alloc,
+        ServerSetup {
+            most: ALL_RIGHTS,
+            ..setup
+        },
+    )
+}
+
 /// Takes a link's session out, serves it, and puts it back.
 fn serve_on(
     files: &mut FileTable,
     sessions: &mut Vec<Session>,
     alloc: Global,
-    bufsiz: u16,
+    setup: ServerSetup,
     link: usize,
     item: Item<'_>,
     next: usize,
 ) -> Result<Served, NoMemory>
     requires link { link < length sessions.old.items }
-    requires low { least_buffer ≤ bufsiz }
+    requires setup { IsServerSetup setup }
     requires spelled { (m : TheMessage) → item ≡ Whole m → IsSpelled m }
-    requires there { IsOpenIn files.old (session_at bufsiz link sessions.old.items).phase }
-    ensures ok { IfOk result (λ served. MovesOn bufsiz link item.entry files.old
+    requires there { IsOpenIn files.old (session_at setup link sessions.old.items).phase }
+    ensures ok { IfOk result (λ served. MovesOn setup link item.entry files.old
         sessions.old.items files.new sessions.new.items served.answers) }
     ensures next { IfOk result (λ served. served.next ≡ next) }
     ensures err { OnErr result ((files.new ≡ files.old)
         × (sessions.new.items ≡ sessions.old.items)) }
 {
-    let mut session = mem::replace(&mut sessions[link], Session::new(alloc, bufsiz));
+    let mut session = mem::replace(&mut sessions[link], no_session(alloc, setup));
     let served = serve_beside(files, sessions, &mut session, item, next);
     sessions[link] = session;
     served
@@ -145,12 +172,28 @@ impl SharedFiles {
         requires { least_buffer ≤ bufsiz }
         ensures stands { IfOk result (SharedAfter [] []) }
         ensures own { IfOk result (λ shared. shared.own ≡ bufsiz) }
+        ensures setup { IfOk result (λ shared. shared.setup ≡ plain_setup bufsiz) }
         ensures links { IfOk result (λ shared. length shared.sessions ≡ links) }
     {
-        let sessions = new_sessions(alloc, bufsiz, links)?;
+        SharedFiles::with_setup(alloc, ServerSetup::plain(bufsiz), links)
+    }
+
+    /// The same of a node that is set up so.
+    pub fn with_setup(
+        alloc: Global,
+        setup: ServerSetup,
+        links: usize,
+    ) -> Result<SharedFiles, NoMemory>
+        requires { IsServerSetup setup }
+        ensures stands { IfOk result (SharedAfter [] []) }
+        ensures setup { IfOk result (λ shared. shared.setup ≡ setup) }
+        ensures own { IfOk result (λ shared. shared.own ≡ setup.identity.bufsiz) }
+        ensures links { IfOk result (λ shared. length shared.sessions ≡ links) }
+    {
+        let sessions = new_sessions(alloc, setup, links)?;
         Ok(SharedFiles {
             alloc,
-            bufsiz,
+            setup,
             files: FileTable::new(alloc),
             sessions,
         })
@@ -167,7 +210,7 @@ impl SharedFiles {
     pub fn files(&self) -> &FileTable
         ensures held { result.now ≡ self.now.files }
         ensures after { (first : Files) (events : List Event) → SharedAfter first events self.now
-            → result.now ≡ FilesAfter self.now.own first (length self.now.sessions) events }
+            → result.now ≡ FilesAfter self.now.setup first (length self.now.sessions) events }
     {
         &self.files
     }
@@ -177,8 +220,8 @@ impl SharedFiles {
         requires other { other < length self.now.sessions }
         requires link { link < length self.now.sessions }
         ensures { (first : Files) (events : List Event) → SharedAfter first events self.now
-            → result ≡ locks_out other link
-            (node_after self.now.own first (length self.now.sessions) events) item.now }
+            → result ≡ locks_out self.now.setup other link
+            (node_after self.now.setup first (length self.now.sessions) events) item.now }
     {
         let asked = self.sessions[link].asked(&self.files, item);
         other != link && is_barred_by_file(asked, self.sessions[other].open_file())
@@ -188,8 +231,8 @@ impl SharedFiles {
     pub fn is_locked_out(&self, link: usize, item: &Item<'_>) -> bool
         requires { link < length self.now.sessions }
         ensures { (first : Files) (events : List Event) → SharedAfter first events self.now
-            → result ≡ is_locked_out link
-            (node_after self.now.own first (length self.now.sessions) events) item.now }
+            → result ≡ is_locked_out self.now.setup link
+            (node_after self.now.setup first (length self.now.sessions) events) item.now }
     {
         is_barred(&self.sessions, self.sessions[link].asked(&self.files, item))
     }
@@ -216,20 +259,32 @@ impl SharedFiles {
             &mut self.files,
             &mut self.sessions,
             self.alloc,
-            self.bufsiz,
+            self.setup,
             link,
             item,
             next,
         )
     }
 
-    /// Another link in this one's place, or none: its open file is closed, and a PUT or an UPDATE that waits for its
-    /// record is dropped.
-    pub fn begin(&mut self, link: usize)
-        requires { link < length self.old.sessions }
-        ensures { SharedBegins link self.old self.new }
+    /// The most that an Access on a link may ask for.
+    pub fn rights(&self, link: usize) -> Rights
+        requires { link < length self.now.sessions }
+        ensures held { result ≡ rights_on link self.now }
+        ensures after { (first : Files) (events : List Event) → SharedAfter first events self.now
+            → result ≡ (exchange_at link
+            (node_after self.now.setup first (length self.now.sessions) events)).most }
     {
-        self.sessions[link] = Session::new(self.alloc, self.bufsiz);
+        self.sessions[link].rights()
+    }
+
+    /// Another link in this one's place, or none: its open file is closed, and a PUT or an UPDATE that waits for its
+    /// record is dropped. An Access on it may ask for so much until it begins again.
+    pub fn begin(&mut self, link: usize, most: Rights)
+        requires { link < length self.old.sessions }
+        ensures { SharedBegins link most self.old self.new }
+    {
+        let setup = ServerSetup { most, ..self.setup };
+        self.sessions[link] = Session::with_setup(self.alloc, setup);
     }
 
     /// A file without records after the others. Its shape is one that [`rec_file::Shape::check`] gives.
@@ -237,36 +292,58 @@ impl SharedFiles {
     /// Refusals in order: FileExists, NoMemory; each leaves all unchanged.
     pub fn add(&mut self, name: &[u8], shape: Shape) -> Result<(), AddFault>
         requires { IsTrue (is_shape shape) }
-        ensures may { OnOk result (place_of name.now self.old.files ≡ None) }
+        ensures may { OnOk result
+            (place_by self.old.setup.names name.now self.old.files ≡ None) }
         ensures given { OnOk result (SharedGiven (Gives name.now shape) self.old self.new) }
         ensures files { OnOk result
             (self.new.files ≡ with_new_file name.now shape self.old.files) }
-        ensures refused { IfErr result (NotAdded self.old.files name.now) }
+        ensures refused { IfErr result (NotAdded self.old.setup.names self.old.files name.now) }
         ensures unchanged { OnErr result (self.new ≡ self.old) }
     {
-        if self.files.find(name).is_some() {
+        if self.files.find_by(self.setup.names, name).is_some() {
             return Err(AddFault::FileExists);
         }
         self.files.make(self.alloc, name, shape)?;
         Ok(())
     }
 
-    /// A record more in the newest file, under its number. In a sequential file the number is the next one.
+    /// A record more in the file of this name, under its number. In a sequential file the number is the next one.
     ///
     /// Refusals in order: NoFile; as of a PUT with this number BadLength, NumberOutOfRange, RecordExists; NoMemory.
     /// Each leaves all unchanged.
-    pub fn add_record(&mut self, number: u32, body: &[u8]) -> Result<(), AddFault>
-        ensures may { OnOk result (MayGiveRecord self.old.files number body.now) }
-        ensures given { OnOk result
-            (SharedGiven (GivesRecord number body.now) self.old self.new) }
-        ensures files { OnOk result (self.new.files ≡ with_record number body.now self.old.files) }
-        ensures refused { IfErr result (RecordNotAdded self.old.files number body.now) }
+    pub fn add_record(&mut self, name: &[u8], number: u32, body: &[u8]) -> Result<(), AddFault>
+        ensures may { OnOk result (AtFile name.now self.old
+            (λ at. MayStore (file_at at self.old.files) number body.now)) }
+        ensures given { OnOk result (AtFile name.now self.old
+            (λ at. SharedGiven (GivesRecord at number body.now) self.old self.new)) }
+        ensures files { OnOk result (AtFile name.now self.old
+            (λ at. self.new.files ≡ with_record_at at number body.now self.old.files)) }
+        ensures refused { IfErr result (RecordNotAdded self.old name.now number body.now) }
         ensures unchanged { OnErr result (self.new ≡ self.old) }
     {
-        let count = self.files.count();
-        if count == 0 {
+        let Some(at) = self.files.find_by(self.setup.names, name) else {
             return Err(AddFault::NoFile);
+        };
+        self.files.add_record(at, number, body)
+    }
+
+    /// Removes the file of this name: those after it move up, also where a link has one of them open. It takes no memory.
+    ///
+    /// Refusals in order: NoFile; Busy where a link has the file open. Each leaves all unchanged.
+    pub fn remove(&mut self, name: &[u8]) -> Result<(), RemoveFault>
+        ensures drops { OnOk result
+            (AtFile name.now self.old (λ at. SharedDrops at self.old self.new)) }
+        ensures refused { IfErr result (NotRemoved self.old name.now) }
+        ensures unchanged { OnErr result (self.new ≡ self.old) }
+    {
+        let Some(removed) = self.files.find_by(self.setup.names, name) else {
+            return Err(RemoveFault::NoFile);
+        };
+        if is_held(&self.sessions, removed) {
+            return Err(RemoveFault::Busy);
         }
-        self.files.add_record(count - 1, number, body)
+        self.files.remove(removed);
+        move_up(&mut self.sessions, removed);
+        Ok(())
     }
 }

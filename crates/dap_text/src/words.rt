@@ -49,7 +49,7 @@ impl<'a> Words<'a> {
     }
 
     /// The same words.
-    pub(crate) fn again(&self) -> Words<'a>
+    pub fn again(&self) -> Words<'a>
         ensures { result ≡ self.now }
     {
         Words { rest: self.rest }
@@ -143,8 +143,8 @@ impl<'a> Model for Text<'a> {
     ghost invariant = { λ t. IsSome (text_of t.word.now) };
 }
 
-/// The bytes that a word encodes.
-pub(crate) fn read_text(word: &[u8]) -> Option<Text<'_>>
+/// The bytes that a word encodes: hex digits of them, or `-` where there are none.
+pub fn read_text(word: &[u8]) -> Option<Text<'_>>
     ensures { result ≡ text_of word.now }
 {
     match word {

@@ -10,13 +10,17 @@ use Rattle.dap_msg.specs.declared.items.Item.TheVariants.{Whole}
 use Rattle.dap_msg.specs.Blocked.{NspMessage, joined, Blocked, all_joined, messages_in, AllFit}
 use Rattle.dap_msg.specs.Inner.Blocked.{AllWithin}
 use Rattle.dap_msg.proofs.ForCallers.{messages_in-Blocked, within_limit}
+use Rattle.dap_msg.specs.BothEnds.{plain_identity}
+use Rattle.dap_msg.specs.declared.message.Configuration.{Configuration}
+use Rattle.dap_accessed.specs.Setup.{plain_setup}
 use Rattle.dap_accessed.specs.Standing as at
 use Rattle.dap_accessed.specs.Standing.{Place}
-use Rattle.dap_accessed.specs.Groups.{stands_after}
+use Rattle.dap_world.specs.Plain.{stands_after, Asked, messages_of, IsAdmissible, IsRefused}
 use Rattle.dap_accessing.specs.Present as accessing
-use Rattle.dap_accessing.specs.Asked.{Asked, messages_of}
+use Rattle.dap_accessing.specs.Asked as asked_by
+use Rattle.dap_accessing.specs.Phase as of_any
 use Rattle.dap_accessing.specs.Told.{Told}
-use Rattle.dap_accessing.specs.Phase.{IsAdmissible, IsNoneDue, phase_after, limit_after}
+use Rattle.dap_accessing.specs.Phase.{IsNoneDue, phase_after, limit_after}
 use Rattle.dap_accessing.specs.Phases.{phase_fits}
 use Rattle.dap_accessing.specs.declared.phase.Phase.{Phase}
 use Rattle.dap_accessing.specs.declared.phase.Phase.TheVariants.{Fresh, Ready, Opened, Connected, Stopped}
@@ -43,7 +47,9 @@ use Rattle.dap_world.specs.Inner.Worlds.{IsWorld}
 use Rattle.dap_end.specs.Ports.{PortValue}
 use Rattle.dap_end.specs.Asking.{AskedOne, HasAsked}
 use Rattle.dap_end.specs.Done.{AskingValue}
-use Rattle.dap_end.proofs.ForCallers.{Asked-more, asked_past, sendable-fit}
+use Rattle.dap_end.specs.Pasts.{asked_one as one_asked}
+use Rattle.dap_end.proofs.ForCallers.{asked_past, sendable-fit}
+use Rattle.dap_world.proofs.Plain.{Asked-more}
 use Rattle.dap_world.specs.Inner.Sides.{AreShort, AskFaultOf, AskedSo, side_of}
 use Rattle.dap_world.specs.Inner.Parts.{Parts, AreParts, IsAskedAll, IsServedAll, IsTold, asks, answers, asking_end, serving_end, served_items, answer_packets, asked_packets, end_state, state_of}
 use Rattle.dap_world.proofs.Counting.{counted}
@@ -53,7 +59,7 @@ use Rattle.dap_world.proofs.Kept.{kept-step, all-answers, served-front, served_c
 use Rattle.dap_world.proofs.Agreeing.{both-agree}
 use Rattle.dap_world.proofs.Within.{messages-within}
 use Rattle.dap_world.proofs.Blocking.{blocked-within, within-one, within-front, within-back}
-use Rattle.dap_world.proofs.Wrote.{AreThen, asking_parts}
+use Rattle.dap_world.proofs.Wrote.{AreThen, as_client, asking_parts, client_is}
 
 -- ---- The limit that A knows is B's buffer, where more than one message could be joined.
 
@@ -61,7 +67,7 @@ fresh-blocked : (own_a limit own_b : ℕ) (r : Request) → phase_fits Fresh r �
 fresh-blocked own_a limit own_b request.Hello e = refl
 fresh-blocked own_a limit own_b r e = cc
 
-pub same-blocked : (own_a own_b : ℕ) (phase : Phase) (place : Place) (limit_b limit_a : ℕ) (r : Request) → AgreeAt own_a own_b phase place limit_b limit_a → phase_fits phase r ≡ true
+pub same-blocked : (own_a own_b : ℕ) (phase : Phase) (place : Place) (limit_b limit_a : ℕ) (r : Request) → AgreeAt (plain_identity own_a) (plain_setup own_b) phase place limit_b limit_a → phase_fits phase r ≡ true
     → Blocked limit_a (messages_of own_a r) ≡ Blocked own_b (messages_of own_a r)
 same-blocked own_a own_b Fresh place limit_b limit_a r h e = fresh-blocked own_a limit_a own_b r e
 same-blocked own_a own_b Ready at.Ready limit_b limit_a r h e = ap (λ (l : ℕ). Blocked l (messages_of own_a r)) h.1
@@ -128,7 +134,7 @@ module _ (p : Parts) (h : AreParts p) (r : Request) (m : IsAdmissible p.accessin
   block = Blocked p.accessed.own (messages_of p.accessing.own r)
 
   abbrev q_of : List (List ℕ) → accessing.Present → Parts
-  q_of outbox after = record p { a = record p.a { outbox = outbox }; accessing = record after { own = p.accessing.own }; requests = p.requests ++ r ∷ [] }
+  q_of outbox after = record p { a = record p.a { outbox = outbox }; accessing = as_client p after; requests = p.requests ++ r ∷ [] }
 
   answers_same : answer_packets p.accessed.own [] (map Whole (take p.served (Asked p.accessing.own (p.requests ++ r ∷ [])))) ≡ answers p
   answers_same = ap (answer_packets p.accessed.own []) (served_same p r h)
@@ -161,6 +167,8 @@ module _ (p : Parts) (h : AreParts p) (r : Request) (m : IsAdmissible p.accessin
       let fit : AllFit (messages_in block) = subst AllFit (sym all) (sendable-fit _ (messages_of p.accessing.own r) m.2) in
       record {
         world = subst IsWorld (sym state) world;
+        plain_a = refl;
+        plain_b = h.plain_b;
         alike = h.alike;
         limit = h.limit;
         most = h.most;
@@ -173,18 +181,25 @@ module _ (p : Parts) (h : AreParts p) (r : Request) (m : IsAdmissible p.accessin
         serving = subst (λ (x : State). IsServedAll (serving_end p) (map Whole (taken_of x))) (sym state) h.serving;
       }
 
+-- A is a plain client
+admissible_so : (p : Parts) (r : Request) → AreParts p → of_any.IsAdmissible p.accessing.identity p.requests (answers_read (state_of p)) r → IsAdmissible p.accessing.own p.requests (answers_read (state_of p)) r
+admissible_so p r h m = subst (λ (own : Configuration). of_any.IsAdmissible own p.requests (answers_read (state_of p)) r) h.plain_a m
+
+refused_so : (p : Parts) (r : Request) (f : AskFault) → AreParts p → of_any.IsRefused p.accessing.identity p.requests (answers_read (state_of p)) r f → IsRefused p.accessing.own p.requests (answers_read (state_of p)) r f
+refused_so p r f h m = subst (λ (own : Configuration). of_any.IsRefused own p.requests (answers_read (state_of p)) r f) h.plain_a m
+
 refused_by : (p : Parts) (r : Request) (f : AskFault) → AreParts p → f ≢ ask_fault.NoMemory → AskRefused r p.accessing f → Refuses (state_of p) (event.Ask r) (fault.Ask f)
 unfolding Refuses
 refused_by p r ask_fault.Failed h f refused = let works = h.asking.1.asking.works in absurd cc
-refused_by p r ask_fault.Busy h f refused = refused.1 p.requests (answers_read (state_of p)) h.asking.1.asking
-refused_by p r ask_fault.WrongPhase h f refused = refused.1 p.requests (answers_read (state_of p)) h.asking.1.asking
-refused_by p r ask_fault.TooLarge h f refused = refused.1 p.requests (answers_read (state_of p)) h.asking.1.asking
+refused_by p r ask_fault.Busy h f refused = refused_so p r ask_fault.Busy h (refused.1 p.requests (answers_read (state_of p)) h.asking.1.asking)
+refused_by p r ask_fault.WrongPhase h f refused = refused_so p r ask_fault.WrongPhase h (refused.1 p.requests (answers_read (state_of p)) h.asking.1.asking)
+refused_by p r ask_fault.TooLarge h f refused = refused_so p r ask_fault.TooLarge h (refused.1 p.requests (answers_read (state_of p)) h.asking.1.asking)
 refused_by p r ask_fault.NoMemory h f refused = absurd (f refl)
 
 refused : (p : Parts) (r : Request) (f : WorldFault) → AreParts p → AskFaultOf r p.accessing f → Went (state_of p) (event.Ask r) (Err f) (state_of p)
 unfolding Steps Refuses
 refused p r (fault.Ask f) h why = (refused_by p r f h why.0 why.1, refl)
-refused p r fault.NoMemory h may = ((_, _, asks_one p r (may p.requests (answers_read (state_of p)) h.asking.1.asking), tt), refl)
+refused p r fault.NoMemory h may = ((_, _, asks_one p r (admissible_so p r h (may p.requests (answers_read (state_of p)) h.asking.1.asking)), tt), refl)
 refused p r fault.NoSuchPacket h never = absurd never
 refused p r fault.Stale h never = absurd never
 refused p r fault.NothingToDo h never = absurd never
@@ -197,18 +212,19 @@ unfolding Steps Refuses reported
 asked_step p r v n requests h o told =
     let read = answers_read (state_of p) in
     let stood = h.asking.1.asking in
-    let m = o.asks.admissible p.requests read stood in
+    let m = admissible_so p r h (o.asks.admissible p.requests read stood) in
     let outbox = p.a.outbox ++ o.messages in
-    let spelled : o.messages ≡ all_joined (asking_of (state_of p) r) = o.asks.spelled ∙ ap (λ (l : ℕ). all_joined (Blocked l (messages_of p.accessing.own r))) (o.asks.is_limit p.requests read stood) in
+    let spelled : o.messages ≡ all_joined (asking_of (state_of p) r) = o.asks.spelled ∙ ap (λ (own : Configuration). all_joined (Blocked o.asks.limit (asked_by.messages_of own r))) h.plain_a ∙ ap (λ (l : ℕ). all_joined (Blocked l (messages_of p.accessing.own r))) (o.asks.is_limit p.requests read stood) in
     let more_is : o.messages ≡ all_joined (Blocked p.accessed.own (messages_of p.accessing.own r)) = spelled ∙ ap all_joined (asking_is (state_of p) r h.world m) in
-    let own : v.present ≡ record v.present { own = p.accessing.own } = ap (λ (k : ℕ). record v.present { own = k }) o.own in
+    let own : v.present ≡ as_client p v.present = client_is p v h o.own o.identity in
     let q = q_of p h r m outbox v.present in
     let past = record h.asking.0 { requests = p.requests; answers = read } in
     let now = record h.asking.0 { requests = p.requests ++ r ∷ []; asked = h.asking.0.asked ++ Blocked (limit_after (Told p.requests read)) (messages_of p.accessing.own r); answers = read } in
     let asking : IsAskedAll (asking_end q) (p.requests ++ r ∷ []) read = (
       now,
-      subst (λ (port : PortValue). HasAsked now (record { port = port; present = record v.present { own = p.accessing.own } })) o.port
-          (subst (λ (y : accessing.Present). HasAsked now (record { port = v.port; present = y })) own (asked_past r (asking_end p) v n o past h.asking.1)),
+      subst (λ (port : PortValue). HasAsked now (record { port = port; present = as_client p v.present })) o.port
+          (subst (λ (y : accessing.Present). HasAsked now (record { port = v.port; present = y })) own
+          (subst (λ (k : Configuration). HasAsked (one_asked past k r) v) h.plain_a (asked_past r (asking_end p) v n o past h.asking.1))),
     ) in
     let parts : AreParts q = parts_asked p h r m o.messages v.present more_is asking in
     let count : length (asking_of (state_of p) r) ≡ n = sym (length-map (asking_of (state_of p) r) joined) ∙ ap length (sym spelled) ∙ sym o.count in

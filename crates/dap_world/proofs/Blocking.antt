@@ -12,16 +12,17 @@ use Rattle.dap_msg.specs.Blocked.{NspMessage, joined, Blocked, all_joined, messa
 use Rattle.dap_msg.specs.Inner.Blocked.{IsWithin, AllWithin}
 use Rattle.dap_msg.proofs.ForCallers.{messages_in-Blocked, within_limit}
 use Rattle.std.proofs.lemmas.List.{append-nil}
-use Rattle.dap_accessed.specs.Groups.{added, limit_for}
+use Rattle.dap_world.specs.Plain.{added, limit_for, Asked, messages_of}
 use Rattle.dap_accessed.specs.Served.{AllAtMost}
 use Rattle.dap_accessed.proofs.ForCallers.{HasShortType, added-sends, no-files}
 use Rattle.dap_accessing.specs.Request.{Request}
 use Rattle.dap_accessing.specs.declared.request.Request.TheVariants as request
 use Rattle.dap_accessing.specs.declared.request.By.TheVariants as by
-use Rattle.dap_accessing.specs.Asked.{Asked, messages_of}
 use Rattle.dap_world.specs.Inner.Within.{AreWithin}
 use Rattle.dap_world.specs.Agreement.{IsBufsiz, items_of}
 use Rattle.dap_world.specs.Inner.Agreement.{AnswersWithin}
+use Rattle.dap_accessed.specs.Setup.{plain_setup}
+use Rattle.dap_world.proofs.Plain.{plain_fits}
 use Rattle.dap_world.proofs.Within.{answers-within}
 
 alone : (m : Message) (limit : ℕ) → length (canon m) ≤ limit → length (joined (m ∷ [])) ≤ limit
@@ -101,6 +102,6 @@ short-there (first ∷ front) back item h = short-there front back item h.1
 pub answers-blocked : (own_a own_b : ℕ) → IsBufsiz own_a → IsBufsiz own_b → (rs : List Request) → AnswersWithin own_a own_b rs
 answers-blocked own_a own_b a b rs = λ front back item e.
     let short = short-there front back item (subst AllShort (sym e) (short-asked own_a rs)) in
-    let sends = added-sends own_b (omega (arith, b.most)) [] no-files front item short in
+    let sends = added-sends (plain_setup own_b) (plain_fits own_b b) [] no-files front item short in
     blocked-within (limit_for own_b [] front) own_a (added own_b [] front item) (answers-within own_a a own_b rs front (item ∷ back) e)
     (sendable-within (limit_for own_b [] front) (added own_b [] front item) sends)

@@ -5,7 +5,7 @@ use Rattle.dap_msg.specs.declared.message.Message.{Message}
 use Rattle.dap_msg.specs.Blocked.{NspMessage, Blocked, messages_in}
 use Rattle.dap_msg.proofs.ForCallers.{messages_in-Blocked}
 use Rattle.dap_accessing.specs.Request.{Request}
-use Rattle.dap_accessing.specs.Asked.{messages_of, Asked}
+use Rattle.dap_world.specs.Plain.{messages_of, Asked}
 use Rattle.dap_end.proofs.ForCallers.{full-blocked, full-both, in_append}
 use Rattle.dap_world.specs.Inner.Parts.{asked_packets}
 use Rattle.dap_end.specs.Pasts.{AreFull}

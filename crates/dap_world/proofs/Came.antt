@@ -161,6 +161,8 @@ parts_came p A w v h d on sends still world =
     let same = d.setup in
     record {
       world = world;
+      plain_a = h.plain_a;
+      plain_b = h.plain_b;
       alike = subst (λ (s : LinkSetup). AreAlike p.b.link.setup s) (sym same) h.alike;
       limit = ap (λ (s : LinkSetup). s.max_message) same ∙ h.limit;
       most = subst (λ (s : LinkSetup). s.max_message ≤ largest_limit) (sym same) h.most;
@@ -174,6 +176,8 @@ parts_came p A w v h d on sends still world =
 parts_came p B w v h d on sends still world =
     record {
       world = world;
+      plain_a = h.plain_a;
+      plain_b = h.plain_b;
       alike = subst (λ (s : LinkSetup). AreAlike s p.a.link.setup) (sym d.setup) h.alike;
       limit = h.limit;
       most = h.most;

@@ -7,7 +7,7 @@ use Rattle.dap_msg.specs.declared.message.Message.{Message}
 use Rattle.dap_msg.specs.declared.items.Item.TheVariants.{Whole}
 use Rattle.dap_accessing.specs.declared.fault.AskFault.TheVariants as ask_fault
 use Rattle.dap_accessing.specs.Request.{Request}
-use Rattle.dap_accessing.specs.Asked.{Asked}
+use Rattle.dap_world.specs.Plain.{Asked}
 use Rattle.dap_accessing.specs.Phase.{IsNoneDue}
 use Rattle.dap_accessing.specs.Told.{Wrong, due_after, Told}
 use Rattle.dap_accessing.proofs.ForCallers.{asked_one, none_due}

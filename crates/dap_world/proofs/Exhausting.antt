@@ -4,7 +4,7 @@ use Rattle.std.specs.Prelude.{Err}
 use Rattle.std.proofs.Math.Seq.{drop-nil, take-nil}
 use Rattle.dap_msg.specs.declared.message.Message.{Message}
 use Rattle.dap_msg.specs.declared.items.Item.TheVariants.{Whole}
-use Rattle.dap_accessing.specs.Asked.{Asked}
+use Rattle.dap_world.specs.Plain.{Asked}
 use Rattle.dap_accessing.specs.Request.{Request}
 use Rattle.dap_events.specs.declared.event.End.{End}
 use Rattle.dap_events.specs.declared.event.End.TheVariants.{A, B}

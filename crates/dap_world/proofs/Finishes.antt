@@ -6,8 +6,7 @@ use Rattle.std.proofs.lemmas.Option.{slice_get_within}
 use Rattle.dap_msg.specs.declared.message.Message.{Message}
 use Rattle.dap_msg.specs.declared.items.Item.TheVariants.{Whole}
 use Rattle.dap_msg.specs.Blocked.{NspMessage, messages_in}
-use Rattle.dap_accessed.specs.Groups.{Answers}
-use Rattle.dap_accessing.specs.Asked.{Asked}
+use Rattle.dap_world.specs.Plain.{Answers, Asked}
 use Rattle.dap_accessing.specs.Told.{Told}
 use Rattle.dap_world.specs.Agreement.{reports_of}
 use Rattle.dap_events.specs.declared.event.End.{End}

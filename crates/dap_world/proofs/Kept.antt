@@ -8,11 +8,9 @@ use Rattle.dap_msg.specs.declared.items.Item.{Item}
 use Rattle.dap_msg.specs.declared.items.Item.TheVariants.{Whole}
 use Rattle.dap_msg.specs.Blocked.{NspMessage, messages_in}
 use Rattle.dap_msg.proofs.ForCallers.{messages_in-Blocked}
-use Rattle.dap_accessed.specs.Groups.{Answers, added}
-use Rattle.dap_accessed.proofs.ForCallers.{Answers-more}
+use Rattle.dap_world.specs.Plain.{Answers, added, messages_of, Asked, IsAdmissible}
+use Rattle.dap_world.proofs.Plain.{Answers-more, Asked-more}
 use Rattle.dap_accessing.specs.Request.{Request}
-use Rattle.dap_accessing.specs.Asked.{messages_of, Asked}
-use Rattle.dap_accessing.specs.Phase.{IsAdmissible}
 use Rattle.nsp_link.specs.Limits.{most_segments}
 use Rattle.dap_world.specs.Agreement.{answers_to}
 use Rattle.dap_events.specs.declared.event.End.{End}
@@ -25,7 +23,10 @@ use Rattle.dap_world.specs.Setups.{IsWorldSetup}
 use Rattle.dap_world.specs.Machine.{files_of, reported, State, EndState, Sending, fresh, other, end_of, with_end, arrived, arrived_at, sent_by, taken_of, answers_read, asking, asked, posted, wrote, delivered, answering, served_one, read_one, segments_of, Steps, StepsFreely}
 use Rattle.dap_end.specs.Runs.{RunsBy}
 use Rattle.dap_accessed.specs.Present as accessed
-use Rattle.dap_end.proofs.ForCallers.{Asked-more, in_append}
+use Rattle.dap_accessed.specs.Groups as of_any
+use Rattle.dap_accessed.specs.Setup.{plain_setup}
+use Rattle.dap_accessed.specs.declared.setup.ServerSetup.{ServerSetup}
+use Rattle.dap_end.proofs.ForCallers.{in_append}
 use Rattle.dap_world.specs.Inner.Parts.{Parts, state_of}
 use Rattle.dap_world.specs.Inner.Worlds.{WasSent, IsDirection, IsWorld, Reaches}
 use Rattle.dap_world.specs.Headline.{HeadlineOf}
@@ -58,9 +59,10 @@ headline_of s h =
     }
 
 -- the files that the accessed end keeps
-pub files_are : (p : Parts) → accessed.StandsAfter [] (map Whole (taken_of (state_of p))) p.accessed → p.accessed.files ≡ files_of (state_of p)
+pub files_are : (p : Parts) → p.accessed.setup ≡ plain_setup p.accessed.own → accessed.StandsAfter [] (map Whole (taken_of (state_of p))) p.accessed → p.accessed.files ≡ files_of (state_of p)
 unfolding files_of
-files_are p stands = ap (λ (v : accessed.Present). v.files) stands
+files_are p plain stands =
+    ap (λ (v : accessed.Present). v.files) stands ∙ ap (λ (own : ServerSetup). of_any.After own [] (map Whole (taken_of (state_of p)))) plain
 
 -- ---- A new world.
 

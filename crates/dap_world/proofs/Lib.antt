@@ -1,3 +1,4 @@
+pub mod Plain
 pub mod Agreeing
 pub mod Limits
 pub mod Within

@@ -3,7 +3,7 @@ use Rattle.std.proofs.Common.{◌≡◌, ℕ, zero, suc, take, map, ◌+◌, ◌
 use Rattle.std.specs.Prelude.{Option, Some, None, IfOk, Result, Ok, Err, if◌then◌else◌, ◌==◌}
 use Rattle.std.proofs.lemmas.List.{length-append, map-append}
 use Rattle.dap_msg.specs.declared.items.Item.TheVariants.{Whole}
-use Rattle.dap_accessed.specs.Groups.{Answers as Answered}
+use Rattle.dap_world.specs.Plain.{Answers as Answered}
 use Rattle.dap_accessing.specs.Told.{Told}
 use Rattle.dap_accessing.proofs.ForCallers.{reports_grow}
 use Rattle.dap_events.specs.declared.event.End.{End}

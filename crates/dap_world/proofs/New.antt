@@ -5,7 +5,8 @@ use Rattle.dap_accessing.specs.Present as accessing
 use Rattle.nsp_link.specs.declared.link.LinkSetup.{LinkSetup}
 use Rattle.nsp_link.proofs.ForCallers.{stands_new, sends_new}
 use Rattle.dap_events.specs.declared.setup.WorldSetup.{WorldSetup}
-use Rattle.dap_msg.specs.BothEnds.{least_buffer}
+use Rattle.dap_msg.specs.BothEnds.{least_buffer, plain_identity}
+use Rattle.dap_accessed.specs.Setup.{plain_setup}
 use Rattle.nsp_link.specs.Link.{IsSetup}
 use Rattle.dap_world.specs.declared.side.Wired.{Wired}
 use Rattle.dap_events.specs.declared.event.End.{End}
@@ -67,12 +68,15 @@ made : (s : WorldSetup) (asking : accessing.Present) (serving : accessed.Present
 made s asking serving own_a own_b = ap (λ (n : ℕ). record (fresh s) { own_a = n; own_b = serving.own }) own_a ∙ ap (λ (n : ℕ). record (fresh s) { own_b = n }) own_b
 
 new_world : (s : WorldSetup) (asking : accessing.Present) (serving : accessed.Present) → IsWorldSetup s → asking.own ≡ s.bufsiz_a → serving.own ≡ s.bufsiz_b
+    → asking.identity ≡ plain_identity s.bufsiz_a → serving.setup ≡ plain_setup s.bufsiz_b
     → HasAsked nothing_asked (record { port = new_port (link_of s A); present = asking }) → IsAfter (nothing_yet []) (record { port = new_port (link_of s B); present = serving })
     → AreParts (new_parts s asking serving)
 unfolding reported
-new_world s asking serving h own_a own_b a b =
+new_world s asking serving h own_a own_b plain_a plain_b a b =
     record {
       world = subst IsWorld (sym (made s asking serving own_a own_b)) (is_fresh s h);
+      plain_a = plain_a ∙ ap plain_identity (sym own_a);
+      plain_b = plain_b ∙ ap plain_setup (sym own_b);
       alike = record { here = refl; there = refl; size = refl; window = refl; limit = refl };
       limit = ap (λ (n : ℕ). max n s.bufsiz_b) (sym own_a) ∙ ap (λ (n : ℕ). max asking.own n) (sym own_b);
       most = omega (arith, h.own_a.most, h.own_b.most);
@@ -87,13 +91,14 @@ new_world s asking serving h own_a own_b a b =
 pub new_sound : (s : WorldSetup) (v : AskingValue) (w : ServingValue) (wire_a wire_b : List Wired) (requests : List Request) (sent : List (List ℕ)) (reports : List Report)
     → wire_a ≡ [] → wire_b ≡ [] → requests ≡ [] → sent ≡ [] → reports ≡ [] → IsWorldSetup s
     → HasAsked nothing_asked v × (v.port ≡ new_port (link_of s A)) × (v.present.own ≡ s.bufsiz_a) → IsAfter (nothing_yet []) w × (w.port ≡ new_port (link_of s B)) × (w.present.own ≡ s.bufsiz_b)
+    → v.present.identity ≡ plain_identity s.bufsiz_a → w.present.setup ≡ plain_setup s.bufsiz_b
     → (let p : Parts = record { a = side_of v.port 0 wire_a; b = side_of w.port 0 wire_b; accessing = v.present; accessed = w.present; requests = requests; sent = sent; served = 0; reports = reports; read = 0 } in
     AreParts p × (state_of p ≡ fresh s))
-new_sound s v w wire_a wire_b requests sent reports ea eb er es ep h x y =
+new_sound s v w wire_a wire_b requests sent reports ea eb er es ep h x y plain_a plain_b =
     let asking = subst (λ (port : PortValue). HasAsked nothing_asked (record { port = port; present = v.present })) x.1 x.0 in
     let serving = subst (λ (port : PortValue). IsAfter (nothing_yet []) (record { port = port; present = w.present })) y.1 y.0 in
     let both : AreParts (new_parts s v.present w.present) × (state_of (new_parts s v.present w.present) ≡ fresh s) =
-    (new_world s v.present w.present h x.2 y.2 asking serving, made s v.present w.present x.2 y.2) in
+    (new_world s v.present w.present h x.2 y.2 plain_a plain_b asking serving, made s v.present w.present x.2 y.2) in
     rw (x.1, y.1, ea, eb, er, es, ep) both
 
 -- the sizes that a world may have, by those that a link may

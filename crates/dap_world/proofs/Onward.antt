@@ -4,7 +4,7 @@ use Rattle.std.proofs.lemmas.List.{append-nil, take-append-le, map-append}
 use Rattle.dap_msg.specs.declared.message.Message.{Message}
 use Rattle.dap_msg.specs.declared.items.Item.TheVariants.{Whole}
 use Rattle.dap_msg.specs.Blocked.{NspMessage, messages_in}
-use Rattle.dap_accessed.specs.Groups.{Answers}
+use Rattle.dap_world.specs.Plain.{Answers}
 use Rattle.dap_accessing.specs.Request.{Request}
 use Rattle.dap_accessing.specs.Told.{Told}
 use Rattle.dap_events.specs.declared.event.End.{End}

@@ -9,7 +9,7 @@ use Rattle.dap_msg.specs.declared.message.Message.{Message}
 use Rattle.dap_msg.specs.declared.items.Item.TheVariants.{Whole}
 use Rattle.dap_msg.specs.Canon.{canon}
 use Rattle.dap_msg.specs.Blocked.{NspMessage, joined, all_joined, messages_in, AllFit}
-use Rattle.dap_accessed.specs.Groups.{Answers}
+use Rattle.dap_world.specs.Plain.{Answers}
 use Rattle.dap_accessing.specs.Told.{Told}
 use Rattle.nsp_link.specs.Cutting.{Piece, cut}
 use Rattle.nsp_link.specs.Limits.{most_segments}
@@ -200,6 +200,8 @@ parts_posted p A more h room splits goes world =
     let same = served_same p h in
     record {
       world = world;
+      plain_a = h.plain_a;
+      plain_b = h.plain_b;
       alike = h.alike;
       limit = h.limit;
       most = h.most;
@@ -215,6 +217,8 @@ parts_posted p B more h room splits goes world =
     let short = subst (λ (n : ℕ). AreShort n p.b.outbox) h.alike.limit h.from_b.short in
     record {
       world = world;
+      plain_a = h.plain_a;
+      plain_b = h.plain_b;
       alike = h.alike;
       limit = h.limit;
       most = h.most;

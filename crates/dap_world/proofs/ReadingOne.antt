@@ -7,7 +7,7 @@ use Rattle.dap_msg.specs.declared.message.Message.{Message}
 use Rattle.dap_msg.specs.declared.items.Item.{Item}
 use Rattle.dap_msg.specs.declared.items.Item.TheVariants.{Whole}
 use Rattle.dap_msg.specs.Blocked.{messages_in}
-use Rattle.dap_accessed.specs.Groups.{Answers}
+use Rattle.dap_world.specs.Plain.{Answers}
 use Rattle.dap_accessing.specs.Present as accessing
 use Rattle.dap_accessing.specs.Told.{Told, is_unexpected}
 use Rattle.dap_accessing.specs.declared.report.Report.{Report}
@@ -30,7 +30,8 @@ use Rattle.dap_end.specs.Going.{oldest}
 use Rattle.dap_end.specs.Going.{given_then}
 use Rattle.dap_end.specs.Asking.{HasAsked, ReadNone, ReadOne}
 use Rattle.dap_end.specs.Done.{AskingValue}
-use Rattle.dap_end.proofs.ForCallers.{answers_full, in_append}
+use Rattle.dap_end.proofs.ForCallers.{in_append}
+use Rattle.dap_world.proofs.Plain.{answers_full}
 use Rattle.dap_world.specs.Inner.Sides.{AreShort, KeptSo, side_of}
 use Rattle.dap_world.specs.Inner.Parts.{Parts, AreParts, IsAskedAll, asks, answers, asking_end, served_items, state_of}
 use Rattle.dap_world.proofs.Counting.{handed-bytes}
@@ -41,7 +42,7 @@ use Rattle.dap_world.proofs.Growing.{told_moved, few_messages}
 use Rattle.dap_world.proofs.Kept.{kept-step, read-front}
 use Rattle.dap_world.proofs.Agreeing.{none-unexpected}
 use Rattle.dap_world.proofs.Serving.{full-take, fit-take}
-use Rattle.dap_world.proofs.Wrote.{AreThen, asking_parts}
+use Rattle.dap_world.proofs.Wrote.{AreThen, as_client, asking_parts, client_is}
 
 -- the answers to what B served
 all-answered : (p : Parts) → AreParts p → messages_in (take p.b.posted (answers p)) ++ messages_in (drop p.b.posted (answers p)) ≡ Answers p.accessed.own [] (map Whole (taken_of (state_of p)))
@@ -52,7 +53,7 @@ all-answered p h =
 pub next_answer : (p : Parts) (bytes : List ℕ) (later : List (List ℕ)) → AreParts p → p.a.link.coming.inbox ≡ bytes ∷ later → Next p.b p.a (answers p) p.read bytes
 next_answer p bytes later h inbox =
     find_next p.b p.a (answers p) p.read h.from_b bytes later
-    (full-take p.b.posted (answers p) (answers_full p.accessed.own [] [] (served_items p))) (fit-take p.b.posted (answers p) h.from_b.fit) inbox
+    (full-take p.b.posted (answers p) (answers_full p.accessed.own [] (served_items p))) (fit-take p.b.posted (answers p) h.from_b.fit) inbox
 
 next_read : (p : Parts) (bytes : List ℕ) → AreParts p → (n : Next p.b p.a (answers p) p.read bytes) → next_to_read (state_of p) ≡ Some n.m
 next_read p bytes h n =
@@ -154,8 +155,8 @@ read_so p v report reports h o kept =
     let next = next_read p o.one.bytes h x in
     let one = one_there o.one.bytes p.a.place o.one.next o.one.item x.begun x.more m x.fit x.bytes_are x.behind (only_item o.one.bytes p.a.place o.one.item o.one.next o.one.fits o.one.reads) in
     let t = handled_side p.a o.one.bytes o.one.later o.one.next in
-    let own : v.present ≡ record v.present { own = p.accessing.own } = ap (λ (k : ℕ). record v.present { own = k }) o.own in
-    let q = record p { a = t; accessing = record v.present { own = p.accessing.own }; reports = reports; read = p.read + 1 } in
+    let own : v.present ≡ as_client p v.present = client_is p v h o.own o.identity in
+    let q = record p { a = t; accessing = as_client p v.present; reports = reports; read = p.read + 1 } in
     let old = answers_read (state_of p) in
     let same : old ++ o.one.item ∷ [] ≡ answers_read (read_one (state_of p)) = ap (λ (i : Item). old ++ i ∷ []) (sym one.0) ∙ sym (read-more p m h next) in
     let past = record h.asking.0 { requests = p.requests; answers = old } in
@@ -163,13 +164,15 @@ read_so p v report reports h o kept =
     let asking : IsAskedAll (asking_end q) p.requests (answers_read (read_one (state_of p))) =
     subst (λ (l : List Item). IsAskedAll (asking_end q) p.requests l) same (
       now,
-      subst (λ (port : PortValue). HasAsked (record now { requests = p.requests; answers = old ++ o.one.item ∷ [] }) (record { port = port; present = record v.present { own = p.accessing.own } })) o.port
+      subst (λ (port : PortValue). HasAsked (record now { requests = p.requests; answers = old ++ o.one.item ∷ [] }) (record { port = port; present = as_client p v.present })) o.port
           (subst (λ (y : accessing.Present). HasAsked (record now { requests = p.requests; answers = old ++ o.one.item ∷ [] }) (record { port = v.port; present = y })) own (o.past past h.asking.1)),
     ) in
     let adds : reported (read_one (state_of p)) ≡ reported (state_of p) ++ option_to_list report = ap (Told p.requests) (sym same) ∙ o.told past h.asking.1 in
     let parts : AreParts q =
     record {
       world = world-read p m h next;
+      plain_a = refl;
+      plain_b = h.plain_b;
       alike = h.alike;
       limit = h.limit;
       most = h.most;

@@ -9,10 +9,9 @@ use Rattle.dap_msg.specs.declared.items.Item.TheVariants.{Whole}
 use Rattle.dap_msg.specs.Canon.{canon}
 use Rattle.dap_msg.specs.Blocked.{NspMessage, joined, all_joined, messages_in, AllFit}
 use Rattle.dap_msg.proofs.ForCallers.{messages_in-Blocked}
-use Rattle.dap_accessed.specs.Groups.{Answers, added, stands_after}
+use Rattle.dap_world.specs.Plain.{Answers, added, stands_after, Asked}
 use Rattle.dap_accessed.specs.Present as accessed
-use Rattle.dap_accessed.proofs.ForCallers.{Answers-more}
-use Rattle.dap_accessing.specs.Asked.{Asked}
+use Rattle.dap_world.proofs.Plain.{Answers-more, answer_to, answers-more}
 use Rattle.dap_accessing.specs.Told.{Told}
 use Rattle.dap_events.specs.declared.event.Event.TheVariants as event
 use Rattle.dap_events.specs.declared.event.Step.TheVariants as step
@@ -24,8 +23,9 @@ use Rattle.dap_world.specs.Inner.Worlds.{IsWorld}
 use Rattle.nsp_link.specs.Link.{with_inbox}
 use Rattle.dap_end.specs.Ports.{PortValue}
 use Rattle.dap_end.specs.Serving.{IsAfter, MayServe, ServedOne}
-use Rattle.dap_end.specs.Done.{ServingValue, Past}
-use Rattle.dap_end.proofs.ForCallers.{answer_to, answers-more, back_fit, front_fit, front_full, in_append}
+use Rattle.dap_end.specs.Done.{ServingValue, Past, answers_to}
+use Rattle.dap_accessed.specs.declared.setup.ServerSetup.{ServerSetup}
+use Rattle.dap_end.proofs.ForCallers.{back_fit, front_fit, front_full, in_append}
 use Rattle.dap_world.specs.Inner.Sides.{AreShort, side_of}
 use Rattle.dap_world.specs.Inner.Parts.{Parts, AreParts, IsAskedAll, IsServedAll, IsTold, asks, answers, asking_end, serving_end, served_items, answer_packets, end_state, state_of}
 use Rattle.dap_end.specs.Pasts.{AreFull, served}
@@ -38,7 +38,7 @@ use Rattle.dap_world.proofs.Growing.{told_more, handed_same, all_short}
 use Rattle.dap_world.proofs.Kept.{kept-step, taken-more, served-front}
 use Rattle.dap_world.proofs.Blocking.{answers-blocked}
 use Rattle.dap_world.proofs.Posted.{waits}
-use Rattle.dap_world.proofs.Wrote.{AreThen, serving_parts}
+use Rattle.dap_world.proofs.Wrote.{AreThen, as_server, server_is, serving_parts}
 
 -- ---- What B served.
 
@@ -97,10 +97,6 @@ read-stays p m h =
 
 -- ---- The step.
 
--- B, as its BUFSIZ stays
-abbrev kept_own : Parts → accessed.Present → accessed.Present
-kept_own p after = record after { own = p.accessed.own }
-
 module _ (p : Parts) (h : AreParts p) (m : Message) (next : next_to_serve (state_of p) ≡ Some m) (idle : p.b.outbox ≡ []) where
   items : List Item
   items = served_items p
@@ -112,7 +108,7 @@ module _ (p : Parts) (h : AreParts p) (m : Message) (next : next_to_serve (state
   q_of inbox place outbox after =
       record p {
         b = record p.b { link = with_inbox p.b.link inbox; place = place; outbox = outbox };
-        accessed = kept_own p after;
+        accessed = as_server p after;
         served = p.served + 1;
       }
 
@@ -121,7 +117,7 @@ module _ (p : Parts) (h : AreParts p) (m : Message) (next : next_to_serve (state
 
   answers_are : answer_packets p.accessed.own [] (map Whole (take (p.served + 1) (Asked p.accessing.own p.requests))) ≡ answers p ++ answer_to p.accessed.own [] (served_items p) (Whole m)
   answers_are =
-      ap (answer_packets p.accessed.own []) more_items ∙ answers-more p.accessed.own [] (served_items p) (Whole m)
+      ap (answer_packets p.accessed.own []) more_items ∙ answers-more p.accessed.own (served_items p) (Whole m)
 
   answering_is : answering (state_of p) m ≡ answer_to p.accessed.own [] (served_items p) (Whole m)
   answering_is = ap (λ (l : List Item). answer_to p.accessed.own [] l (Whole m)) (sym (served_is p h))
@@ -177,6 +173,8 @@ module _ (p : Parts) (h : AreParts p) (m : Message) (next : next_to_serve (state
       ap (λ (l : List Message). map Whole (take p.read (Answers p.accessed.own [] (map Whole l)))) taken ∙ ap (map Whole) (read-stays p m h) in
       record {
         world = subst IsWorld (sym state) world;
+        plain_a = h.plain_a;
+        plain_b = refl;
         alike = h.alike;
         limit = h.limit;
         most = h.most;
@@ -234,10 +232,10 @@ module _ (p : Parts) (v : ServingValue) (n : ℕ) (h : AreParts p) (o : ServedOn
   abbrev now : Past
   now = served past o.one.bytes (Whole m) o.one.next
 
-  own_is : v.present ≡ record v.present { own = p.accessed.own }
-  own_is = ap (λ (k : ℕ). record v.present { own = k }) o.own
+  own_is : v.present ≡ as_server p v.present
+  own_is = server_is p v h o.own o.setup
 
-  is_after : IsAfter now (record { port = v.port; present = record v.present { own = p.accessed.own } })
+  is_after : IsAfter now (record { port = v.port; present = as_server p v.present })
   is_after =
       subst (λ (x : accessed.Present). IsAfter now (record { port = v.port; present = x })) own_is
       (subst (λ (i : Item). IsAfter (served past o.one.bytes i o.one.next) v) (sym is) (o.past past h.serving.1))
@@ -247,9 +245,10 @@ module _ (p : Parts) (v : ServingValue) (n : ℕ) (h : AreParts p) (o : ServedOn
   outbox_is =
       let handed = h.serving.0.handed in
       let block = answer_to p.accessed.own [] taken (Whole m) in
-      let before : handed ≡ all_joined (answer_packets p.accessed.own [] taken) = sym (append-nil handed) ∙ ap (λ (l : List (List ℕ)). handed ++ l) (sym o.idle) ∙ h.serving.1.answers in
+      let before : handed ≡ all_joined (answer_packets p.accessed.own [] taken) = sym (append-nil handed) ∙ ap (λ (l : List (List ℕ)). handed ++ l) (sym o.idle) ∙ h.serving.1.answers
+      ∙ ap (λ (own : ServerSetup). all_joined (answers_to own [] [] taken)) h.plain_b in
       let all : handed ++ v.port.outbox ≡ handed ++ all_joined block =
-      is_after.answers ∙ ap all_joined (answers-more p.accessed.own [] taken (Whole m)) ∙ map-append joined (answer_packets p.accessed.own [] taken) block
+      is_after.answers ∙ ap all_joined (answers-more p.accessed.own taken (Whole m)) ∙ map-append joined (answer_packets p.accessed.own [] taken) block
       ∙ ap (λ (l : List (List ℕ)). l ++ all_joined block) (sym before) in
       sym (drop-append_seam handed v.port.outbox) ∙ ap (drop (length handed)) all ∙ drop-append_seam handed (all_joined block)
 
@@ -271,7 +270,7 @@ served_step p v n h o =
     let is = outbox_is p v n h o m one.0 in
     let q = q_of p h m x.next o.idle t.link.coming.inbox t.place outbox v.present in
     let serving : IsServedAll (serving_end q) (map Whole (taken_of (state_of p)) ++ Whole m ∷ []) =
-    (now p v n h o m one.0, subst (λ (port : PortValue). IsAfter (now p v n h o m one.0) (record { port = port; present = record v.present { own = p.accessed.own } })) o.port (is_after p v n h o m one.0)) in
+    (now p v n h o m one.0, subst (λ (port : PortValue). IsAfter (now p v n h o m one.0) (record { port = port; present = as_server p v.present })) o.port (is_after p v n h o m one.0)) in
     let parts : AreParts q = parts_served p h m x.next o.idle o.one.bytes o.one.later outbox o.one.next v.present x refl o.one.came one.1 is (added_fit p v n h o m one.0) serving in
     let count : length (answering (state_of p) m) ≡ n = sym (length-map (answering (state_of p) m) joined) ∙ ap length (sym is) ∙ sym o.count in
     let went : Steps (state_of p) event.Serve (step.Served n) (state_of q) =

@@ -21,7 +21,7 @@ use Rattle.dap_world.specs.Inner.Sides.{SideValue}
 use Rattle.dap_world.specs.Inner.Parts.{Parts, AreParts, IsAmong, IsTold, asks, answers, served_items, state_of, side}
 use Rattle.dap_world.proofs.Blocks.{asked-full}
 use Rattle.dap_world.proofs.Serving.{full-take}
-use Rattle.dap_end.proofs.ForCallers.{answers_full}
+use Rattle.dap_world.proofs.Plain.{answers_full}
 use Rattle.dap_world.proofs.Counting.{handed-bytes}
 
 -- what a link writes is what the end writes
@@ -122,7 +122,7 @@ link_of p A h =
       received = refl;
       held = refl;
       limit = h.limit;
-      stands = stands_shown p.b p.a (answers p) p.read p.a.link.setup.seg_size (full-take p.b.posted (answers p) (answers_full p.accessed.own [] [] (served_items p))) h.alike.size h.from_b;
+      stands = stands_shown p.b p.a (answers p) p.read p.a.link.setup.seg_size (full-take p.b.posted (answers p) (answers_full p.accessed.own [] (served_items p))) h.alike.size h.from_b;
       running = h.from_a.way.running;
     }
 link_of p B h =

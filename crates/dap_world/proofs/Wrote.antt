@@ -17,6 +17,10 @@ use Rattle.dap_events.specs.declared.event.WorldFault.TheVariants as fault
 use Rattle.dap_world.specs.Machine.{reported, State, EndState, Sending, end_of, with_end, wrote, MayEmit, segments_of, Steps, Refuses}
 use Rattle.dap_world.specs.Runs.{Went}
 use Rattle.dap_world.specs.Inner.Worlds.{IsWorld}
+use Rattle.dap_msg.specs.BothEnds.{plain_identity}
+use Rattle.dap_msg.specs.declared.message.Configuration.{Configuration}
+use Rattle.dap_accessed.specs.declared.setup.ServerSetup.{ServerSetup}
+use Rattle.dap_accessed.specs.Setup.{plain_setup}
 use Rattle.dap_accessed.specs.Present as accessed
 use Rattle.dap_accessing.specs.Present as accessing
 use Rattle.dap_end.specs.Ports.{PortValue}
@@ -64,6 +68,8 @@ unfolding reported
 parts_wrote p A sent w h carries still world =
     record {
       world = world;
+      plain_a = h.plain_a;
+      plain_b = h.plain_b;
       alike = h.alike;
       limit = h.limit;
       most = h.most;
@@ -77,6 +83,8 @@ parts_wrote p A sent w h carries still world =
 parts_wrote p B sent w h carries still world =
     record {
       world = world;
+      plain_a = h.plain_a;
+      plain_b = h.plain_b;
       alike = h.alike;
       limit = h.limit;
       most = h.most;
@@ -96,8 +104,24 @@ AreAfter p end e s answer = AreParts (with_side p end s) × Went (state_of p) e 
 abbrev pub asking_parts : Parts → AskingValue → (posted : ℕ) → List Wired → Parts
 asking_parts p v posted wire = record p { a = side_of v.port posted wire; accessing = v.present }
 
+-- a plain client with the BUFSIZ of that of the parts, and such a server
+abbrev pub as_client : Parts → accessing.Present → accessing.Present
+as_client p v = record v { own = p.accessing.own; identity = plain_identity p.accessing.own }
+
+abbrev pub as_server : Parts → accessed.Present → accessed.Present
+as_server p v = record v { own = p.accessed.own; setup = plain_setup p.accessed.own }
+
 abbrev pub serving_parts : Parts → ServingValue → (posted : ℕ) → List Wired → Parts
 serving_parts p v posted wire = record p { b = side_of v.port posted wire; accessed = v.present }
+
+-- what a client keeps that is the plain one still
+pub client_is : (p : Parts) (v : AskingValue) → AreParts p → v.present.own ≡ p.accessing.own → v.present.identity ≡ p.accessing.identity → v.present ≡ as_client p v.present
+client_is p v h own identity =
+    ap (λ (k : ℕ). record v.present { own = k }) own ∙ ap (λ (k : Configuration). record v.present { own = p.accessing.own; identity = k }) (identity ∙ h.plain_a)
+
+pub server_is : (p : Parts) (v : ServingValue) → AreParts p → v.present.own ≡ p.accessed.own → v.present.setup ≡ p.accessed.setup → v.present ≡ as_server p v.present
+server_is p v h own setup =
+    ap (λ (k : ℕ). record v.present { own = k }) own ∙ ap (λ (k : ServerSetup). record v.present { own = p.accessed.own; setup = k }) (setup ∙ h.plain_b)
 
 -- what an event makes of parts
 abbrev pub AreThen : Parts → Event → Parts → Result Step WorldFault → Type 0

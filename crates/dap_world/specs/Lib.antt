@@ -4,6 +4,7 @@ pub mod Inner
 pub mod Links
 pub mod Machine
 pub mod Naming
+pub mod Plain
 pub mod Runs
 pub mod Settling
 pub mod Setups

@@ -6,13 +6,12 @@ use Rattle.dap_msg.specs.declared.items.Item.{Item}
 use Rattle.dap_msg.specs.declared.items.Item.TheVariants.{Whole}
 use Rattle.dap_msg.specs.Blocked.{NspMessage, joined, Blocked, messages_in}
 use Rattle.dap_accessed.specs.Standing.{Files}
-use Rattle.dap_accessed.specs.Groups.{Answers, After, added, limit_for}
+use Rattle.dap_world.specs.Plain.{Answers, After, added, limit_for, messages_of, IsAdmissible, IsRefused}
 use Rattle.dap_accessing.specs.Request.{Request}
 use Rattle.dap_accessing.specs.declared.report.Report.{Report}
 use Rattle.dap_accessing.specs.declared.fault.AskFault.TheVariants as ask_fault
-use Rattle.dap_accessing.specs.Asked.{messages_of}
 use Rattle.dap_accessing.specs.Told.{Told}
-use Rattle.dap_accessing.specs.Phase.{IsAdmissible, IsRefused, limit_after}
+use Rattle.dap_accessing.specs.Phase.{limit_after}
 use Rattle.nsp_link.specs.Cutting.{count_of}
 use Rattle.nsp_link.specs.Holding.{closed_up}
 use Rattle.std.specs.Ordering.{nat_cmp}

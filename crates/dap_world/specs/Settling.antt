@@ -1,9 +1,7 @@
 -- A stretch without loss.
 use Rattle.std.specs.Prelude.{◌≡◌, ◌==◌, ◌⊎◌, ℕ, ◌+◌, ◌*◌, ◌-◌, ◌≤◌, ◌<◌, if◌then◌else◌, List, [], length, map, take, Some, slice_get}
 use Rattle.dap_msg.specs.declared.items.Item.TheVariants.{Whole}
-use Rattle.dap_accessed.specs.Groups.{Answers}
-use Rattle.dap_accessing.specs.Asked.{Asked}
-use Rattle.dap_accessing.specs.Phase.{IsRefused}
+use Rattle.dap_world.specs.Plain.{Answers, Asked, IsRefused}
 use Rattle.dap_accessing.specs.declared.fault.AskFault.{AskFault}
 use Rattle.dap_accessing.specs.declared.fault.AskFault.TheVariants as ask_fault
 use Rattle.dap_accessing.specs.Request.{Request}

@@ -1,9 +1,15 @@
 -- What `daplive` does with an input, and its exit status.
-use Rattle.std.specs.Prelude.{◌≡◌, ◌⊎◌, ℕ, nat_lt, Bool, MatchBool, List, [], if◌then◌else◌, Option}
+use Rattle.std.specs.Prelude.{◌≡◌, ◌⊎◌, ℕ, Bool, List, [], if◌then◌else◌, Option}
 use Rattle.std.specs.Str.Lines.{lines}
 use Rattle.std.specs.List.{list_any}
 use Rattle.std.specs.Io.KnownBytes.{Appends, Keeps}
 use Rattle.nsp_link.specs.declared.link.LinkSetup.{LinkSetup}
+use Rattle.dap_msg.specs.BothEnds.{plain_identity}
+use Rattle.dap_msg.specs.declared.message.Configuration.{Configuration}
+use Rattle.dap_accessed.specs.declared.setup.Names.{Names}
+use Rattle.dap_accessed.specs.declared.setup.Names.TheVariants.{Exact, Folded}
+use Rattle.dap_accessed.specs.declared.setup.ServerSetup.{ServerSetup}
+use Rattle.dap_accessed.specs.Setup.{all_rights}
 use Rattle.dap_follow.specs.Following.{FollowGives}
 use Rattle.dap_listing.specs.Gives.{HasStatus}
 use Rattle.dap_watch.specs.Watched.{WatchFails, WatchGives, is_refused}
@@ -16,10 +22,8 @@ use Rattle.linewise.specs.Talks.{Answering, Talked, Fails, is_bad}
 use Rattle.linewise.specs.declared.talking.Became.{Became}
 use Rattle.linewise.specs.declared.talking.TalkFault.{TalkFault}
 use Rattle.dap_live.specs.declared.node.Node.{Node}
-use Rattle.dap_live.specs.declared.serving.Serving.{Serving}
 use Rattle.dap_live.specs.declared.asking.Asking.{Asking}
 use Rattle.dap_live.specs.Node as node
-use Rattle.dap_live.specs.Serving as serving
 use Rattle.dap_live.specs.Asking as asking
 use Rattle.live_cli.specs.declared.words.Options.{Options}
 use Rattle.live_cli.specs.declared.words.Role.{Role}
@@ -44,22 +48,28 @@ AnswersAll {E} answered waiting first input written holds status =
     × Appends written holds text × (status ≡ (if list_any is_bad lines then 1 else 0)))
     ⊎ ((last : E) × (fault : TalkFault) × Fails answered waiting first input last written holds fault × (status ≡ 3))
 
--- a new server of one link with these options, without files, answers
-abbrev pub ServesOne : Options → List ℕ → (written holds : Option (List ℕ)) → ℕ → Type 0
-ServesOne o input written holds status =
-    (first : Serving) × serving.IsNew (setup_of o) o.buffer o.waiting [] first × AnswersAll serving.answered serving.waiting first input written holds status
+-- what an end says of itself: the version is that of the definitions
+abbrev pub identity_of : Options → Configuration
+identity_of o = record (plain_identity o.buffer) { ostype = o.ostype; filesys = o.filesys; syscap = o.syscap }
 
--- a new server with room for so many links, without a link and files, answers
-abbrev pub ServesLinks : Options → List ℕ → (written holds : Option (List ℕ)) → ℕ → Type 0
-ServesLinks o input written holds status =
-    (first : Node) × node.IsNew (setup_of o) o.buffer o.links o.waiting first × AnswersAll node.answered node.waiting first input written holds status
+-- how names are compared
+abbrev pub names_by : (folded : Bool) → Names
+names_by folded = if folded then Folded else Exact
+
+-- how the server is set up: an Access may ask for every right, unless its link has fewer
+abbrev pub server_of : Options → ServerSetup
+server_of o = record { identity = identity_of o; names = names_by o.folded; most = all_rights }
+
+-- a new server without files answers: its only link is there; or it has room for several, and none is
+abbrev pub Serves : Options → List ℕ → (written holds : Option (List ℕ)) → ℕ → Type 0
+Serves o input written holds status =
+    (first : Node) × node.IsNew (server_of o) o.links (setup_of o) o.waiting first × AnswersAll node.answered node.waiting first input written holds status
 
 -- a new end with these options, without files, answers
 abbrev pub GivesAs : Role → Options → List ℕ → (written holds : Option (List ℕ)) → ℕ → Type 0
-GivesAs Serve o input written holds status =
-    MatchBool (nat_lt 1 o.links) (ServesLinks o input written holds status) (ServesOne o input written holds status)
+GivesAs Serve o input written holds status = Serves o input written holds status
 GivesAs Ask o input written holds status =
-    (first : Asking) × asking.IsNew (setup_of o) o.buffer first × AnswersAll asking.answered asking.waiting first input written holds status
+    (first : Asking) × asking.IsNew (setup_of o) (identity_of o) first × AnswersAll asking.answered asking.waiting first input written holds status
 
 -- The listing of all packets is written, and the status is 1 where some line is bad and 0 otherwise; or the reader or the writer fails,
 -- or memory is refused, and it is 3.

@@ -1,6 +1,9 @@
 -- The command line of `daplive`.
-use Rattle.std.specs.Prelude.{ℕ, Bool, true, false, ◌||◌, ◌&&◌, nat_lt, List, [], ◌∷◌, codes, bytes_eq, fold, if◌then◌else◌, pos, max, Option, Some, None, option_map, option_and_then}
+use Rattle.std.specs.Prelude.{ℕ, ◌-◌, ◌^◌, Bool, true, false, ◌||◌, ◌&&◌, nat_le, nat_lt, List, [], ◌∷◌, ◌++◌, length, replicate, codes, bytes_eq, fold, if◌then◌else◌, pos, max, Option, Some, None, option_map, option_and_then}
 use Rattle.std.specs.Fmt.{decimal}
+use Rattle.std.specs.Int.{from_be_bytes, w128}
+use Rattle.std.specs.Result.{result_ok}
+use Rattle.hex.specs.Hex.{decode_sized}
 use Rattle.std.specs.Option.{option_map_or}
 use Rattle.std.specs.List.{find}
 use Rattle.clap.specs.declared.builder.action.ArgAction.TheVariants.{SetTrue}
@@ -34,14 +37,50 @@ greatest_waiting = 1073741824
 abbrev pub usual_waiting : ℕ
 usual_waiting = 1048576
 
+-- what an end says that it can do where nothing is said: what is true of it
+abbrev pub usual_syscap : ℕ
+usual_syscap = 0x2001c3466
+
 -- how many links a server may have room for
 abbrev pub most_links : ℕ
 most_links = 1023
 
 -- the name of an end, and its options by default
 abbrev pub usual : Role → Text × Options
-usual Serve = (codes "serve", record { role = Serve; local = 514; remote = 257; segment = 512; window = 8; buffer = 1024; waiting = usual_waiting; links = 1 })
-usual Ask = (codes "ask", record { role = Ask; local = 257; remote = 514; segment = 512; window = 8; buffer = 1024; waiting = usual_waiting; links = 1 })
+usual Serve = (
+  codes "serve",
+  record {
+    role = Serve;
+    local = 514;
+    remote = 257;
+    segment = 512;
+    window = 8;
+    buffer = 1024;
+    ostype = 18;
+    filesys = 13;
+    syscap = usual_syscap;
+    waiting = usual_waiting;
+    links = 1;
+    folded = false;
+  },
+)
+usual Ask = (
+  codes "ask",
+  record {
+    role = Ask;
+    local = 257;
+    remote = 514;
+    segment = 512;
+    window = 8;
+    buffer = 1024;
+    ostype = 18;
+    filesys = 13;
+    syscap = usual_syscap;
+    waiting = usual_waiting;
+    links = 1;
+    folded = false;
+  },
+)
 
 -- ---- The command line, in the words of `clap`.
 
@@ -58,13 +97,18 @@ abbrev pub end_line : Text × Options → App
 end_line (word, o) = fold with_rule (new_app word)
     (option (codes "local") (word_text o.local) ∷ option (codes "remote") (word_text o.remote)
     ∷ number (codes "segment") (decimal o.segment) 1 largest_segment ∷ number (codes "window") (decimal o.window) 1 largest_window
-    ∷ number (codes "buffer") (decimal o.buffer) least_buffer greatest_message ∷ [])
+    ∷ number (codes "buffer") (decimal o.buffer) least_buffer greatest_message
+    ∷ number (codes "ostype") (decimal o.ostype) 0 255 ∷ number (codes "filesys") (decimal o.filesys) 0 255
+    ∷ option (codes "syscap") (codes "2001c3466") ∷ [])
 
--- the subcommand `serve`, which has two options more
+-- the subcommand `serve`, which has three options more
 abbrev pub serve_line : App
 serve_line =
-    with_rule (with_rule (end_line (usual Serve)) (number (codes "waiting") (decimal usual_waiting) least_waiting greatest_waiting))
-    (number (codes "links") (decimal 1) 1 most_links)
+    with_rule
+    (with_rule
+    (with_rule (end_line (usual Serve)) (number (codes "waiting") (decimal usual_waiting) least_waiting greatest_waiting))
+    (number (codes "links") (decimal 1) 1 most_links))
+    (option (codes "names") (codes "exact"))
 
 -- the subcommand `frames`, which has two nodes or none
 abbrev pub frames_line : App
@@ -93,6 +137,30 @@ daplive = fold with_subcommand (new_program (codes "daplive"))
 abbrev pub value : {X : Type 0} → List Row → (read : Text → Option ℕ) → (name : Text) → (ℕ → Option X) → Option X
 value rows read name next = option_and_then next (option_and_then read (first_of name rows))
 
+-- a code of a Configuration, by decimal digits
+abbrev pub code_of : Text → Option ℕ
+code_of = decimal_of 255
+
+-- a number, if it is a SYSCAP: it has 84 bits
+abbrev pub as_syscap : ℕ → Option ℕ
+as_syscap n = if nat_lt n (2 ^ 84) then Some n else None
+
+-- a SYSCAP: the number of 1 to 21 hex digits, here with zeros before them to 16 bytes
+abbrev pub syscap_of : Text → Option ℕ
+syscap_of word =
+    if nat_lt 0 (length word) && nat_le (length word) 21
+    then option_and_then as_syscap (option_map (from_be_bytes w128) (result_ok (decode_sized (replicate (32 - length word) 48 ++ word) 16)))
+    else None
+
+-- whether names are compared by their folds
+abbrev pub folded_of : Text → Option Bool
+folded_of word = if bytes_eq word (codes "exact") then Some false else if bytes_eq word (codes "folded") then Some true else None
+
+-- the same of the words; `ask` has no such option
+abbrev pub names_of : Role → List Row → Option Bool
+names_of Serve rows = option_and_then folded_of (first_of (codes "names") rows)
+names_of Ask rows = Some false
+
 -- how many bytes may wait; `ask` has no such option
 abbrev pub waiting_of : Role → List Row → Option ℕ
 waiting_of Serve rows = option_and_then (decimal_of greatest_waiting) (first_of (codes "waiting") rows)
@@ -120,8 +188,8 @@ abbrev pub links_of : Role → List Row → Option ℕ
 links_of Serve rows = option_and_then (links_beside rows) (option_and_then short (first_of (codes "links") rows))
 links_of Ask rows = Some 1
 
--- The options of an end. An address is four hex digits, a number is decimal digits, and a buffer has at least 64
--- bytes.
+-- The options of an end. An address is four hex digits, a number is decimal digits, a buffer has at least 64 bytes, and a SYSCAP is
+-- hex digits.
 abbrev pub options_of : Role → List Row → Option Options
 options_of role rows =
     value rows address_of (codes "local") (λ local.
@@ -129,17 +197,25 @@ options_of role rows =
     value rows short (codes "segment") (λ segment.
     value rows short (codes "window") (λ window.
     value rows short (codes "buffer") (λ buffer.
+    value rows code_of (codes "ostype") (λ ostype.
+    value rows code_of (codes "filesys") (λ filesys.
+    value rows syscap_of (codes "syscap") (λ syscap.
     option_and_then (λ waiting.
-    option_and_then (λ links. Some (record {
+    option_and_then (λ links.
+    option_and_then (λ folded. Some (record {
       role = role;
       local = local;
       remote = remote;
       segment = segment;
       window = window;
       buffer = max least_buffer buffer;
+      ostype = ostype;
+      filesys = filesys;
+      syscap = syscap;
       waiting = waiting;
       links = links;
-    })) (links_of role rows)) (waiting_of role rows))))))
+      folded = folded;
+    })) (names_of role rows)) (links_of role rows)) (waiting_of role rows)))))))))
 
 -- both ends, of two addresses of nodes
 abbrev pub ends_by : Option ℕ → Option ℕ → Option Ends

@@ -1,22 +1,27 @@
 //! The program over any reader and writers.
 
-ghost use Rattle.std.specs.Prelude.{◌≡◌, ◌≢◌, ◌≤◌, ◌⊎◌, ◌∷◌, ℕ, List, [], false, true, IfSome, None, Some, codes, if◌then◌else◌, map, string_bytes};
+ghost use Rattle.std.specs.Prelude.{◌≡◌, ◌≢◌, ◌≤◌, ◌<◌, ◌^◌, ◌⊎◌, ◌∷◌, ℕ, List, [], false, true, IfSome, None, Some, codes, if◌then◌else◌, map, string_bytes};
 ghost use Rattle.std.specs.Io.KnownBytes.{Keeps};
 ghost use Rattle.clap.specs.Words.{fault_of};
 ghost use Rattle.cli_faults.specs.Mistakes.{AreMistakes};
+ghost use Rattle.dap_accessed.specs.Setup.{IsServerSetup};
 ghost use Rattle.dap_msg.specs.BothEnds.{least_buffer};
+ghost use Rattle.dap_msg.specs.Fitting.{FieldsFit};
+ghost use Rattle.dap_msg.specs.declared.message.Message.TheVariants.{Config};
 ghost use Rattle.live_cli.specs.declared.words.Task.{Task as TheTask};
 ghost use Rattle.live_cli.specs.declared.words.Role.TheVariants as role;
 ghost use Rattle.live_cli.specs.declared.words.Role.{Role as TheRole};
-ghost use Rattle.live_cli.specs.Running.{AnswersAll, GivesAs, ServesLinks, ServesOne, TaskGives, frames_status, setup_of};
+ghost use Rattle.live_cli.specs.Running.{AnswersAll, GivesAs, Serves, TaskGives, frames_status, identity_of, names_by, server_of, setup_of};
 ghost use Rattle.live_cli.specs.Inner.CommandLine.{HasRoom};
 ghost use Rattle.live_cli.specs.Words.{daplive, task_of, usual};
 
 use crate::words::{Misspelt, Options, Role, Task, read_words};
 use clap::error::ErrorKind;
 use cli_faults::{Fronted, Reading, finish_reading, refuse};
+use dap_accessed::{ALL_RIGHTS, Names, ServerSetup};
 use dap_follow::follow;
-use dap_live::{Asking, Node, Serving};
+use dap_live::{Asking, Node};
+use dap_msg::Configuration;
 use dap_watch::watch;
 use decnet_frames::{Counts, Ends, FramesFault, list_frames};
 use linewise::{Answers, talk};
@@ -78,7 +83,42 @@ fn no_end<E: Write>(_fault: LinkFault, error_writer: &mut E) -> u8
     tell("no memory", error_writer)
 }
 
-/// Answers the lines of the input by a server, and answers the exit status.
+/// What an end says of itself.
+fn identity(options: Options) -> Configuration
+    requires { options.syscap < 2 ^ 84 }
+    ensures is { result ≡ identity_of options }
+    ensures fits { FieldsFit (Config (identity_of options)) }
+{
+    Configuration {
+        ostype: options.ostype,
+        filesys: options.filesys,
+        syscap: options.syscap,
+        ..Configuration::plain(options.buffer)
+    }
+}
+
+/// How names are compared.
+fn comparing(folded: bool) -> Names
+    ensures { result ≡ names_by folded }
+{
+    if folded { Names::Folded } else { Names::Exact }
+}
+
+/// How the server is set up.
+fn server_setup(options: Options) -> ServerSetup
+    requires room { least_buffer ≤ options.buffer }
+    requires syscap { options.syscap < 2 ^ 84 }
+    ensures is { result ≡ server_of options }
+    ensures fits { IsServerSetup (server_of options) }
+{
+    ServerSetup {
+        identity: identity(options),
+        names: comparing(options.folded),
+        most: ALL_RIGHTS,
+    }
+}
+
+/// Answers the lines of the input by a server of one link or several, and answers the exit status.
 fn serve<R: BufRead, W: Write, E: Write>(
     alloc: Global,
     options: Options,
@@ -86,28 +126,9 @@ fn serve<R: BufRead, W: Write, E: Write>(
     writer: &mut W,
     error_writer: &mut E,
 ) -> u8
-    requires { least_buffer ≤ options.buffer }
-    ensures { IfSome (R.remaining reader.old) (λ input. ServesOne options input
-        (W.contents writer.old) (W.contents writer.new) result
-        ⊎ (Keeps (W.contents writer.old) (W.contents writer.new) × (result ≡ 3))) }
-{
-    let most_waiting = u64::from(options.waiting);
-    match Serving::new(alloc, options.buffer, link_setup(options), most_waiting) {
-        Ok(mut end) => converse(alloc, &mut end, reader, writer, error_writer),
-        Err(fault) => no_end(fault, error_writer),
-    }
-}
-
-/// Answers the lines of the input by a server of several links, and answers the exit status.
-fn serve_links<R: BufRead, W: Write, E: Write>(
-    alloc: Global,
-    options: Options,
-    reader: &mut R,
-    writer: &mut W,
-    error_writer: &mut E,
-) -> u8
-    requires { least_buffer ≤ options.buffer }
-    ensures { IfSome (R.remaining reader.old) (λ input. ServesLinks options input
+    requires room { least_buffer ≤ options.buffer }
+    requires syscap { options.syscap < 2 ^ 84 }
+    ensures { IfSome (R.remaining reader.old) (λ input. Serves options input
         (W.contents writer.old) (W.contents writer.new) result
         ⊎ (Keeps (W.contents writer.old) (W.contents writer.new) × (result ≡ 3))) }
 {
@@ -115,13 +136,13 @@ fn serve_links<R: BufRead, W: Write, E: Write>(
     let links = options.links as usize;
     match Node::new(
         alloc,
-        options.buffer,
+        server_setup(options),
         links,
         link_setup(options),
         most_waiting,
     ) {
         Ok(mut node) => converse(alloc, &mut node, reader, writer, error_writer),
-        Err(_) => tell("no memory", error_writer),
+        Err(fault) => no_end(fault, error_writer),
     }
 }
 
@@ -133,12 +154,13 @@ fn ask<R: BufRead, W: Write, E: Write>(
     writer: &mut W,
     error_writer: &mut E,
 ) -> u8
-    requires { least_buffer ≤ options.buffer }
+    requires room { least_buffer ≤ options.buffer }
+    requires syscap { options.syscap < 2 ^ 84 }
     ensures { IfSome (R.remaining reader.old) (λ input. GivesAs role.Ask options input
         (W.contents writer.old) (W.contents writer.new) result
         ⊎ (Keeps (W.contents writer.old) (W.contents writer.new) × (result ≡ 3))) }
 {
-    match Asking::new(alloc, options.buffer, link_setup(options)) {
+    match Asking::new(alloc, identity(options), link_setup(options)) {
         Ok(mut end) => converse(alloc, &mut end, reader, writer, error_writer),
         Err(fault) => no_end(fault, error_writer),
     }
@@ -153,14 +175,12 @@ pub fn run_options<R: BufRead, W: Write, E: Write>(
     writer: &mut W,
     error_writer: &mut E,
 ) -> u8
-    requires { least_buffer ≤ options.buffer }
+    requires room { least_buffer ≤ options.buffer }
+    requires syscap { options.syscap < 2 ^ 84 }
     ensures { IfSome (R.remaining reader.old) (λ input. TaskGives (Task.End options) input
         (W.contents writer.old) (W.contents writer.new) result) }
 {
     match options.role {
-        Role::Serve if options.links > 1 => {
-            serve_links(alloc, options, reader, writer, error_writer)
-        }
         Role::Serve => serve(alloc, options, reader, writer, error_writer),
         Role::Ask => ask(alloc, options, reader, writer, error_writer),
     }

@@ -1,16 +1,18 @@
 //! What the words say.
 
 ghost use Rattle.std.specs.Result.{result_ok};
-ghost use Rattle.std.specs.Prelude.{◌≡◌, ◌≤◌, false, IfErr, IfOk, IfSome, IsTrue, None, Some, codes, map, option_and_then, option_map, pos, string_bytes};
-ghost use Rattle.clap.specs.Words.{FailsBy, all_of, app_of, fault_of, first_of, found_of, kind_of, rows_of, rule_of, subcommand_of};
+ghost use Rattle.std.specs.Prelude.{◌≡◌, ◌≤◌, false, ◌<◌, ◌^◌, ◌++◌, ◌-◌, IfErr, IfOk, IfSome, IsTrue, None, Some, codes, length, map, option_and_then, option_map, pos, replicate, string_bytes};
+ghost use Rattle.std.specs.Int.{from_be_bytes, w128};
+ghost use Rattle.hex.specs.Hex.{decode_sized};
+ghost use Rattle.clap.specs.Words.{FailsBy, all_of, fault_of, first_of, found_of, kind_of, rows_of, rule_of, subcommand_of};
 ghost use Rattle.clap.specs.declared.builder.value_parser.ValueParser.TheVariants as parser;
 ghost use Rattle.dap_msg.specs.BothEnds.{greatest_message, least_buffer};
 ghost use Rattle.nsp_link.specs.Limits.{largest_segment, largest_window};
 ghost use Rattle.dap_text.specs.Words.{short};
 ghost use Rattle.dap_live.specs.Orders.{address_of};
 ghost use Rattle.decnet_frames.specs.Nodes.{node_of};
-ghost use Rattle.live_cli.specs.Words.{daplive, ends_of, greatest_waiting, has_address, is_given as is_given_in, is_word as is_in_words, least_waiting, links_of, most_links, option as option_rule, options_of, task_in as task_of_rows, task_of, has_words as words_wanted, waiting_of};
-ghost use Rattle.live_cli.specs.Inner.CommandLine.{HasAddresses, HasLimits, HasLinks, HasRoom, HasWaiting, IsCommandLine, IsEndLine, IsFollowLine, IsFramesLine, IsServeLine, IsWatchLine};
+ghost use Rattle.live_cli.specs.Words.{code_of, folded_of, names_of, syscap_of, daplive, ends_of, greatest_waiting, has_address, is_given as is_given_in, is_word as is_in_words, least_waiting, links_of, most_links, option as option_rule, options_of, task_in as task_of_rows, task_of, has_words as words_wanted, waiting_of};
+ghost use Rattle.live_cli.specs.Inner.CommandLine.{HasAddresses, HasCodes, HasIdentity, HasLimits, HasLinks, HasNames, HasRoom, HasSyscap, HasWaiting, IsCommandLine, IsEndLine, IsFollowLine, IsFramesLine, IsServeLine, IsWatchLine};
 ghost use Rattle.live_cli.specs.Inner.Spelling.{IsMisspelt};
 
 use clap::builder::ValueParser;
@@ -37,19 +39,22 @@ more is counted where a line ran out of memory. Empty lines, and those that begi
   > HEX                       a packet that arrived: accepted, repeat, early or ack-only; reports; packets to send, each '< HEX'
   resend                      the packets that aren't acknowledged, the oldest first; then what was left to do
   ack                         an acknowledgement of all that arrived
-  new [LOCAL REMOTE [BYTES]]  a new link, with these addresses and segments of at most BYTES; serve keeps its files
+  new [LOCAL REMOTE [BYTES [FAC]]]
+                              a new link, with these addresses, segments of at most BYTES, and the rights of FAC, 0 to 15, which
+                              only serve has; serve keeps its files
   close LOCAL                 serve --links 2 and more: the link ends; there new, resend and ack name their link by LOCAL
   files                       serve: the files, as the two lines below
   file NAME seq|rel fixed|variable MRS MRN
                               serve, before a packet arrived: one file more, without records
     N BODY                    a record of it, after two spaces; names and bodies are hex digits, or - for none
+  drop NAME                   serve: the file is removed, unless a link has it open
   ask ..                      ask: hello, create NAME ORG RFM MRS MRN FAC, open NAME FAC, connect, get [key N|rfa N],
-                              put [key N] BODY, update BODY, delete, rewind, fetch, store BODY .., continue again|skip|abort,
-                              close, purge
+                              put [key N] BODY, update BODY, delete, rewind, fetch, fetch each, store BODY ..,
+                              continue again|skip|abort, close, purge
 
 Example: echo 'ask hello' | ./daplive ask
   asked 1
-  < 60020201010080010001020a00040703050600000000
+  < 60020201010080010001020e0004120d0506000000e6e8f08020
   waits 1";
 
 const FOLLOW: &str = "\
@@ -199,11 +204,72 @@ fn waitings<'a>() -> ValueParser<'a>
 /// The links that a server may have room for: 1 to 1,023.
 const MOST_LINKS: i64 = 1023;
 
+/// The greatest OSTYPE and FILESYS.
+const GREATEST_CODE: u32 = 255;
+
 /// The links that there may be room for.
 fn link_counts<'a>() -> ValueParser<'a>
     ensures { result ≡ parser.Signed (pos 1) (pos most_links) }
 {
     value_parser!(u16).range(1..=MOST_LINKS)
+}
+
+/// A code of a Configuration: 0 to 255.
+fn codes_of<'a>() -> ValueParser<'a>
+    ensures { result ≡ parser.Signed (pos 0) (pos 255) }
+{
+    value_parser!(u16).range(0..=GREATEST_CODE as i64)
+}
+
+/// The codes of a Configuration.
+fn with_codes<'a>(alloc: Global, command: Command<'a>) -> Result<Command<'a>, Error>
+    ensures added { IfOk result (HasCodes command.entry) }
+    ensures memory { IfErr result (λ error. kind_of error ≡ ErrorKind.OutOfMemory) }
+{
+    let ostype = number(
+        alloc,
+        "ostype",
+        "CODE",
+        "18",
+        "OSTYPE of the Configuration, 0 to 255",
+        codes_of(),
+    );
+    let filesys = number(
+        alloc,
+        "filesys",
+        "CODE",
+        "13",
+        "FILESYS of the Configuration, 0 to 255",
+        codes_of(),
+    );
+    let command = command.arg(ostype)?.arg(filesys)?;
+    Ok(command)
+}
+
+/// What an end says that it can do.
+fn with_syscap<'a>(alloc: Global, command: Command<'a>) -> Result<Command<'a>, Error>
+    ensures added { IfOk result (HasSyscap command.entry) }
+    ensures memory { IfErr result (λ error. kind_of error ≡ ErrorKind.OutOfMemory) }
+{
+    let syscap = option(
+        alloc,
+        "syscap",
+        "HEX",
+        "2001c3466",
+        "SYSCAP of the Configuration, by 1 to 21 hex digits",
+    );
+    let command = command.arg(syscap)?;
+    Ok(command)
+}
+
+/// What an end says of itself.
+fn with_identity<'a>(alloc: Global, command: Command<'a>) -> Result<Command<'a>, Error>
+    ensures added { IfOk result (HasIdentity command.entry) }
+    ensures memory { IfErr result (λ error. kind_of error ≡ ErrorKind.OutOfMemory) }
+{
+    let command = with_codes(alloc, command)?;
+    let command = with_syscap(alloc, command)?;
+    Ok(command)
 }
 
 /// How many bytes may wait, an option that only the server has.
@@ -237,6 +303,22 @@ fn with_links<'a>(alloc: Global, command: Command<'a>) -> Result<Command<'a>, Er
         link_counts(),
     );
     let command = command.arg(links)?;
+    Ok(command)
+}
+
+/// How names are compared, an option that only the server has.
+fn with_names<'a>(alloc: Global, command: Command<'a>) -> Result<Command<'a>, Error>
+    ensures added { IfOk result (HasNames command.entry) }
+    ensures memory { IfErr result (λ error. kind_of error ≡ ErrorKind.OutOfMemory) }
+{
+    let names = option(
+        alloc,
+        "names",
+        "HOW",
+        "exact",
+        "How names of files are compared: exact, byte by byte; or folded, without directories, versions and case",
+    );
+    let command = command.arg(names)?;
     Ok(command)
 }
 
@@ -283,7 +365,8 @@ fn end_command<'a>(alloc: Global, usual: &Usual) -> Result<Command<'a>, Error>
         .about(usual.about)
         .after_help(LINES);
     let command = with_addresses(alloc, command, usual)?;
-    with_limits(alloc, command)
+    let command = with_limits(alloc, command)?;
+    with_identity(alloc, command)
 }
 
 /// The command line of the server.
@@ -293,7 +376,8 @@ fn serve_command<'a>(alloc: Global) -> Result<Command<'a>, Error>
 {
     let command = end_command(alloc, &SERVING)?;
     let command = with_waiting(alloc, command)?;
-    with_links(alloc, command)
+    let command = with_links(alloc, command)?;
+    with_names(alloc, command)
 }
 
 /// The command line of the listing.
@@ -377,10 +461,18 @@ pub struct Options {
     pub window: u16,
     /// At least 64.
     pub buffer: u16,
+    /// OSTYPE of the own Configuration.
+    pub ostype: u8,
+    /// Its FILESYS.
+    pub filesys: u8,
+    /// Its SYSCAP, below 2^84.
+    pub syscap: u128,
     /// The bytes that may wait while the server goes on; of no meaning to the client.
     pub waiting: u32,
     /// How many links the server has room for; with 2 and more the addresses are of no meaning. 1 for the client.
     pub links: u16,
+    /// Names are compared by their folds; of no meaning to the client.
+    pub folded: bool,
 }
 
 /// What the program does.
@@ -405,6 +497,12 @@ pub(crate) enum Digits {
     Number,
     /// By the same, of a number of bytes that may wait.
     Bytes,
+    /// By the same, of a number from 0 to 255.
+    Code,
+    /// By 1 to 21 hex digits.
+    Abilities,
+    /// By one of two words.
+    Comparing,
     /// By the address of a node.
     Node,
     /// Not at all: a server of several links has no addresses of its own.
@@ -423,7 +521,10 @@ impl Display for Digits {
     fn fmt<W: fmt::Write>(&self, f: &mut fmt::Formatter<W>) -> fmt::Result {
         f.write_str(match self {
             Digits::Address => "an address is four hex digits",
-            Digits::Number | Digits::Bytes => "a number is decimal digits, ten at most",
+            Digits::Number | Digits::Bytes | Digits::Code =>
+                "a number is decimal digits, ten at most",
+            Digits::Abilities => "a SYSCAP is 1 to 21 hex digits",
+            Digits::Comparing => "names are exact or folded",
             Digits::Node => "a node is an area, 1 to 63, a point, and a number, 1 to 1023, as 1.10",
             Digits::Nowhere => "with several links the addresses are those of 'new'",
         })
@@ -491,6 +592,129 @@ fn read_short(text: &str) -> Option<u16>
 {
     let number = read_number(text.as_bytes(), 65535)?;
     Some(number as u16)
+}
+
+/// A code of a Configuration.
+fn code_in<'a>(matches: &ArgMatches<'a>, name: &'static str) -> Result<u8, Misspelt<'a>>
+    ensures value { result_ok result
+        ≡ option_and_then code_of (first_of name.now (rows_of (found_of matches.now))) }
+    ensures misspelt { IfErr result (IsMisspelt (rows_of (found_of matches.now))) }
+{
+    let value = text_in(matches, name).unwrap_or("");
+    match read_code(value) {
+        Some(code) => Ok(code),
+        None => {
+            Err(Misspelt {
+                option: name,
+                value,
+                digits: Digits::Code,
+            })
+        }
+    }
+}
+
+/// A number of 8 bits.
+fn read_code(text: &str) -> Option<u8>
+    ensures { result ≡ code_of text.now }
+{
+    let number = read_number(text.as_bytes(), GREATEST_CODE)?;
+    Some(number as u8)
+}
+
+/// The digits of a SYSCAP, at most.
+const SYSCAP_DIGITS: usize = 21;
+
+/// What is above every SYSCAP: it has 84 bits.
+const SYSCAP_END: u128 = 1 << 84;
+
+/// The digits, with zeros before them.
+fn padded(digits: &[u8]) -> [u8; 32]
+    requires { length digits.now ≤ 21 }
+    ensures { result ≡ replicate (32 - length digits.now) 48 ++ digits.now }
+{
+    let mut all = [b'0'; 32];
+    all[32 - digits.len()..].copy_from_slice(digits);
+    all
+}
+
+/// The number of 16 bytes, by their hex digits.
+fn read_bytes(digits: &[u8]) -> Option<u128>
+    ensures { result ≡ option_map (from_be_bytes w128) (result_ok (decode_sized digits.now 16)) }
+{
+    let mut bytes = [0; 16];
+    match hex::decode_to_slice(digits, &mut bytes) {
+        Ok(()) => Some(u128::from_be_bytes(bytes)),
+        Err(_) => None,
+    }
+}
+
+/// A SYSCAP, by hex digits.
+fn read_syscap(text: &str) -> Option<u128>
+    ensures value { result ≡ syscap_of text.now }
+    ensures small { IfSome result (λ syscap. syscap < 2 ^ 84) }
+{
+    let digits = text.as_bytes();
+    if digits.is_empty() || digits.len() > SYSCAP_DIGITS {
+        return None;
+    }
+    let syscap = read_bytes(&padded(digits))?;
+    if syscap < SYSCAP_END {
+        Some(syscap)
+    } else {
+        None
+    }
+}
+
+/// What an end says that it can do.
+fn syscap_in<'a>(matches: &ArgMatches<'a>) -> Result<u128, Misspelt<'a>>
+    ensures value { result_ok result ≡ option_and_then syscap_of
+        (first_of (codes "syscap") (rows_of (found_of matches.now))) }
+    ensures small { IfOk result (λ syscap. syscap < 2 ^ 84) }
+    ensures misspelt { IfErr result (IsMisspelt (rows_of (found_of matches.now))) }
+{
+    let value = text_in(matches, "syscap").unwrap_or("");
+    match read_syscap(value) {
+        Some(syscap) => Ok(syscap),
+        None => {
+            Err(Misspelt {
+                option: "syscap",
+                value,
+                digits: Digits::Abilities,
+            })
+        }
+    }
+}
+
+/// Whether names are compared by their folds, by its word.
+fn read_folded(text: &str) -> Option<bool>
+    ensures { result ≡ folded_of text.now }
+{
+    match text.as_bytes() {
+        word if is(word, "exact") => Some(false),
+        word if is(word, "folded") => Some(true),
+        _ => None,
+    }
+}
+
+/// Whether names are compared by their folds; a client has no such option.
+fn folded_in<'a>(role: Role, matches: &ArgMatches<'a>) -> Result<bool, Misspelt<'a>>
+    ensures value { result_ok result ≡ names_of role (rows_of (found_of matches.now)) }
+    ensures misspelt { IfErr result (IsMisspelt (rows_of (found_of matches.now))) }
+{
+    if role == Role::Ask {
+        return Ok(false);
+    }
+    let value = text_in(matches, "names").unwrap_or("");
+    match read_folded(value) {
+        Some(folded) => Ok(folded),
+        None => {
+            Err(Misspelt {
+                option: "names",
+                value,
+                digits: Digits::Comparing,
+            })
+        }
+    }
 }
 
 /// How many bytes may wait while an end serves more; a client has no such option.
@@ -574,11 +798,12 @@ fn links_in<'a>(role: Role, matches: &ArgMatches<'a>) -> Result<u16, Misspelt<'a
     Ok(links)
 }
 
-/// How an end is set up, or the first address that isn't four hex digits, or number that isn't decimal digits; then the
-/// first address where there are several links.
+/// How an end is set up, or the first value that isn't spelled as it has to be; of a server, then the first address where there
+/// are several links, and last how names are compared.
 fn options_in<'a>(role: Role, matches: &ArgMatches<'a>) -> Result<Options, Misspelt<'a>>
     ensures options { result_ok result ≡ options_of role (rows_of (found_of matches.now)) }
     ensures room { IfOk result (λ o. least_buffer ≤ o.buffer) }
+    ensures syscap { IfOk result (λ o. o.syscap < 2 ^ 84) }
     ensures misspelt { IfErr result (IsMisspelt (rows_of (found_of matches.now))) }
 {
     let local = address_in(matches, "local")?;
@@ -586,8 +811,12 @@ fn options_in<'a>(role: Role, matches: &ArgMatches<'a>) -> Result<Options, Missp
     let segment = number_in(matches, "segment")?;
     let window = number_in(matches, "window")?;
     let buffer = number_in(matches, "buffer")?.max(LEAST_BUFFER);
+    let ostype = code_in(matches, "ostype")?;
+    let filesys = code_in(matches, "filesys")?;
+    let syscap = syscap_in(matches)?;
     let waiting = waiting_in(role, matches)?;
     let links = links_in(role, matches)?;
+    let folded = folded_in(role, matches)?;
     Ok(Options {
         role,
         local,
@@ -595,8 +824,12 @@ fn options_in<'a>(role: Role, matches: &ArgMatches<'a>) -> Result<Options, Missp
         segment,
         window,
         buffer,
+        ostype,
+        filesys,
+        syscap,
         waiting,
         links,
+        folded,
     })
 }
 

@@ -2,6 +2,10 @@
 #![tactic(auto)]
 
 #[cfg(test)]
+mod end_rows;
+#[cfg(test)]
+mod listing_rows;
+#[cfg(test)]
 mod node_rows;
 #[cfg(test)]
 mod node_tests;

@@ -13,8 +13,8 @@ pub(crate) const NODE_ROWS: &[NodeRow] = &[
 > 60030301010080010001020a00040703050600000000\n\
 > 04020201010180\n> 6002\n> 1002020101\n",
         b"waits 0\nwaits 0\n\
-accepted\n< 60010102020180010001020a00040703050600000000\nwaits 1\n\
-accepted\n< 60040403030180010001020a00040703050600000000\nwaits 1\n\
+accepted\n< 60010102020180010001020e0004120d0506000000e6e8f08020\nwaits 1\n\
+accepted\n< 60040403030180010001020e0004120d0506000000e6e8f08020\nwaits 1\n\
 refused wrong-link\nwaits 0\n\
 ack-only\nwaits 0\nrefused bad truncated at=1\nwaits 0\nrefused not-here link-service\nwaits 0\n",
     ),
@@ -30,8 +30,8 @@ ack-only\nwaits 0\nrefused bad truncated at=1\nwaits 0\nrefused not-here link-se
 close 0202\n\
 > 6003030404028003000302080100014602000000\n",
         b"waits 0\nwaits 0\n\
-accepted\n< 60010102020180010001020a00040703050600000000\nwaits 1\n\
-accepted\n< 60040403030180010001020a00040703050600000000\nwaits 1\n\
+accepted\n< 60010102020180010001020e0004120d0506000000e6e8f08020\nwaits 1\n\
+accepted\n< 60040403030180010001020e0004120d0506000000e6e8f08020\nwaits 1\n\
 accepted\n< 60010102020280020002020ba604000200000400000000060200\nwaits 1\n\
 accepted\nlocked 0202\n< 6004040303028002000902053040000000\nwaits 1\n\
 repeat\n< 04040403030280\nwaits 1\nwaits 0\n\
@@ -52,7 +52,7 @@ waits 0\nwaits 0\n< 04010104040080\nwaits 0\nwaits 0\n",
     // Lines that name no link, and a client's.
     (
         2,
-        b"new\nresend\nack\nclose\nnew 0202\nnew 0202 0101 512 15\nask hello\nfoo\n",
+        b"new\nresend\nack\nclose\nnew 0202\nnew 0202 0101 512 16\nask hello\nfoo\n",
         b"refused bad-line\nwaits 0\nrefused bad-line\nwaits 0\nrefused bad-line\nwaits 0\n\
 refused bad-line\nwaits 0\nrefused bad-line\nwaits 0\nrefused bad-line\nwaits 0\n\
 refused bad-line\nwaits 0\nrefused bad-line\nwaits 0\n",
@@ -63,7 +63,7 @@ refused bad-line\nwaits 0\nrefused bad-line\nwaits 0\n",
         b"file 46 rel variable 0 3\n  3 41\nfile 46 seq variable 0 0\nnew 0202 0101\nfiles\n\
 > 60020201010080010001020a00040703050600000000\nfile 47 seq variable 0 0\nfiles\n",
         b"waits 0\nwaits 0\nrefused 4000 1\nwaits 0\nwaits 0\nfile 46 rel variable 0 3\n  3 41\nwaits 0\n\
-accepted\n< 60010102020180010001020a00040703050600000000\nwaits 1\nrefused busy\nwaits 0\n\
+accepted\n< 60010102020180010001020e0004120d0506000000e6e8f08020\nwaits 1\nrefused busy\nwaits 0\n\
 file 46 rel variable 0 3\n  3 41\nwaits 0\n",
     ),
     // One link fails, and the other goes on.
@@ -74,8 +74,8 @@ file 46 rel variable 0 3\n  3 41\nwaits 0\n",
 > 60030304040080010001020a00040703050600000000\nresend 0303\nnew 0202 0101\nack 0202\n",
         b"waits 0\nwaits 0\nrefused bad-sequence\nwaits 0\nrefused failed\nwaits 0\nrefused failed\nwaits 0\n\
 refused failed\nwaits 0\n\
-accepted\n< 60040403030180010001020a00040703050600000000\nwaits 1\n\
-< 60040403030180010001020a00040703050600000000\nwaits 1\nwaits 0\n< 04010102020080\nwaits 0\n",
+accepted\n< 60040403030180010001020e0004120d0506000000e6e8f08020\nwaits 1\n\
+< 60040403030180010001020e0004120d0506000000e6e8f08020\nwaits 1\nwaits 0\n< 04010102020080\nwaits 0\n",
     ),
     // The bytes of a segment stay those of the link; a refused `new` of a link that is there ends with what waits on it.
     (
@@ -86,16 +86,16 @@ new 0303 0404\n> 60030304040080010001020a00040703050600000000\n\
 new 0202 0505 0\nfoo\nnew 0404 0505 0\nnew 0404 0505\n\
 new 0202 0101 1400\n> 60020201010080010001020a00040703050600000000\nresend 0303\n",
         b"waits 0\n\
-accepted\n< 20010102020180010001020a00040703050600\n< 400101020201800200000000\nwaits 2\n\
+accepted\n< 20010102020180010001020e0004120d050600\n< 4001010202018002000000e6e8f08020\nwaits 2\n\
 waits 0\n\
-accepted\n< 20010102020180010001020a00040703050600\n< 400101020201800200000000\nwaits 2\n\
+accepted\n< 20010102020180010001020e0004120d050600\n< 4001010202018002000000e6e8f08020\nwaits 2\n\
 waits 0\n\
-accepted\n< 60040403030180010001020a00040703050600000000\nwaits 1\n\
+accepted\n< 60040403030180010001020e0004120d0506000000e6e8f08020\nwaits 1\n\
 refused bad-setup\nwaits 2\nrefused bad-line\nwaits 0\n\
 refused bad-setup\nwaits 0\nrefused no-links\nwaits 0\n\
 waits 0\n\
-accepted\n< 60010102020180010001020a00040703050600000000\nwaits 1\n\
-< 60040403030180010001020a00040703050600000000\nwaits 1\n",
+accepted\n< 60010102020180010001020e0004120d0506000000e6e8f08020\nwaits 1\n\
+< 60040403030180010001020e0004120d0506000000e6e8f08020\nwaits 1\n",
     ),
     // A file is given while a segment came on no link that is there; a record is of the newest file.
     (
@@ -104,9 +104,28 @@ accepted\n< 60010102020180010001020a00040703050600000000\nwaits 1\n\
 file 46 seq variable 0 0\n  1 41\nclose 0202\nfile 46 seq fixed 0 0\n\
 file 46 seq variable 0 0\n  1 41\n  3 41\nfiles\n",
         b"waits 0\nrefused 4032 0\nwaits 0\n\
-accepted\n< 60010102020180010001020a00040703050600000000\nwaits 1\n\
+accepted\n< 60010102020180010001020e0004120d0506000000e6e8f08020\nwaits 1\n\
 refused busy\nwaits 0\nrefused busy\nwaits 0\nwaits 0\nrefused 4000 11\nwaits 0\n\
 waits 0\nwaits 0\nrefused 5000 6\nwaits 0\nfile 46 seq variable 0 0\n  1 41\nwaits 0\n",
+    ),
+    // Each link has its own rights, and a file that some link has open isn't dropped; those behind one that is dropped move up.
+    (
+        2,
+        b"file 45 seq variable 0 0\nfile 46 seq variable 0 0\n  1 41\nnew 0202 0101 512 2\nnew 0303 0404\n\
+> 60020201010080010001020a00040703050600000000\n\
+> 60030304040080010001020a00040703050600000000\n\
+> 6002020101018002000302080100014601000000\n> 6003030404018002000302080100014601000000\n\
+drop 46\ndrop 47\ndrop 45\nfiles\nclose 0303\n> 6002020101028003000302080100014602000000\nnew 0202 0101\n\
+drop 46\n  2 42\nfiles\n",
+        b"waits 0\nwaits 0\nwaits 0\nwaits 0\nwaits 0\n\
+accepted\n< 60010102020180010001020e0004120d0506000000e6e8f08020\nwaits 1\n\
+accepted\n< 60040403030180010001020e0004120d0506000000e6e8f08020\nwaits 1\n\
+accepted\n< 600101020202800200090206004000000102\nwaits 1\n\
+accepted\n< 60040403030280020002020ba604000200000400000000060200\nwaits 1\n\
+refused busy\nwaits 0\nrefused 4032 0\nwaits 0\nwaits 0\n\
+file 46 seq variable 0 0\n  1 41\nwaits 0\nwaits 0\n\
+accepted\n< 60010102020380030002020ba604000200000400000000060200\nwaits 1\nwaits 0\n\
+waits 0\nrefused 4032 0\nwaits 0\nwaits 0\n",
     ),
     // Two links read a file. A third, which would write it, is told the lower of their addresses, once for each Access.
     (
@@ -122,9 +141,9 @@ waits 0\nwaits 0\nrefused 5000 6\nwaits 0\nfile 46 seq variable 0 0\n  1 41\nwai
 close 0202\n\
 > 6005050606048004000302080100014601000000\n",
         b"waits 0\nwaits 0\nwaits 0\nwaits 0\n\
-accepted\n< 60040403030180010001020a00040703050600000000\nwaits 1\n\
-accepted\n< 60010102020180010001020a00040703050600000000\nwaits 1\n\
-accepted\n< 60060605050180010001020a00040703050600000000\nwaits 1\n\
+accepted\n< 60040403030180010001020e0004120d0506000000e6e8f08020\nwaits 1\n\
+accepted\n< 60010102020180010001020e0004120d0506000000e6e8f08020\nwaits 1\n\
+accepted\n< 60060605050180010001020e0004120d0506000000e6e8f08020\nwaits 1\n\
 accepted\n< 60040403030280020002020ba604000200000400000000060200\nwaits 1\n\
 accepted\n< 60010102020280020002020ba604000200000400000000060200\nwaits 1\n\
 accepted\nlocked 0202\n< 6006060505028002000902053040000000\nwaits 1\n\

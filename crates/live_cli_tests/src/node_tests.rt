@@ -1,7 +1,9 @@
 //! The rows of a server of several links.
 
 use crate::node_rows::NODE_ROWS;
+use dap_accessed::{ALL_RIGHTS, Names, ServerSetup};
 use dap_live::Node;
+use dap_msg::Configuration;
 use linewise::talk;
 use nsp_link::{LARGEST_LIMIT, LinkSetup};
 use std::alloc::Global;
@@ -16,9 +18,14 @@ const USUAL: LinkSetup = LinkSetup {
     max_message: LARGEST_LIMIT,
 };
 
-/// What a server of so many links answers to lines.
+/// What a server of this many links, which says what is true of it, answers to lines.
 fn answers(alloc: Global, links: usize, lines: &[u8]) -> Result<Vec<u8>, Fail> {
-    let mut node = Node::new(alloc, 1024, links, USUAL, 1 << 20)?;
+    let setup = ServerSetup {
+        identity: Configuration::truthful(1024),
+        names: Names::Exact,
+        most: ALL_RIGHTS,
+    };
+    let mut node = Node::new(alloc, setup, links, USUAL, 1 << 20)?;
     let mut reader = lines;
     let mut written = Vec::new(alloc);
     let mut told = Vec::new(alloc);

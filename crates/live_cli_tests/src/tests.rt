@@ -1,6 +1,8 @@
 //! The rows, and devices that fail.
 
-use crate::rows::{ROWS, Row};
+use crate::end_rows::END_ROWS;
+use crate::listing_rows::LISTING_ROWS;
+use crate::rows::Row;
 use live_cli::run_words;
 use std::alloc::Global;
 use std::io;
@@ -28,8 +30,16 @@ fn holds(alloc: Global, row: &Row) -> Result<bool, Fail> {
 }
 
 #[test]
-fn each_row_holds(rt: HostRuntime) -> Result<(), Fail> {
-    for row in ROWS {
+fn each_row_of_an_end_holds(rt: HostRuntime) -> Result<(), Fail> {
+    for row in END_ROWS {
+        assert!(rt; holds(rt.alloc(), row)?);
+    }
+    Ok(())
+}
+
+#[test]
+fn each_row_of_a_listing_holds(rt: HostRuntime) -> Result<(), Fail> {
+    for row in LISTING_ROWS {
         assert!(rt; holds(rt.alloc(), row)?);
     }
     Ok(())

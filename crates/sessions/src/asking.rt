@@ -4,6 +4,7 @@ use crate::call::Call;
 use crate::out::Out;
 use crate::playing::Suite;
 use dap_accessing::{Accessing, AskFault, Octets, ReadFault, ReadStep, Request};
+use dap_msg::Configuration;
 
 /// An end that asks, if there is one.
 #[derive(Drop)]
@@ -85,6 +86,16 @@ fn hear(end: &mut Accessing, call: &mut Call, out: &mut Out) {
     }
 }
 
+/// The records that are taken out of a batch.
+fn take(end: &mut Accessing, out: &mut Out) {
+    let records = end.take_records();
+    if records.0.is_empty() {
+        return out.none();
+    }
+    out.put("taken");
+    out.records(&records.0);
+}
+
 /// A request to open a file with any FAC: `NAME FAC`.
 fn opening(call: &mut Call) -> Request {
     Request::OpenFile {
@@ -109,6 +120,8 @@ fn making(call: &mut Call) -> Request {
 fn act(end: &mut Accessing, call: &mut Call, out: &mut Out) {
     if call.is("hear") {
         hear(end, call, out);
+    } else if call.is("take") {
+        take(end, out);
     } else if call.is("open") {
         ask(end, &opening(call), call, out);
     } else if call.is("create") {
@@ -130,6 +143,11 @@ impl Suite for Asking {
     fn call(&mut self, call: &mut Call, out: &mut Out) {
         if call.is("new") {
             self.end = Some(Accessing::new(call.alloc(), call.buffer()));
+            return out.put("made");
+        }
+        if call.is("live") {
+            let identity = Configuration::truthful(call.buffer());
+            self.end = Some(Accessing::with_identity(call.alloc(), identity));
             return out.put("made");
         }
         match &mut self.end {

@@ -1,7 +1,7 @@
 //! What a call comes to, as text.
 
 use dap_accessed::FileTable;
-use dap_accessing::Report;
+use dap_accessing::{Octets, Report};
 use dap_text::{
     got_word, push_decimal, push_files, push_image, push_number, push_report, push_str,
 };
@@ -74,6 +74,15 @@ impl Out {
     pub fn report(&mut self, report: &Report) {
         let appended = push_report(&mut self.text, report);
         self.keep(appended);
+    }
+
+    /// Records, each behind its number.
+    pub fn records(&mut self, records: &[(u64, Octets)]) {
+        for record in records {
+            self.number(" ", record.0);
+            self.put(":");
+            self.bytes(&record.1.0);
+        }
     }
 
     /// A refusal.

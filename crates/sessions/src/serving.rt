@@ -3,12 +3,32 @@
 use crate::call::Call;
 use crate::out::Out;
 use crate::playing::Suite;
-use dap_accessed::{Accessed, NoMemory, Served};
+use dap_accessed::{Accessed, Names, NoMemory, Served, ServerSetup, rights_of_fac};
+use dap_msg::Configuration;
 
 /// An end that serves, if there is one.
 #[derive(Drop)]
 pub struct Serving {
     pub end: Option<Accessed>,
+}
+
+/// A server that says what is true of it: its buffer, how it compares names, and the FAC of its link.
+fn live(call: &mut Call) -> Accessed {
+    let setup = ServerSetup {
+        identity: Configuration::truthful(call.buffer()),
+        names: names(call),
+        most: rights_of_fac(call.number(15)),
+    };
+    Accessed::with_setup(call.alloc(), setup)
+}
+
+/// How names are compared.
+fn names(call: &mut Call) -> Names {
+    if call.either("exact", "folded") {
+        Names::Exact
+    } else {
+        Names::Folded
+    }
 }
 
 /// Serves the message at a place.
@@ -49,6 +69,9 @@ fn act(end: &mut Accessed, call: &mut Call, out: &mut Out) {
         out.table(end.files());
     } else if call.is("find") {
         find(end, call, out);
+    } else if call.is("again") {
+        end.renew_for(rights_of_fac(call.number(15)));
+        out.put("renewed");
     } else {
         call.refuse();
     }
@@ -62,6 +85,10 @@ impl Suite for Serving {
     fn call(&mut self, call: &mut Call, out: &mut Out) {
         if call.is("new") {
             self.end = Some(Accessed::new(call.alloc(), call.buffer()));
+            return out.put("made");
+        }
+        if call.is("live") {
+            self.end = Some(live(call));
             return out.put("made");
         }
         match &mut self.end {

@@ -13,17 +13,18 @@ use Rattle.rec_file.specs.Shapes.{is_shape}
 use Rattle.rec_file.specs.Acts.{StreamVal}
 use Rattle.rec_file.specs.declared.refusals.Refusal.{Refusal}
 use Rattle.dap_accessed.specs.declared.fault.NoMemory.{NoMemory}
+use Rattle.dap_accessed.specs.declared.setup.ServerSetup.{ServerSetup}
 use Rattle.dap_accessed.specs.declared.phase.OpenFile.{OpenFile}
 use Rattle.dap_accessed.specs.declared.phase.Phase.{Phase}
 use Rattle.dap_accessed.specs.declared.phase.Phase.TheVariants as phases
 use Rattle.dap_accessed.specs.declared.verbs.Verb.{Verb}
 use Rattle.dap_accessed.specs.declared.verbs.Verb.TheVariants as verbs
-use Rattle.dap_accessed.specs.Standing.{Files, place_of, Place, Scene, Effect, enters, Fresh, Ready, Opened, Connected, Store, Stopped}
+use Rattle.dap_accessed.specs.Standing.{Files, place_by, Place, Scene, Effect, enters, Fresh, Ready, Opened, Connected, Store, Stopped}
 use Rattle.dap_msg.specs.BothEnds.{no_attributes}
 use Rattle.dap_accessed.specs.Past.{asked_shape, next_ordinal}
 use Rattle.dap_accessed.specs.Accesses.{refuse_access, open_file, create_file}
-use Rattle.dap_accessed.specs.Replies.{bare_status}
-use Rattle.dap_accessed.specs.Records.{verb_of, Putting, Updating, refused}
+use Rattle.dap_accessed.specs.Replies.{bare_status, too_large}
+use Rattle.dap_accessed.specs.Records.{verb_of, Putting, Updating, refused, uncurrent}
 use Rattle.dap_accessed.specs.Transfers.{fetch}
 use Rattle.dap_accessed.specs.Effects.{Turn, Does, Begins, effect_fresh, effect_ready, effect_opened, turn_connected, effect_store, effect_stopped, effect_with}
 use Rattle.dap_accessed.specs.Present.{Present, Memory, phase_at, phase_within}
@@ -77,6 +78,7 @@ settles p memory effect =
     record {
       present = record {
         own = p.own;
+        setup = p.setup;
         limit = effect.scene.limit;
         files = effect.scene.files;
         kept = memory.shape;
@@ -95,10 +97,10 @@ turns (Does effect) p memory place item = settles p (remembers memory place item
 turns (Begins begun) p memory place item = begins p (phase_within begun.change begun.opened begun.stream)
 
 -- what an item does outside a group of two, where this counts of the past
-abbrev pub turn_by : (own : ℕ) → Scene → Memory → Place → Item → Turn
+abbrev pub turn_by : (own : ServerSetup) → Scene → Memory → Place → Item → Turn
 turn_by own scene memory place (Malformed fault) = Does (enters scene place (bare_status (codes.status_code_for fault.message_type) ∷ []))
 turn_by own scene memory Fresh (Whole message) = Does (effect_fresh own scene message)
-turn_by own scene memory Ready (Whole message) = Does (effect_ready scene memory.shape message)
+turn_by own scene memory Ready (Whole message) = Does (effect_ready own scene memory.shape message)
 turn_by own scene memory (Opened opened) (Whole message) = Does (effect_opened scene opened message)
 turn_by own scene memory (Connected opened stream) (Whole message) = turn_connected scene opened stream message
 turn_by own scene memory (Store opened stream) (Whole message) =
@@ -106,7 +108,7 @@ turn_by own scene memory (Store opened stream) (Whole message) =
 turn_by own scene memory (Stopped opened stream) (Whole message) = Does (effect_stopped scene opened stream message)
 
 abbrev pub between : Present → Memory → Place → Item → Move
-between p memory place item = turns (turn_by p.own (scene_in p) memory place item) p memory place item
+between p memory place item = turns (turn_by p.setup (scene_in p) memory place item) p memory place item
 
 -- a group that is over, outside a Store
 abbrev pub does : Present → Effect → Move
@@ -166,13 +168,17 @@ abbrev pub opens_nothing : Present → Message → Move
 opens_nothing p status = accesses p (refuse_access (scene_in p) status)
 
 abbrev pub opens : Present → (name : List ℕ) → (fac : ℕ) → Move
-opens p name fac = accesses p (open_file (scene_in p) fac (place_of name p.files))
+opens p name fac = accesses p (open_file p.setup (scene_in p) fac (place_by p.setup.names name p.files))
 
 abbrev pub creates : Present → (name : List ℕ) → (fac : ℕ) → Move
-creates p name fac = accesses p (create_file (scene_in p) name fac (place_of name p.files) p.kept)
+creates p name fac = accesses p (create_file p.setup (scene_in p) name fac (place_by p.setup.names name p.files) p.kept)
 
 abbrev pub refuses : Present → OpenFile → StreamVal → Refusal → Move
 refuses p opened stream refusal = does p (refused (scene_in p) opened stream refusal)
+
+-- a record that is longer than the peer takes
+abbrev pub refuses_large : Present → OpenFile → StreamVal → Move
+refuses_large p opened stream = does p (enters (scene_in p) (Connected opened (uncurrent stream)) (too_large ∷ []))
 
 -- the phase behind a fetch
 abbrev pub fetched_phase : Present → OpenFile → StreamVal → Phase

@@ -2,14 +2,18 @@
 use Rattle.std.specs.Prelude.{ℕ, ◌≡◌, ◌≤◌, List, Option, IfSome, IsTrue}
 use Rattle.std.specs.Global.{Vec}
 use Rattle.dap_msg.specs.BothEnds.{least_buffer}
+use Rattle.dap_msg.specs.Fitting.{FieldsFit}
 use Rattle.dap_msg.specs.declared.message.Message.{Message}
+use Rattle.dap_msg.specs.declared.message.Message.TheVariants.{Config}
 use Rattle.rec_file.specs.declared.shapes.Shape.{Shape}
 use Rattle.rec_file.specs.Shapes.{is_shape}
+use Rattle.dap_accessed.specs.declared.setup.ServerSetup.{ServerSetup}
 use Rattle.dap_accessed.specs.declared.phase.Phase.{Phase}
 use Rattle.dap_accessed.specs.Served.{Answered}
 use Rattle.dap_accessed.specs.Sessions.{SessionValue}
 
-pub record IsGood (limit : ℕ) (kept : Option Shape) : Type 0 where
+pub record IsGood (own : ServerSetup) (limit : ℕ) (kept : Option Shape) : Type 0 where
+  pub setup : FieldsFit (Config own.identity)
   pub good : IfSome kept (λ shape. IsTrue (is_shape shape))
   -- every answer but a record goes to the peer
   pub room : least_buffer ≤ limit

@@ -1,10 +1,10 @@
 -- What an item asks for in a phase.
 use Rattle.std.specs.Prelude.{ℕ, ◌≡◌, ◌<◌, ◌≤◌, ◌==◌, nat_lt, if◌then◌else◌, Bool, true, false, [], ◌∷◌, length, IfSome, IsTrue, Result, Ok, Err}
-use Rattle.dap_msg.specs.BothEnds.{config_of, least_buffer}
+use Rattle.dap_msg.specs.BothEnds.{least_buffer}
 use Rattle.dap_msg.specs.Codes as codes
 use Rattle.dap_msg.specs.declared.items.Item.{Item}
 use Rattle.dap_msg.specs.declared.message.Message.{Message}
-use Rattle.dap_msg.specs.declared.message.Message.TheVariants.{Control, Contran, Filedata}
+use Rattle.dap_msg.specs.declared.message.Message.TheVariants.{Config, Control, Contran, Filedata}
 use Rattle.rec_file.specs.Acts.{act, delete_record}
 use Rattle.rec_file.specs.Shapes.{is_shape}
 use Rattle.dap_accessed.specs.declared.phase.OpenFile.{OpenFile}
@@ -32,7 +32,7 @@ abbrev pub done : Step → Present → Move
 done (steps.Enter phase) p = begins p phase
 done (steps.Reply answer phase) p = replies p (message_of answer) phase
 done (steps.Configure limit) p =
-    record { present = record p { limit = limit; phase = phases.Ready }; answers = config_of p.own ∷ [] }
+    record { present = record p { limit = limit; phase = phases.Ready }; answers = Config p.setup.identity ∷ [] }
 done (steps.Keep shape) p = record { present = record p { kept = shape; phase = phases.Ready }; answers = [] }
 done (steps.Access func name fac) p =
     if func == codes.accfunc.opening then opens p name.now fac

@@ -4,10 +4,11 @@ use Rattle.std.specs.Global.{Vec}
 use Rattle.std.specs.Vec.{vec_capacity}
 use Rattle.dap_msg.specs.Codes as codes
 use Rattle.dap_msg.specs.declared.message.Message.{Message}
-use Rattle.dap_msg.specs.declared.message.Message.TheVariants.{Ack, Filedata}
+use Rattle.dap_msg.specs.declared.message.Message.TheVariants.{Config, Ack, Filedata}
 use Rattle.dap_msg.specs.Canon.{canon}
 use Rattle.dap_msg.specs.Sizes.{file_data_size}
-use Rattle.dap_msg.specs.BothEnds.{four_bytes, config_of, least_buffer}
+use Rattle.dap_msg.specs.BothEnds.{four_bytes, least_buffer}
+use Rattle.dap_msg.specs.Fitting.{FieldsFit}
 use Rattle.dap_msg.specs.Blocked.{Blocked, all_joined, bodies, AllFit}
 use Rattle.rec_file.specs.Limits.{longest_record}
 use Rattle.dap_accessed.specs.declared.answers.Answer.{Answer}
@@ -17,7 +18,7 @@ use Rattle.dap_accessed.specs.Replies.{attributes_for, completed, status, bare_s
 use Rattle.dap_accessed.specs.Served.{AllAtMost, Answered}
 
 abbrev pub message_of : Answer → Message
-message_of (answer.Config bufsiz) = config_of bufsiz
+message_of (answer.Config own) = Config own
 message_of (answer.Attributes shape mrn) = attributes_for shape
 message_of answer.Ack = Ack
 message_of answer.Complete = completed
@@ -27,8 +28,9 @@ message_of (answer.StoreRefusal reason ordinal) = status codes.stscode.record_re
 message_of (answer.Done number) = status codes.stscode.success number number []
 message_of (answer.Record number body) = Filedata number body.now
 
--- its bytes are those of its numbers, and a record is one that a file may have
+-- its numbers fit, its bytes are those of them, and a record is one that a file may have
 abbrev pub IsWritable : Answer → Type 0
+IsWritable (answer.Config own) = FieldsFit (Config own)
 IsWritable (answer.Attributes shape mrn) = mrn ≡ four_bytes shape.mrn
 IsWritable (answer.Record number body) = length body.now ≤ longest_record
 IsWritable _ = Unit {0}

@@ -32,6 +32,7 @@ pub record ServedMore (old new : ServingValue) : Type 0 where
   -- what came and what is queued may have moved, and nothing else of the link
   pub link : new.port.link ≡ record (with_inbox old.port.link new.port.link.coming.inbox) { queue = new.port.link.queue }
   pub own : new.present.own ≡ old.present.own
+  pub setup : new.present.setup ≡ old.present.setup
   pub past : (past : Past) → IsAfter past old → (now : Past) × Grew past now old new
 
 -- the setups of the two ends of one link: but for their segments and windows they differ in the addresses, exchanged
@@ -53,8 +54,8 @@ pub record AreNew (s t : LinkSetup) (first : Files) (p : Pair) : Type 0 where
 -- tells of these.
 pub record PairHeadline (first : Files) (p : Pair) : Type 0 where
   pub taken : List Message
-  pub taken_in_order : (rest : List Message) × (taken ++ rest ≡ Asked p.a.present.own p.requests)
-  pub files_after : p.b.present.files ≡ After p.b.present.own first (map Whole taken)
+  pub taken_in_order : (rest : List Message) × (taken ++ rest ≡ Asked p.a.present.identity p.requests)
+  pub files_after : p.b.present.files ≡ After p.b.present.setup first (map Whole taken)
   pub read : List Message
-  pub read_in_order : (rest : List Message) × (read ++ rest ≡ Answers p.b.present.own first (map Whole taken))
+  pub read_in_order : (rest : List Message) × (read ++ rest ≡ Answers p.b.present.setup first (map Whole taken))
   pub reports_told : p.reports ≡ Told p.requests (map Whole read)

@@ -1,8 +1,10 @@
--- What an end does by an order whose text wants memory.
+-- What a client does by an order whose text wants memory.
 use Rattle.std.specs.Prelude.{◌≡◌, ◌⊎◌, ℕ, List}
-use Rattle.dap_live.specs.declared.orders.Order.{Order}
-use Rattle.dap_live.specs.Both.{Doing}
+use Rattle.dap_live.specs.declared.ask_orders.AskOrder.{AskOrder}
+use Rattle.dap_live.specs.declared.asking.Asking.{Asking}
+use Rattle.dap_live.specs.declared.asking.Came.{Came}
+use Rattle.dap_live.specs.Asking.{Does}
 
 -- it is done or it isn't, and nothing is said of it
-abbrev pub Reaches : {E C : Type 0} → Doing E C → E → Order → E → Type 0
-Reaches {E} {C} Does old o new = (new ≡ old) ⊎ ((said : List ℕ) × (came : C) × Does old o new said came)
+abbrev pub Reaches : Asking → AskOrder → Asking → Type 0
+Reaches old o new = (new ≡ old) ⊎ ((said : List ℕ) × (came : Came) × Does old o new said came)

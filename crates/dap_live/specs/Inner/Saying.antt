@@ -5,14 +5,8 @@ use Rattle.std.specs.Fmt.{decimal}
 use Rattle.std.specs.Global.{Vec}
 use Rattle.dap_text.specs.Adding as adding
 use Rattle.dap_text.specs.Text.{line_feed}
-use Rattle.rec_file.specs.declared.shapes.Shape.{Shape}
-use Rattle.dap_accessed.specs.Adding.{MayAdd, AddRefused, with_new_file}
-use Rattle.dap_end.specs.Serving.{NotGiven}
-use Rattle.dap_end.specs.Done.{ServingValue}
 use Rattle.linewise.specs.declared.talking.Became.{Became}
-use Rattle.dap_live.specs.Texts.{LineAnswer, add_refusal, refused}
-use Rattle.dap_live.specs.Both.{DoneOr}
-use Rattle.dap_live.specs.Serving.{Added}
+use Rattle.dap_live.specs.Texts.{LineAnswer, refused}
 use Rattle.dap_live.specs.declared.asking.Front.{Front}
 use Rattle.dap_live.specs.declared.asking.Front.TheVariants.{Asked, Busy}
 
@@ -24,9 +18,3 @@ AddsSaid old new said became = adding.Adds old new said.0 × (became ≡ said.1)
 abbrev pub front_text : Front → List ℕ
 front_text (Asked count) = concat (codes "asked " ∷ decimal count ∷ line_feed ∷ [])
 front_text Busy = (refused (codes "ask-busy")).0
-
--- a file of a shape is added, or it is told why not
-abbrev pub AddsShaped : ServingValue → (name : List ℕ) → Shape → ServingValue → List ℕ → Became → Type 0
-AddsShaped old name shape new =
-    DoneOr (λ became. became) (MayAdd old.present name × Added (with_new_file name shape old.present.files) old new)
-    (NotGiven old (AddRefused old.present name)) add_refusal old new

@@ -1,6 +1,7 @@
 -- The messages that an end answers with have a spelling, and all but a record have a short one.
 use Rattle.std.specs.Prelude.{ℕ, ◌^◌, ◌<◌, ◌≤◌, List, length}
-use Rattle.dap_msg.specs.Message.{Message, StatusFields, Ack, Status}
+use Rattle.dap_msg.specs.Message.{Message, Configuration, StatusFields, Ack, Config, Status}
+use Rattle.dap_msg.specs.Fitting.{FieldsFit}
 use Rattle.dap_msg.specs.Canon.{canon, Fits}
 use Rattle.dap_msg.specs.BothEnds.{config_of, complete_with, attributes_of, record_of, least_buffer}
 
@@ -12,6 +13,7 @@ pub record IsShortAnswer (m : Message) : Type 0 where
 -- What an end answers has a spelling.
 pub record AnswersFit : Type 0 where
   pub config : (bufsiz : ℕ) → bufsiz < 2 ^ 16 → IsShortAnswer (config_of bufsiz)
+  pub identity : (own : Configuration) → FieldsFit (Config own) → IsShortAnswer (Config own)
   pub attributes : (org rfm mrs mrn : ℕ) → org < 2 ^ 8 → rfm < 2 ^ 8 → mrs < 2 ^ 16 → IsShortAnswer (attributes_of org rfm mrs mrn)
   pub ack : IsShortAnswer Ack
   pub complete : (func : ℕ) → func < 2 ^ 8 → IsShortAnswer (complete_with func)

@@ -9,17 +9,19 @@ use Rattle.dap_accessed.specs.declared.phase.Phase.{Phase}
 use Rattle.dap_accessed.specs.Standing.{Files}
 use Rattle.dap_accessed.specs.Replies.{bare_status}
 use Rattle.dap_accessed.specs.Served.{Answered}
-use Rattle.dap_accessed.specs.Sessions.{SessionValue, IsOpenIn, ServesItem, asked_in, joined, open_at, phase_moved_up, refused_session}
+use Rattle.dap_accessed.specs.Sessions.{SessionValue, IsOpenIn, ServesItem, asked_in, joined, open_at, refused_session}
 use Rattle.dap_shared.specs.Sharing.{bars, file_locked}
+use Rattle.dap_shared.specs.Shared.{session_without}
 
 -- one of the others has something open that bars what is asked for
 abbrev pub is_barred : (others : List SessionValue) → Option OpenFile → Bool
 is_barred others None = false
 is_barred others (Some asked) = list_any (λ s. bars asked (open_at s.phase)) others
 
+-- what is kept of another link, where a file was removed
 abbrev pub session_moved_up : (removed : Option OpenFile) → SessionValue → SessionValue
 session_moved_up None s = s
-session_moved_up (Some removed) s = record s { phase = phase_moved_up removed.at s.phase }
+session_moved_up (Some removed) s = session_without removed.at s
 
 -- what was open is gone from the table, if there are fewer files
 abbrev pub gone_by : (before after : Files) → Phase → Option OpenFile
@@ -33,6 +35,6 @@ Does true item files s files' s' answers =
 Does false item files s files' s' answers = ServesItem item (joined files s) (joined files' s') answers
 
 pub record MovesBeside (item : Item) (files : Files) (others : List SessionValue) (s : SessionValue) (files' : Files) (others' : List SessionValue) (s' : SessionValue) (answers : Vec (Vec ℕ)) : Type 0 where
-  pub does : Does (is_barred others (asked_in files s.phase item)) item files s files' s' answers
+  pub does : Does (is_barred others (asked_in s.setup files s.phase item)) item files s files' s' answers
   pub moved : others' ≡ map (session_moved_up (gone_by files files' s.phase)) others
   pub there : IsOpenIn files' s'.phase

@@ -1,19 +1,19 @@
 -- How the two ends of an exchange without a network stand to each other.
 use Rattle.std.specs.Prelude.{ℕ, ◌≡◌, ◌≢◌, List, [], ◌∷◌, ◌++◌, map, None, true}
 use Rattle.dap_msg.specs.Blocked.{Blocked, all_joined}
-use Rattle.dap_msg.specs.BothEnds.{least_buffer}
+use Rattle.dap_msg.specs.BothEnds.{least_buffer, plain_identity}
+use Rattle.dap_accessed.specs.Setup.{plain_setup}
 use Rattle.dap_msg.specs.declared.items.Item.{Item}
 use Rattle.dap_msg.specs.declared.items.Item.TheVariants.{Whole}
 use Rattle.dap_accessed.specs.Standing as at
 use Rattle.dap_accessed.specs.Standing.{Place}
-use Rattle.dap_accessed.specs.Groups.{added, limit_for, stands_after}
+use Rattle.dap_world.specs.Plain.{added, limit_for, stands_after, messages_of, IsAdmissible}
 use Rattle.dap_accessed.specs.Served.{AllAtMost}
 use Rattle.dap_accessing.specs.Request.{Request}
 use Rattle.dap_accessing.specs.declared.phase.Phase.{Phase}
 use Rattle.dap_accessing.specs.declared.phase.Phase.TheVariants.{Fresh, Ready, Opened, Connected, Stopped}
-use Rattle.dap_accessing.specs.Asked.{messages_of}
 use Rattle.dap_accessing.specs.Told.{is_unexpected}
-use Rattle.dap_accessing.specs.Phase.{IsAdmissible, phase_after, limit_after}
+use Rattle.dap_accessing.specs.Phase.{phase_after, limit_after}
 use Rattle.dap_end.specs.Agreement.{AreAgreed, AreExpected}
 use Rattle.dap_world.specs.Agreement.{answers_to, items_of, reports_of}
 
@@ -23,11 +23,11 @@ IsNext own_a own_b requests request = IsAdmissible own_a requests (map Whole (an
 
 -- the two ends agree after these requests, and the accessed end is not inside a group
 abbrev pub Agree : (own_a own_b : ℕ) → List Request → Type 0
-Agree own_a own_b requests = AreAgreed own_a own_b [] requests
+Agree own_a own_b requests = AreAgreed (plain_identity own_a) (plain_setup own_b) [] requests
 
 -- no answer so far, and not the next one, is unexpected
 abbrev pub NothingUnexpected : (own_a own_b : ℕ) → List Request → Type 0
-NothingUnexpected own_a own_b requests = AreExpected own_a own_b [] requests
+NothingUnexpected own_a own_b requests = AreExpected (plain_identity own_a) (plain_setup own_b) [] requests
 
 -- none of the NSP messages of one request more that is admissible is longer than the accessed end takes
 abbrev pub NextWithin : (own_a own_b : ℕ) → List Request → Type 0

@@ -6,13 +6,15 @@ use Rattle.dap_msg.specs.declared.items.Item.TheVariants.{Whole}
 use Rattle.dap_msg.specs.Canon.{canon}
 use Rattle.dap_msg.specs.Blocked.{NspMessage, joined, Blocked, all_joined, messages_in, AllFit}
 use Rattle.nsp_link.specs.declared.link.LinkSetup.{LinkSetup}
+use Rattle.dap_msg.specs.BothEnds.{plain_identity}
+use Rattle.dap_accessed.specs.Setup.{plain_setup}
 use Rattle.std.specs.Map.{keys_of}
 use Rattle.nsp_link.specs.Limits.{largest_limit}
 use Rattle.dap_accessed.specs.Present as accessed
 use Rattle.dap_accessing.specs.Present as accessing
 use Rattle.dap_accessing.specs.Request.{Request}
 use Rattle.dap_accessing.specs.declared.report.Report.{Report}
-use Rattle.dap_accessing.specs.Asked.{Asked, messages_of}
+use Rattle.dap_world.specs.Plain.{Asked, messages_of}
 use Rattle.dap_events.specs.declared.event.End.{End}
 use Rattle.dap_events.specs.declared.event.End.TheVariants.{A, B}
 use Rattle.dap_world.specs.Machine.{State, EndState, sent_by, taken_of, answers_read, reported}
@@ -45,7 +47,7 @@ asked_packets own_a own_b (request ∷ requests) = Blocked own_b (messages_of ow
 
 -- those of the answers to each item, served after those before it
 abbrev pub answer_packets : (own : ℕ) → (before items : List Item) → List NspMessage
-answer_packets own before items = answers_to own [] before items
+answer_packets own before items = answers_to (plain_setup own) [] before items
 
 -- the messages that B served, as its number tells
 abbrev pub served_items : Parts → List Item
@@ -147,6 +149,9 @@ IsTold from to packets count = IsToldBy from.posted to.place from.link.setup.max
 
 pub record AreParts (p : Parts) : Type 0 where
   pub world : IsWorld (state_of p)
+  -- the ends are plain ones
+  pub plain_a : p.accessing.identity ≡ plain_identity p.accessing.own
+  pub plain_b : p.accessed.setup ≡ plain_setup p.accessed.own
   pub alike : AreAlike p.b.link.setup p.a.link.setup
   -- a link takes what either end may send
   pub limit : p.a.link.setup.max_message ≡ max p.accessing.own p.accessed.own

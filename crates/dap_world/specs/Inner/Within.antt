@@ -3,7 +3,7 @@ use Rattle.std.specs.Prelude.{ℕ, ◌≡◌, ◌≤◌, List, [], ◌∷◌, �
 use Rattle.dap_msg.specs.declared.message.Message.{Message}
 use Rattle.dap_msg.specs.Canon.{canon}
 use Rattle.dap_msg.specs.declared.items.Item.{Item}
-use Rattle.dap_accessed.specs.Groups.{limit_for}
+use Rattle.dap_world.specs.Plain.{limit_for}
 use Rattle.dap_accessing.specs.Request.{Request}
 use Rattle.dap_world.specs.Agreement.{items_of}
 

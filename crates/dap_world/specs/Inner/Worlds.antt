@@ -2,8 +2,7 @@
 use Rattle.std.specs.Prelude.{ℕ, ◌≡◌, ◌+◌, ◌≤◌, ◌<◌, List, [], ◌∷◌, ◌++◌, length, map, Option, Some, None}
 use Rattle.dap_msg.specs.declared.items.Item.TheVariants.{Whole}
 use Rattle.dap_msg.specs.Blocked.{messages_in}
-use Rattle.dap_accessed.specs.Groups.{Answers}
-use Rattle.dap_accessing.specs.Asked.{Asked}
+use Rattle.dap_world.specs.Plain.{Answers, Asked}
 use Rattle.nsp_link.specs.Limits.{largest_window, most_segments}
 use Rattle.dap_world.specs.Agreement.{IsBufsiz, AreAdmissible}
 use Rattle.dap_events.specs.declared.event.End.TheVariants.{A, B}

@@ -1,5 +1,5 @@
 -- How the command line is built, and what it names.
-use Rattle.std.specs.Prelude.{◌≡◌, ◌≤◌, [], ◌∷◌, true, false, codes, fold}
+use Rattle.std.specs.Prelude.{◌≡◌, ◌≤◌, ◌<◌, ◌^◌, [], ◌∷◌, true, false, codes, fold}
 use Rattle.clap.specs.declared.builder.command.Command.{Command}
 use Rattle.clap.specs.declared.builder.command.Command.TheViews.{out-Command}
 use Rattle.clap.specs.Words.{App, Text, app_of, new_app, with_rule}
@@ -27,12 +27,32 @@ HasLimits before =
     (number (codes "window") (codes "8") 1 largest_window))
     (number (codes "buffer") (codes "1024") least_buffer greatest_message))
 
+abbrev pub HasCodes : Command → Command → Type 0
+HasCodes before =
+    Becomes before
+    (with_rule
+    (with_rule (app_of before) (number (codes "ostype") (codes "18") 0 255))
+    (number (codes "filesys") (codes "13") 0 255))
+
+abbrev pub HasSyscap : Command → Command → Type 0
+HasSyscap before = Becomes before (with_rule (app_of before) (option (codes "syscap") (codes "2001c3466")))
+
+abbrev pub HasIdentity : Command → Command → Type 0
+HasIdentity before =
+    Becomes before
+    (with_rule
+    (with_rule
+    (with_rule (app_of before) (number (codes "ostype") (codes "18") 0 255))
+    (number (codes "filesys") (codes "13") 0 255))
+    (option (codes "syscap") (codes "2001c3466")))
+
 -- the words behind the name of an end, with the digits of its usual addresses
 abbrev pub end_line_by : (name own other : Text) → App
 end_line_by name own other =
     fold with_rule (new_app name)
     (option (codes "local") own ∷ option (codes "remote") other ∷ number (codes "segment") (codes "512") 1 largest_segment
-    ∷ number (codes "window") (codes "8") 1 largest_window ∷ number (codes "buffer") (codes "1024") least_buffer greatest_message ∷ [])
+    ∷ number (codes "window") (codes "8") 1 largest_window ∷ number (codes "buffer") (codes "1024") least_buffer greatest_message
+    ∷ number (codes "ostype") (codes "18") 0 255 ∷ number (codes "filesys") (codes "13") 0 255 ∷ option (codes "syscap") (codes "2001c3466") ∷ [])
 
 -- a command with the option that only the end that serves has
 abbrev pub HasWaiting : Command → Command → Type 0
@@ -43,6 +63,10 @@ HasWaiting before =
 abbrev pub HasLinks : Command → Command → Type 0
 HasLinks before = Becomes before (with_rule (app_of before) (number (codes "links") (codes "1") 1 most_links))
 
+-- a command with the third option of it
+abbrev pub HasNames : Command → Command → Type 0
+HasNames before = Becomes before (with_rule (app_of before) (option (codes "names") (codes "exact")))
+
 -- a command that is the command line of an end
 pub record IsEndLine (name own other : Text) (command : Command) : Type 0 where
   pub app : app_of command ≡ end_line_by name own other
@@ -52,8 +76,10 @@ pub record IsEndLine (name own other : Text) (command : Command) : Type 0 where
 abbrev pub serve_line_by : App
 serve_line_by =
     with_rule
+    (with_rule
     (with_rule (end_line_by (codes "serve") (codes "0202") (codes "0101")) (number (codes "waiting") (codes "1048576") least_waiting greatest_waiting))
-    (number (codes "links") (codes "1") 1 most_links)
+    (number (codes "links") (codes "1") 1 most_links))
+    (option (codes "names") (codes "exact"))
 
 -- a command that is the command line of the end that serves
 pub record IsServeLine (command : Command) : Type 0 where
@@ -81,9 +107,9 @@ pub record IsCommandLine (command : Command) : Type 0 where
   pub local : (out-Command command).has_globals ≡ false
   pub required : (out-Command command).subcommand_required ≡ true
 
--- an end's buffer has room for any message of a fixed length
+-- an end's buffer has room for any message of a fixed length, and its SYSCAP has a place in a Configuration
 abbrev pub HasRoom : Task → Type 0
-HasRoom (End options) = least_buffer ≤ options.buffer
+HasRoom (End options) = (least_buffer ≤ options.buffer) × (options.syscap < 2 ^ 84)
 HasRoom (Follow in_words) = Unit {0}
 HasRoom (Watch in_words) = Unit {0}
 HasRoom (Frames ends) = Unit {0}

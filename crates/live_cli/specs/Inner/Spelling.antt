@@ -1,13 +1,13 @@
 -- Values of options that aren't spelled as they have to be.
-use Rattle.std.specs.Prelude.{◌≡◌, ℕ, List, Option, None, IfSome, IsTrue}
+use Rattle.std.specs.Prelude.{◌≡◌, ℕ, List, Option, None, IfSome, IsTrue, option_map}
 use Rattle.clap.specs.Words.{Row, Text, first_of}
 use Rattle.dap_text.specs.Words.{decimal_of, short}
 use Rattle.dap_live.specs.Orders.{address_of}
 use Rattle.decnet_frames.specs.Nodes.{node_of}
 use Rattle.live_cli.specs.declared.words.Digits.{Digits}
-use Rattle.live_cli.specs.declared.words.Digits.TheVariants.{Address, Bytes, Node, Nowhere, Number}
+use Rattle.live_cli.specs.declared.words.Digits.TheVariants.{Abilities, Address, Bytes, Code, Comparing, Node, Nowhere, Number}
 use Rattle.live_cli.specs.declared.words.Misspelt.{Misspelt}
-use Rattle.live_cli.specs.Words.{greatest_waiting, is_given}
+use Rattle.live_cli.specs.Words.{code_of, folded_of, greatest_waiting, is_given, syscap_of}
 
 -- what a value says that has to be spelled so
 abbrev pub read_of : Digits → Text → Option ℕ
@@ -15,6 +15,9 @@ read_of Address = address_of
 read_of Node = node_of
 read_of Number = short
 read_of Bytes = decimal_of greatest_waiting
+read_of Code = code_of
+read_of Abilities = syscap_of
+read_of Comparing = λ text. option_map (λ folded. 0) (folded_of text)
 read_of Nowhere = λ text. None
 
 -- it is the value of its option; of nodes, it may be any; where there is no place for it, the words give it

@@ -7,4 +7,4 @@ returns-clause-refused c =
     let bytes = c.unwrap-message.result.now in
     let first = sym (rw c.unwrap-message.ensures at c.peek_message.ensures) in
     let waits = has_first c.port.inside.link.coming.inbox bytes first in
-    rw (← c.port.view_is) (record { bytes = bytes; later = waits.0; came = waits.1; port = refl; own = c.refuse.ensures.own; refused = c.refuse.ensures.refused })
+    rw (← c.port.view_is) (record { bytes = bytes; later = waits.0; came = waits.1; port = refl; own = c.refuse.ensures.own; identity = c.refuse.ensures.identity; refused = c.refuse.ensures.refused })

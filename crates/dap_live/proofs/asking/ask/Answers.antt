@@ -8,6 +8,6 @@ pub returns-clause-err : goal.returns-clause-err
 returns-clause-err c =
     let works : c.args.asking.now.end.port.link.failed ≡ false = search rules in
     let old = c.args.asking.now in
-    let new = c.ask_request.new.asking in
-    err_from c.ask_request.result c.ask_request.ensures.err
-    (λ why. unless_reached old.end.port.link works _ old new (Asks old c.args.asked.now new) (rw c.in_ok-request.ensures at why))
+    let new = c.ask_running.new.asking in
+    err_from c.ask_running.result c.ask_running.ensures.err
+    (λ why. unless_reached old.end.port.link works _ old new (Asks false old c.args.asked.now new) (rw c.in_ok-request.ensures at why))

@@ -1,17 +1,17 @@
 use Rattle.std.proofs.Common.{refl, sym, ◌∙◌, ◌++◌}
 use Rattle.linewise.specs.declared.talking.Became.TheVariants.{Done}
 use Rattle.dap_live.specs.declared.asking.Came.TheVariants.{Told}
-use Rattle.dap_live.specs.Texts.{reports_text}
+use Rattle.dap_live.specs.Each.{told_text}
 use Rattle.dap_live.proofs.ResultLemmas.{err_always, err_from}
 use Rattle.dap_live.proofs.ReachLemmas.{where_left, where_none}
 use Rattle.dap_live.proofs.asking.go_on_if_left.Goals as goal
 
-pub returns-in_err-push_reports-clause-err : goal.returns-in_err-push_reports-clause-err
-returns-in_err-push_reports-clause-err c =
+pub returns-in_err-push_told-clause-err : goal.returns-in_err-push_told-clause-err
+returns-in_err-push_told-clause-err c =
     err_always c.from_residual.result (
-      c.args.text.now.items ++ reports_text c.args.asking.now.reports.items,
+      c.args.text.now.items ++ told_text c.args.asking.now,
       Told Done,
-      where_none _ (sym c.goes_on.ensures ∙ c.if-goes_on.false) _ _ (refl, refl, refl, refl),
+      where_none _ (sym c.goes_on.ensures ∙ c.if-goes_on.false) _ _ (refl, refl, refl),
     )
 
 pub returns-then-goes_on-clause-err : goal.returns-then-goes_on-clause-err

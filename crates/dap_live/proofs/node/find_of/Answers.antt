@@ -1,5 +1,4 @@
-use Rattle.std.proofs.Common.{◌≡◌, ap, sym, ◌∙◌, subst, Option, Some, None, inl, inr, refl}
-use Rattle.std.specs.List.{position}
+use Rattle.std.proofs.Common.{sym, ◌∙◌}
 use Rattle.dap_end.specs.Node.{is_between}
 use Rattle.dap_live.proofs.Places.{at, between-some}
 use Rattle.dap_live.proofs.node.find_of.Goals as goal

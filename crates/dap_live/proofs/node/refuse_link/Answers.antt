@@ -1,4 +1,4 @@
-use Rattle.std.proofs.Common.{◌≡◌, ◌∙◌, ◌++◌, ap, refl, inl, inr, List, ℕ, codes}
+use Rattle.std.proofs.Common.{◌∙◌, ◌++◌, ap, refl, inl, inr, List, ℕ, codes}
 use Rattle.nsp_link.specs.declared.fault.LinkFault.TheVariants.{BadSetup}
 use Rattle.dap_live.specs.Texts.{link_refusal, refused}
 use Rattle.dap_live.proofs.ResultLemmas.{ok_from}

@@ -1,5 +1,5 @@
 use Rattle.std.proofs.Common.{◌≡◌, ◌++◌, take}
-use Rattle.dap_live.specs.Node.{locked_text}
+use Rattle.dap_live.specs.Texts.{locked_text}
 use Rattle.dap_live.proofs.texts.push_locked.Given as goal
 
 abbrev pub invariant-loop-local : goal.invariant-loop-local

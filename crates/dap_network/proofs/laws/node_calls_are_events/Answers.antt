@@ -1,5 +1,3 @@
-use Rattle.std.proofs.Common.{List}
-use Rattle.std.specs.Prelude.{Option}
 use Rattle.dap_end.specs.Joined.{IsBrought}
 use Rattle.dap_network.proofs.Asking.{leads_on}
 use Rattle.dap_network.proofs.Calling.{ack_leads, go_on_leads, peer_step, peers_at_first, peers_then, resend_leads, take_leads}

@@ -8,4 +8,4 @@ use Rattle.dap_shared.proofs.noted.lowest_of.Given as goal
 abbrev pub invariant-loop-other : goal.invariant-loop-other
 invariant-loop-other l =
     (first : Files) (events : List Event) → SharedAfter first events l.shared
-    → LeastOf (λ other. locks_out other l.link (node_after l.shared.own first (length l.shared.sessions) events) l.item) (λ other. get_or l.addresses other 0) l.other l.lowest
+    → LeastOf (λ other. locks_out l.shared.setup other l.link (node_after l.shared.setup first (length l.shared.sessions) events) l.item) (λ other. get_or l.addresses other 0) l.other l.lowest

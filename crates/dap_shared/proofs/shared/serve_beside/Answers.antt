@@ -6,7 +6,7 @@ use Rattle.dap_shared.proofs.shared.serve_beside.Goals as goal
 
 pub returns-then-is_barred-clause-ok : goal.returns-then-is_barred-clause-ok
 returns-then-is_barred-clause-ok c =
-    let locked : is_barred c.args.others.now.items (asked_in c.args.files.now c.args.session.now.phase c.args.item) ≡ true =
+    let locked : is_barred c.args.others.now.items (asked_in c.args.session.now.setup c.args.files.now c.args.session.now.phase c.args.item) ≡ true =
     ap (is_barred c.args.others.now.items) (sym c.asked-asked.ensures)
     ∙ ap (λ (l : List SessionValue). is_barred l c.asked-asked.result) (sym c.deref.ensures.value)
     ∙ sym c.is_barred.ensures ∙ c.if-is_barred.true in

@@ -7,8 +7,17 @@ use Rattle.live_cli.proofs.running.ask.Goals as goal
 pub returns-in-Ok : goal.returns-in-Ok
 returns-in-Ok g c =
     let is : c.link_setup.result ≡ setup_of c.args.options = c.link_setup.ensures in
+    let new = c.in-Ok.ensures in
     some_from _ c.converse.ensures (λ input answers. inl (
       c.in-Ok.end,
-      (c.in-Ok.ensures.after, c.in-Ok.ensures.reports, (c.in-Ok.ensures.port ∙ ap new_port is, c.in-Ok.ensures.own, c.in-Ok.ensures.setup ∙ is)),
+      record {
+        asked = new.after;
+        port = new.port ∙ ap new_port is;
+        is_identity = new.identity ∙ c.identity.ensures.is;
+        is_setup = new.setup ∙ is;
+        reports = new.reports;
+        each = new.each.0;
+        told = new.each.1;
+      },
       answers,
     ))

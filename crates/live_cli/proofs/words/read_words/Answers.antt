@@ -1,6 +1,6 @@
-use Rattle.std.proofs.Common.{◌∙◌, ◌≡◌, ap, sym, subst, List, map, string_bytes}
+use Rattle.std.proofs.Common.{◌∙◌, ap, sym, subst, List, map, string_bytes}
 use Rattle.std.specs.Prelude.{IfErr, IfSome, Option, option_and_then}
-use Rattle.clap.specs.Words.{App, HasKind, Row, Text, fault_of, is_simple_and_free, found_of, rows_of, subcommand_of}
+use Rattle.clap.specs.Words.{App, HasKind, Row, Text, fault_of, is_simple_and_free, found_of, rows_of}
 use Rattle.live_cli.specs.Words.{daplive, task_in as task_of_rows}
 use Rattle.live_cli.specs.Inner.Spelling.{IsMisspelt}
 use Rattle.live_cli.proofs.RunLemmas.{fails_with, is_free_line, subcommand_is}

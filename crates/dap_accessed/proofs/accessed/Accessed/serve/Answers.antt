@@ -15,4 +15,4 @@ returns-clause-further c some = if_ok c.serve_item.result c.serve_item.ensures.n
 
 pub returns-clause-unrefused : goal.returns-clause-unrefused
 returns-clause-unrefused c = λ first items item next h there none.
-    c.serve_item.ensures.unrefused first items h (subst (λ (i : Item). IsSilent c.args.self.now.own first items i) (c.item_at-item.ensures.only item next there).0 none)
+    c.serve_item.ensures.unrefused first items h (subst (λ (i : Item). IsSilent c.args.self.now.setup first items i) (c.item_at-item.ensures.only item next there).0 none)

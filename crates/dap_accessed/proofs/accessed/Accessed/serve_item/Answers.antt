@@ -1,7 +1,7 @@
 use Rattle.std.proofs.Common.{ap, ◌∙◌, subst, sym, arith}
 use Rattle.dap_msg.specs.Blocked.{Blocked, all_joined, AllFit}
 use Rattle.dap_msg.proofs.ForCallers.{item_fits}
-use Rattle.dap_accessed.proofs.StepIs.{stands-more, answers-are, same-own}
+use Rattle.dap_accessed.proofs.StepIs.{stands-more, answers-are, same-own, same-setup}
 use Rattle.dap_accessed.proofs.Silent.{silent-is}
 use Rattle.dap_accessed.specs.Present.{Present, StandsAfter}
 use Rattle.dap_accessed.specs.Served.{IsSilent}
@@ -29,11 +29,12 @@ returns-clause-serves c bytes at there =
       is_limit = λ first items h. ap (λ (p : Present). p.limit) h;
       most = (let same = ap (λ (p : Present). p.limit) c.self.view_is in let most = c.in_ok-answers.ensures.most in omega (arith, same, most));
       same_own = ap (λ (p : Present). p.own) moves.present ∙ same-own old item;
+      same_setup = ap (λ (p : Present). p.setup) moves.present ∙ same-setup old item;
     }
 
 pub returns-in_err-answers-clause-unrefused : goal.returns-in_err-answers-clause-unrefused
 returns-in_err-answers-clause-unrefused c = λ first items h none.
     (let inside = joined c.self.inside.files c.self.inside.session in
     let stands = subst (StandsAfter first items) (sym c.self.view_is) h in
-    let silent = subst (λ (p : Present). IsSilent p.own first items c.args.item) (sym c.self.view_is) none in
+    let silent = subst (λ (p : Present). IsSilent p.setup first items c.args.item) (sym c.self.view_is) none in
     let taken = c.in_err-answers.ensures.silent (silent-is inside first items c.args.item stands silent) in cc)

@@ -5,7 +5,7 @@ use Rattle.dap_msg.proofs.ForCallers.{item_fits}
 use Rattle.dap_accessed.specs.Present.{Present}
 use Rattle.dap_accessed.specs.Served.{Answered}
 use Rattle.dap_accessed.specs.Sessions.{joined, session_of}
-use Rattle.dap_accessed.proofs.StepIs.{answers-in, in-more, same-own}
+use Rattle.dap_accessed.proofs.StepIs.{answers-in, in-more, same-own, same-setup}
 use Rattle.dap_accessed.proofs.Silent.{silent-in}
 use Rattle.dap_accessed.proofs.session.Session.serve_item.Goals as goal
 
@@ -27,6 +27,7 @@ returns-clause-serves c =
       within = moves.answered.within;
       most = c.in_ok-answers.ensures.most;
       same_own = ap (λ (p : Present). p.own) moves.present ∙ same-own old c.args.item;
+      same_setup = ap (λ (p : Present). p.setup) moves.present ∙ same-setup old c.args.item;
     }
 
 pub returns-in_err-answers-clause-no_memory : goal.returns-in_err-answers-clause-no_memory

@@ -13,12 +13,12 @@ use Rattle.dap_accessing.proofs.accessing.Accessing.ask_prepared.Goals as goal
 pub blocked-requires-clause-sendable : goal.blocked-requires-clause-sendable
 blocked-requires-clause-sendable c =
     let may : MayAsk (the_view c.self.inside) c.args.request.now = subst (λ (v : Present). MayAsk v c.args.request.now) (sym c.self.view_is) c.requires.may in
-    subst (λ l. AreSendable c.self.inside.limit l) (sym (c.requires.messages ∙ ap (λ (v : Present). messages_of v.own c.args.request.now) (sym c.self.view_is))) may.sendable
+    subst (λ l. AreSendable c.self.inside.limit l) (sym (c.requires.messages ∙ ap (λ (v : Present). messages_of v.identity c.args.request.now) (sym c.self.view_is))) may.sendable
 
 pub returns-clause-asks : goal.returns-clause-asks
 returns-clause-asks c =
     let may : MayAsk (the_view c.self.inside) c.args.request.now = subst (λ (v : Present). MayAsk v c.args.request.now) (sym c.self.view_is) c.requires.may in
     subst (λ (v : Present). Asks c.args.request.now v (record (the_view c.self.inside) { pending = Some c.of.result }) (bodies c.in-Ok.messages.items)) c.self.view_is
     (asks_of c.args.request.now (the_view c.self.inside) c.of.result (bodies c.in-Ok.messages.items) may
-    (c.in-Ok.ensures ∙ ap (λ l. all_joined (Blocked c.self.inside.limit l)) (c.requires.messages ∙ ap (λ (v : Present). messages_of v.own c.args.request.now) (sym c.self.view_is)))
+    (c.in-Ok.ensures ∙ ap (λ l. all_joined (Blocked c.self.inside.limit l)) (c.requires.messages ∙ ap (λ (v : Present). messages_of v.identity c.args.request.now) (sym c.self.view_is)))
     c.of.ensures)

@@ -35,7 +35,7 @@ returns-in-Some-clause-prepared c = record {
   may = subst (λ (v : Present). MayAsk v c.args.request.now) c.self.view_is
       (may_ask c.args.request.now (the_view c.self.inside) c.if-self.false (sym c.is_some.ensures ∙ c.if-is_some.false) (sym c.fits.ensures ∙ c.if-not-fits.false)
       (subst (λ l. AreSendable c.self.inside.limit l) c.of-outgoing.ensures.messages c.in-Some.ensures.yes) (omega arith));
-  messages = c.of-outgoing.ensures.messages ∙ ap (λ (v : Present). messages_of v.own c.args.request.now) c.self.view_is;
+  messages = c.of-outgoing.ensures.messages ∙ ap (λ (v : Present). messages_of v.identity c.args.request.now) c.self.view_is;
   counted = c.in-Some.ensures.counted;
 }
 

@@ -2,6 +2,7 @@ use Rattle.std.proofs.Common.{◌∙◌, ap, sym, subst}
 use Rattle.dap_msg.specs.Items.{ItemAt}
 use Rattle.dap_accessing.specs.Present.{Present, failed_after}
 use Rattle.dap_msg.proofs.ForCallers.{fields_fit}
+use Rattle.dap_accessing.proofs.Each.{read_on}
 use Rattle.dap_accessing.proofs.Numbers.{short_numbers}
 use Rattle.dap_accessing.proofs.Laws.{taken_read, taken_refused, rest_refused}
 use Rattle.dap_accessing.proofs.accessing.Accessing.read.Goals as goal
@@ -20,6 +21,11 @@ pub returns-in-Ok-clause-reads : goal.returns-in-Ok-clause-reads
 returns-in-Ok-clause-reads c =
     taken_read c.args.nsp_message.now c.args.at c.in-Whole.message c.item_at-item.result.1 c.args.self.now c.take.new.self c.in-Ok.report (ap (λ (v : Present). v.failed) (sym c.self.view_is) ∙ c.if-self.false)
     (subst (λ i. ItemAt c.args.nsp_message.now c.args.at i c.item_at-item.result.1) c.in-Whole.is c.item_at-item.ensures.exact) c.in-Ok.ensures.takes
+
+pub returns-in-Ok-clause-reads_on : goal.returns-in-Ok-clause-reads_on
+returns-in-Ok-clause-reads_on c =
+    read_on c.args.nsp_message.now c.args.at c.in-Whole.message c.item_at-item.result.1 c.args.self.now c.take.new.self
+    (subst (λ i. ItemAt c.args.nsp_message.now c.args.at i c.item_at-item.result.1) c.in-Whole.is c.item_at-item.ensures.exact) c.in-Ok.report c.in-Ok.ensures.takes
 
 pub take-requires : goal.take-requires
 take-requires c = record {

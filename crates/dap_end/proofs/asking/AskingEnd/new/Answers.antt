@@ -14,3 +14,6 @@ returns-clause-ok c = (
   c.in_ok-port.ensures.ok.1,
   c.new-2.ensures.own,
 )
+
+pub returns-clause-identity : goal.returns-clause-identity
+returns-clause-identity c = c.new-2.ensures.identity

@@ -22,4 +22,4 @@ pub returns-clause-refused : goal.returns-clause-refused
 returns-clause-refused c =
     let v : NodeValue = record { noted = c.self.inside.noted; ports = c.self.inside.ports.items } in
     let still : list_any come_on v.ports ≡ false = search rules in
-    subst (λ (w : NodeValue). IfErr c.add.result (NodeNotGiven w (NotAdded w.noted.shared.files c.args.name.now))) c.self.view_is (file-refused v c.args.name.now c.add.result (none_come v.ports still) c.add.ensures.refused)
+    subst (λ (w : NodeValue). IfErr c.add.result (NodeNotGiven w (NotAdded w.noted.shared.setup.names w.noted.shared.files c.args.name.now))) c.self.view_is (file-refused v c.args.name.now c.add.result (none_come v.ports still) c.add.ensures.refused)

@@ -3,7 +3,7 @@ use Rattle.dap_end.proofs.Adding.{given, fresh_to_add, by_add}
 use Rattle.dap_end.proofs.serving.ServingEnd.add.Goals as goal
 
 pub returns-clause-given : goal.returns-clause-given
-returns-clause-given c = rw (← c.self.view_is) (given (serving_view c.self.inside) c.add.new.self c.add.result c.add.ensures.own (fresh_to_add c.add.result c.self.inside.accessed c.args.name.now c.add.ensures.may) c.add.ensures.stands)
+returns-clause-given c = rw (← c.self.view_is) (given (serving_view c.self.inside) c.add.new.self c.add.result c.add.ensures.setup (fresh_to_add c.add.result c.self.inside.accessed c.args.name.now c.add.ensures.may) c.add.ensures.stands)
 
 pub returns-clause-refused : goal.returns-clause-refused
 returns-clause-refused c =

@@ -3,7 +3,7 @@ use Rattle.dap_end.proofs.Adding.{given, fresh_to_store, by_add_record}
 use Rattle.dap_end.proofs.serving.ServingEnd.add_record.Goals as goal
 
 pub returns-clause-given : goal.returns-clause-given
-returns-clause-given c = rw (← c.self.view_is) (given (serving_view c.self.inside) c.add_record.new.self c.add_record.result c.add_record.ensures.own (fresh_to_store c.add_record.result c.self.inside.accessed c.args.number c.args.body.now c.add_record.ensures.may) c.add_record.ensures.stands)
+returns-clause-given c = rw (← c.self.view_is) (given (serving_view c.self.inside) c.add_record.new.self c.add_record.result c.add_record.ensures.setup (fresh_to_store c.add_record.result c.self.inside.accessed c.args.number c.args.body.now c.add_record.ensures.may) c.add_record.ensures.stands)
 
 pub returns-clause-refused : goal.returns-clause-refused
 returns-clause-refused c =

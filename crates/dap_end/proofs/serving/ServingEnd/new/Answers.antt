@@ -13,3 +13,6 @@ returns-clause-ok c = (
   c.in_ok-port.ensures.ok.1,
   c.new-2.ensures.own,
 )
+
+pub returns-clause-plain : goal.returns-clause-plain
+returns-clause-plain c = c.new-2.ensures.setup

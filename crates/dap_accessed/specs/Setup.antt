@@ -1,0 +1,33 @@
+-- What a server is set up with: what it says of itself, how it compares names, and the most that an Access may ask for.
+use Rattle.std.specs.Prelude.{ℕ, ◌≤◌, Bool, true, not, ◌&&◌, ◌||◌, List, bytes_eq}
+use Rattle.file_names.specs.Folds.{fold}
+use Rattle.dap_msg.specs.BothEnds.{least_buffer, plain_identity}
+use Rattle.dap_msg.specs.Fitting.{FieldsFit}
+use Rattle.dap_msg.specs.declared.message.Message.TheVariants.{Config}
+use Rattle.rec_file.specs.declared.picks.Rights.{Rights}
+use Rattle.dap_accessed.specs.declared.setup.Names.{Names}
+use Rattle.dap_accessed.specs.declared.setup.Names.TheVariants.{Exact, Folded}
+use Rattle.dap_accessed.specs.declared.setup.ServerSetup.{ServerSetup}
+
+-- two names are one: byte by byte, or by their folds
+abbrev pub same_name : Names → (one other : List ℕ) → Bool
+same_name Exact one other = bytes_eq one other
+same_name Folded one other = bytes_eq (fold one) (fold other)
+
+-- every right
+abbrev pub all_rights : Rights
+all_rights = record { get = true; put = true; upd = true; del = true }
+
+-- a right is asked for that isn't among these
+abbrev pub lacks : (most asked : Rights) → Bool
+lacks most asked =
+    (asked.get && not most.get) || ((asked.put && not most.put) || ((asked.upd && not most.upd) || (asked.del && not most.del)))
+
+-- a server with this BUFSIZ of which nothing else is asked
+abbrev pub plain_setup : ℕ → ServerSetup
+plain_setup bufsiz = record { identity = plain_identity bufsiz; names = Exact; most = all_rights }
+
+-- its Configuration has a spelling, and its BUFSIZ is at least the least
+pub record IsServerSetup (own : ServerSetup) : Type 0 where
+  pub fits : FieldsFit (Config own.identity)
+  pub least : least_buffer ≤ own.identity.bufsiz

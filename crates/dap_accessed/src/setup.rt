@@ -1,0 +1,94 @@
+//! What a server is set up with.
+
+ghost use Rattle.std.specs.Prelude.{◌≡◌};
+ghost use Rattle.dap_accessed.specs.Accesses.{rights_of};
+ghost use Rattle.dap_accessed.specs.Setup.{all_rights, lacks, plain_setup, same_name};
+
+use dap_msg::{Configuration, FileAccess};
+use file_names::is_alike;
+use rec_file::Rights;
+
+/// How the names of files are compared.
+#[derive(Clone, Copy)]
+pub enum Names {
+    /// Byte by byte.
+    Exact,
+    /// By their folds: a device, a directory, a version and small letters don't count.
+    Folded,
+}
+
+impl Names {
+    /// Whether two names are one.
+    pub(crate) fn are_same(self, one: &[u8], other: &[u8]) -> bool
+        ensures { result ≡ same_name self one.now other.now }
+    {
+        match self {
+            Names::Exact => one == other,
+            Names::Folded => is_alike(one, other),
+        }
+    }
+}
+
+/// What a server is set up with.
+#[derive(Clone, Copy)]
+pub struct ServerSetup {
+    /// What it says of itself: the Configuration that it answers with.
+    pub identity: Configuration,
+    /// By which names an Access finds a file.
+    pub names: Names,
+    /// The most that an Access may ask for.
+    pub most: Rights,
+}
+
+/// Every right.
+pub const ALL_RIGHTS: Rights = Rights {
+    get: true,
+    put: true,
+    upd: true,
+    del: true,
+};
+
+/// The rights to do these operations.
+pub(crate) fn rights_for_access(access: FileAccess) -> Rights
+    ensures { result ≡ rights_of access.0 }
+{
+    Rights {
+        get: access.allows_get(),
+        put: access.allows_put(),
+        upd: access.allows_update(),
+        del: access.allows_delete(),
+    }
+}
+
+/// The rights for which the bits of a FAC stand: bit 0 PUT, 1 GET, 2 DELETE, 3 UPDATE; none for 0 (DAP 5.6.0, Access
+/// message).
+pub fn rights_of_fac(fac: u32) -> Rights
+    ensures { result ≡ rights_of fac }
+{
+    rights_for_access(FileAccess::of_fac(fac))
+}
+
+impl ServerSetup {
+    /// A server with a buffer of this many bytes of which nothing else is asked: names are compared byte by byte, and an
+    /// Access may ask for every right.
+    pub fn plain(bufsiz: u16) -> ServerSetup
+        ensures { result ≡ plain_setup bufsiz }
+    {
+        ServerSetup {
+            identity: Configuration::plain(bufsiz),
+            names: Names::Exact,
+            most: ALL_RIGHTS,
+        }
+    }
+
+    /// Whether one of these rights is more than an Access may ask for.
+    pub(crate) fn lacks(&self, asked: Rights) -> bool
+        ensures { result ≡ lacks self.now.most asked }
+    {
+        let most = self.most;
+        (asked.get && !most.get)
+            || (asked.put && !most.put)
+            || (asked.upd && !most.upd)
+            || (asked.del && !most.del)
+    }
+}

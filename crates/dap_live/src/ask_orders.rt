@@ -1,0 +1,90 @@
+//! What the lines of a client say.
+
+ghost use Rattle.std.specs.Prelude.{◌≡◌, option_and_then};
+ghost use Rattle.dap_text.specs.Words.{ends};
+ghost use Rattle.dap_live.specs.Orders.{anew_of};
+ghost use Rattle.dap_live.specs.AskOrders.{ask_order_of, asked_of, each_of, new_link, names_fac};
+
+use crate::orders::{Between, read_anew, read_hex_alone};
+use dap_text::{RequestText, Text, Words, is, read_request};
+
+/// What a line says. Its bytes are still digits.
+#[derive(Drop)]
+pub(crate) enum AskOrder<'a> {
+    Packet(Text<'a>),
+    Resend,
+    Ack,
+    /// The same link again, or one between these addresses.
+    New(Option<Between>),
+    Ask(RequestText<'a>),
+    /// A fetch of which each record is told by itself.
+    FetchEach,
+}
+
+/// A line with one word.
+fn read_plain<'a>(words: Words<'a>, order: AskOrder<'a>) -> Option<AskOrder<'a>>
+    ensures { result ≡ ends order.entry words.entry }
+{
+    words.end()?;
+    Some(order)
+}
+
+/// Whether rights are named.
+fn names_rights(anew: Option<Between>) -> bool
+    ensures { result ≡ names_fac anew }
+{
+    match anew {
+        None => false,
+        Some(between) => between.fac.is_some(),
+    }
+}
+
+/// A new link: a client gives nobody rights.
+fn read_new<'a>(words: Words<'a>) -> Option<AskOrder<'a>>
+    ensures { result ≡ option_and_then new_link (anew_of words.entry) }
+{
+    let anew = read_anew(words)?;
+    if names_rights(anew) {
+        None
+    } else {
+        Some(AskOrder::New(anew))
+    }
+}
+
+/// `fetch each`
+fn read_each<'a>(mut words: Words<'a>) -> Option<AskOrder<'a>>
+    ensures { result ≡ each_of words.entry }
+{
+    if !is(words.next()?, "fetch") {
+        return None;
+    }
+    if !is(words.next()?, "each") {
+        return None;
+    }
+    read_plain(words, AskOrder::FetchEach)
+}
+
+/// A request, or `fetch each`
+fn read_asked<'a>(words: Words<'a>) -> Option<AskOrder<'a>>
+    ensures { result ≡ asked_of words.entry }
+{
+    match read_each(words.again()) {
+        Some(order) => Some(order),
+        None => Some(AskOrder::Ask(read_request(words)?)),
+    }
+}
+
+/// What a line says.
+pub(crate) fn read_ask_order(line: &[u8]) -> Option<AskOrder<'_>>
+    ensures { result ≡ ask_order_of line.now }
+{
+    let mut words = Words::of(line);
+    match words.next()? {
+        word if is(word, ">") => Some(AskOrder::Packet(read_hex_alone(words)?)),
+        word if is(word, "resend") => read_plain(words, AskOrder::Resend),
+        word if is(word, "ack") => read_plain(words, AskOrder::Ack),
+        word if is(word, "new") => read_new(words),
+        word if is(word, "ask") => read_asked(words),
+        _ => None,
+    }
+}

@@ -1,0 +1,7 @@
+//! Names of files as other systems send them: two are one where they differ only in a device or directory before them, in a
+//! version behind them, or in capitals.
+#![tactic(auto)]
+
+mod fold;
+
+pub use fold::{is_alike, stem};
