@@ -11,14 +11,14 @@ use Rattle.dap_listing.specs.Lines.{Capture, line_of}
 use Rattle.dap_listing.specs.Packets.{IsPacketText}
 use Rattle.dap_text.specs.Text.{line_feed}
 use Rattle.dap_listing.specs.Messages.{IsMessagesText}
-use Rattle.dap_listing.specs.Gives.{Gives}
+use Rattle.linewise.specs.Gives.{Gives}
 use Rattle.dap_listing.specs.declared.listing.Listed.{Listed}
 use Rattle.dap_listing.specs.declared.listing.Listed.TheVariants.{Packets, Messages}
 use Rattle.dap_listing.specs.declared.lines.Direction.{Direction}
 use Rattle.dap_listing.specs.declared.lines.Direction.TheVariants.{Right, Left}
-use Rattle.dap_listing.specs.declared.fault.Outcome.{Outcome}
-use Rattle.dap_listing.specs.declared.fault.Outcome.TheVariants.{Good}
-use Rattle.dap_listing.specs.declared.fault.CaptureFault.{CaptureFault}
+use Rattle.linewise.specs.declared.fault.Outcome.{Outcome}
+use Rattle.linewise.specs.declared.fault.Outcome.TheVariants.{Good}
+use Rattle.linewise.specs.declared.fault.CaptureFault.{CaptureFault}
 
 -- the faults of the lines, in order; the first line has this number
 abbrev pub faults_from : ℕ → ℕ → List ℕ → List CaptureFault

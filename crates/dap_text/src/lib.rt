@@ -12,7 +12,7 @@ mod text;
 mod words;
 
 pub use answers::{ask_word, got_word, push_packet_fault};
-pub use bytes::{find_byte, is_hex_text};
+pub use bytes::is_hex_text;
 pub use filed::{FileLine, RecordLine, read_file_line, read_record_line};
 pub use laws::{files_are_read_back, records_are_read_back};
 pub use reports::push_report;

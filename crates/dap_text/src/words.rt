@@ -7,8 +7,9 @@ ghost use Rattle.std.specs.Char.{is_ascii_digit};
 ghost use Rattle.dap_text.specs.Words.{decimal_of, hex_of, text_of, texts_of, words_of};
 ghost use Rattle.dap_text.specs.Inner.Words.{words_left};
 
-use crate::bytes::{find_byte, is_hex_text};
+use crate::bytes::is_hex_text;
 use dap_accessing::{Octets, ToBytes, ToRecords};
+use linewise::find_byte;
 use std::alloc::{AllocError, Global};
 use std::marker::Model;
 

@@ -9,7 +9,7 @@ ghost use Rattle.decnet_frames.specs.declared.text.Ends.{Ends as TheEnds};
 
 use crate::text::{Counts, Ends, Listing};
 use capture_file::{FaultKind, FileFault, Reading};
-use dap_listing::write_text;
+use linewise::write_text;
 use std::alloc::Global;
 use std::io::{Read, Write};
 use thiserror::Error;
