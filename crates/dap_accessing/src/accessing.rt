@@ -247,6 +247,13 @@ impl Accessing {
         }
     }
 
+    /// Whether an unexpected answer failed this end, so that every request is refused as Failed until `renew`.
+    pub fn has_failed(&self) -> bool
+        ensures { result ≡ self.now.failed }
+    {
+        self.failed
+    }
+
     /// The records that are kept of a batch under way: those that came and weren't taken out. None where no batch is under way.
     pub fn records(&self) -> &[(u64, Octets)]
         ensures { result.now ≡ records_kept self.now.pending }

@@ -170,6 +170,14 @@ impl AskingEnd {
         ask_next(&mut self.port, &mut self.accessing, request, prepared)
     }
 
+    /// Whether an unexpected answer failed this end, so that every request is refused as `Failed` until `renew`. It
+    /// takes no memory.
+    pub fn has_failed(&self) -> bool
+        ensures { result ≡ self.now.present.failed }
+    {
+        self.accessing.has_failed()
+    }
+
     /// Takes a packet in, as [`nsp_link::LinkEnd::receive_bounded`] does; nothing is read by that.
     pub fn receive(&mut self, packet: &[u8]) -> Result<Got, LinkFault>
         ensures rest { self.new ≡ record self.old {
