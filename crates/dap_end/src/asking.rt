@@ -538,7 +538,7 @@ fn read_next(port: &mut Port, accessing: &mut Accessing) -> Result<Option<Report
     match accessing.read(message, place) {
         Ok(step) => {
             let at_end = is_end(message, step.next);
-            port.go_on(at_end, step.next);
+            port.advance(at_end, step.next);
             Ok(step.report)
         }
         Err(fault) => Err(fault),
