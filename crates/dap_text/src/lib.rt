@@ -19,4 +19,4 @@ pub use reports::push_report;
 pub use requests::{RequestText, read_request};
 pub use tables::{FilesPlace, push_files, push_files_line};
 pub use text::{push_decimal, push_hex, push_image, push_number, push_str, push_word};
-pub use words::{Text, Texts, Words, is, read_hex, read_number, read_text};
+pub use words::{Text, Texts, Words, is, read_hex, read_number, read_short, read_text};
