@@ -18,6 +18,7 @@ use crate::captures::{PACKET_LIMIT, push_heading};
 use crate::lines::{Direction, Head, parse_head};
 use crate::message::push_messages;
 use crate::packet::push_packet;
+use dap_msg::GREATEST_MESSAGE;
 use dap_text::{is_hex_text, push_number, push_str};
 use linewise::{CHUNK, CaptureFault, cut_line, find_byte, read_some, skip_unread};
 use std::alloc::{AllocError, Global};
@@ -39,7 +40,7 @@ impl Listed {
     {
         match self {
             Listed::Packets => PACKET_LIMIT,
-            Listed::Messages => 65_535,
+            Listed::Messages => GREATEST_MESSAGE as usize,
         }
     }
 }
