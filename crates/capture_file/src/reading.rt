@@ -136,8 +136,8 @@ impl Reading {
         Ok(())
     }
 
-    /// Continues after a unit that says this.
-    fn go_on(&mut self, meaning: Meaning) -> Result<Option<Given>, FaultKind>
+    /// Applies what a whole unit says, and begins the next unit.
+    fn apply(&mut self, meaning: Meaning) -> Result<Option<Given>, FaultKind>
         requires { HasFrame self.old.kept.items meaning }
         ensures goes { IfOk result (GoesOn self.old self.new meaning) }
         ensures within { IfOk result (λ given. IfSome given (IsWithin self.new.kept.items)) }
@@ -184,7 +184,7 @@ impl Reading {
             return Ok(None);
         }
         match meaning_of(self.format, &self.interfaces, &self.kept) {
-            Ok(meaning) => self.go_on(meaning),
+            Ok(meaning) => self.apply(meaning),
             Err(kind) => Err(kind),
         }
     }

@@ -42,7 +42,7 @@ fn carried_number(request: &Request) -> u32
 impl Request {
     /// The number that its messages carry, in four bytes, the lowest first: a file's MRN, a record's number or its address;
     /// 0 where they carry none (DAP 5.6.0, Attributes and Control messages).
-    pub fn number(&self) -> [u8; 4]
+    pub(crate) fn number(&self) -> [u8; 4]
         ensures { result ≡ four_bytes (number_carried self.now) }
     {
         carried_number(self).to_le_bytes()
@@ -306,9 +306,10 @@ impl<'a> Outgoing<'a> {
     }
 }
 
-/// The messages of a request that [`crate::Accessing::prepare`] looked at, with what was counted of them.
+/// What [`crate::Accessing::prepare`] learned of a request: the number that it carries, in four bytes, and what was counted
+/// of its messages.
 #[derive(Drop)]
-pub struct Prepared<'a> {
-    pub(crate) outgoing: Outgoing<'a>,
+pub struct Prepared {
+    pub(crate) number: [u8; 4],
     pub(crate) counts: Counts,
 }

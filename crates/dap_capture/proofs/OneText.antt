@@ -18,7 +18,7 @@ use Rattle.dap_orders.specs.Schedules.{Numbered, said}
 use Rattle.dap_capture.specs.Inner.Playing.{events_of}
 use Rattle.dap_text.specs.Tables.{files_text}
 use Rattle.dap_capture.specs.Played.{IsPacketWritten, IsStepText, Played, Plays, empty, end_text, event_line, goes, over, played, refusal_line, refusal_text, setup_refused, stops}
-use Rattle.dap_listing.specs.declared.fault.Outcome.{Outcome}
+use Rattle.linewise.specs.declared.fault.Outcome.{Outcome}
 
 same_end : (a b : End) (x : _) → x ≡ Some a → x ≡ Some b → b ≡ a
 same_end a b x e f = cc

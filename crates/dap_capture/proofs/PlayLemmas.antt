@@ -10,8 +10,8 @@ use Rattle.dap_events.specs.declared.event.Event.{Event}
 use Rattle.dap_events.specs.declared.event.WorldFault.{WorldFault}
 use Rattle.dap_events.specs.declared.event.WorldFault.TheVariants as fault
 use Rattle.dap_world.specs.Runs.{Went}
-use Rattle.dap_listing.specs.declared.fault.Outcome.{Outcome}
-use Rattle.dap_listing.specs.declared.fault.Outcome.TheVariants.{Good, Stopped}
+use Rattle.linewise.specs.declared.fault.Outcome.{Outcome}
+use Rattle.linewise.specs.declared.fault.Outcome.TheVariants.{Good, Stopped}
 use Rattle.dap_orders.specs.Orders.{event_of, setup_of}
 use Rattle.dap_orders.specs.Schedules.{Numbered, fault_unless}
 use Rattle.dap_orders.specs.Schedules.{event_fault}

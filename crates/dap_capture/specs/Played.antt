@@ -22,10 +22,10 @@ use Rattle.dap_text.specs.Reports.{report_text}
 use Rattle.dap_text.specs.Tables.{files_text}
 use Rattle.dap_orders.specs.Orders.{event_of, setup_of}
 use Rattle.dap_orders.specs.Schedules.{Numbered, said, schedule_faults}
-use Rattle.dap_listing.specs.Gives.{Gives}
-use Rattle.dap_listing.specs.declared.fault.CaptureFault.{CaptureFault}
-use Rattle.dap_listing.specs.declared.fault.Outcome.{Outcome}
-use Rattle.dap_listing.specs.declared.fault.Outcome.TheVariants.{Good, Stopped}
+use Rattle.linewise.specs.Gives.{Gives}
+use Rattle.linewise.specs.declared.fault.CaptureFault.{CaptureFault}
+use Rattle.linewise.specs.declared.fault.Outcome.{Outcome}
+use Rattle.linewise.specs.declared.fault.Outcome.TheVariants.{Good, Stopped}
 
 -- the line of an event, after its number
 abbrev pub event_line : ℕ → List ℕ → List ℕ

@@ -11,10 +11,10 @@ ghost use Rattle.dap_capture.specs.Played.{Played, Plays};
 ghost use Rattle.dap_capture.specs.Inner.Playing.{events_of};
 
 use crate::steps::{push_event, push_refusal, refusal_word};
-use dap_listing::{CaptureFault, INPUT_LIMIT, Outcome};
 use dap_orders::{MeaningfulLines, Order, check_orders, check_schedule, read_order, read_setup};
 use dap_text::push_files;
 use dap_world::{Event, Step, World, WorldFault};
+use linewise::{CaptureFault, INPUT_LIMIT, Outcome};
 use std::alloc::Global;
 
 /// The event happens; a request is given away.

@@ -1,6 +1,6 @@
 //! Devices that fail, with errors of several kinds.
 use crate::engines::{CAPTURE, Engine, LISTING, run};
-use dap_listing::{CaptureFault, Outcome};
+use linewise::{CaptureFault, Outcome};
 use std::alloc::Global;
 use std::io;
 use std::io::{ErrorKind, Read, Write};

@@ -1,8 +1,8 @@
 //! Rows of schedules.
 use crate::engines::{Engine, GREETING, GREETING_PLAYED, gives, run};
-use dap_listing::{CaptureFault, Outcome};
 use dap_text::push_report;
 use dap_world::{Ending, Numbered, Octets, Report};
+use linewise::{CaptureFault, Outcome};
 use std::alloc::{AllocError, Global};
 use std::process::Abort;
 use std::test::Fail;

@@ -10,8 +10,8 @@ ghost use Rattle.dap_cli.specs.Run.{Answers, RunGives};
 use clap::error::ErrorKind;
 use cli_faults::{Fronted, Reading, finish_reading, refuse};
 use dap_capture::{CaptureFault, Outcome, messages, schedule, show};
-use dap_listing::finish;
 use dap_words::{Choice, read_words};
+use linewise::finish;
 use std::alloc::Global;
 use std::io::{Read, Write};
 

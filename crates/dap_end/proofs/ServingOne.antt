@@ -42,7 +42,7 @@ pub no_length : (l : List (List ℕ)) → length l ≡ 0 → l ≡ []
 no_length [] e = refl
 no_length (x ∷ l) e = absurd (omega arith)
 
--- what `go_on` does, by whether the message was the last one
+-- what `advance` does, by whether the message was the last one
 abbrev pub GoesOn : PortValue → PortValue → Bool → ℕ → Type 0
 GoesOn p new last next =
     (last ≡ false → new ≡ record p { place = next })

@@ -1,7 +1,7 @@
 //! The end that asks.
 
 ghost use Rattle.std.specs.Prelude.{◌≡◌, ◌≢◌, ◌≤◌, ◌<◌, ◌+◌, ◌-◌, ℕ, List, [], ◌∷◌, Ok, Err, Some, None, true, false, length, IfOk, IfErr, IfSome, OnOk, OnErr, IsErrOf, IsTrue, ◌++◌, option_to_list, vec_len, vec_capacity};
-ghost use Rattle.dap_msg.specs.BothEnds.{four_bytes, least_buffer, plain_identity};
+ghost use Rattle.dap_msg.specs.BothEnds.{least_buffer, plain_identity};
 ghost use Rattle.dap_msg.specs.Fitting.{FieldsFit};
 ghost use Rattle.dap_msg.specs.declared.message.Configuration.{Configuration as Own};
 ghost use Rattle.dap_msg.specs.declared.message.Message.TheVariants.{Config};
@@ -14,7 +14,6 @@ ghost use Rattle.nsp_link.specs.declared.fault.LinkFault.TheVariants as fault;
 ghost use Rattle.dap_accessing.specs.Asked.{messages_of};
 ghost use Rattle.dap_accessing.specs.Each.{none_kept, records_kept};
 ghost use Rattle.dap_accessing.specs.Calls.{AskRefused, IsAdmittedBy};
-ghost use Rattle.dap_accessing.specs.Outgoing.{number_carried};
 ghost use Rattle.dap_accessing.specs.Prepared.{IsPrepared};
 ghost use Rattle.dap_accessing.specs.declared.fault.AskFault.TheVariants as ask_fault;
 ghost use Rattle.dap_accessing.specs.declared.fault.ReadFault.TheVariants as read_fault;
@@ -135,8 +134,7 @@ impl AskingEnd {
         ensures err { IfErr result (λ f. (self.new ≡ self.old)
             × AskRefused request.now self.old.present f) }
     {
-        let number = request.number();
-        let prepared = self.prepare(request, &number)?;
+        let prepared = self.prepare(request)?;
         self.ask_prepared(request, prepared)
     }
 
@@ -150,36 +148,34 @@ impl AskingEnd {
         self.accessing.check(request)
     }
 
-    /// The messages of a request that `ask` would take, memory aside, for `ask_prepared`, as
-    /// [`dap_accessing::Accessing::prepare`] makes them; refused as `ask` is. `number` has the bytes of the
-    /// request's `number`. It takes no memory.
-    pub fn prepare<'a>(
-        &self,
-        request: &'a Request,
-        number: &'a [u8],
-    ) -> Result<Prepared<'a>, AskFault>
-        requires { number.now ≡ four_bytes (number_carried request.now) }
+    /// What `ask_prepared` needs of a request that `ask` would take, memory aside, as
+    /// [`dap_accessing::Accessing::prepare`] makes it; refused as `ask` is. It takes no memory.
+    pub fn prepare(&self, request: &Request) -> Result<Prepared, AskFault>
         ensures works { OnOk result (self.now.present.failed ≡ false) }
         ensures admissible { OnOk result (IsAdmittedBy self.now.present request.now) }
         ensures prepared { IfOk result (IsPrepared self.now.present request.now) }
         ensures refused { IfErr result (λ f. (f ≢ ask_fault.NoMemory)
             × AskRefused request.now self.now.present f) }
     {
-        self.accessing.prepare(request, number)
+        self.accessing.prepare(request)
     }
 
-    /// Asks a request by the messages that `prepare` made of it, as `ask` does. They aren't looked at again, and it
-    /// fails only if memory is refused, with nothing changed.
-    pub fn ask_prepared(
-        &mut self,
-        request: &Request,
-        prepared: Prepared<'_>,
-    ) -> Result<usize, AskFault>
+    /// Asks a request that `prepare` looked at, as `ask` does. It isn't looked at again, and this fails only if memory is
+    /// refused, with nothing changed.
+    pub fn ask_prepared(&mut self, request: &Request, prepared: Prepared) -> Result<usize, AskFault>
         requires { IsPrepared self.old.present request.now prepared }
         ensures ok { IfOk result (λ n. AskedOne request.now self.old self.new n) }
         ensures err { IfErr result (λ f. (self.new ≡ self.old) × (f ≡ ask_fault.NoMemory)) }
     {
         ask_next(&mut self.port, &mut self.accessing, request, prepared)
+    }
+
+    /// Whether an unexpected answer failed this end, so that every request is refused as `Failed` until `renew`. It
+    /// takes no memory.
+    pub fn has_failed(&self) -> bool
+        ensures { result ≡ self.now.present.failed }
+    {
+        self.accessing.has_failed()
     }
 
     /// Takes a packet in, as [`nsp_link::LinkEnd::receive_bounded`] does; nothing is read by that.
@@ -490,12 +486,12 @@ fn most_messages(request: &Request) -> usize
     }
 }
 
-/// Asks a request by its messages, which wait then.
+/// Asks a request that was looked at; its messages wait then.
 fn ask_next(
     port: &mut Port,
     accessing: &mut Accessing,
     request: &Request,
-    prepared: Prepared<'_>,
+    prepared: Prepared,
 ) -> Result<usize, AskFault>
     requires kept { IsPort port.old }
     requires prepared { IsPrepared accessing.old request.now prepared }
@@ -542,7 +538,7 @@ fn read_next(port: &mut Port, accessing: &mut Accessing) -> Result<Option<Report
     match accessing.read(message, place) {
         Ok(step) => {
             let at_end = is_end(message, step.next);
-            port.go_on(at_end, step.next);
+            port.advance(at_end, step.next);
             Ok(step.report)
         }
         Err(fault) => Err(fault),

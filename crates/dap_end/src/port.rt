@@ -80,7 +80,7 @@ impl Port {
     }
 
     /// The next DAP message of the oldest NSP message was handled; it was the last one where so said.
-    pub(crate) fn go_on(&mut self, last: bool, next: usize)
+    pub(crate) fn advance(&mut self, last: bool, next: usize)
         ensures going { last ≡ false → self.new ≡ record self.old { place = next } }
         ensures ends { last ≡ true → (bytes : List ℕ) (later : List (List ℕ))
             → self.old.link.coming.inbox ≡ bytes ∷ later

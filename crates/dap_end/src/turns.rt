@@ -49,7 +49,7 @@ pub(crate) fn serve_next<S: Serving>(
     };
     let answered = served.answers.len();
     port.outbox = served.answers;
-    port.go_on(at_end, next);
+    port.advance(at_end, next);
     Ok(Some(answered))
 }
 

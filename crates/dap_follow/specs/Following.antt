@@ -5,14 +5,14 @@ use Rattle.std.specs.Fmt.{decimal}
 use Rattle.hex.specs.Hex.{decode_of}
 use Rattle.dap_text.specs.Text.{line_feed, word_text}
 use Rattle.dap_meanings.specs.Meanings.{packet_words, with_words}
-use Rattle.dap_listing.specs.Gives.{Gives}
+use Rattle.linewise.specs.Gives.{Gives}
 use Rattle.dap_listing.specs.Listing.{arrow_text, captures, frames, heading, packet_limit, faults_from}
 use Rattle.dap_listing.specs.Lines.{Capture}
 use Rattle.dap_listing.specs.Messages.{IsMessagesText}
 use Rattle.dap_listing.specs.Packets.{IsSeen, seen_line}
-use Rattle.dap_listing.specs.declared.fault.CaptureFault.{CaptureFault}
-use Rattle.dap_listing.specs.declared.fault.Outcome.{Outcome}
-use Rattle.dap_listing.specs.declared.fault.Outcome.TheVariants.{Good}
+use Rattle.linewise.specs.declared.fault.CaptureFault.{CaptureFault}
+use Rattle.linewise.specs.declared.fault.Outcome.{Outcome}
+use Rattle.linewise.specs.declared.fault.Outcome.TheVariants.{Good}
 use Rattle.dap_follow.specs.Streams.{IsOrdered, Captured, Placed, came_in, streams}
 use Rattle.dap_follow.specs.Joined.{Message, Piece, is_message, messages, payload, pieces, tail}
 use Rattle.dap_follow.specs.declared.streams.Stream.{Stream}

@@ -5,14 +5,15 @@ ghost use Rattle.dap_follow.specs.Inner.Placing.{IsPutIn, Rises};
 ghost use Rattle.dap_follow.specs.Inner.Keeping.{IsAdded};
 
 use dap_listing::CapturedSegment;
-use nsp_seg::Seq12;
+use nsp_link::GREATEST_AGE;
+use nsp_seg::{MODULUS, Seq12};
 use std::alloc::{AllocError, Global};
 
-/// So many numbers of segments there are (NSP 4.0.0, segment numbers).
-pub(crate) const ROUND: u64 = 4096;
+/// So many numbers of segments there are.
+pub(crate) const ROUND: u64 = MODULUS as u64;
 
-/// How far below the highest place before it a segment may lie.
-const BELOW: u64 = 2047;
+/// How far below the highest place before it a segment may lie: as far as its number identifies it.
+const BELOW: u64 = GREATEST_AGE;
 
 /// A segment that counts: its place, the number of its packet, its marks, and the hex digits of its payload.
 #[derive(Clone, Copy)]

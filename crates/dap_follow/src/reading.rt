@@ -9,10 +9,11 @@ ghost use Rattle.dap_follow.specs.Inner.Reading.{Reads, ReadsAll, ReadsFew, Read
 
 use crate::streams::Streams;
 use dap_listing::{
-    CaptureFault, CapturedPacket, Direction, Found, INPUT_LIMIT, PACKET_LIMIT, next_packet,
-    push_heading, push_seen, read_packet,
+    CapturedPacket, Direction, Found, PACKET_LIMIT, next_packet, push_heading, push_seen,
+    read_packet,
 };
 use dap_meanings::add_packet_words;
+use linewise::{CaptureFault, INPUT_LIMIT};
 use nsp_seg::SegFault;
 use std::alloc::{AllocError, Global};
 

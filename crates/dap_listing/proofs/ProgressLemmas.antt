@@ -6,11 +6,11 @@ use Rattle.std.proofs.lemmas.Bool.{eqb-true}
 use Rattle.std.proofs.lemmas.Grind.{common_steps}
 use Rattle.std.proofs.lemmas.List.{append-nil}
 use Rattle.dap_listing.specs.Listing.{captures, limit_of, no_more}
-use Rattle.dap_listing.specs.Firsts.{IsOfLine}
+use Rattle.linewise.specs.Firsts.{IsOfLine}
 use Rattle.dap_listing.specs.Inner.Progress.{IsInputFault, IsUnderWay, IsWhole, StandsAt}
 use Rattle.dap_listing.specs.Inner.Cutting.{FaultsGoOn, IsFirstFault, ListingGoesOn}
-use Rattle.dap_listing.specs.declared.fault.CaptureFault.{CaptureFault}
-use Rattle.dap_listing.specs.declared.fault.CaptureFault.TheVariants.{BadLine, TooLarge, ReadFailed, WriteFailed, NoMemory}
+use Rattle.linewise.specs.declared.fault.CaptureFault.{CaptureFault}
+use Rattle.linewise.specs.declared.fault.CaptureFault.TheVariants.{BadLine, TooLarge, ReadFailed, WriteFailed, NoMemory}
 use Rattle.dap_listing.specs.declared.listing.Progress.{Progress}
 use Rattle.dap_listing.specs.declared.listing.Listed.{Listed}
 

@@ -1,25 +1,26 @@
 //! The listing of an input: of packets, or of NSP messages.
 
 ghost use Rattle.std.specs.Prelude.{◌≡◌, ◌≢◌, ◌≤◌, ◌<◌, ◌+◌, ◌-◌, ◌⊎◌, [], drop, OnErr, IfSome, ◌*◌, ◌^◌, Some, true, false, IfErr, IfOk, None, OnOk, Ok, length, option_map, IsErrOf};
-ghost use Rattle.dap_listing.specs.Gives.{TakesAnInput, TakesWithinLimit};
+ghost use Rattle.linewise.specs.Gives.{TakesAnInput, TakesWithinLimit};
 ghost use Rattle.dap_listing.specs.Inner.Adding.{AddsCapture};
 ghost use Rattle.dap_text.specs.Adding.{AddsSome};
-ghost use Rattle.dap_listing.specs.Inner.Cutting.{FaultsGoOn, HasNoEnd, IsEnd, IsFirstFault, ListingGoesOn};
+ghost use Rattle.linewise.specs.Cuts.{HasNoEnd, IsEnd};
+ghost use Rattle.dap_listing.specs.Inner.Cutting.{FaultsGoOn, IsFirstFault, ListingGoesOn};
 ghost use Rattle.dap_listing.specs.Captured.{Spell, bytes_of};
 ghost use Rattle.dap_listing.specs.Inner.Progress.{IsInputFault, IsWhole, TextGives};
-ghost use Rattle.dap_listing.specs.declared.fault.CaptureFault.TheVariants.{NoMemory, TooLarge, WriteFailed};
+ghost use Rattle.linewise.specs.declared.fault.CaptureFault.TheVariants.{NoMemory, TooLarge, WriteFailed};
 ghost use Rattle.dap_text.specs.Words.{is_hex_text as is_spelled};
 ghost use Rattle.dap_listing.specs.Lines.{digits_line, line_of};
 ghost use Rattle.dap_listing.specs.Listing.{IsCapturedText, limit_of};
 ghost use Rattle.dap_listing.specs.Inner.Lines.{fault_of_line};
 
-use crate::CaptureFault;
 use crate::captures::{PACKET_LIMIT, push_heading};
-use crate::input::{CHUNK, read_some, skip_unread};
-use crate::lines::{Direction, Head, cut_line, parse_head};
+use crate::lines::{Direction, Head, parse_head};
 use crate::message::push_messages;
 use crate::packet::push_packet;
-use dap_text::{find_byte, is_hex_text, push_number, push_str};
+use dap_msg::GREATEST_MESSAGE;
+use dap_text::{is_hex_text, push_number, push_str};
+use linewise::{CHUNK, CaptureFault, cut_line, find_byte, read_some, skip_unread};
 use std::alloc::{AllocError, Global};
 use std::io::Read;
 
@@ -39,7 +40,7 @@ impl Listed {
     {
         match self {
             Listed::Packets => PACKET_LIMIT,
-            Listed::Messages => 65_535,
+            Listed::Messages => GREATEST_MESSAGE as usize,
         }
     }
 }

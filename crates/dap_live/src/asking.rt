@@ -181,18 +181,11 @@ fn go_on_behind(asking: &mut Asking, front: Front, text: &mut Vec<u8>) -> Result
     Ok(Came::Told(push_done(text, asking, &packets, gone)?))
 }
 
-/// Whether an unexpected answer failed the end.
-fn has_failed(end: &AskingEnd) -> bool
-    ensures { result ≡ end.now.present.failed }
-{
-    matches!(end.check(&Request::Hello), Err(AskFault::Failed))
-}
-
 /// Whether the end would do something by going on.
 fn goes_on(end: &AskingEnd) -> bool
     ensures { result ≡ goes_on_by end.now }
 {
-    !has_failed(end) && (has_message(end.link()) || is_left(end.link(), end.waiting(), false))
+    !end.has_failed() && (has_message(end.link()) || is_left(end.link(), end.waiting(), false))
 }
 
 /// Goes on after segments that are sent again, and says what comes of it after their lines.

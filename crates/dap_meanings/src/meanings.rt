@@ -15,16 +15,14 @@ use crate::tables;
 use crate::words::{Word, add_words, rights_word};
 use dap_msg::codes::{ACCESS_REFUSED, RECORD_REFUSED};
 use dap_msg::{
-    AccessFields, Attributes, Bytes, ControlFields, Item, MessageValue, StatusFields, number_of,
+    AccessFields, Attributes, Bytes, ControlFields, Item, MessageValue, StatusCode, StatusFields,
+    number_of,
 };
 use nsp_seg::SegFault;
 use std::alloc::AllocError;
 
 /// The most bytes of a number's image.
 const NUMBER: usize = 8;
-
-/// MACCODE is above so many bits of STSCODE.
-const MICCODES: u16 = 4096;
 
 /// What the number of a record says.
 fn record_word(image: &[u8]) -> Word<'static>
@@ -113,7 +111,7 @@ fn status_word(code: u16, stv: &[u8]) -> Word<'static>
 {
     let whole = tables::status_code(code);
     let refusal = refusal_word(code, stv);
-    let kind = tables::status_kind(code / MICCODES);
+    let kind = tables::status_kind(u16::from(StatusCode(code).major()));
     first_of(whole, first_of(refusal, kind))
 }
 

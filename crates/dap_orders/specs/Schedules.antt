@@ -4,8 +4,8 @@ use Rattle.std.specs.List.{filter_map, enumerate_from, cons_option}
 use Rattle.std.specs.Str.Lines.{lines}
 use Rattle.linewise.specs.Talks.{is_skipped}
 use Rattle.dap_orders.specs.Orders.{event_of, setup_of}
-use Rattle.dap_listing.specs.declared.fault.CaptureFault.{CaptureFault}
-use Rattle.dap_listing.specs.declared.fault.CaptureFault.TheVariants.{BadLine}
+use Rattle.linewise.specs.declared.fault.CaptureFault.{CaptureFault}
+use Rattle.linewise.specs.declared.fault.CaptureFault.TheVariants.{BadLine}
 
 -- a line and its number
 abbrev pub Numbered : Type 0

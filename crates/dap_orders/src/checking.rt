@@ -2,12 +2,12 @@
 
 ghost use Rattle.std.specs.Prelude.{◌≤◌, IfErr, length};
 ghost use Rattle.std.specs.List.{filter_map};
-ghost use Rattle.dap_listing.specs.Firsts.{IsOfLine};
+ghost use Rattle.linewise.specs.Firsts.{IsOfLine};
 ghost use Rattle.dap_orders.specs.Schedules.{TellsFirst, event_fault, said, schedule_faults};
 
 use crate::meaningful::MeaningfulLines;
 use crate::orders::{read_order, read_setup};
-use dap_listing::{CaptureFault, INPUT_LIMIT};
+use linewise::{CaptureFault, INPUT_LIMIT};
 
 /// Whether the lines are events, or else the first line that is none (`BadLine`).
 pub fn check_orders<'a>(mut lines: MeaningfulLines<'a>) -> Result<(), CaptureFault>

@@ -3,8 +3,7 @@
 ghost use Rattle.std.specs.Prelude.{◌≡◌, ◌≤◌, ◌+◌, ◌∷◌, [], length, IfSome, MatchOption};
 ghost use Rattle.dap_orders.specs.Schedules.{said_from};
 
-use dap_listing::{INPUT_LIMIT, next_line};
-use linewise::is_skipped;
+use linewise::{INPUT_LIMIT, is_skipped, next_line};
 use std::marker::Model;
 
 /// The first line that isn't skipped, after its number, and the bytes after it. The first of all

@@ -63,7 +63,7 @@ pub fn read_file_line(line: &[u8]) -> Option<FileLine<'_>>
     let name = words.text()?;
     let org = read_org(words.next()?)?;
     let rfm = read_rfm(words.next()?)?;
-    let mrs = words.number(65535)? as u16;
+    let mrs = words.short()?;
     let mrn = words.number(u32::MAX)?;
     words.end()?;
     Some(FileLine {

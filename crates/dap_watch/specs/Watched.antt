@@ -4,8 +4,8 @@ use Rattle.std.specs.List.{AllZip, concat, enumerate_from, filter, flat_map, zip
 use Rattle.std.specs.Io.KnownBytes.{Appends}
 use Rattle.linewise.specs.Output.{WritesFront}
 use Rattle.linewise.specs.Talks.{longest}
-use Rattle.linewise.specs.declared.talking.TalkFault.{TalkFault}
-use Rattle.linewise.specs.declared.talking.TalkFault.TheVariants.{WriteFailed}
+use Rattle.linewise.specs.declared.fault.CaptureFault.{CaptureFault}
+use Rattle.linewise.specs.declared.fault.CaptureFault.TheVariants.{BadLine, TooLarge, WriteFailed}
 use Rattle.dap_listing.specs.Lines.{Capture, line_of}
 use Rattle.std.specs.Str.Lines.{lines}
 use Rattle.dap_listing.specs.Listing.{captures, frames_after, packet_limit}
@@ -63,9 +63,12 @@ WatchGives in_words input held holds =
     (written rest : List ℕ) × IsWatched in_words (captures packet_limit input) (heard_frames input) written rest × Appends held holds (written ++ rest)
 
 -- What the writer holds where that failed: the lines of the packets so far, or a prefix of them where it is the writer that failed.
-abbrev pub WatchFails : (in_words : Bool) → (input : List ℕ) → (held holds : Option (List ℕ)) → TalkFault → Type 0
+-- A line at fault doesn't end the listing.
+abbrev pub WatchFails : (in_words : Bool) → (input : List ℕ) → (held holds : Option (List ℕ)) → CaptureFault → Type 0
 WatchFails in_words input held holds WriteFailed =
     (left : List Capture) × (written rest : List ℕ) × IsWatchedTo in_words input left written rest
     × (WritesFront held holds written ⊎ ((left ≡ []) × WritesFront held holds (written ++ rest)))
+WatchFails in_words input held holds (BadLine number) = ⊥
+WatchFails in_words input held holds TooLarge = ⊥
 WatchFails in_words input held holds _ =
     (left : List Capture) × (written rest : List ℕ) × IsWatchedTo in_words input left written rest × Appends held holds written

@@ -6,15 +6,16 @@ ghost use Rattle.dap_listing.specs.Captured.{Spell};
 ghost use Rattle.dap_watch.specs.Inner.Kept.{AbsorbsAfter, AbsorbsBefore, Ascends, Finds, IsAbsorbed, IsNear, IsSegment, Joins, Lists, Puts, digits_of, do_join, is_taken as takes};
 
 use dap_listing::CapturedSegment;
-use nsp_seg::Seq12;
+use nsp_link::GREATEST_AGE;
+use nsp_seg::{MODULUS, Seq12};
 use std::alloc::{AllocError, Global};
 use std::marker::Model;
 
-/// So many numbers of segments there are (NSP 4.0.0, segment numbers).
-const ROUND: u64 = 4096;
+/// So many numbers of segments there are.
+const ROUND: u64 = MODULUS as u64;
 
-/// How far below the highest place before it a segment may lie.
-const BELOW: u64 = 2047;
+/// How far below the highest place before it a segment may lie: as far as its number identifies it.
+const BELOW: u64 = GREATEST_AGE;
 
 /// The hex digits of a payload, two for each byte.
 #[derive(Drop)]

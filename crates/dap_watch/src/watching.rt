@@ -23,11 +23,11 @@ use crate::rest::push_all;
 use crate::streams::Streams;
 use dap_follow::{push_length, push_packet_line, push_range};
 use dap_listing::{
-    CapturedPacket, CapturedSegment, Direction, line_packet, push_messages, read_packet, write_text,
+    CapturedPacket, CapturedSegment, Direction, line_packet, push_messages, read_packet,
 };
 use dap_meanings::frame_text;
 use dap_text::push_str;
-use linewise::{Answer, Answers, Became, TalkFault, talk};
+use linewise::{Answer, Answers, Became, CaptureFault, talk, write_text};
 use std::alloc::{AllocError, Global};
 use std::io::{BufRead, Write};
 
@@ -209,23 +209,24 @@ impl Answers for Watching {
 }
 
 /// Writes what is left of each stream.
-fn write_rest<W: Write>(alloc: Global, streams: &Streams, writer: &mut W) -> Result<(), TalkFault>
+fn write_rest<W: Write>(
+    alloc: Global,
+    streams: &Streams,
+    writer: &mut W,
+) -> Result<(), CaptureFault>
     ensures whole { OnOk result (Appends (W.contents writer.old) (W.contents writer.new)
         (all_kept_rest streams.now.names.keys streams.now.places.items)) }
     ensures fault { IfErr result (λ fault.
-        ((fault ≡ TalkFault.NoMemory) × Keeps (W.contents writer.old) (W.contents writer.new))
-        ⊎ ((fault ≡ TalkFault.WriteFailed)
+        ((fault ≡ CaptureFault.NoMemory) × Keeps (W.contents writer.old) (W.contents writer.new))
+        ⊎ ((fault ≡ CaptureFault.WriteFailed)
         × WritesFront (W.contents writer.old) (W.contents writer.new)
         (all_kept_rest streams.now.names.keys streams.now.places.items))) }
 {
     let mut text = Vec::new(alloc);
     if push_all(alloc, &mut text, streams).is_err() {
-        return Err(TalkFault::NoMemory);
+        return Err(CaptureFault::NoMemory);
     }
-    match write_text(&text, writer) {
-        Ok(()) => Ok(()),
-        Err(_) => Err(TalkFault::WriteFailed),
-    }
+    write_text(&text, writer)
 }
 
 /// Lists the lines of a capture, and what is left at their end.
@@ -235,7 +236,7 @@ fn watch_all<R: BufRead, W: Write, F: Write>(
     reader: &mut R,
     writer: &mut W,
     error_writer: &mut F,
-) -> Result<bool, TalkFault>
+) -> Result<bool, CaptureFault>
     requires { Starts watching.old }
     ensures watched { OnOk result (IfSome (R.remaining reader.old) (λ input.
         WatchGives watching.old.in_words input (W.contents writer.old) (W.contents writer.new))) }
@@ -271,7 +272,7 @@ pub fn watch<R: BufRead, W: Write, F: Write>(
     writer: &mut W,
     error_writer: &mut F,
     in_words: bool,
-) -> Result<bool, TalkFault>
+) -> Result<bool, CaptureFault>
     ensures watched { OnOk result (IfSome (R.remaining reader.old) (λ input.
         WatchGives in_words input (W.contents writer.old) (W.contents writer.new))) }
     ensures told { IfOk result (λ bad. IfSome (R.remaining reader.old) (λ input.

@@ -1,13 +1,11 @@
 //! What an event is to the end that it is at: one call of it.
 
 ghost use Rattle.std.specs.Prelude.{◌≡◌, ◌<◌, ◌≤◌, ◌+◌, ◌++◌, ◌∷◌, [], length, IfOk, IfErr, Some, OnOk, OnErr, vec_len, vec_capacity, false, IsTrue};
-ghost use Rattle.dap_msg.specs.BothEnds.{four_bytes};
 ghost use Rattle.dap_msg.specs.Blocked.{bodies};
 ghost use Rattle.nsp_link.specs.Limits.{most_segments};
 ghost use Rattle.nsp_link.specs.Link.{may_send};
 ghost use Rattle.nsp_link.specs.Sending.{may_queue};
 ghost use Rattle.dap_accessing.specs.Calls.{IsAdmittedBy};
-ghost use Rattle.dap_accessing.specs.Outgoing.{number_carried};
 ghost use Rattle.dap_accessing.specs.Prepared.{IsPrepared};
 ghost use Rattle.dap_end.specs.Moved.{with_link};
 ghost use Rattle.dap_end.specs.Moved.{sent_more};
@@ -159,8 +157,7 @@ fn copy_and_ask(
     ensures err { IfErr result (λ f. (end.new ≡ end.old)
         × (requests.new.items ≡ requests.old.items) × AskFaultOf request.now end.old.present f) }
 {
-    let number = request.number();
-    let prepared = prepare(end, request, &number)?;
+    let prepared = prepare(end, request)?;
     let copy = request.copy(alloc)?;
     requests.reserve(1)?;
     let step = ask_prepared(end, request, prepared)?;
@@ -179,36 +176,30 @@ fn ask_next(
     ensures err { IfErr result (λ f. (end.new ≡ end.old)
         × (requests.new.items ≡ requests.old.items) × AskFaultOf request end.old.present f) }
 {
-    let number = request.number();
-    let prepared = prepare(end, &request, &number)?;
+    let prepared = prepare(end, &request)?;
     requests.reserve(1)?;
     let step = ask_prepared(end, &request, prepared)?;
     requests.push_reserved(request);
     Ok(step)
 }
 
-/// The messages of a request that A may ask.
-fn prepare<'a>(
-    end: &AskingEnd,
-    request: &'a Request,
-    number: &'a [u8],
-) -> Result<Prepared<'a>, WorldFault>
-    requires { number.now ≡ four_bytes (number_carried request.now) }
+/// What is needed of a request that A may ask.
+fn prepare(end: &AskingEnd, request: &Request) -> Result<Prepared, WorldFault>
     ensures ok { IfOk result (IsPrepared end.now.present request.now) }
     ensures admissible { OnOk result (IsAdmittedBy end.now.present request.now) }
     ensures err { IfErr result (AskFaultOf request.now end.now.present) }
 {
-    match end.prepare(request, number) {
+    match end.prepare(request) {
         Ok(prepared) => Ok(prepared),
         Err(fault) => Err(WorldFault::Ask(fault)),
     }
 }
 
-/// Asks a request by its messages, and fails only if memory is refused.
+/// Asks a request that was looked at, and fails only if memory is refused.
 fn ask_prepared(
     end: &mut AskingEnd,
     request: &Request,
-    prepared: Prepared<'_>,
+    prepared: Prepared,
 ) -> Result<Step, WorldFault>
     requires { IsPrepared end.old.present request.now prepared }
     ensures ok { IfOk result (λ answer. AskedSo request.now end.old end.new answer) }

@@ -19,7 +19,7 @@ use Rattle.dap_text.specs.Text.{line_feed}
 use Rattle.dap_text.specs.Words.{is_hex_text}
 use Rattle.dap_listing.specs.Lines.{Capture, line_of}
 use Rattle.dap_listing.specs.Listing.{arrow_text, captures, faults_from, packet_limit}
-use Rattle.dap_listing.specs.declared.fault.CaptureFault.{CaptureFault}
+use Rattle.linewise.specs.declared.fault.CaptureFault.{CaptureFault}
 use Rattle.dap_listing.specs.declared.lines.Direction.{Direction}
 use Rattle.dap_listing.specs.declared.lines.Direction.TheVariants.{Right, Left}
 use Rattle.capture_file.specs.Files.{clamped}

@@ -2,7 +2,7 @@
 
 use crate::growing::Trouble;
 use crate::listings::{End, Row, run};
-use dap_listing::CaptureFault;
+use linewise::CaptureFault;
 use std::alloc::Global;
 use std::io;
 use std::io::{ErrorKind, Read, Write};

@@ -7,8 +7,8 @@ use Rattle.std.specs.Io.BufRead.{first_line, drop_through}
 use Rattle.std.proofs.KnownBytes.{Appends-nil, Appends-trans, Appends-kept, Keeps-refl}
 use Rattle.linewise.specs.declared.talking.Became.{Became}
 use Rattle.linewise.specs.declared.talking.Became.TheVariants.{NoMemory}
-use Rattle.linewise.specs.declared.talking.TalkFault.{TalkFault}
-use Rattle.linewise.specs.declared.talking.TalkFault.TheVariants.{ReadFailed, WriteFailed, NoMemory as OutOfMemory}
+use Rattle.linewise.specs.declared.fault.CaptureFault.{CaptureFault}
+use Rattle.linewise.specs.declared.fault.CaptureFault.TheVariants.{BadLine, TooLarge, ReadFailed, WriteFailed, NoMemory as OutOfMemory}
 use Rattle.linewise.specs.declared.talking.Next.TheVariants.{Over, Line}
 use Rattle.linewise.specs.Talks.{Answering, Fails, IsUnbroken, Talked, is_bad}
 use Rattle.linewise.specs.Inner.Steps.{HasTalked, Breaks, Goes, Ends}
@@ -68,7 +68,7 @@ module _ {E : Type 0} (answered : Answering E) (waiting : E → Option ℕ) wher
     before.7,
   )
 
-  pub fails : (old now next : E) (unread written left holds last : Option (List ℕ)) (bad : Bool) (f : TalkFault)
+  pub fails : (old now next : E) (unread written left holds last : Option (List ℕ)) (bad : Bool) (f : CaptureFault)
       → HasTalked answered waiting old unread written now left holds bad
       → Ends answered waiting now next left holds last f
       → IfSome unread (λ input. Fails answered waiting old input next written last f)
@@ -77,6 +77,8 @@ module _ {E : Type 0} (answered : Answering E) (waiting : E → Option ℕ) wher
       let broke : Breaks answered waiting now (first_line before.0) next holds last = rw before.3 at end in
       (now, holds, before.0, before.1, broke.1, before.2, broke.0, before.5, before.4, broke.2, broke.3, before.7)
   fails old now next (Some input) written left holds last bad OutOfMemory before end = absurd end
+  fails old now next (Some input) written left holds last bad TooLarge before end = absurd end
+  fails old now next (Some input) written left holds last bad (BadLine number) before end = absurd end
   fails old now next (Some input) written left holds last bad ReadFailed before end = (
     before.0,
     before.1,

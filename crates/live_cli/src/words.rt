@@ -21,7 +21,7 @@ use clap::parser::ValueSource;
 use clap::{Arg, ArgAction, ArgMatches, Command, Error, value_parser};
 use dap_live::read_address;
 use dap_msg::{GREATEST_MESSAGE, LEAST_BUFFER};
-use dap_text::{is, read_number};
+use dap_text::{is, read_number, read_short};
 use decnet_frames::{Ends, read_node};
 use nsp_link::{LARGEST_SEGMENT, LARGEST_WINDOW};
 use std::alloc::Global;
@@ -574,7 +574,7 @@ fn number_in<'a>(matches: &ArgMatches<'a>, name: &'static str) -> Result<u16, Mi
     ensures misspelt { IfErr result (IsMisspelt (rows_of (found_of matches.now))) }
 {
     let value = text_in(matches, name).unwrap_or("");
-    match read_short(value) {
+    match read_short(value.as_bytes()) {
         Some(number) => Ok(number),
         None => {
             Err(Misspelt {
@@ -584,14 +584,6 @@ fn number_in<'a>(matches: &ArgMatches<'a>, name: &'static str) -> Result<u16, Mi
             })
         }
     }
-}
-
-/// A number of 16 bits.
-fn read_short(text: &str) -> Option<u16>
-    ensures { result ≡ short text.now }
-{
-    let number = read_number(text.as_bytes(), 65535)?;
-    Some(number as u16)
 }
 
 /// A code of a Configuration.

@@ -124,7 +124,7 @@ impl Call {
 
     /// A number of two bytes.
     pub fn short(&mut self) -> u16 {
-        self.number(65_535) as u16
+        self.number(u32::from(u16::MAX)) as u16
     }
 
     /// A number of four bytes.

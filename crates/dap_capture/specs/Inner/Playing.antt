@@ -8,8 +8,8 @@ use Rattle.dap_events.specs.declared.event.Step.{Step}
 use Rattle.dap_events.specs.declared.event.WorldFault.{WorldFault}
 use Rattle.dap_world.specs.Machine.{State, Sending, Steps, Refuses, end_of}
 use Rattle.dap_world.specs.Wires.{IsOnWire}
-use Rattle.dap_listing.specs.declared.fault.Outcome.{Outcome}
-use Rattle.dap_listing.specs.declared.fault.Outcome.TheVariants.{Good, Stopped}
+use Rattle.linewise.specs.declared.fault.Outcome.{Outcome}
+use Rattle.linewise.specs.declared.fault.Outcome.TheVariants.{Good, Stopped}
 use Rattle.dap_text.specs.Adding.{Adds}
 use Rattle.dap_orders.specs.Orders.{event_of}
 use Rattle.dap_orders.specs.Schedules.{Numbered}

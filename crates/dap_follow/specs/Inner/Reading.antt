@@ -2,11 +2,11 @@
 use Rattle.std.specs.Prelude.{◌≡◌, ◌+◌, ◌<◌, ◌^◌, ◌⊎◌, ℕ, Bool, List, [], ◌∷◌, ◌++◌, length, map}
 use Rattle.std.specs.List.{AllZip}
 use Rattle.dap_listing.specs.Captured.{bytes_of}
-use Rattle.dap_listing.specs.Firsts.{IsFirst}
+use Rattle.linewise.specs.Firsts.{IsFirst}
 use Rattle.dap_listing.specs.Listing.{captures, frames, packet_limit, faults_from}
 use Rattle.dap_listing.specs.Packets.{IsSeen, Seen}
-use Rattle.dap_listing.specs.declared.fault.CaptureFault.{CaptureFault}
-use Rattle.dap_listing.specs.declared.fault.CaptureFault.TheVariants.{NoMemory}
+use Rattle.linewise.specs.declared.fault.CaptureFault.{CaptureFault}
+use Rattle.linewise.specs.declared.fault.CaptureFault.TheVariants.{NoMemory}
 use Rattle.dap_listing.specs.declared.lines.Direction.{Direction}
 use Rattle.dap_follow.specs.Streams.{Captured}
 use Rattle.dap_meanings.specs.Frames.{frame_words}

@@ -2,10 +2,10 @@
 use Rattle.std.specs.Prelude.{◌≡◌, ◌<◌, ◌+◌, ◌++◌, ◌⊎◌, ⊤, ℕ, false, List, length, Option, Some, None, Result, Ok, Err}
 use Rattle.std.specs.Global.{Vec}
 use Rattle.linewise.specs.Talks.{longest}
-use Rattle.dap_listing.specs.Gives.{HasLineFault, IsTextOf}
+use Rattle.linewise.specs.Gives.{HasLineFault, IsTextOf}
 use Rattle.dap_listing.specs.Listing.{CaptureLines, captures, limit_of, faults_from}
-use Rattle.dap_listing.specs.declared.fault.CaptureFault.{CaptureFault}
-use Rattle.dap_listing.specs.declared.fault.CaptureFault.TheVariants.{BadLine, TooLarge, ReadFailed, WriteFailed, NoMemory}
+use Rattle.linewise.specs.declared.fault.CaptureFault.{CaptureFault}
+use Rattle.linewise.specs.declared.fault.CaptureFault.TheVariants.{BadLine, TooLarge, ReadFailed, WriteFailed, NoMemory}
 use Rattle.dap_listing.specs.declared.listing.Progress.{Progress}
 use Rattle.dap_listing.specs.declared.listing.Listed.{Listed}
 

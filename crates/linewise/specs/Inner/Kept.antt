@@ -4,9 +4,9 @@ use Rattle.std.specs.Io.{StopsAt, IsEmptyOrEndsWith}
 use Rattle.std.specs.Io.KnownBytes.{Consumes, IsAtEnd}
 use Rattle.std.specs.Io.BufRead.{take_through, ends_with_byte, strip_last, DropsThrough}
 use Rattle.linewise.specs.Talks.{longest}
-use Rattle.linewise.specs.declared.input.Kept.{Kept}
-use Rattle.linewise.specs.declared.input.Kept.TheVariants.{All as whole, TooLong, NoMemory}
-use Rattle.linewise.specs.declared.input.Line.{Line}
+use Rattle.linewise.specs.declared.reading.Kept.{Kept}
+use Rattle.linewise.specs.declared.reading.Kept.TheVariants.{All as whole, TooLong, NoMemory}
+use Rattle.linewise.specs.declared.reading.Line.{Line}
 
 -- these bytes were read of it
 abbrev pub HoldsAs : Kept → List ℕ → List ℕ → Type 0

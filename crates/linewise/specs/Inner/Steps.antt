@@ -10,8 +10,8 @@ use Rattle.linewise.specs.declared.talking.Answer.{Answer}
 use Rattle.linewise.specs.declared.talking.Answer.TheVariants.{Whole, Begun}
 use Rattle.linewise.specs.declared.talking.Next.{Next}
 use Rattle.linewise.specs.declared.talking.Next.TheVariants.{Over, Line}
-use Rattle.linewise.specs.declared.talking.TalkFault.{TalkFault}
-use Rattle.linewise.specs.declared.talking.TalkFault.TheVariants.{ReadFailed, WriteFailed, NoMemory as OutOfMemory}
+use Rattle.linewise.specs.declared.fault.CaptureFault.{CaptureFault}
+use Rattle.linewise.specs.declared.fault.CaptureFault.TheVariants.{ReadFailed, WriteFailed}
 
 -- what comes of a line, or how its answer begins
 abbrev pub BeginsLine : {E P : Type 0} → Answering E → (E → Option ℕ) → (E → P → List (List ℕ)) → E → List ℕ → E → List ℕ → Option (Answer P) → Type 0
@@ -48,11 +48,11 @@ Goes answered waiting old new unread left written holds (Line became) =
     × Says answered waiting old (first_line rest) new written holds became)
 
 -- and where it fails
-abbrev pub Ends : {E : Type 0} → Answering E → (E → Option ℕ) → E → E → (unread written holds : Option (List ℕ)) → TalkFault → Type 0
+abbrev pub Ends : {E : Type 0} → Answering E → (E → Option ℕ) → E → E → (unread written holds : Option (List ℕ)) → CaptureFault → Type 0
 Ends answered waiting old new unread written holds ReadFailed = (new ≡ old) × Keeps written holds
-Ends answered waiting old new unread written holds OutOfMemory = ⊥
 Ends answered waiting old new unread written holds WriteFailed =
     IfSome unread (λ rest. Breaks answered waiting old (first_line rest) new written holds)
+Ends answered waiting old new unread written holds _ = ⊥
 
 -- the lines up to what is left are answered, and the writer holds the answers
 abbrev pub HasTalked : {E : Type 0} → Answering E → (E → Option ℕ) → E → (unread written : Option (List ℕ)) → E → (left holds : Option (List ℕ)) → Bool → Type 0

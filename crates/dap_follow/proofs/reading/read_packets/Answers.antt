@@ -6,7 +6,7 @@ use Rattle.dap_listing.specs.Listing.{captures, frames, packet_limit}
 use Rattle.dap_meanings.specs.Frames.{frame_words}
 use Rattle.dap_listing.specs.Lines.{Capture}
 use Rattle.dap_listing.proofs.ForCallers.{decoded}
-use Rattle.dap_listing.specs.declared.fault.CaptureFault.{CaptureFault}
+use Rattle.linewise.specs.declared.fault.CaptureFault.{CaptureFault}
 use Rattle.dap_follow.proofs.ReadingLemmas.{frame_here, seen_more, is_first, if_err_and}
 use Rattle.dap_follow.proofs.reading.read_packets.Goals as goal
 

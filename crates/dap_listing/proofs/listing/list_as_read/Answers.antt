@@ -1,7 +1,7 @@
 use Rattle.std.proofs.Common.{rules, ap, ◌∙◌, arith, true, ◌≡◌, ◌==◌, ◌+◌, ◌-◌, ◌++◌, drop, length, length-append, length-take-le, take}
 use Rattle.dap_listing.specs.Listing.{limit_of}
 use Rattle.dap_listing.proofs.ProgressLemmas.{at_end, first_fault, length_end, line_unwritten, none_left, stands_read, stands_taken, stands_whole}
-use Rattle.dap_listing.proofs.InputLemmas.{ok_apart, taken_behind, taken_more, taken_none, up_behind}
+use Rattle.linewise.proofs.ForCallers.{ok_apart, taken_behind, taken_more, taken_none, up_behind}
 use Rattle.dap_listing.proofs.listing.list_as_read.Goals as goal
 
 pub returns-in-Err-take_lines-clause-fault : goal.returns-in-Err-take_lines-clause-fault

@@ -1,7 +1,7 @@
 use Rattle.std.proofs.Common.{◌≡◌, ◌≤◌, ◌+◌, ◌-◌, length, vec_len, false}
 use Rattle.dap_listing.specs.Inner.Progress.{StandsAt}
 use Rattle.dap_listing.specs.Listing.{limit_of}
-use Rattle.dap_listing.proofs.InputLemmas.{HasTaken}
+use Rattle.linewise.proofs.ForCallers.{HasTaken}
 use Rattle.dap_listing.proofs.listing.list_as_read.Given as goal
 
 abbrev pub invariant-chunks : goal.invariant-chunks

@@ -6,7 +6,7 @@ use Rattle.dap_listing.specs.Inner.Lines.{fault_of_line}
 use Rattle.dap_listing.specs.Captured.{bytes_of}
 use Rattle.dap_listing.proofs.HexTextLemmas.{spells}
 use Rattle.dap_listing.proofs.DigitLemmas.{decoded}
-use Rattle.dap_listing.proofs.LineLemmas.{end_of_end}
+use Rattle.linewise.proofs.ForCallers.{end_of_end}
 use Rattle.dap_listing.proofs.ListingLemmas.{captured_more, faults_after, skipped_more}
 use Rattle.dap_listing.proofs.listing.list_cut.Goals as goal
 use Rattle.dap_listing.proofs.listing.list_cut.Goals.{in-None, in-Some-2+in_ok-push_capture-in-Some-2}

@@ -1,7 +1,7 @@
 use Rattle.std.proofs.Common.{◌≡◌, ◌≤◌, ◌+◌, length}
 use Rattle.dap_listing.specs.Listing.{limit_of}
 use Rattle.dap_listing.specs.Inner.Cutting.{FaultsGoOn, ListingGoesOn}
-use Rattle.dap_listing.specs.Inner.Cutting.{IsEnd}
+use Rattle.linewise.specs.Cuts.{IsEnd}
 use Rattle.dap_listing.proofs.listing.list_cut.Given as goal
 
 abbrev pub invariant-loop-line : goal.invariant-loop-line

@@ -1,7 +1,7 @@
 -- The line that was read is the first one.
 use Rattle.std.proofs.Common.{refl}
 use Rattle.std.proofs.KnownBytes.{Keeps-refl}
-use Rattle.linewise.proofs.InputLemmas.{over, of_first}
+use Rattle.linewise.proofs.ReadingLemmas.{over, of_first}
 use Rattle.linewise.specs.Inner.Steps.{Says}
 use Rattle.linewise.proofs.talking.answer_next.Goals as goal
 
