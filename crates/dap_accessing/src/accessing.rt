@@ -8,11 +8,11 @@ ghost use Rattle.dap_msg.specs.declared.message.Message.TheVariants.{Config};
 ghost use Rattle.dap_msg.specs.declared.items.Item.{Item as TheItem};
 ghost use Rattle.dap_msg.specs.declared.items.Item.TheVariants.{Whole};
 ghost use Rattle.dap_msg.specs.Blocked.{bodies};
-ghost use Rattle.dap_accessing.specs.Inner.Hears.{HasNoPlace, HasPlace, HasShortNumbers, Takes};
+ghost use Rattle.dap_accessing.specs.Inner.Hears.{HasNoPlace, HasPlace, HasShortNumbers, HearsNext};
 ghost use Rattle.dap_accessing.specs.declared.pending.Pending.{Pending as ThePending};
 ghost use Rattle.dap_msg.specs.declared.message.Message.{Message as TheMessage};
 ghost use Rattle.dap_msg.specs.Decoding.{IsSpelled};
-ghost use Rattle.dap_accessing.specs.Present.{Present, StandsAfter};
+ghost use Rattle.dap_accessing.specs.Present.{ClientState, ClientAfter};
 ghost use Rattle.dap_msg.specs.Items.{IsPlace};
 ghost use Rattle.dap_accessing.specs.Calls.{Asks, AskRefused, IsAdmittedBy, Reads, ReadRefused};
 ghost use Rattle.dap_accessing.specs.Each.{ReadsOn, none_kept, put_back, records_kept};
@@ -50,9 +50,9 @@ pub struct Accessing {
 }
 
 impl Model for Accessing {
-    ghost use Rattle.dap_accessing.specs.Present.{Present};
+    ghost use Rattle.dap_accessing.specs.Present.{ClientState};
 
-    ghost Value = { Present };
+    ghost Value = { ClientState };
 
     ghost view = { λ a. record {
       own = a.identity.bufsiz;
@@ -71,7 +71,7 @@ impl Accessing {
         requires high { bufsiz ≤ greatest_message }
         ensures own { result.own ≡ bufsiz }
         ensures identity { result.identity ≡ plain_identity bufsiz }
-        ensures stands { StandsAfter [] [] result }
+        ensures stands { ClientAfter [] [] result }
     {
         Accessing::with_identity(alloc, Configuration::plain(bufsiz))
     }
@@ -82,7 +82,7 @@ impl Accessing {
         requires fits { FieldsFit (Config identity) }
         ensures identity { result.identity ≡ identity }
         ensures own { result.own ≡ identity.bufsiz }
-        ensures stands { StandsAfter [] [] result }
+        ensures stands { ClientAfter [] [] result }
     {
         Accessing {
             alloc,
@@ -98,7 +98,7 @@ impl Accessing {
     pub fn renew(&mut self)
         ensures own { self.new.own ≡ self.old.own }
         ensures identity { self.new.identity ≡ self.old.identity }
-        ensures stands { StandsAfter [] [] self.new }
+        ensures stands { ClientAfter [] [] self.new }
     {
         self.failed = false;
         self.phase = Phase::Fresh;
@@ -185,7 +185,7 @@ impl Accessing {
     /// Takes the message as the next answer.
     fn take(&mut self, message: &MessageValue<'_>) -> Result<Option<Report>, ReadFault>
         requires short { HasShortNumbers message.now }
-        ensures takes { Takes (Whole message.now) self.old self.new result }
+        ensures takes { HearsNext (Whole message.now) self.old self.new result }
         ensures own { self.new.own ≡ self.old.own }
         ensures identity { self.new.identity ≡ self.old.identity }
     {
@@ -334,9 +334,9 @@ pub fn identity_is_told_by_hello()
 
 /// What an end keeps follows from the requests and answers that it is after, and from its own Configuration; and it works.
 pub fn standing_is_one()
-    ensures one { (requests : List TheRequest) (answers : List TheItem) (one two : Present)
-        → StandsAfter requests answers one → StandsAfter requests answers two
+    ensures one { (requests : List TheRequest) (answers : List TheItem) (one two : ClientState)
+        → ClientAfter requests answers one → ClientAfter requests answers two
         → one.identity ≡ two.identity → one ≡ two }
-    ensures works { (requests : List TheRequest) (answers : List TheItem) (end : Present)
-        → StandsAfter requests answers end → end.failed ≡ false }
+    ensures works { (requests : List TheRequest) (answers : List TheItem) (end : ClientState)
+        → ClientAfter requests answers end → end.failed ≡ false }
 {}

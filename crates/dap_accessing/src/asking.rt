@@ -7,7 +7,7 @@ ghost use Rattle.dap_msg.specs.Blocked.{AddsOne};
 ghost use Rattle.dap_msg.specs.Canon.{canon, Fits};
 ghost use Rattle.dap_msg.specs.Sizes.{file_data_size};
 ghost use Rattle.dap_accessing.specs.Asked as asked;
-ghost use Rattle.dap_accessing.specs.Outgoing.{AreCounted, IsBlocked, number_carried, first_of, bodies_of, last_of, outgoing_messages};
+ghost use Rattle.dap_accessing.specs.Outgoing.{AreCounted, IsBlocked, number_carried, first_of, record_bodies, last_of, outgoing_messages};
 ghost use Rattle.dap_msg.specs.Sendable.{IsSendable, AreSendable};
 
 use crate::bytes::Octets;
@@ -153,7 +153,7 @@ fn last_message(request: &Request) -> Option<MessageValue<'_>>
 
 /// The records of a Store.
 fn records(request: &Request) -> &[Octets]
-    ensures { result.now ≡ bodies_of request.now }
+    ensures { result.now ≡ record_bodies request.now }
 {
     match request {
         Request::Store(list) => list.0.as_slice(),

@@ -4,7 +4,7 @@ ghost use Rattle.std.specs.Prelude.{◌≡◌, ◌≤◌, ◌+◌, IfErr, IfOk, 
 ghost use Rattle.std.specs.List.{filter_map};
 ghost use Rattle.dap_world.specs.Runs.{Went};
 ghost use Rattle.dap_orders.specs.Orders.{event_of_order};
-ghost use Rattle.dap_orders.specs.Schedules.{event_fault, said, schedule_faults};
+ghost use Rattle.dap_orders.specs.Schedules.{event_fault, numbered_lines, schedule_faults};
 ghost use Rattle.dap_capture.specs.Inner.Checking.{TellsFirstOrWants, TellsFirstThenWants};
 ghost use Rattle.dap_capture.specs.Inner.Playing.{PlaysOne};
 ghost use Rattle.dap_capture.specs.Played.{Played, Plays};
@@ -90,8 +90,8 @@ fn play_events<'a>(
 fn play_lines(alloc: Global, input: &[u8]) -> Result<(Outcome, Vec<u8>), CaptureFault>
     requires small { length input.now ≤ INPUT_LIMIT }
     ensures played { IfOk result
-        (λ played. Played (said input.now) played.0 played.1.items) }
-    ensures faults { TellsFirstOrWants result (schedule_faults (said input.now)) }
+        (λ played. Played (numbered_lines input.now) played.0 played.1.items) }
+    ensures faults { TellsFirstOrWants result (schedule_faults (numbered_lines input.now)) }
 {
     let mut lines = MeaningfulLines::of(input);
     let Some((at, first)) = lines.next() else {
@@ -116,8 +116,8 @@ fn play_lines(alloc: Global, input: &[u8]) -> Result<(Outcome, Vec<u8>), Capture
 pub(crate) fn play(alloc: Global, input: &[u8]) -> Result<(Outcome, Vec<u8>), CaptureFault>
     requires small { length input.now ≤ INPUT_LIMIT }
     ensures played { IfOk result
-        (λ played. Played (said input.now) played.0 played.1.items) }
-    ensures faults { TellsFirstThenWants result (schedule_faults (said input.now)) }
+        (λ played. Played (numbered_lines input.now) played.0 played.1.items) }
+    ensures faults { TellsFirstThenWants result (schedule_faults (numbered_lines input.now)) }
 {
     match play_lines(alloc, input) {
         Err(CaptureFault::NoMemory) => {

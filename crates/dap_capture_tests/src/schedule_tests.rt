@@ -206,7 +206,7 @@ fn plays_schedules(rt: HostRuntime) -> Result<(), Fail> {
     Ok(())
 }
 
-/// Bytes, and others behind them.
+/// Bytes, and others after them.
 fn joined(alloc: Global, front: &[u8], back: &[u8]) -> Result<Vec<u8>, AllocError> {
     let mut all = Vec::from_slice(alloc, front)?;
     all.extend_from_slice(back)?;

@@ -87,7 +87,7 @@ new_joined s t c o port asking wrote requests reports =
 
 -- ---- The client is called.
 
--- the front of what it did before a segment is written: it read, and handed over
+-- the front of what it did before a segment is written: it read, and passed on
 record Hands (past : AskingPast) (old heard handed : AskingValue) : Type 0 where
   now : AskingPast
   is : HasAsked now handed

@@ -1,4 +1,4 @@
--- What a call answers and leaves follows from what the end did and what came, want of memory aside.
+-- What a call answers and leaves follows from what the end did and what came, out of memory aside.
 use Rattle.std.proofs.Common.{◌≡◌, ◌≢◌, ℕ, arith, refl, sym, ◌∙◌, subst, ap, false, true≢false, List, [], ◌∷◌, ◌++◌, length, inl, inr}
 use Rattle.std.specs.Prelude.{Bool, IsTrue, Result, Ok, Err}
 use Rattle.dap_accessed.specs.declared.setup.ServerSetup.{ServerSetup}
@@ -19,13 +19,13 @@ use Rattle.dap_end.specs.declared.fault.EndFault.{EndFault}
 use Rattle.dap_end.specs.declared.fault.EndFault.TheVariants as end_fault
 use Rattle.dap_end.specs.declared.fault.TakeFault.{TakeFault}
 use Rattle.dap_end.specs.Ports.{HandsOver, gone_on}
-use Rattle.dap_end.specs.Moved.{posted}
+use Rattle.dap_end.specs.Moved.{with_outbox_sent}
 use Rattle.dap_end.specs.Going.{StandFrom}
 use Rattle.dap_end.specs.Serving.{IsAfter, ServedOne}
 use Rattle.dap_end.specs.Taking.{ServedInTurn, begins, goes}
 use Rattle.dap_end.specs.Done.{ServingValue, Past, answers_to}
 use Rattle.dap_end.specs.Taking.{HasRoom, RestsAt, serves}
-use Rattle.dap_end.specs.Turns.{DidAll, WentOn, Takes}
+use Rattle.dap_end.specs.Turns.{DidAll, WentOn, TakesPacket}
 use Rattle.dap_end.specs.Inner.Wanting.{went_wanting, took_wanting}
 use Rattle.dap_msg.proofs.ForCallers.{one_item}
 use Rattle.nsp_link.proofs.ForCallers.{may_queue_parts}
@@ -109,7 +109,7 @@ stops_resting most v (inr full) = λ posted mid k n x room y. omega (arith, full
 pub running : (b : Bool) → IsTrue b → b ≡ false → ⊥
 running b t e = true≢false (sym t ∙ e)
 
--- what may be handed over isn't refused
+-- what may be passed on isn't refused
 pub may_or_not : (v : LinkValue) (messages : List (List ℕ)) (f : LinkFault) → f ≢ fault.NoMemory → IsTrue (may_queue v messages) → SendAllFault v messages f → ⊥
 may_or_not v messages fault.Failed want may h = running v.failed h (may_queue_parts v messages may).0
 may_or_not v messages fault.MessageTooLong want may h = omega (arith, (may_queue_parts v messages may).1 h.1.0 [] h.1.1, h.1.2)
@@ -139,14 +139,14 @@ refused_one v messages f g nf ng a b = absurd a
 stops_refused : (most : ℕ) (v : ServingValue) (f : LinkFault) → f ≢ fault.NoMemory → SendAllFault v.port.link v.port.outbox f → Stops most v
 stops_refused most v f want h = λ posted mid k n x room y. may_or_not v.port.link v.port.outbox f want x.0 h
 
--- nothing was left to serve, and then what waits was handed over
+-- nothing was left to serve, and then what waits was passed on
 abbrev Up : (most : ℕ) → ServingValue → ServingValue → Type 0
 Up most old new = (last : ServingValue) × (n : ℕ) × ServedInTurn most old last × RestsAt most last × HandsOver last new n
 
 up_one : (most : ℕ) (past : Past) (old one two : ServingValue) → IsAfter past old → Up most old one → Up most old two → one ≡ two
 up_one most past old one two h a b =
     let last = serves_once most past old a.0 b.0 h a.2 b.2 (stops_resting most a.0 a.3) (stops_resting most b.0 b.3) in
-    posted_is a.0 one a.1 a.4 ∙ ap (λ (v : ServingValue). record v { port = posted v.port }) last ∙ sym (posted_is b.0 two b.1 b.4)
+    posted_is a.0 one a.1 a.4 ∙ ap (λ (v : ServingValue). record v { port = with_outbox_sent v.port }) last ∙ sym (posted_is b.0 two b.1 b.4)
 
 -- what waits is refused
 abbrev Stopped : (most : ℕ) → ServingValue → ServingValue → LinkFault → Type 0
@@ -212,6 +212,6 @@ going_one most past old one two out xs ys r s h nr ns a b =
     let t = went_same _ _ _ _ _ (serves_alike most) old old one two out xs ys r s (past, h) refl nr ns a b in (t.0, t.1, t.2)
 
 pub taking_one : (most : ℕ) (past : Past) (old one two : ServingValue) (bytes : List ℕ) (r s : Result Got TakeFault) (out xs ys : List (List ℕ)) → AreBytes bytes → IsAfter past old → took_wanting r ≡ false → took_wanting s ≡ false
-    → Takes (serves most) old one bytes out xs r → Takes (serves most) old two bytes out ys s → (one ≡ two) × (r ≡ s) × (xs ≡ ys)
+    → TakesPacket (serves most) old one bytes out xs r → TakesPacket (serves most) old two bytes out ys s → (one ≡ two) × (r ≡ s) × (xs ≡ ys)
 taking_one most past old one two bytes r s out xs ys fits h nr ns a b =
     let t = took_same _ _ _ _ _ (serves_alike most) old old one two bytes out xs ys r s fits (past, h) refl nr ns a b in (t.0, t.1, t.2)

@@ -14,7 +14,7 @@ use Rattle.dap_end.specs.Asking.{HasAsked, AskedOne}
 use Rattle.dap_end.specs.Done.{AskingValue, AskingPast, nothing_asked}
 use Rattle.dap_end.specs.Runs.{RunsBy}
 use Rattle.dap_end.specs.Headline.{Written, AreWrittenOf, IsFromPeer}
-use Rattle.dap_end.specs.Calls.{numbered, WroteOne, EndEvent, Came, GoesOn, Repeats}
+use Rattle.dap_end.specs.Calls.{numbered_packets, WroteOne, EndEvent, Came, GoesOn, Repeats}
 use Rattle.dap_end.specs.Calls.{AskingEvent, Asks, By, HeardMore, AskingStepped, AskingEventRuns, requests_in}
 use Rattle.dap_end.specs.Pasts.{asked_one}
 use Rattle.dap_end.proofs.Taking.{grown}
@@ -66,7 +66,7 @@ heard_so requests reports more wrote old new m t =
       packets = subst (λ (l : LinkValue). AreWrittenOf l g.0.handed wrote) (sym m.link) (subst (λ (h : List (List ℕ)). AreWrittenOf old.port.link h wrote) (sym g.1.handed) t.packets);
     }
 
--- all that waited was handed over, or none
+-- all that waited was passed on, or none
 abbrev pub HandedOver : AskingValue → AskingValue → Type 0
 HandedOver old new = (new ≡ old) ⊎ ((n : ℕ) × HandsOver old new n)
 
@@ -84,7 +84,7 @@ handed_so requests reports wrote old new (inr h) t =
     }
 
 sent_so : (requests : List Request) (reports : List Report) (wrote ws : List Written) (old new : AskingValue) (packets : List (List ℕ)) → WroteMore old.port new.port packets → new ≡ record old { port = new.port }
-    → ws ≡ numbered (old.port.link.sent + 1) old.port.link.coming.received packets → Asked_So requests reports wrote old → Asked_So requests reports (wrote ++ ws) new
+    → ws ≡ numbered_packets (old.port.link.sent + 1) old.port.link.coming.received packets → Asked_So requests reports wrote old → Asked_So requests reports (wrote ++ ws) new
 sent_so requests reports wrote ws old new packets w e is t =
     let after : AreWrittenOf old.port.link t.past.handed ws =
     subst (AreWrittenOf old.port.link t.past.handed) (sym is) (numbered_written old.port.link t.past.handed (old.port.link.sent + 1) packets t.is.sends w.writes) in

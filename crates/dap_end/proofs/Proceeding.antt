@@ -15,7 +15,7 @@ use Rattle.dap_end.specs.Pasts.{served}
 use Rattle.dap_end.specs.declared.fault.EndFault.{EndFault}
 use Rattle.dap_end.specs.declared.fault.EndFault.TheVariants as end_fault
 use Rattle.dap_end.specs.Ports.{HandsOver, PortValue, bytes_waiting}
-use Rattle.dap_end.specs.Moved.{posted}
+use Rattle.dap_end.specs.Moved.{with_outbox_sent}
 use Rattle.dap_end.specs.Serving.{IsAfter, ServedOne, MayServe}
 use Rattle.dap_end.specs.Taking.{ServedInTurn, begins, goes}
 use Rattle.dap_end.specs.Done.{ServingValue, Past}
@@ -81,8 +81,8 @@ more_trans a b c ab bc =
       past = λ past h. (let one = ab.past past h in let two = bc.past one.0 one.1.is in (two.0, grew_trans past one.0 two.0 a b c ab.link one.1 two.1));
     }
 
-posted_grew : (past : Past) (v : ServingValue) → AreShort v.port.link v.port.outbox → IsAfter (record past { handed = past.handed ++ v.port.outbox }) (record v { port = posted v.port })
-    → Grew past (record past { handed = past.handed ++ v.port.outbox }) v (record v { port = posted v.port })
+posted_grew : (past : Past) (v : ServingValue) → AreShort v.port.link v.port.outbox → IsAfter (record past { handed = past.handed ++ v.port.outbox }) (record v { port = with_outbox_sent v.port })
+    → Grew past (record past { handed = past.handed ++ v.port.outbox }) v (record v { port = with_outbox_sent v.port })
 posted_grew past v short h =
     record { is = h; first = refl; items = ([], sym (append-nil past.items)); handed = (v.port.outbox, refl, short); given = refl; stands = λ size messages s. record { taken = s.taken; held = s.held } }
 
@@ -143,7 +143,7 @@ all_grew most a b (Err (end_fault.Link f)) (mid, on, inl (is, h)) = subst (Serve
 all_grew most a b (Err (end_fault.Link f)) (mid, on, inr (want, room, p, may)) = more_trans a mid b (turn_grew most a mid on) (more_posted mid b p.0 p.1)
 all_grew most a b (Err (end_fault.Read f)) d = absurd d.2
 
--- ---- Served and handed over, in any order.
+-- ---- Served and passed on, in any order.
 
 pub worked_grew : (a b : ServingValue) → WorkedOn a b → ServedMore a b
 worked_grew a b rests = more_none a
@@ -166,7 +166,7 @@ all_worked most a b (Err (end_fault.Link f)) (mid, on, inl (is, h)) = subst (Wor
 all_worked most a b (Err (end_fault.Link f)) (mid, on, inr (want, room, p, may)) = turn_worked most a mid b on (one_posted mid b p.0 p.1)
 all_worked most a b (Err (end_fault.Read f)) d = absurd d.2
 
--- what was served on counts behind what the end did
+-- what was served on counts after what the end did
 pub counted : (past : Past) (old new : ServingValue) → IsAfter past old → ServedMore old new → (given handed : List (List ℕ)) × (items : List Item)
     × IsAfter (record past { given = given; items = past.items ++ items; handed = past.handed ++ handed }) new × (given ++ new.port.link.coming.inbox ≡ past.given ++ old.port.link.coming.inbox)
 counted past old new h m =
@@ -245,7 +245,7 @@ gone_by most old served port out all (Err f) d w full why = went_by (serves most
 
 -- ---- How much waits.
 
--- what is handed over waits still
+-- what is passed on waits still
 pub bytes_posted : (old new : ServingValue) (n : ℕ) → HandsOver old new n → 0 < old.port.link.setup.seg_size → bytes_waiting new.port ≡ bytes_waiting old.port
 bytes_posted old new n p pos =
     let same = ap (λ (v : ServingValue). bytes_waiting v.port) (posted_is old new n p) in

@@ -26,12 +26,12 @@ use Rattle.dap_end.specs.Writing.{WroteMore}
 use Rattle.dap_end.specs.Moved.{sent_more}
 use Rattle.dap_end.specs.Serving.{IsAfter, ServedOne}
 use Rattle.dap_end.specs.Done.{ServingValue, Past, answers_to, nothing_yet}
-use Rattle.dap_end.specs.Turns.{DidAll, WentOn, TookIn, Takes}
+use Rattle.dap_end.specs.Turns.{DidAll, WentOn, TookIn, TakesPacket}
 use Rattle.dap_end.specs.Taking.{serves}
 use Rattle.dap_end.specs.Calls.{WorkedOn, rests}
 use Rattle.dap_end.specs.Runs.{RunsBy}
-use Rattle.dap_end.specs.Headline.{Written, bytes_of, AreWrittenOf, IsFromPeer}
-use Rattle.dap_end.specs.Calls.{numbered, WroteOne, EndEvent, Came, GoesOn, Repeats, EndStepped, Stepped, EventRuns, RunsAs}
+use Rattle.dap_end.specs.Headline.{Written, written_bytes, AreWrittenOf, IsFromPeer}
+use Rattle.dap_end.specs.Calls.{numbered_packets, WroteOne, EndEvent, Came, GoesOn, Repeats, EndStepped, Stepped, EventRuns, RunsAs}
 use Rattle.dap_end.proofs.Taking.{grown}
 use Rattle.dap_end.proofs.Afterwards.{after_received}
 use Rattle.dap_end.proofs.Fronts.{served_front}
@@ -92,7 +92,7 @@ pub sent_link : (p new : PortValue) (n : ℕ) → new ≡ sent_more p n → new.
 sent_link p new n e = subst (λ (q : PortValue). q.link ≡ record p.link { sent = q.link.sent }) (sym e) refl
 
 went : (old served new : ServingValue) (packets : List (List ℕ)) (first : Files) (wrote ws : List Written) → WorkedOn old served → WroteMore served.port new.port packets → new ≡ with_port served new.port
-    → ws ≡ numbered (served.port.link.sent + 1) served.port.link.coming.received packets → Did first old wrote → Did first new (wrote ++ ws)
+    → ws ≡ numbered_packets (served.port.link.sent + 1) served.port.link.coming.received packets → Did first old wrote → Did first new (wrote ++ ws)
 went old served new packets first wrote ws on w e is d =
     let m = worked_grew old served on in
     let more = m.past d.past d.is in
@@ -268,12 +268,12 @@ module _ (comes : LinkValue → List ℕ → Type 0) where
   pub receiving_is : (old new : ServingValue) (bytes : List ℕ) (r : Result Got LinkFault) → comes old.port.link bytes → TookIn old new bytes r → RunsAs comes old new []
   receiving_is old new bytes r h t = stepping.receiving_is WorkedOn none comes old new bytes r h t
 
-  -- a run whose packets stand behind those that were there
+  -- a run whose packets stand after those that were there
   abbrev pub AreCalls : ServingValue → ServingValue → (out all : List (List ℕ)) → Type 0
-  AreCalls old new out all = (wrote : List Written) × RunsAs comes old new wrote × (all ≡ out ++ bytes_of wrote)
+  AreCalls old new out all = (wrote : List Written) × RunsAs comes old new wrote × (all ≡ out ++ written_bytes wrote)
 
   pub going_on_is : (most : ℕ) (old new : ServingValue) (out all : List (List ℕ)) (r : Result (Unit {0}) EndFault) → WentOn (serves most) old new out all r → AreCalls old new out all
   going_on_is most old new out all r w = stepping.going_on_is WorkedOn none comes (serves most) (all_worked most) old new out all r w
 
-  pub taken_is : (most : ℕ) (old new : ServingValue) (bytes : List ℕ) (out all : List (List ℕ)) (r : Result Got TakeFault) → comes old.port.link bytes → Takes (serves most) old new bytes out all r → AreCalls old new out all
+  pub taken_is : (most : ℕ) (old new : ServingValue) (bytes : List ℕ) (out all : List (List ℕ)) (r : Result Got TakeFault) → comes old.port.link bytes → TakesPacket (serves most) old new bytes out all r → AreCalls old new out all
   taken_is most old new bytes out all r h t = stepping.taken_is WorkedOn none comes (serves most) (all_worked most) old new bytes out all r h t

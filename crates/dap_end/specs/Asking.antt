@@ -3,7 +3,7 @@ use Rattle.std.specs.Prelude.{◌≡◌, ◌≢◌, ◌⊎◌, ℕ, List, [], �
 use Rattle.std.specs.List.{AllByRecursion}
 use Rattle.dap_msg.specs.Blocked.{AllFit, all_joined, messages_in}
 use Rattle.nsp_link.specs.Link.{Sends}
-use Rattle.dap_accessing.specs.Present.{StandsAfter}
+use Rattle.dap_accessing.specs.Present.{ClientAfter}
 use Rattle.dap_accessing.specs.Asked.{Asked}
 use Rattle.dap_accessing.specs.Request.{Request}
 use Rattle.dap_accessing.specs.declared.report.Report.{Report}
@@ -20,7 +20,7 @@ use Rattle.dap_end.specs.Each.{with_told}
 -- those of the NSP messages that it read, and of a prefix of the next one. What it passed to its link, and what
 -- waits, are the messages of the requests. The law `asking_ends_stand` says what follows.
 pub record HasAsked (past : AskingPast) (v : AskingValue) : Type 0 where
-  pub asking : StandsAfter past.requests past.answers v.present
+  pub asking : ClientAfter past.requests past.answers v.present
   pub gone : GoneThrough past.given v.port.link.coming.inbox v.port.place past.answers
   pub sends : Sends v.port.link past.handed
   pub messages : messages_in past.asked ≡ Asked v.present.identity past.requests

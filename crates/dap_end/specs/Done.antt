@@ -37,7 +37,7 @@ answers_to own first before (item ∷ items) =
 
 -- a client with its link
 abbrev pub AskingValue : Type 0
-AskingValue = EndValue accessing.Present
+AskingValue = EndValue accessing.ClientState
 
 -- the history of a client
 pub record AskingPast : Type 0 where

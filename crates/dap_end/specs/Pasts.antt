@@ -21,8 +21,8 @@ abbrev pub served : Past → (bytes : List ℕ) → Item → (next : ℕ) → Pa
 served past bytes item next = record past { given = given_then past.given bytes next; items = past.items ++ item ∷ [] }
 
 -- a client's, with one answer more
-abbrev pub read_one : AskingPast → (bytes : List ℕ) → Item → (next : ℕ) → AskingPast
-read_one past bytes item next = record past { given = given_then past.given bytes next; answers = past.answers ++ item ∷ [] }
+abbrev pub with_answer_read : AskingPast → (bytes : List ℕ) → Item → (next : ℕ) → AskingPast
+with_answer_read past bytes item next = record past { given = given_then past.given bytes next; answers = past.answers ++ item ∷ [] }
 
 -- a client's, with one request more
 abbrev pub asked_one : AskingPast → (own : Configuration) → Request → AskingPast

@@ -20,16 +20,16 @@ ghost use Rattle.dap_accessing.specs.declared.fault.ReadFault.TheVariants as rea
 ghost use Rattle.dap_end.specs.declared.fault.EndFault.TheVariants as end_fault;
 ghost use Rattle.dap_fields.specs.Spelling.{AreBytes};
 ghost use Rattle.dap_end.specs.Ports.{HandsOver, new_port};
-ghost use Rattle.dap_end.specs.Going.{oldest};
+ghost use Rattle.dap_end.specs.Going.{oldest_message};
 ghost use Rattle.nsp_link.specs.Receiving.{Receives};
 ghost use Rattle.dap_end.specs.Writing.{Behind, WroteMore};
 ghost use Rattle.dap_end.specs.Asking.{HasAsked, AskedOne, ReadOne, ReadNone};
 ghost use Rattle.dap_end.specs.Each.{with_told};
-ghost use Rattle.dap_end.specs.Hearing.{ReadOn, ReadsAll, asks};
+ghost use Rattle.dap_end.specs.Hearing.{ReadOn, ReadsAll, hears};
 ghost use Rattle.dap_end.specs.declared.asking.Heard.TheVariants.{Nothing, Part, Report as Completed};
 ghost use Rattle.dap_accessing.specs.declared.report.Report.{Report as TheReport};
 ghost use Rattle.dap_end.specs.Done.{AskingPast, nothing_asked};
-ghost use Rattle.dap_end.specs.Turns.{Answered, DidAll, WentOn, Takes};
+ghost use Rattle.dap_end.specs.Turns.{WritesReplies, DidAll, WentOn, TakesPacket};
 ghost use Rattle.dap_end.specs.Inner.Answered.{ended_by};
 ghost use Rattle.dap_end.specs.Inner.Kept.{IsPort};
 ghost use Rattle.dap_end.specs.Inner.AskingView.{asking_of};
@@ -65,11 +65,11 @@ impl Model for AskingEnd {
 
     ghost Value = { AskingValue };
 
-    ghost use Rattle.dap_end.specs.Inner.AskingInside.{asking_view, IsSound};
+    ghost use Rattle.dap_end.specs.Inner.AskingInside.{asking_view, IsSoundAsking};
 
     ghost view = { asking_view };
 
-    ghost invariant = { IsSound };
+    ghost invariant = { IsSoundAsking };
 }
 
 impl AskingEnd {
@@ -193,7 +193,7 @@ impl AskingEnd {
     pub fn may_read(&self) -> bool
         ensures yes { result ≡ true → 0 < length self.now.port.link.coming.inbox }
         ensures no { result ≡ false → self.now.port.link.coming.inbox ≡ [] }
-        ensures bytes { AreBytes (oldest self.now.port.link.coming.inbox) }
+        ensures bytes { AreBytes (oldest_message self.now.port.link.coming.inbox) }
     {
         match self.port.link.peek_message() {
             Some(message) => is_left(message),
@@ -280,9 +280,9 @@ impl AskingEnd {
         }
     }
 
-    /// Reads all that came, and hands over what waits.
+    /// Reads all that came, and passes on what waits.
     fn hear_all(&mut self, reports: &mut Vec<Report>) -> Result<(), EndFault>
-        ensures all { DidAll (asks reports.old.items reports.new.items) self.old self.new result }
+        ensures all { DidAll (hears reports.old.items reports.new.items) self.old self.new result }
         ensures works { OnOk result (self.new.port.link.failed ≡ false) }
         ensures failed { IsTrue self.old.present.failed → (self.new ≡ self.old)
             × (reports.new.items ≡ reports.old.items)
@@ -297,7 +297,7 @@ impl AskingEnd {
         }
     }
 
-    /// Reads all that came, hands over what waits, and writes all segments that were never sent, as far as the
+    /// Reads all that came, passes on what waits, and writes all segments that were never sent, as far as the
     /// window allows. The packets follow those in `out`, the reports those in `reports`. Refused as `read` and
     /// `post` are, or if memory is refused. What was done before that stays done, and the same call goes on.
     pub fn go_on(
@@ -305,7 +305,7 @@ impl AskingEnd {
         out: &mut Vec<Vec<u8>>,
         reports: &mut Vec<Report>,
     ) -> Result<(), EndFault>
-        ensures went { WentOn (asks reports.old.items reports.new.items) self.old self.new
+        ensures went { WentOn (hears reports.old.items reports.new.items) self.old self.new
             (bodies out.old.items) (bodies out.new.items) result }
         ensures failed { IsTrue self.old.present.failed → (self.new ≡ self.old)
             × (reports.new.items ≡ reports.old.items)
@@ -316,7 +316,7 @@ impl AskingEnd {
         ended(self.port.emit_all(out))
     }
 
-    /// Takes a packet in, and returns what became of it; reads all that came, hands over what waits, and writes all
+    /// Takes a packet in, and returns what became of it; reads all that came, passes on what waits, and writes all
     /// segments that were never sent, as far as the window allows; or where a segment came and none is written, one
     /// acknowledgement. The packets follow those in `out`, the reports those in `reports`.
     ///
@@ -328,7 +328,7 @@ impl AskingEnd {
         out: &mut Vec<Vec<u8>>,
         reports: &mut Vec<Report>,
     ) -> Result<Got, TakeFault>
-        ensures { Takes (asks reports.old.items reports.new.items) self.old self.new packet.now
+        ensures { TakesPacket (hears reports.old.items reports.new.items) self.old self.new packet.now
             (bodies out.old.items) (bodies out.new.items) result }
     {
         match self.receive(packet) {
@@ -347,7 +347,7 @@ impl AskingEnd {
         out: &mut Vec<Vec<u8>>,
         reports: &mut Vec<Report>,
     ) -> Result<(), EndFault>
-        ensures { Answered (asks reports.old.items reports.new.items) self.old self.new got
+        ensures { WritesReplies (hears reports.old.items reports.new.items) self.old self.new got
             (bodies out.old.items) (bodies out.new.items) result }
     {
         self.hear_all(reports)?;

@@ -18,7 +18,7 @@ ghost use Rattle.dap_accessed.specs.declared.setup.ServerSetup.{ServerSetup};
 ghost use Rattle.dap_accessed.specs.Standing.{Files};
 ghost use Rattle.dap_accessed.specs.Groups.{After, Answers};
 ghost use Rattle.dap_accessed.specs.Present.{StandsAfter};
-ghost use Rattle.dap_accessing.specs.Present.{StandsAfter as WaitsAfter};
+ghost use Rattle.dap_accessing.specs.Present.{ClientAfter as WaitsAfter};
 ghost use Rattle.dap_accessing.specs.Asked.{Asked, messages_of};
 ghost use Rattle.dap_accessing.specs.Each.{IsBatch, none_kept, records_kept, reported_behind};
 ghost use Rattle.dap_accessing.specs.Phase.{limit_after};
@@ -35,18 +35,18 @@ ghost use Rattle.dap_end.specs.Going.{AreFrontOf, AreItemsOf};
 ghost use Rattle.dap_end.specs.Serving.{IsAfter, ServedOne};
 ghost use Rattle.dap_end.specs.Done.{ServingValue, Past, answers_to, nothing_yet};
 ghost use Rattle.dap_end.specs.Writing.{WroteMore};
-ghost use Rattle.dap_end.specs.Turns.{DidAll, WentOn, TookIn, Takes};
+ghost use Rattle.dap_end.specs.Turns.{DidAll, WentOn, TookIn, TakesPacket};
 ghost use Rattle.dap_end.specs.Taking.{IsBounded, ServedInTurn, serves};
 ghost use Rattle.dap_end.specs.Wanting.{is_want, why};
-ghost use Rattle.dap_end.specs.Hearing.{ReadOn, ReadsAll, asks};
+ghost use Rattle.dap_end.specs.Hearing.{ReadOn, ReadsAll, hears};
 ghost use Rattle.dap_end.specs.Asking.{HasAsked, HasDone, AskedOne, ReadNone, ReadOne};
 ghost use Rattle.dap_end.specs.Each.{with_told};
 ghost use Rattle.dap_end.specs.Agreement.{IsBufsiz};
 ghost use Rattle.dap_accessed.specs.Sound.{AreFiles};
 ghost use Rattle.dap_end.specs.Done.{AskingValue, AskingPast, nothing_asked};
-ghost use Rattle.dap_end.specs.Headline.{AreWrittenOf, Arrival, IsFromPeer, Written, bytes_of};
+ghost use Rattle.dap_end.specs.Headline.{AreWrittenOf, Arrival, IsFromPeer, Written, written_bytes};
 ghost use Rattle.dap_end.specs.Joined.{IsBrought, Pair};
-ghost use Rattle.dap_end.specs.Calls.{AskingRuns, PairRuns, Runs};
+ghost use Rattle.dap_end.specs.Calls.{AskingRuns, PairRuns, ServerRuns};
 
 /// What follows for a server that is as after something: its files are those after the items that it served; these are a
 /// prefix of the items in the NSP messages that came, and the next one is at the port's place; what waited counts as handed
@@ -64,7 +64,7 @@ pub fn serving_ends_stand()
     ensures posted { (past : Past) (old new : ServingValue) (n : ℕ) → IsAfter past old
         → HandsOver old new n
         → IsAfter (record past { handed = past.handed ++ old.port.outbox }) new }
-    // What was served on counts behind that, and so does what was handed over. Of the link only what came and what is queued
+    // What was served on counts after that, and so does what was passed on. Of the link only what came and what is queued
     // moved.
     ensures served_on { (most : ℕ) (past : Past) (old new : ServingValue) → IsAfter past old
         → ServedInTurn most old new → (given handed : List (List ℕ)) × (items : List Item)
@@ -84,7 +84,7 @@ pub fn serving_ends_stand()
 {}
 
 /// What follows for a client that has asked something: what it read is a prefix of the items in the NSP messages that came,
-/// and the next one is at the port's place; one request more that was asked, and what waited once it was handed over, count
+/// and the next one is at the port's place; one request more that was asked, and what waited once it was passed on, count
 /// too; and what was read on comes after what was read before, with the reports that it adds.
 pub fn asking_ends_stand()
     ensures front { (past : AskingPast) (v : AskingValue) → HasAsked past v
@@ -103,7 +103,7 @@ pub fn asking_ends_stand()
     ensures posted { (past : AskingPast) (old new : AskingValue) (n : ℕ) → HasAsked past old
         → HandsOver old new n
         → HasAsked (record past { handed = past.handed ++ old.port.outbox }) new }
-    // What was read on counts behind that, and the reports are those that it adds. Of the link only what came moved.
+    // What was read on counts after that, and the reports are those that it adds. Of the link only what came moved.
     ensures read_on { (past : AskingPast) (old new : AskingValue) (reports : List TheReport)
         → HasAsked past old → ReadOn old new reports → (given : List (List ℕ))
         × (answers : List Item) × HasAsked (record past {
@@ -149,18 +149,18 @@ pub fn taken_records_count()
 /// Each call of a server, refused or not, is a run, with the packet that came in it. No call is one, and two are
 /// one where the second begins as the first ends.
 pub fn calls_are_runs()
-    ensures none { (v : ServingValue) → Runs [] v v [] }
+    ensures none { (v : ServingValue) → ServerRuns [] v v [] }
     ensures more { (came later : List Arrival) (old mid new : ServingValue)
-        (ws more : List Written) → Runs came old mid ws → Runs later mid new more
-        → Runs (came ++ later) old new (ws ++ more) }
+        (ws more : List Written) → ServerRuns came old mid ws → ServerRuns later mid new more
+        → ServerRuns (came ++ later) old new (ws ++ more) }
     ensures receive { (old new : ServingValue) (bytes : List ℕ) (r : Result TheGot TheFault)
-        → TookIn old new bytes r → Runs ((old.port.link, bytes) ∷ []) old new [] }
-    ensures serve { (old new : ServingValue) (n : ℕ) → ServedOne old new n → Runs [] old new [] }
+        → TookIn old new bytes r → ServerRuns ((old.port.link, bytes) ∷ []) old new [] }
+    ensures serve { (old new : ServingValue) (n : ℕ) → ServedOne old new n → ServerRuns [] old new [] }
     ensures serve_all { (most : ℕ) (old new : ServingValue) (r : Result (Unit {0}) TheEndFault)
-        → DidAll (serves most) old new r → Runs [] old new [] }
-    ensures post { (old new : ServingValue) (n : ℕ) → HandsOver old new n → Runs [] old new [] }
+        → DidAll (serves most) old new r → ServerRuns [] old new [] }
+    ensures post { (old new : ServingValue) (n : ℕ) → HandsOver old new n → ServerRuns [] old new [] }
     ensures emit { (old new : ServingValue) (bytes : List ℕ) → new ≡ record old { port = new.port }
-        → WroteMore old.port new.port (bytes ∷ []) → Runs [] old new (record {
+        → WroteMore old.port new.port (bytes ∷ []) → ServerRuns [] old new (record {
           bytes = bytes;
           segment = Some (old.port.link.sent + 1);
           acks = old.port.link.coming.received;
@@ -168,27 +168,27 @@ pub fn calls_are_runs()
     ensures resend { (v : ServingValue) (i : ℕ) (bytes : List ℕ)
         → i < v.port.link.sent - v.port.link.acked
         → WritesSent v.port.link (Some (v.port.link.acked + 1 + i)) bytes
-        → Runs [] v v (record {
+        → ServerRuns [] v v (record {
           bytes = bytes;
           segment = Some (v.port.link.acked + 1 + i);
           acks = v.port.link.coming.received;
         } ∷ []) }
     ensures ack { (v : ServingValue) (bytes : List ℕ)
-        → IsSpelling (ack_packet_of v.port.link) bytes → Runs [] v v (record {
+        → IsSpelling (ack_packet_of v.port.link) bytes → ServerRuns [] v v (record {
           bytes = bytes;
           segment = None;
           acks = v.port.link.coming.received;
         } ∷ []) }
     ensures go_on { (most : ℕ) (old new : ServingValue) (out all : List (List ℕ))
         (r : Result (Unit {0}) TheEndFault) → WentOn (serves most) old new out all r
-        → (wrote : List Written) × Runs [] old new wrote × (all ≡ out ++ bytes_of wrote) }
+        → (wrote : List Written) × ServerRuns [] old new wrote × (all ≡ out ++ written_bytes wrote) }
     ensures take { (most : ℕ) (old new : ServingValue) (bytes : List ℕ) (out all : List (List ℕ))
-        (r : Result TheGot TheTakeFault) → Takes (serves most) old new bytes out all r
-        → (wrote : List Written) × Runs ((old.port.link, bytes) ∷ []) old new wrote
-        × (all ≡ out ++ bytes_of wrote) }
+        (r : Result TheGot TheTakeFault) → TakesPacket (serves most) old new bytes out all r
+        → (wrote : List Written) × ServerRuns ((old.port.link, bytes) ∷ []) old new wrote
+        × (all ≡ out ++ written_bytes wrote) }
 {}
 
-/// Each call of a client is a run, refused or not, but one in which an answer has no place. No call is one, and two
+/// Each call of a client is a run, refused or not, but one in which an answer is out of sequence. No call is one, and two
 /// are one where the second begins as the first ends.
 pub fn asking_calls_are_runs()
     ensures none { (v : AskingValue) → AskingRuns [] [] v v [] [] }
@@ -230,17 +230,17 @@ pub fn asking_calls_are_runs()
     ensures go_on { (old new : AskingValue) (out all : List (List ℕ))
         (before after : List TheReport) (r : Result (Unit {0}) TheEndFault)
         → IfErr r (λ f. f ≢ end_fault.Read read_fault.Unexpected)
-        → WentOn (asks before after) old new out all r
+        → WentOn (hears before after) old new out all r
         → (reports : List TheReport) × (wrote : List Written)
         × AskingRuns [] [] old new reports wrote
-        × (all ≡ out ++ bytes_of wrote) × (after ≡ before ++ reports) }
+        × (all ≡ out ++ written_bytes wrote) × (after ≡ before ++ reports) }
     ensures take { (old new : AskingValue) (bytes : List ℕ) (out all : List (List ℕ))
         (before after : List TheReport) (r : Result TheGot TheTakeFault)
         → IfErr r (λ f. why f ≢ end_fault.Read read_fault.Unexpected)
-        → Takes (asks before after) old new bytes out all r
+        → TakesPacket (hears before after) old new bytes out all r
         → (reports : List TheReport) × (wrote : List Written)
         × AskingRuns ((old.port.link, bytes) ∷ []) [] old new reports wrote
-        × (all ≡ out ++ bytes_of wrote) × (after ≡ before ++ reports) }
+        × (all ≡ out ++ written_bytes wrote) × (after ≡ before ++ reports) }
 {}
 
 /// Whatever bytes come to an end that served nothing yet, and whatever it was called to do, there is a list of
@@ -248,7 +248,7 @@ pub fn asking_calls_are_runs()
 /// them, and each packet that it wrote carries its segment of that.
 pub fn every_run_is_served()
     ensures { (came : List Arrival) (first : Files) (old new : ServingValue)
-        (wrote : List Written) → IsAfter (nothing_yet first) old → Runs came old new wrote
+        (wrote : List Written) → IsAfter (nothing_yet first) old → ServerRuns came old new wrote
         → (past : Past) × IsAfter past new × (past.first ≡ first)
         × (new.present.files ≡ After new.present.setup past.first past.items)
         × AreWrittenOf new.port.link past.handed wrote }
@@ -260,7 +260,7 @@ pub fn a_peer_is_served_in_order()
     ensures { (setup : TheSetup) (first : Files) (size : ℕ) (messages : List (List ℕ))
         (came : List Arrival) (old new : ServingValue) (wrote : List Written)
         → AllByRecursion (λ c. IsFromPeer size messages c.0 c.1) came
-        → old.port ≡ new_port setup → IsAfter (nothing_yet first) old → Runs came old new wrote
+        → old.port ≡ new_port setup → IsAfter (nothing_yet first) old → ServerRuns came old new wrote
         → (past : Past) × IsAfter past new × (past.first ≡ first)
         × AreFrontOf messages past.items }
 {}
@@ -290,7 +290,7 @@ pub fn answers_are_bounded()
         → WentOn (serves most) old new out all r → IsBounded most old old new }
     ensures take { (most : ℕ) (old new : ServingValue) (bytes : List ℕ) (out all : List (List ℕ))
         (r : Result TheGot TheTakeFault) → 0 < old.port.link.setup.seg_size
-        → Takes (serves most) old new bytes out all r
+        → TakesPacket (serves most) old new bytes out all r
         → (first : ServingValue) × (q : Result TheGot TheFault) × TookIn old first bytes q
         × IsBounded most old first new }
     ensures nothing_left { (most : ℕ) (past : Past) (old new : ServingValue) (out all : List (List ℕ))
@@ -316,7 +316,7 @@ pub fn asking_is_determined()
     ensures go_on { (old one two : AskingValue) (out xs ys : List (List ℕ))
         (before rs ss : List TheReport) (r s : Result (Unit {0}) TheEndFault) → HasDone old
         → IfErr r (λ f. is_want f ≡ false) → IfErr s (λ f. is_want f ≡ false)
-        → WentOn (asks before rs) old one out xs r → WentOn (asks before ss) old two out ys s
+        → WentOn (hears before rs) old one out xs r → WentOn (hears before ss) old two out ys s
         → (one ≡ two) × (r ≡ s) × (xs ≡ ys) × (rs ≡ ss) × HasDone one }
 {}
 
@@ -327,18 +327,18 @@ pub fn taking_is_determined()
         (out xs ys : List (List ℕ)) (r s : Result TheGot TheTakeFault) → AreBytes bytes
         → IsAfter past old → IfErr r (λ f. is_want (why f) ≡ false)
         → IfErr s (λ f. is_want (why f) ≡ false)
-        → Takes (serves most) old one bytes out xs r → Takes (serves most) old two bytes out ys s
+        → TakesPacket (serves most) old one bytes out xs r → TakesPacket (serves most) old two bytes out ys s
         → (one ≡ two) × (r ≡ s) × (xs ≡ ys) }
     ensures asking { (old one two : AskingValue) (bytes : List ℕ)
         (out xs ys : List (List ℕ)) (before rs ss : List TheReport)
         (r s : Result TheGot TheTakeFault) → AreBytes bytes → HasDone old
         → IfErr r (λ f. is_want (why f) ≡ false) → IfErr s (λ f. is_want (why f) ≡ false)
-        → Takes (asks before rs) old one bytes out xs r
-        → Takes (asks before ss) old two bytes out ys s
+        → TakesPacket (hears before rs) old one bytes out xs r
+        → TakesPacket (hears before ss) old two bytes out ys s
         → (one ≡ two) × (r ≡ s) × (xs ≡ ys) × (rs ≡ ss) × HasDone one }
 {}
 
-/// What is handed over is handed over or refused by what waits, unless memory is refused.
+/// What is passed on is passed on or refused by what waits, unless memory is refused.
 pub fn posting_is_determined()
     ensures one { (old one two : ServingValue) (n m : ℕ) → HandsOver old one n → HandsOver old two m
         → (one ≡ two) × (n ≡ m) }
@@ -351,7 +351,7 @@ pub fn posting_is_determined()
 {}
 
 /// Whatever bytes come to an end of which nothing was asked, and whatever is asked of it, up to the first answer
-/// that has no place: its reports are those of the definition for the requests and of the answers that it
+/// that is out of sequence: its reports are those of the definition for the requests and of the answers that it
 /// read, what it handed to its link is a prefix of the requests' messages, and each packet that it wrote carries
 /// its segment of that.
 pub fn every_run_is_told()
@@ -408,7 +408,7 @@ pub fn peers_are_taken_in()
         (came : List Arrival) (old mid new : ServingValue) (wrote : List Written)
         (bytes : List ℕ) (f : TheFault)
         → AllByRecursion (λ c. IsFromPeer size messages c.0 c.1) came
-        → old.port ≡ new_port setup → IsAfter (nothing_yet first) old → Runs came old mid wrote
+        → old.port ≡ new_port setup → IsAfter (nothing_yet first) old → ServerRuns came old mid wrote
         → IsFromPeer size messages mid.port.link bytes → TookIn mid new bytes (Err f)
         → ((f ≡ fault.NoMemory) ⊎ (f ≡ fault.Exhausted)) × (new ≡ mid) }
     ensures asking { (setup : TheSetup) (size : ℕ) (messages : List (List ℕ))
@@ -436,7 +436,7 @@ pub fn runs_of_two_ends()
         }) }
     ensures serving { (old : Pair) (b : ServingValue) (came : List Arrival)
         (wrote : List Written) → AllByRecursion (λ c. IsBrought old.from_a c.0 c.1) came
-        → Runs came old.b b wrote
+        → ServerRuns came old.b b wrote
         → PairRuns old (record old { b = b; from_b = old.from_b ++ wrote }) }
     ensures more { (old mid new : Pair) → PairRuns old mid → PairRuns mid new → PairRuns old new }
 {}

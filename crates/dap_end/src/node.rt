@@ -12,12 +12,12 @@ ghost use Rattle.dap_accessed.specs.Adding.{MayStore, with_new_file};
 ghost use Rattle.dap_accessed.specs.Setup.{IsServerSetup, plain_setup};
 ghost use Rattle.dap_shared.specs.Nodes.{Event, Gives, GivesRecord, exchange_at, node_after, with_record_at};
 ghost use Rattle.dap_shared.specs.Shared.{AtFile, NotAdded, NotRemoved, RecordNotAdded, SharedAfter, SharedDrops, SharedGiven, rights_on};
-ghost use Rattle.dap_accessed.specs.Standing.{Files, file_at, place_by};
+ghost use Rattle.dap_accessed.specs.Standing.{Files, file_at, index_by};
 ghost use Rattle.dap_end.specs.Ports.{PortValue};
 ghost use Rattle.std.specs.List.{list_any, position};
 ghost use Rattle.dap_end.specs.Inner.Come.{come_on};
-ghost use Rattle.dap_end.specs.Node.{AtPort, BeganOn, EndedOn, HasPort, IsTaken, NodeNotGiven, NoneHasCome, NotBegun, OnLink, SomeHasCome, has_local, is_between, is_free, serves_on};
-ghost use Rattle.dap_end.specs.Turns.{Takes, WentOn};
+ghost use Rattle.dap_end.specs.Node.{AtPort, BeganOn, EndedOn, HasPort, IsTaken, NodeNotGiven, NoneHasCome, NotBegun, OnLink, SomeHasCome, has_local, is_between, is_free_link, serves_on};
+ghost use Rattle.dap_end.specs.Turns.{TakesPacket, WentOn};
 ghost use Rattle.dap_end.specs.declared.fault.EndFault.TheVariants as end_fault;
 ghost use Rattle.std.specs.Result.{result_map_both};
 
@@ -58,7 +58,7 @@ impl Model for ServingNode {
 /// The address of a link that isn't there.
 const NO_ADDRESS: u16 = 0;
 
-/// So many links that aren't there.
+/// This many links that aren't there.
 fn no_ports(alloc: Global, links: usize) -> Result<Vec<Option<Port>>, NoMemory>
     ensures { IfOk result (λ ports. ports.items ≡ replicate links None) }
 {
@@ -110,7 +110,7 @@ fn has_come(ports: &[Option<Port>]) -> bool
 }
 
 impl ServingNode {
-    /// A node with no files, with a buffer of this many bytes, at least 64, and room for so many links, of which none
+    /// A node with no files, with a buffer of this many bytes, at least 64, and room for this many links, of which none
     /// is there. However many it is, the table by which they are found has a place for each of the 65,536 addresses.
     pub fn new(alloc: Global, bufsiz: u16, links: usize) -> Result<ServingNode, NoMemory>
         requires { least_buffer ≤ bufsiz }
@@ -202,7 +202,7 @@ impl ServingNode {
 
     /// The first link that isn't there; none where all are.
     pub fn find_free(&self) -> Option<usize>
-        ensures { result ≡ position is_free self.now.ports }
+        ensures { result ≡ position is_free_link self.now.ports }
     {
         places::find_free(&self.ports)
     }
@@ -266,7 +266,7 @@ impl ServingNode {
         out: &mut Vec<Vec<u8>>,
     ) -> Result<Got, TakeFault>
         requires { (p : PortValue) × HasPort link self.old p }
-        ensures takes { OnLink link (λ before after. Takes (serves_on link most_waiting)
+        ensures takes { OnLink link (λ before after. TakesPacket (serves_on link most_waiting)
             before after packet.now (bodies out.old.items) (bodies out.new.items) result)
             self.old self.new }
         ensures addresses { self.new.noted.addresses ≡ self.old.noted.addresses }
@@ -347,7 +347,7 @@ impl ServingNode {
     pub fn add(&mut self, name: &[u8], shape: Shape) -> Result<(), AddFault>
         requires { IsTrue (is_shape shape) }
         ensures idle { OnOk result (NoneHasCome self.old.ports) }
-        ensures may { OnOk result (place_by self.old.noted.shared.setup.names name.now
+        ensures may { OnOk result (index_by self.old.noted.shared.setup.names name.now
             self.old.noted.shared.files ≡ None) }
         ensures given { OnOk result
             (SharedGiven (Gives name.now shape) self.old.noted.shared self.new.noted.shared) }

@@ -20,7 +20,7 @@ ghost use Rattle.dap_end.specs.Writing.{WroteMore};
 ghost use Rattle.dap_end.specs.Serving.{IsAfter, NotGiven, MayServe, ServedOne};
 ghost use Rattle.dap_end.specs.Done.{Past, nothing_yet};
 ghost use Rattle.dap_end.specs.Taking.{RestsAt, serves};
-ghost use Rattle.dap_end.specs.Turns.{Answered, DidAll, Takes, WentOn};
+ghost use Rattle.dap_end.specs.Turns.{WritesReplies, DidAll, TakesPacket, WentOn};
 ghost use Rattle.dap_end.specs.Inner.Answered.{ended_by};
 ghost use Rattle.dap_end.specs.declared.fault.EndFault.TheVariants as end_fault;
 ghost use Rattle.dap_end.specs.Inner.Kept.{IsPort};
@@ -51,11 +51,11 @@ impl Model for ServingEnd {
 
     ghost coded = { serving_code };
 
-    ghost use Rattle.dap_end.specs.Inner.ServingInside.{serving_view, IsSound};
+    ghost use Rattle.dap_end.specs.Inner.ServingInside.{serving_view, IsSoundServing};
 
     ghost view = { serving_view };
 
-    ghost invariant = { IsSound };
+    ghost invariant = { IsSoundServing };
 }
 
 /// The one link of an end.
@@ -270,9 +270,9 @@ impl ServingEnd {
     }
 
     /// Serves what came, message by message, while fewer than `most_waiting` bytes wait, and hands each group of
-    /// answers to the link. The bytes that wait are those of the NSP messages that were not handed over and of
+    /// answers to the link. The bytes that wait are those of the NSP messages that were not passed on and of
     /// those that the link has, the whole message until its last segment is acknowledged. Refused as `post` and
-    /// `serve` are. What was served and handed over before that stays so, and the same call goes on.
+    /// `serve` are. What was served and passed on before that stays so, and the same call goes on.
     pub fn serve_all(&mut self, most_waiting: u64) -> Result<(), LinkFault>
         ensures ok { OnOk result (DidAll (serves most_waiting) self.old self.new (Ok tt)) }
         // What follows from it, for callers.
@@ -311,7 +311,7 @@ impl ServingEnd {
         most_waiting: u64,
         out: &mut Vec<Vec<u8>>,
     ) -> Result<Got, TakeFault>
-        ensures { Takes (serves most_waiting) self.old self.new packet.now (bodies out.old.items)
+        ensures { TakesPacket (serves most_waiting) self.old self.new packet.now (bodies out.old.items)
             (bodies out.new.items) result }
     {
         turns::take(

@@ -7,7 +7,7 @@ ghost use Rattle.linewise.specs.Firsts.{IsFirst};
 ghost use Rattle.dap_listing.specs.Listing.{captures, frames, packet_limit, faults_from};
 ghost use Rattle.dap_follow.specs.Following.{FollowGives, IsFollowed};
 ghost use Rattle.dap_follow.specs.Inner.Reading.{FirstThenWants, WantsOrFirst};
-ghost use Rattle.dap_follow.specs.Inner.Whole.{KeepsFew, ListsAll, texts_of};
+ghost use Rattle.dap_follow.specs.Inner.Whole.{KeepsFew, ListsAll, joined_texts};
 
 use crate::joining::{Room, list_stream};
 use crate::reading::{Reading, read_packets};
@@ -49,7 +49,7 @@ fn list_streams(
 
 /// All lines, and the text after them.
 fn join(alloc: Global, lines: &[Vec<u8>], rest: &[u8]) -> Result<Vec<u8>, AllocError>
-    ensures { IfOk result (λ text. text.items ≡ texts_of lines.now ++ rest.now) }
+    ensures { IfOk result (λ text. text.items ≡ joined_texts lines.now ++ rest.now) }
 {
     let mut text = Vec::new(alloc);
     for line in lines {

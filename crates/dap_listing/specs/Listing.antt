@@ -61,9 +61,9 @@ abbrev pub packet_limit : ℕ
 packet_limit = 4096
 
 -- how many bytes a line may have in hex
-abbrev pub limit_of : Listed → ℕ
-limit_of Packets = packet_limit
-limit_of Messages = greatest_message
+abbrev pub line_limit : Listed → ℕ
+line_limit Packets = packet_limit
+line_limit Messages = greatest_message
 
 -- the lines of all that was captured, numbered from this number; by the law `listings_are_one` there is one listing
 pub data CaptureLines (listed : Listed) : ℕ → List Capture → List ℕ → Type 0 where
@@ -76,5 +76,5 @@ pub data CaptureLines (listed : Listed) : ℕ → List Capture → List ℕ → 
 abbrev pub ListingGives : Listed → List ℕ → Option (List ℕ) → Option (List ℕ)
     → Result Outcome CaptureFault → Type 0
 ListingGives listed input =
-    Gives (faults_from (limit_of listed) 1 input)
-    (λ outcome text. (outcome ≡ Good) × CaptureLines listed 1 (captures (limit_of listed) input) text) input
+    Gives (faults_from (line_limit listed) 1 input)
+    (λ outcome text. (outcome ≡ Good) × CaptureLines listed 1 (captures (line_limit listed) input) text) input

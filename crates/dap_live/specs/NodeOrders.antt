@@ -2,7 +2,7 @@
 -- alone, it names none.
 use Rattle.std.specs.Prelude.{ℕ, Bool, if◌then◌else◌, List, [], ◌∷◌, codes, Option, Some, None, option_map}
 use Rattle.dap_text.specs.Words.{Words, ends, field, one_of, text_of, word, words_of}
-use Rattle.dap_text.specs.Filed.{file_of, record_of}
+use Rattle.dap_text.specs.Filed.{file_line_of, record_line_of}
 use Rattle.dap_live.specs.declared.node_orders.NodeOrder.{NodeOrder}
 use Rattle.dap_live.specs.declared.node_orders.NodeOrder.TheVariants as order
 use Rattle.dap_live.specs.Orders.{address_of, anew_of, between_of, hex_alone}
@@ -19,8 +19,8 @@ text_alone = field text_of ends
 abbrev pub filing_forms : List ℕ → List (Words → Option NodeOrder)
 filing_forms line =
     word (codes "files") (ends order.Files)
-    ∷ word (codes "file") (λ words. option_map order.File (file_of line))
-    ∷ word [] (λ words. option_map order.Record (record_of line))
+    ∷ word (codes "file") (λ words. option_map order.File (file_line_of line))
+    ∷ word [] (λ words. option_map order.Record (record_line_of line))
     ∷ word (codes "drop") (λ words. option_map order.Drop (text_alone words))
     ∷ []
 

@@ -19,20 +19,20 @@ abbrev pub address_of : List ℕ → Option ℕ
 address_of word = option_map (from_be_bytes w16) (result_ok (decode_sized word 2))
 
 -- a link begins between these addresses, with this segment size and FAC where they are named
-abbrev pub between : (local remote : ℕ) → (segment fac : Option ℕ) → Between
-between local remote segment fac = record { local = local; remote = remote; segment = segment; fac = fac }
+abbrev pub between_order : (local remote : ℕ) → (segment fac : Option ℕ) → Between
+between_order local remote segment fac = record { local = local; remote = remote; segment = segment; fac = fac }
 
 -- nothing, or FAC: the bits of four rights
 abbrev pub fac_from : (local remote segment : ℕ) → Words → Option Between
 fac_from local remote segment = one_of (
-    ends (between local remote (Some segment) None)
-    ∷ field (decimal_of 15) (λ fac. ends (between local remote (Some segment) (Some fac)))
+    ends (between_order local remote (Some segment) None)
+    ∷ field (decimal_of 15) (λ fac. ends (between_order local remote (Some segment) (Some fac)))
     ∷ [])
 
 -- nothing, or SEGMENT, and FAC or not
 abbrev pub limits_from : (local remote : ℕ) → Words → Option Between
 limits_from local remote = one_of (
-    ends (between local remote None None)
+    ends (between_order local remote None None)
     ∷ field long (fac_from local remote)
     ∷ [])
 

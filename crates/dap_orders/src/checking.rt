@@ -3,7 +3,7 @@
 ghost use Rattle.std.specs.Prelude.{◌≤◌, IfErr, length};
 ghost use Rattle.std.specs.List.{filter_map};
 ghost use Rattle.linewise.specs.Firsts.{IsOfLine};
-ghost use Rattle.dap_orders.specs.Schedules.{TellsFirst, event_fault, said, schedule_faults};
+ghost use Rattle.dap_orders.specs.Schedules.{TellsFirst, event_fault, numbered_lines, schedule_faults};
 
 use crate::meaningful::MeaningfulLines;
 use crate::orders::{read_order, read_setup};
@@ -26,7 +26,7 @@ pub fn check_orders<'a>(mut lines: MeaningfulLines<'a>) -> Result<(), CaptureFau
 /// line at fault (`BadLine`).
 pub fn check_schedule(input: &[u8]) -> Result<(), CaptureFault>
     requires { length input.now ≤ INPUT_LIMIT }
-    ensures faults { TellsFirst result (schedule_faults (said input.now)) }
+    ensures faults { TellsFirst result (schedule_faults (numbered_lines input.now)) }
     ensures of_line { IfErr result IsOfLine }
 {
     let mut lines = MeaningfulLines::of(input);

@@ -19,12 +19,12 @@ use Rattle.dap_accessed.specs.declared.served.Served.{Served}
 use Rattle.dap_accessed.specs.declared.phase.OpenFile.{OpenFile}
 use Rattle.dap_accessed.specs.declared.phase.Phase.{Phase}
 use Rattle.dap_accessed.specs.declared.phase.Phase.TheVariants as phases
-use Rattle.dap_accessed.specs.Standing.{Files, file_at, place_by, with_file}
+use Rattle.dap_accessed.specs.Standing.{Files, file_at, index_by, with_file}
 use Rattle.dap_accessed.specs.Adding.{MayStore, with_new_file}
 use Rattle.dap_accessed.specs.Storing.{StoreRefused, Stores}
 use Rattle.dap_accessed.specs.Sessions.{SessionValue, IsOpenIn, session_with, open_at, phase_moved_up}
 use Rattle.dap_shared.specs.Nodes.{Event, Serves, Begins, Gives, GivesRecord, Drops, no_exchange, exchange_at, open_on, node_after, setup_with, with_record_at}
-use Rattle.dap_shared.specs.Shared.{AtFile, RecordNotAdded, SharedDrops, SharedValue, SharedGiven, SharedServes, is_held, kept_of, no_session, session_without}
+use Rattle.dap_shared.specs.Shared.{AtFile, RecordNotAdded, SharedDrops, SharedValue, SharedGiven, SharedServes, is_held, session_of_exchange, no_session, session_without}
 use Rattle.dap_shared.specs.Inner.Beside.{gone_by, session_moved_up}
 use Rattle.dap_shared.specs.Inner.Held.{HasNumber, IsHeld, MovesOn, session_at}
 use Rattle.dap_shared.proofs.Events.{history-shares}
@@ -76,8 +76,8 @@ pub held-open : (v : SharedValue) (link : ℕ) → IsHeld v → IsOpenIn v.files
 held-open v link h =
     let node = node_after v.setup h.first (length v.sessions) h.events in
     let shares = (history-shares v.setup h.first (length v.sessions) h.events h.after.links).0 in
-    let kept : session_at v.setup link v.sessions ≡ kept_of v.setup node.files (exchange_at link node) =
-    ap (λ (w : SharedValue). session_at v.setup link w.sessions) h.after.stands ∙ get_or-map (kept_of v.setup node.files) node.exchanges link no_exchange in
+    let kept : session_at v.setup link v.sessions ≡ session_of_exchange v.setup node.files (exchange_at link node) =
+    ap (λ (w : SharedValue). session_at v.setup link w.sessions) h.after.stands ∙ get_or-map (session_of_exchange v.setup node.files) node.exchanges link no_exchange in
     let files : node.files ≡ v.files = sym (ap (λ (w : SharedValue). w.files) h.after.stands) in
     let held : open_at (session_at v.setup link v.sessions).phase ≡ open_on (exchange_at link node) =
     ap (λ (s : SessionValue). open_at s.phase) kept ∙ open-kept v.setup node.files (exchange_at link node) (shares.steady link) in
@@ -183,7 +183,7 @@ record-held v at number body files (Ok u) h ok err = given-held v (GivesRecord a
 record-held v at number body files (Err f) h ok err = subst (λ (t : Files). IsHeld (record v { files = t })) (sym err) h
 
 -- the file of this name, where it is there
-module _ (v : SharedValue) (name : List ℕ) (at : ℕ) (found : place_by v.setup.names name v.files ≡ Some at) where
+module _ (v : SharedValue) (name : List ℕ) (at : ℕ) (found : index_by v.setup.names name v.files ≡ Some at) where
   pub may-store : (number : ℕ) (body : List ℕ) (after : FileVal) (r : Result (Unit {0}) AddFault) → Stores number body (file_at at v.files) after r → OnOk r (AtFile name v (λ k. MayStore (file_at k v.files) number body))
   may-store number body after (Ok u) s = (at, found, s.0)
   may-store number body after (Err f) s = tt

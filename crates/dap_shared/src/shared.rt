@@ -6,7 +6,7 @@ ghost use Rattle.dap_msg.specs.Decoding.{IsSpelled};
 ghost use Rattle.dap_msg.specs.declared.items.Item.TheVariants.{Whole};
 ghost use Rattle.dap_msg.specs.declared.message.Message.{Message as TheMessage};
 ghost use Rattle.rec_file.specs.Shapes.{is_shape};
-ghost use Rattle.dap_accessed.specs.Standing.{Files, file_at, place_by};
+ghost use Rattle.dap_accessed.specs.Standing.{Files, file_at, index_by};
 ghost use Rattle.dap_accessed.specs.Adding.{MayStore, with_new_file};
 ghost use Rattle.dap_accessed.specs.Sessions.{IsOpenIn, session_with};
 ghost use Rattle.dap_accessed.specs.Setup.{IsServerSetup, plain_setup};
@@ -60,7 +60,7 @@ impl Model for SharedFiles {
     }) };
 }
 
-/// So many links on which no Config was served.
+/// This many links on which no Config was served.
 fn new_sessions(alloc: Global, setup: ServerSetup, links: usize) -> Result<Vec<Session>, NoMemory>
     requires { IsServerSetup setup }
     ensures { IfOk result (λ sessions. sessions.items ≡ replicate links (session_with setup)) }
@@ -167,7 +167,7 @@ fn serve_on(
 }
 
 impl SharedFiles {
-    /// No files, and so many links on which no Config was served, with a buffer of this many bytes, at least 64.
+    /// No files, and this many links on which no Config was served, with a buffer of this many bytes, at least 64.
     pub fn new(alloc: Global, bufsiz: u16, links: usize) -> Result<SharedFiles, NoMemory>
         requires { least_buffer ≤ bufsiz }
         ensures stands { IfOk result (SharedAfter [] []) }
@@ -293,7 +293,7 @@ impl SharedFiles {
     pub fn add(&mut self, name: &[u8], shape: Shape) -> Result<(), AddFault>
         requires { IsTrue (is_shape shape) }
         ensures may { OnOk result
-            (place_by self.old.setup.names name.now self.old.files ≡ None) }
+            (index_by self.old.setup.names name.now self.old.files ≡ None) }
         ensures given { OnOk result (SharedGiven (Gives name.now shape) self.old self.new) }
         ensures files { OnOk result
             (self.new.files ≡ with_new_file name.now shape self.old.files) }

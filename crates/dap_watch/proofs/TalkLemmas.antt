@@ -29,8 +29,8 @@ use Rattle.dap_listing.specs.declared.lines.Direction.{Direction}
 use Rattle.dap_listing.specs.declared.lines.Direction.TheVariants.{Right, Left}
 use Rattle.dap_watch.specs.Watched.{IsWatched, IsWatchedTo, WatchFails, WatchGives, heard_frames, heard_lines, is_refused}
 use Rattle.dap_watch.specs.Inner.Rest.{all_kept_rest}
-use Rattle.dap_watch.specs.Inner.Watching.{GoesOn, PassesBy, Starts, Watches, answered, waiting}
-use Rattle.dap_watch.specs.Inner.Streams.{KeepsAll}
+use Rattle.dap_watch.specs.Inner.Watching.{WatchesPacket, PassesBy, Starts, Watches, answered, waiting}
+use Rattle.dap_watch.specs.Inner.Streams.{KeepsAllOrdered}
 use Rattle.dap_watch.specs.declared.streams.Streams.{Streams}
 use Rattle.dap_watch.specs.declared.watching.Watching.{Watching}
 use Rattle.dap_watch.proofs.StayLemmas.{by_bool}
@@ -173,7 +173,7 @@ passed words frames captured said line now new p w = record {
   words = p.words ∙ w.words;
   count = p.packets ∙ w.count;
   most = w.most;
-  keeps = subst (λ (s : Streams). KeepsAll w.packets w.ordered s) (sym p.streams) w.keeps;
+  keeps = subst (λ (s : Streams). KeepsAllOrdered w.packets w.ordered s) (sym p.streams) w.keeps;
 }
 
 -- a line that has no packet
@@ -207,7 +207,7 @@ unheard words input rest said were now new became more w some long same none bad
 
 -- a line with a packet
 listed : (words : Bool) (input rest said : List ℕ) (were : List (Option Became)) (now new : Watching) (more : List ℕ) (capture : Capture) → WatchedSo words input rest said were now → 0 < length rest
-    → length (first_line rest) ≤ longest → line_of packet_limit (first_line rest) ≡ Ok (Some capture) → GoesOn capture now new more
+    → length (first_line rest) ≤ longest → line_of packet_limit (first_line rest) ≡ Ok (Some capture) → WatchesPacket capture now new more
     → WatchedSo words input (drop_through 10 rest) (said ++ more) (were ++ Some Done ∷ []) new
 listed words input rest said were now new more capture w some short is (one, cleared, goes) =
     let all = heard_frames input in

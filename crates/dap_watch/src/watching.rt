@@ -9,13 +9,13 @@ ghost use Rattle.linewise.specs.declared.talking.Became.{Became as TheBecame};
 ghost use Rattle.dap_text.specs.Adding.{AddsSome};
 ghost use Rattle.dap_listing.specs.Captured.{Spell};
 ghost use Rattle.dap_follow.specs.Following.{IsMessageText};
-ghost use Rattle.dap_watch.specs.Inner.Segments.{segment_packet};
-ghost use Rattle.dap_follow.specs.Joined.{Piece};
+ghost use Rattle.dap_follow.specs.Segments.{captured_segment};
+ghost use Rattle.dap_follow.specs.Joined.{Fragment};
 ghost use Rattle.dap_follow.specs.Streams.{Captured, Placed};
-ghost use Rattle.dap_watch.specs.Inner.Kept.{IsWhole};
+ghost use Rattle.dap_watch.specs.Inner.Kept.{IsWholeMessage};
 ghost use Rattle.dap_watch.specs.Inner.Rest.{all_kept_rest};
-ghost use Rattle.dap_watch.specs.Inner.Streams.{KeepsAll};
-ghost use Rattle.dap_watch.specs.Inner.Watching.{GoesOn, PassesBy, Starts, Tells};
+ghost use Rattle.dap_watch.specs.Inner.Streams.{KeepsAllOrdered};
+ghost use Rattle.dap_watch.specs.Inner.Watching.{WatchesPacket, PassesBy, Starts, TellsPacket};
 ghost use Rattle.dap_watch.specs.Watched.{WatchFails, WatchGives, is_refused};
 
 use crate::places::Whole;
@@ -57,7 +57,7 @@ fn push_whole(
     in_words: bool,
 ) -> Result<(), AllocError>
     requires { Spell digits.now (length digits.now / 2) }
-    ensures { OnOk result ((m : Piece) → IsWhole digits.now whole m
+    ensures { OnOk result ((m : Fragment) → IsWholeMessage digits.now whole m
         → AddsSome text.old text.new (IsMessageText in_words m)) }
 {
     let count = digits.len() / 2;
@@ -96,8 +96,8 @@ impl Watching {
         ensures packets { self.new.packets ≡ self.old.packets }
         ensures before { self.new.before ≡ self.old.before }
         ensures told { OnOk result ((packets : List Captured) (ordered : List (List Placed))
-            → length packets < 2 ^ 50 → KeepsAll packets ordered self.old.streams
-            → Tells self.old.in_words packets (segment_packet way segment.now) ordered
+            → length packets < 2 ^ 50 → KeepsAllOrdered packets ordered self.old.streams
+            → TellsPacket self.old.in_words packets (captured_segment way segment.now) ordered
             self.new.streams text.old.items text.new.items) }
     {
         let Some(whole) = self.streams.add(way, segment, &mut self.digits)? else {
@@ -115,7 +115,7 @@ impl Watching {
     ) -> Result<(), AllocError>
         requires spelled { Spell digits.now (length digits.now / 2) }
         requires empty { text.old.items ≡ [] }
-        ensures { OnOk result (GoesOn (way, digits.now) self.old self.new text.new.items) }
+        ensures { OnOk result (WatchesPacket (way, digits.now) self.old self.new text.new.items) }
     {
         if self.packets >= MOST_PACKETS {
             return Err(AllocError);
@@ -137,7 +137,7 @@ impl Watching {
         requires spelled { Spell digits.now (length digits.now / 2) }
         requires empty { text.old.items ≡ [] }
         ensures done { result ≡ TheBecame.Done
-            → GoesOn (way, digits.now) self.old self.new text.new.items }
+            → WatchesPacket (way, digits.now) self.old self.new text.new.items }
         ensures refused { result ≢ TheBecame.Done
             → (result ≡ TheBecame.NoMemory) × (text.new.items ≡ []) }
     {

@@ -13,7 +13,7 @@ ghost use Rattle.dap_end.specs.Ports.{HandsOver};
 ghost use Rattle.dap_end.specs.Serving.{IsAfter};
 ghost use Rattle.dap_end.specs.Asking.{HasAsked};
 ghost use Rattle.dap_end.specs.Pasts.{Still};
-ghost use Rattle.dap_world.specs.Inner.Sides.{AreShort, AskFaultOf, AskedSo, EmitFault, KeptSo, PostFault, PostedSo, WroteOne};
+ghost use Rattle.dap_world.specs.Inner.Sides.{AreWithinLimit, AskFaultOf, AskedSo, EmitFault, KeptSo, PostFault, PostedSo, WroteWired};
 ghost use Rattle.dap_world.specs.Inner.Splitting.{SentAll};
 ghost use Rattle.dap_world.specs.Inner.Ways.{Delivery, delivered_as};
 ghost use Rattle.dap_events.specs.declared.event.WorldFault.TheVariants.{NoMemory};
@@ -77,7 +77,7 @@ impl World {
         }
     }
 
-    /// Hands over what waits.
+    /// Passes on what waits.
     pub(crate) fn post(&mut self, end: End) -> Result<Step, WorldFault>
         ensures { Went self.old (Event.Post end) result self.new }
     {
@@ -230,7 +230,7 @@ fn emit_a(end: &mut AskingEnd, wire: &mut Vec<Wired>) -> Result<Step, WorldFault
     requires { end.old.port.link.failed ≡ false }
     ensures rest { end.new ≡ record end.old { port = end.new.port } }
     ensures ok { IfOk result (λ answer. IsTrue (may_send end.old.port.link)
-        × WroteOne end.old.port.link wire.old.items wire.new.items
+        × WroteWired end.old.port.link wire.old.items wire.new.items
         (Some (end.old.port.link.sent + 1)) answer) }
     ensures sent { OnOk result (end.new.port ≡ sent_more end.old.port 1) }
     ensures err { IfErr result (λ f. (end.new.port ≡ end.old.port)
@@ -250,7 +250,7 @@ fn emit_b(end: &mut ServingEnd, wire: &mut Vec<Wired>) -> Result<Step, WorldFaul
     requires { end.old.port.link.failed ≡ false }
     ensures rest { end.new ≡ record end.old { port = end.new.port } }
     ensures ok { IfOk result (λ answer. IsTrue (may_send end.old.port.link)
-        × WroteOne end.old.port.link wire.old.items wire.new.items
+        × WroteWired end.old.port.link wire.old.items wire.new.items
         (Some (end.old.port.link.sent + 1)) answer) }
     ensures sent { OnOk result (end.new.port ≡ sent_more end.old.port 1) }
     ensures err { IfErr result (λ f. (end.new.port ≡ end.old.port)
@@ -299,7 +299,7 @@ fn delivered(got: Result<Got, LinkFault>) -> Result<Step, WorldFault>
     }
 }
 
-/// A hands over what waits; the DAP messages in it are sent.
+/// A passes on what waits; the DAP messages in it are sent.
 fn post_a(
     alloc: Global,
     end: &mut AskingEnd,
@@ -307,7 +307,7 @@ fn post_a(
     sent: &mut Vec<Vec<u8>>,
 ) -> Result<Step, WorldFault>
     requires running { end.old.port.link.failed ≡ false }
-    requires short { AreShort end.old.port.link.setup.max_message end.old.port.outbox }
+    requires short { AreWithinLimit end.old.port.link.setup.max_message end.old.port.outbox }
     requires few { posted.old ≤ most_segments }
     ensures ok { IfOk result (λ answer. PostedSo end.old.port.outbox posted.old posted.new answer) }
     ensures handed { OnOk result (HandsOver end.old end.new (length end.old.port.outbox)) }
@@ -321,7 +321,7 @@ fn post_a(
     hand_over(alloc, end, posted, sent)
 }
 
-/// A hands over what waits, which its link takes. All memory is there before anything changes.
+/// A passes on what waits, which its link takes. All memory is there before anything changes.
 fn hand_over(
     alloc: Global,
     end: &mut AskingEnd,
@@ -351,10 +351,10 @@ fn hand_over(
     }
 }
 
-/// B hands over what waits.
+/// B passes on what waits.
 fn post_b(end: &mut ServingEnd, posted: &mut usize) -> Result<Step, WorldFault>
     requires running { end.old.port.link.failed ≡ false }
-    requires short { AreShort end.old.port.link.setup.max_message end.old.port.outbox }
+    requires short { AreWithinLimit end.old.port.link.setup.max_message end.old.port.outbox }
     requires few { posted.old ≤ most_segments }
     ensures ok { IfOk result (λ answer. PostedSo end.old.port.outbox posted.old posted.new answer) }
     ensures handed { OnOk result (HandsOver end.old end.new (length end.old.port.outbox)) }

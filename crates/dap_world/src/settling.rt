@@ -6,7 +6,7 @@ use dap_events::{End, Event, WorldFault};
 
 impl World {
     ghost use Rattle.std.specs.Prelude.{◌≡◌, ◌<◌, ◌≤◌, ◌+◌, ◌-◌, IfOk, IfErr, IsOk, OnOk, OnErr, length, ℕ};
-    ghost use Rattle.dap_world.specs.Machine.{end_of, other};
+    ghost use Rattle.dap_world.specs.Machine.{end_of, other_end};
     ghost use Rattle.dap_world.specs.Inner.Worlds.{IsWorld};
     ghost use Rattle.dap_world.specs.Settling.{RanBy, Settled, unacked, work};
     ghost use Rattle.dap_world.specs.Inner.Settling.{AllResent, AreThere, AllCame, NothingSent, RanTo};
@@ -56,7 +56,7 @@ impl World {
     /// The other end, which took all segments, acknowledges them.
     pub(crate) fn acknowledge(&mut self, end: End) -> Result<(), WorldFault>
         requires world { IsWorld self.old }
-        requires taken { (end_of self.old end).sent ≤ (end_of self.old (other end)).taken }
+        requires taken { (end_of self.old end).sent ≤ (end_of self.old (other_end end)).taken }
         ensures ok { OnOk result (RanBy self.old self.new 2 × (unacked self.new end ≡ 0)) }
         ensures rest { NothingSent self.old self.new }
         ensures world { OnOk result (IsWorld self.new) }

@@ -17,7 +17,7 @@ use thiserror::Error;
 /// Why a capture file isn't listed to its end.
 #[derive(Clone, Copy, Debug, PartialEq, Eq, Error)]
 pub enum FramesFault {
-    /// The file is at fault, after so many frames.
+    /// The file is at fault, after this many frames.
     #[error("{0}")]
     File(FileFault, Counts),
     #[error("read failed")]

@@ -15,7 +15,7 @@ pub enum Engine {
     Show,
     Msg,
     Run,
-    /// The program, with this word behind its name.
+    /// The program, with this word after its name.
     Word(&'static str),
 }
 

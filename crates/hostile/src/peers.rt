@@ -118,7 +118,7 @@ const SERVING: LinkSetup = LinkSetup {
     ..ASKING
 };
 
-/// What is left to do where memory was wanted behind a part of the way.
+/// What is left to do where memory was wanted after a part of the way.
 fn stopped(is_memory: bool) -> Trouble {
     if is_memory {
         Trouble::Stopped

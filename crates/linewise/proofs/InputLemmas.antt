@@ -6,7 +6,7 @@ use Rattle.linewise.specs.Talks.{longest}
 use Rattle.linewise.specs.Gives.{TakesAnInput, TakesWithinLimit}
 use Rattle.linewise.specs.Input.{TakesBehind, TakesUpTo}
 
--- so many of the known bytes, from the front
+-- this many of the known bytes, from the front
 unfoldable pub HasTaken : ℕ → Option (List ℕ) → Option (List ℕ) → Type 0
 HasTaken count old now = (taken : List ℕ) × (count ≡ length taken) × Consumes old now taken
 
@@ -28,13 +28,13 @@ pub takes_none : (count : ℕ) (known : Option (List ℕ)) → count ≤ longest
 unfolding TakesBehind
 takes_none count known within = ([], Consumes-nil known, omega (arith, within))
 
--- with what is taken behind it
+-- with what is taken after it
 pub taken_behind : (count : ℕ) (old now new : Option (List ℕ)) → HasTaken count old now → TakesBehind count now new → TakesWithinLimit old new
 unfolding HasTaken TakesBehind
 taken_behind count old now new before behind =
     (before.0 ++ behind.0, Consumes-trans old now new before.0 behind.0 before.2 behind.1, omega (arith, before.1, behind.2, length-append before.0 behind.0))
 
--- behind what was taken before
+-- after what was taken before
 pub takes_more : (count later : ℕ) (old now new : Option (List ℕ)) (taken : List ℕ) → later ≡ count + length taken → Consumes old now taken
     → TakesBehind later now new → TakesBehind count old new
 unfolding TakesBehind
@@ -62,7 +62,7 @@ pub up_within : (count : ℕ) (old now : Option (List ℕ)) → HasTaken count o
 unfolding HasTaken
 up_within count old now before within = (before.0, before.2, omega (arith, before.1, within))
 
--- so many, where they are these
+-- this many, where they are these
 pub has_taken : (count : ℕ) (old now : Option (List ℕ)) (taken : List ℕ) → count ≡ length taken → Consumes old now taken → HasTaken count old now
 unfolding HasTaken
 has_taken count old now taken counted before = (taken, counted, before)

@@ -9,7 +9,7 @@ use Rattle.std.proofs.BufReadLemmas.{take_through-nil, take_through_nonempty}
 use Rattle.linewise.specs.declared.reading.Kept.{Kept}
 use Rattle.linewise.specs.declared.reading.Kept.TheVariants.{All as whole, TooLong, NoMemory}
 use Rattle.linewise.specs.declared.reading.Line.{Line}
-use Rattle.linewise.specs.Inner.Kept.{Holds, HoldsAs, HasRead, without_end}
+use Rattle.linewise.specs.Inner.Kept.{HoldsLine, HoldsAs, HasReadLine, without_end}
 
 is_it : (x : ℕ) → x ≡ 10 → eqb x 10 ≡ true
 is_it x same = eq-eqb x 10 same
@@ -35,13 +35,13 @@ longer TooLong bytes read more other holds = omega (arith, holds, length-append 
 longer NoMemory bytes read more other holds = omega (arith, holds, length-append read more)
 
 -- no line was read: there was none
-pub over : (unread left : Option (List ℕ)) (line : Line) → HasRead unread left line → ((read : List ℕ) → Holds line read → read ≡ []) → IsAtEnd unread
+pub over : (unread left : Option (List ℕ)) (line : Line) → HasReadLine unread left line → ((read : List ℕ) → HoldsLine line read → read ≡ []) → IsAtEnd unread
 over None left line came nothing = tt
 over (Some rest) left line came nothing = take_through-nil 10 rest (ap length (sym came.2 ∙ nothing came.0 came.1))
 
 -- what holds of the line that was read holds of the first one
-pub of_first : (unread left : Option (List ℕ)) (line : Line) (P : List ℕ → Type 0) → HasRead unread left line
-    → ((read : List ℕ) → Holds line read → 0 < length read) → ((read : List ℕ) → Holds line read → P (without_end read))
+pub of_first : (unread left : Option (List ℕ)) (line : Line) (P : List ℕ → Type 0) → HasReadLine unread left line
+    → ((read : List ℕ) → HoldsLine line read → 0 < length read) → ((read : List ℕ) → HoldsLine line read → P (without_end read))
     → IfSome unread (λ rest. (0 < length rest) × (left ≡ Some (drop_through 10 rest)) × P (first_line rest))
 of_first None left line P came some says = tt
 of_first (Some rest) left line P came some says =

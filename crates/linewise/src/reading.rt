@@ -3,7 +3,7 @@
 ghost use Rattle.std.specs.Prelude.{◌≡◌, ◌≢◌, ◌≤◌, ◌<◌, ◌-◌, ◌++◌, [], ℕ, List, All, length, take, true, false, Ok, IfOk, OnOk, IfSome, OnSome};
 ghost use Rattle.std.specs.Io.{StopsAt, IsEmptyOrEndsWith};
 ghost use Rattle.std.specs.Io.KnownBytes.{Consumes, IsAtEnd};
-ghost use Rattle.linewise.specs.Inner.Kept.{Holds, HoldsMore, HasRead, Passes};
+ghost use Rattle.linewise.specs.Inner.Kept.{HoldsLine, HoldsMore, HasReadLine, Passes};
 
 use memchr::memchr;
 use std::alloc::Global;
@@ -38,7 +38,7 @@ pub(crate) struct Line {
 impl Line {
     /// A line of which nothing was read yet.
     pub(crate) fn new(alloc: Global) -> Line
-        ensures { Holds result [] }
+        ensures { HoldsLine result [] }
     {
         let mut bytes = Vec::new(alloc);
         // Where it is refused, the line may ask again.
@@ -51,7 +51,7 @@ impl Line {
 
     /// Nothing of the next line was read yet.
     fn begin(&mut self)
-        ensures { Holds self.new [] }
+        ensures { HoldsLine self.new [] }
     {
         self.bytes.clear();
         self.kept = Kept::All;
@@ -59,8 +59,8 @@ impl Line {
 
     /// Whether nothing was read, so that there is no line.
     pub(crate) fn is_over(&self) -> bool
-        ensures over { result ≡ true → (read : List ℕ) → Holds self.now read → read ≡ [] }
-        ensures more { result ≡ false → (read : List ℕ) → Holds self.now read → 0 < length read }
+        ensures over { result ≡ true → (read : List ℕ) → HoldsLine self.now read → read ≡ [] }
+        ensures more { result ≡ false → (read : List ℕ) → HoldsLine self.now read → 0 < length read }
     {
         self.kept == Kept::All && self.bytes.is_empty()
     }
@@ -112,7 +112,7 @@ fn take_some<R: BufRead>(reader: &mut R, line: &mut Line) -> Result<bool>
 
 /// Reads a line, of which there may be nothing left.
 pub(crate) fn read_line<R: BufRead>(reader: &mut R, line: &mut Line) -> Result<()>
-    ensures { OnOk result (HasRead (R.remaining reader.old) (R.remaining reader.new) line.new) }
+    ensures { OnOk result (HasReadLine (R.remaining reader.old) (R.remaining reader.new) line.new) }
 {
     line.begin();
     for _ in 0..u64::MAX {

@@ -8,8 +8,8 @@ ghost use Rattle.linewise.specs.Output.{WritesFront};
 ghost use Rattle.linewise.specs.Talks.{ComesIn, Fails, IsUnbroken, Talked, is_bad as is_bad_line, is_given as given_by};
 ghost use Rattle.linewise.specs.declared.talking.Answer.{Answer as TheAnswer};
 ghost use Rattle.linewise.specs.declared.talking.Became.{Became as TheBecame};
-ghost use Rattle.linewise.specs.Inner.Kept.{Holds, without_end as ended};
-ghost use Rattle.linewise.specs.Inner.Steps.{BeginsLine, Breaks, Completes, Ends, Goes, Says};
+ghost use Rattle.linewise.specs.Inner.Kept.{HoldsLine, without_end as ended};
+ghost use Rattle.linewise.specs.Inner.Steps.{BeginsLine, Breaks, Completes, TalkEnds, TurnGoes, SaysLine};
 
 use crate::CaptureFault;
 use crate::lines::{is_skipped, without_end};
@@ -84,7 +84,7 @@ pub trait Answers {
         ensures { result ≡ waiting self.now };
 }
 
-/// Whether an end that waits for so many is given a line.
+/// Whether an end is given a line, by the number of packets that it waits for.
 fn is_given(waits: Option<usize>, line: &[u8]) -> bool
     ensures { result ≡ given_by waits line.now }
 {
@@ -124,7 +124,7 @@ fn answer_whole<E: Answers>(
 /// Answers a line that was read, or begins to.
 fn answer_read<E: Answers>(end: &mut E, line: &Line, text: &mut Vec<u8>) -> Option<Answer<E::Place>>
     requires { text.old.items ≡ [] }
-    ensures { (raw : List ℕ) → Holds line.now raw
+    ensures { (raw : List ℕ) → HoldsLine line.now raw
         → BeginsLine E.answered E.waiting E.pieces end.old (ended raw) end.new text.new.items result }
 {
     match line.kept {
@@ -202,10 +202,10 @@ fn say<E: Answers, W: Write, F: Write>(
     writer: &mut W,
     error_writer: &mut F,
 ) -> Result<Option<Became>, CaptureFault>
-    ensures said { IfOk result (λ became. (raw : List ℕ) → Holds line.now raw
-        → Says E.answered E.waiting end.old (ended raw) end.new (W.contents writer.old)
+    ensures said { IfOk result (λ became. (raw : List ℕ) → HoldsLine line.now raw
+        → SaysLine E.answered E.waiting end.old (ended raw) end.new (W.contents writer.old)
         (W.contents writer.new) became) }
-    ensures broken { OnErr result ((raw : List ℕ) → Holds line.now raw
+    ensures broken { OnErr result ((raw : List ℕ) → HoldsLine line.now raw
         → Breaks E.answered E.waiting end.old (ended raw) end.new (W.contents writer.old)
         (W.contents writer.new)) }
     ensures fault { IfErr result (λ fault. fault ≡ CaptureFault.WriteFailed) }
@@ -242,10 +242,10 @@ fn answer_next<E: Answers, R: BufRead, W: Write, F: Write>(
     line: &mut Line,
     text: &mut Vec<u8>,
 ) -> Result<Next, CaptureFault>
-    ensures goes { IfOk result (λ next. Goes E.answered E.waiting end.old end.new
+    ensures goes { IfOk result (λ next. TurnGoes E.answered E.waiting end.old end.new
         (R.remaining reader.old) (R.remaining reader.new) (W.contents writer.old)
         (W.contents writer.new) next) }
-    ensures fault { IfErr result (λ fault. Ends E.answered E.waiting end.old end.new
+    ensures fault { IfErr result (λ fault. TalkEnds E.answered E.waiting end.old end.new
         (R.remaining reader.old) (W.contents writer.old) (W.contents writer.new) fault) }
 {
     match read_line(reader, line) {

@@ -38,8 +38,8 @@ frames_status (File fault counts) = 1
 frames_status _ = 3
 
 -- how the link is set up
-abbrev pub setup_of : Options → LinkSetup
-setup_of o = record { local = o.local; remote = o.remote; seg_size = o.segment; window = o.window; max_message = largest_limit }
+abbrev pub link_setup : Options → LinkSetup
+link_setup o = record { local = o.local; remote = o.remote; seg_size = o.segment; window = o.window; max_message = largest_limit }
 
 -- The end answers all lines of the input, and the status is 1 if some line was bad and 0 otherwise; or the reader or
 -- the writer fails, and it is 3.
@@ -62,15 +62,15 @@ abbrev pub server_of : Options → ServerSetup
 server_of o = record { identity = identity_of o; names = names_by o.folded; most = all_rights }
 
 -- a new server without files answers: its only link is there; or it has room for several, and none is
-abbrev pub Serves : Options → List ℕ → (written holds : Option (List ℕ)) → ℕ → Type 0
-Serves o input written holds status =
-    (first : Node) × node.IsNew (server_of o) o.links (setup_of o) o.waiting first × AnswersAll node.answered node.waiting first input written holds status
+abbrev pub ServesLines : Options → List ℕ → (written holds : Option (List ℕ)) → ℕ → Type 0
+ServesLines o input written holds status =
+    (first : Node) × node.IsNewNode (server_of o) o.links (link_setup o) o.waiting first × AnswersAll node.answered node.waiting first input written holds status
 
 -- a new end with these options, without files, answers
 abbrev pub GivesAs : Role → Options → List ℕ → (written holds : Option (List ℕ)) → ℕ → Type 0
-GivesAs Serve o input written holds status = Serves o input written holds status
+GivesAs Serve o input written holds status = ServesLines o input written holds status
 GivesAs Ask o input written holds status =
-    (first : Asking) × asking.IsNew (setup_of o) (identity_of o) first × AnswersAll asking.answered asking.waiting first input written holds status
+    (first : Asking) × asking.IsNewAsking (link_setup o) (identity_of o) first × AnswersAll asking.answered asking.waiting first input written holds status
 
 -- The listing of all packets is written, and the status is 1 where some line is bad and 0 otherwise; or the reader or the writer fails,
 -- or memory is refused, and it is 3.

@@ -11,8 +11,8 @@ ghost use Rattle.nsp_link.specs.Limits.{largest_segment, largest_window};
 ghost use Rattle.dap_text.specs.Words.{short};
 ghost use Rattle.dap_live.specs.Orders.{address_of};
 ghost use Rattle.decnet_frames.specs.Nodes.{node_of};
-ghost use Rattle.live_cli.specs.Words.{code_of, folded_of, names_of, syscap_of, daplive, ends_of, greatest_waiting, has_address, is_given as is_given_in, is_word as is_in_words, least_waiting, links_of, most_links, option as option_rule, options_of, task_in as task_of_rows, task_of, has_words as words_wanted, waiting_of};
-ghost use Rattle.live_cli.specs.Inner.CommandLine.{HasAddresses, HasCodes, HasIdentity, HasLimits, HasLinks, HasNames, HasRoom, HasSyscap, HasWaiting, IsCommandLine, IsEndLine, IsFollowLine, IsFramesLine, IsServeLine, IsWatchLine};
+ghost use Rattle.live_cli.specs.Words.{code_of, folded_of, names_of, syscap_of, daplive, ends_of, greatest_waiting, has_address, has_value as is_given_in, is_word as is_in_words, least_waiting, links_of, most_links, option as option_rule, options_of, task_in as task_of_rows, task_of, has_words as words_wanted, waiting_of};
+ghost use Rattle.live_cli.specs.Inner.CommandLine.{HasAddresses, HasCodes, HasIdentity, HasLimits, HasLinks, HasNames, HasBufferRoom, HasSyscap, HasWaiting, IsDapliveLine, IsEndLine, IsFollowLine, IsFramesLine, IsServeLine, IsWatchLine};
 ghost use Rattle.live_cli.specs.Inner.Spelling.{IsMisspelt};
 
 use clap::builder::ValueParser;
@@ -429,7 +429,7 @@ fn frames_command<'a>(alloc: Global) -> Result<Command<'a>, Error>
 
 /// The program's command line.
 fn command_line<'a>(alloc: Global) -> Result<Command<'a>, Error>
-    ensures line { IfOk result IsCommandLine }
+    ensures line { IfOk result IsDapliveLine }
     ensures memory { IfErr result (λ error. kind_of error ≡ ErrorKind.OutOfMemory) }
 {
     let command = Command::new(alloc, "daplive")
@@ -880,7 +880,7 @@ fn has_words(matches: &ArgMatches<'_>) -> bool
 /// What a word and those after it name.
 fn task_in<'a>(name: &str, matches: &ArgMatches<'a>) -> Result<Task, Misspelt<'a>>
     ensures task { result_ok result ≡ task_of_rows (name.now, rows_of (found_of matches.now)) }
-    ensures room { IfOk result HasRoom }
+    ensures room { IfOk result HasBufferRoom }
     ensures misspelt { IfErr result (IsMisspelt (rows_of (found_of matches.now))) }
 {
     if is(name.as_bytes(), "serve") {
@@ -907,7 +907,7 @@ pub(crate) fn read_words<'a>(
 ) -> Result<Result<Task, Misspelt<'a>>, Error>
     ensures task { IfOk result
         (λ named. result_ok named ≡ task_of (map string_bytes words.entry.now)) }
-    ensures room { IfOk result (λ named. IfOk named HasRoom) }
+    ensures room { IfOk result (λ named. IfOk named HasBufferRoom) }
     ensures misspelt { IfOk result (λ named. IfErr named
         (λ m. IfSome (subcommand_of daplive (map string_bytes words.entry.now))
         (λ found. IsMisspelt found.1 m))) }

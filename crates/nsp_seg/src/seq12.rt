@@ -9,7 +9,7 @@ use std::marker::Model;
 #[derive(Clone, Copy, PartialEq, Eq)]
 pub struct Seq12(u16);
 
-/// So many numbers of segments there are: they go round at this one (NSP 4.0.0, segment numbers).
+/// This many numbers of segments there are: they go round at this one (NSP 4.0.0, segment numbers).
 pub const MODULUS: u16 = 4096;
 
 impl Model for Seq12 {

@@ -161,7 +161,7 @@ impl Call {
         all
     }
 
-    /// The request that the words behind the first one say.
+    /// The request that the words after the first one say.
     pub fn request(&mut self) -> Option<Request> {
         let asked = match self.line.split_once(' ') {
             Some((_name, words)) => request_of(self.alloc, words),

@@ -27,7 +27,7 @@ pub record Grew (past now : Past) (old new : ServingValue) : Type 0 where
   pub stands : (size : ℕ) (messages : List (List ℕ)) → Stands old.port.link size messages past.given
       → Stands new.port.link size messages now.given
 
--- more was served and handed over
+-- more was served and passed on
 pub record ServedMore (old new : ServingValue) : Type 0 where
   -- what came and what is queued may have moved, and nothing else of the link
   pub link : new.port.link ≡ record (with_inbox old.port.link new.port.link.coming.inbox) { queue = new.port.link.queue }

@@ -1,7 +1,7 @@
--- Lines that are taken off the front of bytes behind which others may follow.
+-- Lines that are taken off the start of bytes after which others may follow.
 use Rattle.std.specs.Prelude.{◌≡◌, ◌++◌, ℕ, Bool, List}
 use Rattle.linewise.specs.Cuts.{MayFollow}
-use Rattle.dap_listing.specs.Listing.{captures, faults_from, limit_of, CaptureLines}
+use Rattle.dap_listing.specs.Listing.{captures, faults_from, line_limit, CaptureLines}
 use Rattle.dap_listing.specs.Lines.{Capture}
 use Rattle.linewise.specs.Firsts.{IsFirst}
 use Rattle.linewise.specs.declared.fault.CaptureFault.{CaptureFault}
@@ -17,10 +17,10 @@ abbrev pub IsFirstFault : ℕ → Bool → ℕ → List ℕ → CaptureFault →
 IsFirstFault limit is_last number bytes fault =
     (follow : List ℕ) → MayFollow is_last follow → IsFirst (faults_from limit number (bytes ++ follow)) fault
 
--- Whatever may follow: where the text was the front of a listing that went on with the bytes, it is one now that goes
+-- Whatever may follow: where the text was the start of a listing that continued with the bytes, it is one now that goes
 -- on with the rest.
 abbrev pub ListingGoesOn : Listed → Bool → ℕ → List ℕ → List ℕ → ℕ → List ℕ → List ℕ → Type 0
 ListingGoesOn listed is_last number bytes old later rest new =
     (start : ℕ) (all : List Capture) (follow : List ℕ) → MayFollow is_last follow
-    → ((more : List ℕ) → CaptureLines listed number (captures (limit_of listed) (bytes ++ follow)) more → CaptureLines listed start all (old ++ more))
-    → (more : List ℕ) → CaptureLines listed later (captures (limit_of listed) (rest ++ follow)) more → CaptureLines listed start all (new ++ more)
+    → ((more : List ℕ) → CaptureLines listed number (captures (line_limit listed) (bytes ++ follow)) more → CaptureLines listed start all (old ++ more))
+    → (more : List ℕ) → CaptureLines listed later (captures (line_limit listed) (rest ++ follow)) more → CaptureLines listed start all (new ++ more)

@@ -9,7 +9,7 @@ use Rattle.dap_accessed.specs.declared.phase.Phase.{Phase}
 use Rattle.dap_accessed.specs.Standing.{Files}
 use Rattle.dap_accessed.specs.Replies.{bare_status}
 use Rattle.dap_accessed.specs.Served.{Answered}
-use Rattle.dap_accessed.specs.Sessions.{SessionValue, IsOpenIn, ServesItem, asked_in, joined, open_at, refused_session}
+use Rattle.dap_accessed.specs.Sessions.{SessionValue, IsOpenIn, ServesItem, asked_in, with_files, open_at, refused_session}
 use Rattle.dap_shared.specs.Sharing.{bars, file_locked}
 use Rattle.dap_shared.specs.Shared.{session_without}
 
@@ -28,13 +28,13 @@ abbrev pub gone_by : (before after : Files) → Phase → Option OpenFile
 gone_by before after phase = if nat_lt (length after) (length before) then open_at phase else None
 
 -- refused as the file is locked, or served
-abbrev pub Does : (locked : Bool) → Item → Files → SessionValue → Files → SessionValue → Vec (Vec ℕ) → Type 0
-Does true item files s files' s' answers =
+abbrev pub ServesOrRefuses : (locked : Bool) → Item → Files → SessionValue → Files → SessionValue → Vec (Vec ℕ) → Type 0
+ServesOrRefuses true item files s files' s' answers =
     (files' ≡ files) × (s' ≡ refused_session s) × Answered s.limit (bare_status file_locked ∷ []) answers
     × (s.limit ≤ greatest_message)
-Does false item files s files' s' answers = ServesItem item (joined files s) (joined files' s') answers
+ServesOrRefuses false item files s files' s' answers = ServesItem item (with_files files s) (with_files files' s') answers
 
 pub record MovesBeside (item : Item) (files : Files) (others : List SessionValue) (s : SessionValue) (files' : Files) (others' : List SessionValue) (s' : SessionValue) (answers : Vec (Vec ℕ)) : Type 0 where
-  pub does : Does (is_barred others (asked_in s.setup files s.phase item)) item files s files' s' answers
+  pub does : ServesOrRefuses (is_barred others (asked_in s.setup files s.phase item)) item files s files' s' answers
   pub moved : others' ≡ map (session_moved_up (gone_by files files' s.phase)) others
   pub there : IsOpenIn files' s'.phase

@@ -5,7 +5,7 @@ use Rattle.std.proofs.lemmas.List.{length-set}
 use Rattle.nsp_link.specs.declared.link.LinkSetup.{LinkSetup}
 use Rattle.dap_msg.specs.Blocked.{bodies}
 use Rattle.dap_shared.specs.Noted.{NotedValue}
-use Rattle.dap_end.specs.Turns.{Takes}
+use Rattle.dap_end.specs.Turns.{TakesPacket}
 use Rattle.dap_end.specs.By.{end_with}
 use Rattle.dap_end.specs.Ports.{PortValue}
 use Rattle.dap_end.specs.Inner.NodeInside.{IsNode}
@@ -48,7 +48,7 @@ returns-clause-takes c =
       before = c.take_port-port.result;
       after = c.take-result.new.port;
       there = c.take_port-port.ensures.port;
-      does = subst (λ (n : NotedValue). Takes (serves_on c.args.link c.args.most_waiting) (end_with c.take_port-port.result n) (end_with c.take-result.new.port c.take-result.new.server) c.args.packet.now (bodies c.args.out.now.items) (bodies c.take-result.new.out.items) c.take-result.result) c.forget.ensures c.take-result.ensures.takes;
+      does = subst (λ (n : NotedValue). TakesPacket (serves_on c.args.link c.args.most_waiting) (end_with c.take_port-port.result n) (end_with c.take-result.new.port c.take-result.new.server) c.args.packet.now (bodies c.args.out.now.items) (bodies c.take-result.new.out.items) c.take-result.result) c.forget.ensures c.take-result.ensures.takes;
       ports = ap (λ (l : List (Option PortValue)). set l c.args.link (Some c.take-result.new.port)) c.take_port-port.ensures.rest ∙ set-again c.self.inside.ports.items c.args.link None (Some c.take-result.new.port);
     })
 
