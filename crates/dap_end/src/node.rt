@@ -69,18 +69,6 @@ fn no_ports(alloc: Global, links: usize) -> Result<Vec<Option<Port>>, NoMemory>
     Ok(ports)
 }
 
-/// Takes the port of a link out.
-fn take_port(ports: &mut Vec<Option<Port>>, link: usize) -> Port
-    requires { (p : PortValue) × (slice_get ports.old.items link ≡ Some (Some p)) }
-    ensures port { slice_get ports.old.items link ≡ Some (Some result) }
-    ensures rest { ports.new.items ≡ set ports.old.items link None }
-{
-    match ports[link].take() {
-        Some(port) => port,
-        None => unreachable!(),
-    }
-}
-
 /// The port of a link.
 fn port_of(ports: &[Option<Port>], link: usize) -> &Port
     requires { (p : PortValue) × (slice_get ports.now link ≡ Some (Some p)) }
@@ -271,11 +259,11 @@ impl ServingNode {
             self.old self.new }
         ensures addresses { self.new.noted.addresses ≡ self.old.noted.addresses }
     {
-        let mut port = take_port(&mut self.ports, link);
         self.noted.forget();
-        let result = turns::take(&mut port, &mut self.noted, link, packet, most_waiting, out);
-        self.ports[link] = Some(port);
-        result
+        match &mut self.ports[link] {
+            Some(port) => turns::take(port, &mut self.noted, link, packet, most_waiting, out),
+            None => unreachable!(),
+        }
     }
 
     /// What [`crate::ServingEnd::go_on`] does, on one of the links: no other link moves. What was noted before is
@@ -292,11 +280,11 @@ impl ServingNode {
             (result_map_both (λ done. done) end_fault.Link result)) self.old self.new }
         ensures addresses { self.new.noted.addresses ≡ self.old.noted.addresses }
     {
-        let mut port = take_port(&mut self.ports, link);
         self.noted.forget();
-        let result = turns::go_on(&mut port, &mut self.noted, link, most_waiting, out);
-        self.ports[link] = Some(port);
-        result
+        match &mut self.ports[link] {
+            Some(port) => turns::go_on(port, &mut self.noted, link, most_waiting, out),
+            None => unreachable!(),
+        }
     }
 
     /// What [`crate::ServingEnd::resend`] writes, on one of the links: the packet of a segment that was sent and isn't

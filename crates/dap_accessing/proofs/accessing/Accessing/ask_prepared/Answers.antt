@@ -18,7 +18,7 @@ blocked-requires-clause-sendable c =
 pub blocked-requires-clause-counted : goal.blocked-requires-clause-counted
 blocked-requires-clause-counted c =
     rw (c.of-outgoing.ensures.first, c.of-outgoing.ensures.last)
-    (subst (λ (v : ClientState). AreCounted (first_of v.identity c.args.request.now) (last_of c.args.request.now) _) (sym c.self.view_is) c.requires.counted)
+    (subst (λ (v : ClientState). AreCounted (first_of v.identity c.args.request.now) (last_of c.args.request.now) c.args.prepared.counts) (sym c.self.view_is) c.requires.counted)
 
 pub returns-clause-asks : goal.returns-clause-asks
 returns-clause-asks c =
