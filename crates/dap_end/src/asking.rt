@@ -328,7 +328,8 @@ impl AskingEnd {
         out: &mut Vec<Vec<u8>>,
         reports: &mut Vec<Report>,
     ) -> Result<Got, TakeFault>
-        ensures { TakesPacket (hears reports.old.items reports.new.items) self.old self.new packet.now
+        ensures { TakesPacket (hears reports.old.items reports.new.items)
+            self.old self.new packet.now
             (bodies out.old.items) (bodies out.new.items) result }
     {
         match self.receive(packet) {

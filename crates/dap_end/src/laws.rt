@@ -155,10 +155,12 @@ pub fn calls_are_runs()
         → ServerRuns (came ++ later) old new (ws ++ more) }
     ensures receive { (old new : ServingValue) (bytes : List ℕ) (r : Result TheGot TheFault)
         → TookIn old new bytes r → ServerRuns ((old.port.link, bytes) ∷ []) old new [] }
-    ensures serve { (old new : ServingValue) (n : ℕ) → ServedOne old new n → ServerRuns [] old new [] }
+    ensures serve { (old new : ServingValue) (n : ℕ) → ServedOne old new n
+        → ServerRuns [] old new [] }
     ensures serve_all { (most : ℕ) (old new : ServingValue) (r : Result (Unit {0}) TheEndFault)
         → DidAll (serves most) old new r → ServerRuns [] old new [] }
-    ensures post { (old new : ServingValue) (n : ℕ) → HandsOver old new n → ServerRuns [] old new [] }
+    ensures post { (old new : ServingValue) (n : ℕ) → HandsOver old new n
+        → ServerRuns [] old new [] }
     ensures emit { (old new : ServingValue) (bytes : List ℕ) → new ≡ record old { port = new.port }
         → WroteMore old.port new.port (bytes ∷ []) → ServerRuns [] old new (record {
           bytes = bytes;
@@ -181,7 +183,8 @@ pub fn calls_are_runs()
         } ∷ []) }
     ensures go_on { (most : ℕ) (old new : ServingValue) (out all : List (List ℕ))
         (r : Result (Unit {0}) TheEndFault) → WentOn (serves most) old new out all r
-        → (wrote : List Written) × ServerRuns [] old new wrote × (all ≡ out ++ written_bytes wrote) }
+        → (wrote : List Written) × ServerRuns [] old new wrote
+        × (all ≡ out ++ written_bytes wrote) }
     ensures take { (most : ℕ) (old new : ServingValue) (bytes : List ℕ) (out all : List (List ℕ))
         (r : Result TheGot TheTakeFault) → TakesPacket (serves most) old new bytes out all r
         → (wrote : List Written) × ServerRuns ((old.port.link, bytes) ∷ []) old new wrote
@@ -206,7 +209,8 @@ pub fn asking_calls_are_runs()
         (r : Result (Unit {0}) TheReadFault) → IfErr r (λ f. f ≢ read_fault.Unexpected)
         → ReadsAll old new before all r → (reports : List TheReport)
         × AskingRuns [] [] old new reports [] × (all ≡ before ++ reports) }
-    ensures post { (old new : AskingValue) (n : ℕ) → HandsOver old new n → AskingRuns [] [] old new [] [] }
+    ensures post { (old new : AskingValue) (n : ℕ) → HandsOver old new n
+        → AskingRuns [] [] old new [] [] }
     ensures emit { (old new : AskingValue) (bytes : List ℕ) → new ≡ record old { port = new.port }
         → WroteMore old.port new.port (bytes ∷ []) → AskingRuns [] [] old new [] (record {
           bytes = bytes;
@@ -260,7 +264,8 @@ pub fn a_peer_is_served_in_order()
     ensures { (setup : TheSetup) (first : Files) (size : ℕ) (messages : List (List ℕ))
         (came : List Arrival) (old new : ServingValue) (wrote : List Written)
         → AllByRecursion (λ c. IsFromPeer size messages c.0 c.1) came
-        → old.port ≡ new_port setup → IsAfter (nothing_yet first) old → ServerRuns came old new wrote
+        → old.port ≡ new_port setup → IsAfter (nothing_yet first) old
+        → ServerRuns came old new wrote
         → (past : Past) × IsAfter past new × (past.first ≡ first)
         × AreFrontOf messages past.items }
 {}
@@ -275,7 +280,8 @@ pub fn serving_is_determined()
         → IfErr r (λ f. is_want f ≡ false) → IfErr s (λ f. is_want f ≡ false)
         → DidAll (serves most) old one r → DidAll (serves most) old two s
         → (one ≡ two) × (r ≡ s) }
-    ensures go_on { (most : ℕ) (past : Past) (old one two : ServingValue) (out xs ys : List (List ℕ))
+    ensures go_on { (most : ℕ) (past : Past) (old one two : ServingValue)
+        (out xs ys : List (List ℕ))
         (r s : Result (Unit {0}) TheEndFault) → IsAfter past old → IfErr r (λ f. is_want f ≡ false)
         → IfErr s (λ f. is_want f ≡ false) → WentOn (serves most) old one out xs r
         → WentOn (serves most) old two out ys s → (one ≡ two) × (r ≡ s) × (xs ≡ ys) }
@@ -293,7 +299,8 @@ pub fn answers_are_bounded()
         → TakesPacket (serves most) old new bytes out all r
         → (first : ServingValue) × (q : Result TheGot TheFault) × TookIn old first bytes q
         × IsBounded most old first new }
-    ensures nothing_left { (most : ℕ) (past : Past) (old new : ServingValue) (out all : List (List ℕ))
+    ensures nothing_left { (most : ℕ) (past : Past) (old new : ServingValue)
+        (out all : List (List ℕ))
         → 0 < most → 0 < old.port.link.setup.seg_size → 0 < new.port.link.setup.window
         → IsAfter past new → WentOn (serves most) old new out all (Ok tt)
         → new.port.link.sent ≡ new.port.link.acked → new.port.link.coming.inbox ≡ [] }
@@ -327,7 +334,8 @@ pub fn taking_is_determined()
         (out xs ys : List (List ℕ)) (r s : Result TheGot TheTakeFault) → AreBytes bytes
         → IsAfter past old → IfErr r (λ f. is_want (why f) ≡ false)
         → IfErr s (λ f. is_want (why f) ≡ false)
-        → TakesPacket (serves most) old one bytes out xs r → TakesPacket (serves most) old two bytes out ys s
+        → TakesPacket (serves most) old one bytes out xs r
+        → TakesPacket (serves most) old two bytes out ys s
         → (one ≡ two) × (r ≡ s) × (xs ≡ ys) }
     ensures asking { (old one two : AskingValue) (bytes : List ℕ)
         (out xs ys : List (List ℕ)) (before rs ss : List TheReport)
@@ -408,7 +416,8 @@ pub fn peers_are_taken_in()
         (came : List Arrival) (old mid new : ServingValue) (wrote : List Written)
         (bytes : List ℕ) (f : TheFault)
         → AllByRecursion (λ c. IsFromPeer size messages c.0 c.1) came
-        → old.port ≡ new_port setup → IsAfter (nothing_yet first) old → ServerRuns came old mid wrote
+        → old.port ≡ new_port setup → IsAfter (nothing_yet first) old
+        → ServerRuns came old mid wrote
         → IsFromPeer size messages mid.port.link bytes → TookIn mid new bytes (Err f)
         → ((f ≡ fault.NoMemory) ⊎ (f ≡ fault.Exhausted)) × (new ≡ mid) }
     ensures asking { (setup : TheSetup) (size : ℕ) (messages : List (List ℕ))

@@ -344,7 +344,8 @@ impl ServingNode {
         ensures ports { self.new.ports ≡ self.old.ports }
         ensures notes { self.new.noted ≡ record self.old.noted { shared = self.new.noted.shared } }
         ensures refused { IfErr result
-            (NodeNotGiven self.old (NotAdded self.old.noted.shared.setup.names self.old.noted.shared.files name.now)) }
+            (NodeNotGiven self.old
+            (NotAdded self.old.noted.shared.setup.names self.old.noted.shared.files name.now)) }
         ensures unchanged { OnErr result (self.new ≡ self.old) }
     {
         if has_come(&self.ports) {
@@ -371,7 +372,8 @@ impl ServingNode {
         ensures ports { self.new.ports ≡ self.old.ports }
         ensures notes { self.new.noted ≡ record self.old.noted { shared = self.new.noted.shared } }
         ensures refused { IfErr result
-            (NodeNotGiven self.old (RecordNotAdded self.old.noted.shared name.now number body.now)) }
+            (NodeNotGiven self.old (RecordNotAdded self.old.noted.shared name.now
+            number body.now)) }
         ensures unchanged { OnErr result (self.new ≡ self.old) }
     {
         if has_come(&self.ports) {

@@ -311,7 +311,8 @@ impl ServingEnd {
         most_waiting: u64,
         out: &mut Vec<Vec<u8>>,
     ) -> Result<Got, TakeFault>
-        ensures { TakesPacket (serves most_waiting) self.old self.new packet.now (bodies out.old.items)
+        ensures { TakesPacket (serves most_waiting) self.old self.new packet.now
+            (bodies out.old.items)
             (bodies out.new.items) result }
     {
         turns::take(

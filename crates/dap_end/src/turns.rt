@@ -153,7 +153,8 @@ pub(crate) fn take<S: Serving>(
 ) -> Result<Got, TakeFault>
     requires kept { IsPort port.old }
     requires link { S.has_link server.old link }
-    ensures takes { TakesPacket (serves_by (S.serves link) most_waiting) (end_with port.old server.old)
+    ensures takes { TakesPacket (serves_by (S.serves link) most_waiting)
+        (end_with port.old server.old)
         (end_with port.new server.new) packet.now (bodies out.old.items) (bodies out.new.items)
         result }
     ensures kept { IsPort port.new }

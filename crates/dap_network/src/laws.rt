@@ -59,7 +59,8 @@ pub fn node_calls_are_events()
         (bytes : List ℕ) (out all : List (List ℕ)) (r : Result TheGot TheTakeFault)
         → slice_get old.peers link ≡ Some (Some peer)
         → ((p : PortValue) → HasPort link old.node p → IsBrought peer.from_peer p.link bytes)
-        → OnLink link (λ before after. TakesPacket (serves_on link most) before after bytes out all r)
+        → OnLink link (λ before after. TakesPacket (serves_on link most)
+        before after bytes out all r)
         old.node node
         → (wrote : List Written) × Leads old (node_then old node link peer wrote)
         × (all ≡ out ++ written_bytes wrote) }
@@ -97,7 +98,8 @@ pub fn strangers_are_taken()
     ensures take { (link most : ℕ) (old : Network) (node : NodeValue) (bytes : List ℕ)
         (out all : List (List ℕ)) (r : Result TheGot TheTakeFault)
         → slice_get old.peers link ≡ Some None
-        → OnLink link (λ before after. TakesPacket (serves_on link most) before after bytes out all r)
+        → OnLink link (λ before after. TakesPacket (serves_on link most)
+        before after bytes out all r)
         old.node node
         → Leads old (record old { node = node }) }
     ensures go_on { (link most : ℕ) (old : Network) (node : NodeValue)

@@ -176,7 +176,8 @@ impl NotedFiles {
     pub fn rights(&self, link: usize) -> Rights
         requires { link < length self.now.shared.sessions }
         ensures held { result ≡ rights_on link self.now.shared }
-        ensures after { (first : Files) (events : List Event) → SharedAfter first events self.now.shared
+        ensures after { (first : Files) (events : List Event)
+            → SharedAfter first events self.now.shared
             → result ≡ (exchange_at link (node_after self.now.shared.setup first
             (length self.now.shared.sessions) events)).most }
     {
@@ -205,7 +206,8 @@ impl NotedFiles {
         ensures files { OnOk result (self.new.shared.files
             ≡ with_new_file name.now shape self.old.shared.files) }
         ensures rest { self.new ≡ record self.old { shared = self.new.shared } }
-        ensures refused { IfErr result (NotAdded self.old.shared.setup.names self.old.shared.files name.now) }
+        ensures refused { IfErr result
+            (NotAdded self.old.shared.setup.names self.old.shared.files name.now) }
         ensures unchanged { OnErr result (self.new ≡ self.old) }
     {
         self.shared.add(name, shape)
@@ -218,7 +220,8 @@ impl NotedFiles {
         ensures given { OnOk result (AtFile name.now self.old.shared
             (λ at. SharedGiven (GivesRecord at number body.now) self.old.shared self.new.shared)) }
         ensures files { OnOk result (AtFile name.now self.old.shared
-            (λ at. self.new.shared.files ≡ with_record_at at number body.now self.old.shared.files)) }
+            (λ at. self.new.shared.files ≡ with_record_at at number body.now
+            self.old.shared.files)) }
         ensures rest { self.new ≡ record self.old { shared = self.new.shared } }
         ensures refused { IfErr result
             (RecordNotAdded self.old.shared name.now number body.now) }

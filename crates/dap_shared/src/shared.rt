@@ -108,7 +108,8 @@ fn serve_beside(
 ) -> Result<Served, NoMemory>
     requires spelled { (m : TheMessage) → item ≡ Whole m → IsSpelled m }
     requires there { IsOpenIn files.old session.old.phase }
-    ensures ok { IfOk result (λ served. MovesBeside item.entry files.old others.old.items session.old
+    ensures ok { IfOk result (λ served. MovesBeside item.entry files.old others.old.items
+        session.old
         files.new others.new.items session.new served.answers) }
     ensures next { IfOk result (λ served. served.next ≡ next) }
     ensures err { OnErr result ((files.new ≡ files.old) × (others.new.items ≡ others.old.items)
