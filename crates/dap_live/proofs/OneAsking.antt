@@ -43,7 +43,7 @@ use Rattle.dap_live.specs.Orders.{setup_anew}
 use Rattle.dap_live.specs.Sending.{AllAgain, SaysAck, waits_of}
 use Rattle.dap_live.specs.Texts.{ask_refusal, done_said, link_refusal, packets_text, reports_text, taken_said}
 use Rattle.dap_live.specs.Each.{each_after, each_text, records_text, told_after, told_text, waits_told}
-use Rattle.dap_live.specs.Asking.{GoesOn, Resends, AsksNot, AnswersAsk, IsNewAsking, OnEnd, AskingDoes, DoesAll, DoesAskOrder, Ends, HearsPacket, TellsAlone, answered, begun, waiting, came_by, goes_on}
+use Rattle.dap_live.specs.Asking.{GoesOn, Resends, AsksNot, AnswersAsk, IsNewAsking, OnEnd, AskingDoes, DoesAll, DoesAskOrder, Ends, HearsPacket, TellsAlone, answered, begun, waiting, came_by, has_more}
 use Rattle.dap_live.specs.Both.{DoneOr, LeavesEnd}
 use Rattle.dap_live.specs.Inner.Saying.{front_text}
 use Rattle.dap_live.specs.Inner.OneText.{AreSameAsking}
@@ -137,9 +137,9 @@ going_if false old other front said more one two m n same nm nn x y =
     (stay old other one two same x.0 y.0, x.1 ∙ ap (λ (l : List ℕ). front ++ l) (told_one old other same) ∙ sym y.1, x.2 ∙ sym y.2)
 
 -- what the end would do
-goes_alike : (old other : AskingValue) → (old ≡ other) → goes_on old ≡ goes_on other
+goes_alike : (old other : AskingValue) → (old ≡ other) → has_more old ≡ has_more other
 goes_alike old other like =
-    ap goes_on like
+    ap has_more like
 
 again_one : (old other one two : Asking) (said more : List ℕ) (m n : Came) → AreSameAsking old other → outcome m ≢ NoMemory → outcome n ≢ NoMemory → Resends old one said m → Resends other two more n
     → Two one two said more m n
@@ -147,10 +147,10 @@ again_one old other one two said more m n same nm nn x y =
     let sent = has_sent old.end same.5 in
     let again : AllAgain old.end.port.link y.0 = subst (λ (p : PortValue). AllAgain p.link y.0) (ap (λ (v : AskingValue). v.port) (sym same.0)) y.1 in
     let packets = all_again old.end.port.link sent.0 x.0 y.0 sent.1 x.1 again in
-    let there : GoesOnIf (goes_on old.end) other (packets_text x.0) two more n =
+    let there : GoesOnIf (has_more old.end) other (packets_text x.0) two more n =
     subst (λ (b : Bool). GoesOnIf b other (packets_text x.0) two more n) (sym (goes_alike old.end other.end same.0))
-    (subst (λ (l : List (List ℕ)). GoesOnIf (goes_on other.end) other (packets_text l) two more n) (sym packets) y.2) in
-    going_if (goes_on old.end) old other (packets_text x.0) said more one two m n same nm nn x.2 there
+    (subst (λ (l : List (List ℕ)). GoesOnIf (has_more other.end) other (packets_text l) two more n) (sym packets) y.2) in
+    going_if (has_more old.end) old other (packets_text x.0) said more one two m n same nm nn x.2 there
 
 resend_one : (failed : Bool) (old other one two : Asking) (said more : List ℕ) (m n : Came) → AreSameAsking old other → outcome m ≢ NoMemory → outcome n ≢ NoMemory
     → MatchBool failed (LeavesEnd (Untold Done) old one m × (said ≡ (link_refusal Failed).0)) (Resends old one said m)
@@ -390,9 +390,9 @@ told_waits one two same =
 
 asking_waits : (one other : Asking) → AreSameAsking one other → waiting one ≡ waiting other
 asking_waits one other same = ap (λ (n : ℕ). Some n)
-    (ap (λ (v : AskingValue). waits_of v.port.link (goes_on one.end || waits_told one)) same.0
+    (ap (λ (v : AskingValue). waits_of v.port.link (has_more one.end || waits_told one)) same.0
     ∙ ap (λ (b : Bool). waits_of other.end.port.link (b || waits_told one)) (goes_alike one.end other.end same.0)
-    ∙ ap (λ (b : Bool). waits_of other.end.port.link (goes_on other.end || b)) (told_waits one other same))
+    ∙ ap (λ (b : Bool). waits_of other.end.port.link (has_more other.end || b)) (told_waits one other same))
 
 pub asking_text : HaveOneText answered waiting AreSameAsking
 asking_text = one_text answered waiting AreSameAsking (one_answer answered waiting AreSameAsking asking_answers (λ one other new end said more b c. stay one other new end) asking_waits)

@@ -71,13 +71,13 @@ TellsAlone old front new text came = (new ≡ old) × (text ≡ front ++ told_te
 
 -- Apart from memory, the client would do something by going on: a message that came isn't read, or something is left
 -- to send. After an unexpected answer it does nothing more.
-abbrev pub goes_on : AskingValue → Bool
-goes_on end = not end.present.failed && (has_message end.port.link || is_left end.port.link end.port.outbox false)
+abbrev pub has_more : AskingValue → Bool
+has_more end = not end.present.failed && (has_message end.port.link || is_left end.port.link end.port.outbox false)
 
 -- the packets of all segments that aren't acknowledged, then what going on does, or else what waits to be told
 abbrev pub Resends : Asking → Asking → List ℕ → Came → Type 0
 Resends old new text came = (packets : List (List ℕ)) × AllAgain old.end.port.link packets
-    × MatchBool (goes_on old.end) (GoesOn old (packets_text packets) new text came) (TellsAlone old (packets_text packets) new text came)
+    × MatchBool (has_more old.end) (GoesOn old (packets_text packets) new text came) (TellsAlone old (packets_text packets) new text came)
 
 -- ---- A request.
 
@@ -152,4 +152,4 @@ answered old (Some line) new text became = DoesAskOrder old (ask_order_of line) 
 
 -- the packets that aren't acknowledged, and one more where going on would do something, or something waits to be told
 abbrev pub waiting : Asking → Option ℕ
-waiting asking = Some (waits_of asking.end.port.link (goes_on asking.end || waits_told asking))
+waiting asking = Some (waits_of asking.end.port.link (has_more asking.end || waits_told asking))

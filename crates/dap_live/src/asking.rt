@@ -15,7 +15,7 @@ ghost use Rattle.dap_text.specs.Adding.{Adds};
 ghost use Rattle.dap_live.specs.declared.asking.Came.{Came as TheCame};
 ghost use Rattle.dap_live.specs.Inner.Reaching.{Reaches};
 ghost use Rattle.dap_live.specs.Each.{each_after, waits_told};
-ghost use Rattle.dap_live.specs.Asking.{AnswersAsk, AskingDoes, DoesAskOrder, Ends, GoesOn, Resends, TellsAlone, WasTold, begun, came_by, goes_on as goes_on_by};
+ghost use Rattle.dap_live.specs.Asking.{AnswersAsk, AskingDoes, DoesAskOrder, Ends, GoesOn, Resends, TellsAlone, WasTold, begun, came_by, has_more as has_more_of};
 ghost use Rattle.dap_live.specs.Inner.Saying.{front_text};
 
 use crate::ask_orders::{AskOrder, read_ask_order};
@@ -181,9 +181,9 @@ fn go_on_behind(asking: &mut Asking, front: Front, text: &mut Vec<u8>) -> Result
     Ok(Came::Told(push_done(text, asking, &packets, gone)?))
 }
 
-/// Whether the end would do something by going on.
-fn goes_on(end: &AskingEnd) -> bool
-    ensures { result ≡ goes_on_by end.now }
+/// Whether something is left to do for the client: a message that came isn't read, or something isn't sent.
+fn has_more(end: &AskingEnd) -> bool
+    ensures { result ≡ has_more_of end.now }
 {
     !end.has_failed() && (has_message(end.link()) || is_left(end.link(), end.waiting(), false))
 }
@@ -201,15 +201,15 @@ fn go_on_again(asking: &mut Asking, text: &mut Vec<u8>) -> Result<Came, AllocErr
 
 /// Goes on where something is left, or prints what waits to be told.
 fn go_on_if_left(asking: &mut Asking, text: &mut Vec<u8>) -> Result<Came, AllocError>
-    ensures ok { IfOk result (λ came. MatchBool (goes_on_by asking.old.end)
+    ensures ok { IfOk result (λ came. MatchBool (has_more_of asking.old.end)
         (GoesOn asking.old text.old.items asking.new text.new.items came)
         (TellsAlone asking.old text.old.items asking.new text.new.items came)) }
     ensures err { OnErr result ((said : List ℕ) × (came : TheCame)
-        × MatchBool (goes_on_by asking.old.end)
+        × MatchBool (has_more_of asking.old.end)
         (GoesOn asking.old text.old.items asking.new said came)
         (TellsAlone asking.old text.old.items asking.new said came)) }
 {
-    if goes_on(&asking.end) {
+    if has_more(&asking.end) {
         go_on_again(asking, text)
     } else {
         push_told(text, asking)?;
@@ -422,11 +422,11 @@ fn has_told(asking: &Asking) -> bool
     !asking.reports.is_empty() || (asking.is_each && asking.told < asking.end.records().len())
 }
 
-/// Whether the end would do something by going on, or has something to tell.
+/// Whether something is left to do for the client, or to be reported.
 fn is_behind(asking: &Asking) -> bool
-    ensures { result ≡ (goes_on_by asking.now.end || waits_told asking.now) }
+    ensures { result ≡ (has_more_of asking.now.end || waits_told asking.now) }
 {
-    goes_on(&asking.end) || has_told(asking)
+    has_more(&asking.end) || has_told(asking)
 }
 
 impl Answers for Asking {

@@ -340,7 +340,8 @@ fn resend_on(node: &mut Node, link: usize, text: &mut Vec<u8>) -> Result<Became,
     requires there { (p : PortValue) × HasPort link node.old.node p }
     requires text { text.old.items ≡ [] }
     ensures ok { IfOk result (λ became. AtPort link node.old.node (λ p.
-        UnlessFailed p.link text.new.items (LeavesEnd Became.Done (about link node.old) node.new became)
+        UnlessFailed p.link text.new.items
+        (LeavesEnd Became.Done (about link node.old) node.new became)
         (ResendsOn link p node.old node.new text.new.items became))) }
     ensures err { OnErr result ((node.new ≡ about link node.old) ⊎ Done (λ said became.
         AtPort link node.old.node (λ p. UnlessFailed p.link said
