@@ -133,7 +133,7 @@ abbrev pub Ends : Came → Asking → Asking → Became → Type 0
 Ends (Told was) old new became = WasTold old new × (became ≡ was)
 Ends (Untold was) old new became = (new ≡ old) × (became ≡ was)
 
--- the same, with what waits to be told afterwards
+-- what an order does, and what waits to be reported after its answer
 abbrev pub DoesAll : Asking → AskOrder → Asking → List ℕ → Became → Type 0
 DoesAll old o new text became = (mid : Asking) × (came : Came) × AskingDoes old o mid text came × Ends came mid new became
 

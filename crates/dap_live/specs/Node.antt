@@ -89,7 +89,7 @@ HasRun v = (first : Files) × (events : List Event) × SharedAfter first events 
 abbrev pub about : (link : ℕ) → Node → Node
 about link node = record node { last = Some link }
 
--- the same, if there is such a link
+-- the line concerns this link, where it names one that is there
 abbrev pub about_any : Option ℕ → Node → Node
 about_any None node = node
 about_any (Some link) node = about link node
@@ -158,12 +158,12 @@ pub record TakesOn (link : ℕ) (old : Node) (bytes : List ℕ) (new : Node) (te
   pub says : text ≡ (taken_said taken (locked_text new.node.noted.locked) packets).0
   pub ended : became ≡ (taken_said taken (locked_text new.node.noted.locked) packets).1
 
--- the same on the link that it is of by its addresses
+-- a packet on the link that it is of by its addresses, or refused where there is none
 abbrev pub TakesPacketBy : Node → List ℕ → Node → List ℕ → Became → Type 0
 TakesPacketBy old bytes new text became = (found : Result ℕ LinkFault) × FindsLink old.node.ports bytes found
     × MatchResult found (λ link. TakesOn link old bytes new text became) (λ f. RefusesLink f old new text became)
 
--- the same on the only link, or by its addresses
+-- a packet on the only link there is room for, or on the one that it is of by its addresses
 abbrev pub TakesPacketOf : Node → List ℕ → Node → List ℕ → Became → Type 0
 TakesPacketOf old bytes new text became =
     MatchOption (one_link old.node.ports) (TakesPacketBy old bytes new text became) (λ link. TakesOn link old bytes new text became)
@@ -272,7 +272,7 @@ GivesRecordTo name number body old new = AtFile name old.noted.shared (λ at.
     MayStore (file_at at old.noted.shared.files) number body
     × GivenTo (with_record_at at number body old.noted.shared.files) (GivesRecord at number body) old new)
 
--- the same to the file of the last `file` line, while no link is used
+-- a record for the file of the last `file` line, while no link is used
 pub record GivesNext (r : RecordLine) (old new : Node) : Type 0 where
   pub idle : is_used old ≡ false
   pub name : List ℕ

@@ -33,7 +33,7 @@ one_order_of line = one_of (
     ∷ word (codes "new") (λ words. option_map order.Renew (anew_of words))
     ∷ filing_forms line) (words_of line)
 
--- the same with room for several
+-- the order of a line, where there is room for several links: `new`, `resend` and `ack` name theirs
 abbrev pub links_order_of : List ℕ → Option NodeOrder
 links_order_of line = one_of (
     word (codes ">") (λ words. option_map order.Packet (hex_alone words))

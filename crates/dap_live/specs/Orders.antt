@@ -51,16 +51,16 @@ anew_of (word ∷ words) = option_map Some (between_of (word ∷ words))
 abbrev pub setup_beside : LinkSetup → Between → LinkSetup
 setup_beside setup b = record setup { local = b.local; remote = b.remote; seg_size = unwrap_or b.segment setup.seg_size }
 
--- the same of a link that may begin as it was
+-- the setup of a link that begins so, or as it was where nothing is named
 abbrev pub setup_anew : LinkSetup → Option Between → LinkSetup
 setup_anew setup None = setup
 setup_anew setup (Some b) = setup_beside setup b
 
--- its rights: these where none are named
+-- the rights of a link that begins so: these where none are named
 abbrev pub most_beside : Rights → Between → Rights
 most_beside most b = option_map_or rights_of b.fac most
 
--- the same of a link that may begin as it was
+-- the rights of a link that begins so, or as it was where nothing is named
 abbrev pub most_anew : Rights → Option Between → Rights
 most_anew most None = most
 most_anew most (Some b) = most_beside most b

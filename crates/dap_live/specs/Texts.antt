@@ -105,7 +105,7 @@ abbrev pub done_said : (told : List ℕ) → (packets : List (List ℕ)) → Res
 done_said told packets (Ok done) = (told ++ packets_text packets, Done)
 done_said told packets (Err f) = (told ++ (packets_text packets ++ (end_refusal f).0), (end_refusal f).1)
 
--- the same after what the packet was
+-- what a packet was, then what is reported, and the packets that answer it
 abbrev pub taken_said : Result Got TakeFault → (told : List ℕ) → (packets : List (List ℕ)) → LineAnswer
 taken_said (Ok got) told packets = ((got_text got ++ line_feed) ++ (done_said told packets (Ok tt)).0, Done)
 taken_said (Err (take.Refused f)) told packets = link_refusal f

@@ -121,7 +121,7 @@ fn option<'a>(
         .default_value(usual)
 }
 
-/// The two addresses of an end.
+/// The words with the two addresses of an end.
 fn with_addresses<'a>(
     alloc: Global,
     command: Command<'a>,
@@ -221,7 +221,7 @@ fn codes_of<'a>() -> ValueParser<'a>
     value_parser!(u16).range(0..=GREATEST_CODE as i64)
 }
 
-/// The codes of a Configuration.
+/// The words with `--ostype` and `--filesys`, the codes of a Configuration.
 fn with_codes<'a>(alloc: Global, command: Command<'a>) -> Result<Command<'a>, Error>
     ensures added { IfOk result (HasCodes command.entry) }
     ensures memory { IfErr result (λ error. kind_of error ≡ ErrorKind.OutOfMemory) }
@@ -246,7 +246,7 @@ fn with_codes<'a>(alloc: Global, command: Command<'a>) -> Result<Command<'a>, Er
     Ok(command)
 }
 
-/// What an end says that it can do.
+/// The words with `--syscap`, what an end says that it can do.
 fn with_syscap<'a>(alloc: Global, command: Command<'a>) -> Result<Command<'a>, Error>
     ensures added { IfOk result (HasSyscap command.entry) }
     ensures memory { IfErr result (λ error. kind_of error ≡ ErrorKind.OutOfMemory) }
@@ -262,7 +262,7 @@ fn with_syscap<'a>(alloc: Global, command: Command<'a>) -> Result<Command<'a>, E
     Ok(command)
 }
 
-/// What an end says of itself.
+/// The words with all that an end says of itself.
 fn with_identity<'a>(alloc: Global, command: Command<'a>) -> Result<Command<'a>, Error>
     ensures added { IfOk result (HasIdentity command.entry) }
     ensures memory { IfErr result (λ error. kind_of error ≡ ErrorKind.OutOfMemory) }
@@ -272,7 +272,7 @@ fn with_identity<'a>(alloc: Global, command: Command<'a>) -> Result<Command<'a>,
     Ok(command)
 }
 
-/// How many bytes may wait, an option that only the server has.
+/// The words with `--waiting`, how many bytes may wait, which only the server has.
 fn with_waiting<'a>(alloc: Global, command: Command<'a>) -> Result<Command<'a>, Error>
     ensures added { IfOk result (HasWaiting command.entry) }
     ensures memory { IfErr result (λ error. kind_of error ≡ ErrorKind.OutOfMemory) }
@@ -289,7 +289,7 @@ fn with_waiting<'a>(alloc: Global, command: Command<'a>) -> Result<Command<'a>, 
     Ok(command)
 }
 
-/// How many links there is room for, an option that only the server has.
+/// The words with `--links`, how many links there is room for, which only the server has.
 fn with_links<'a>(alloc: Global, command: Command<'a>) -> Result<Command<'a>, Error>
     ensures added { IfOk result (HasLinks command.entry) }
     ensures memory { IfErr result (λ error. kind_of error ≡ ErrorKind.OutOfMemory) }
@@ -306,7 +306,7 @@ fn with_links<'a>(alloc: Global, command: Command<'a>) -> Result<Command<'a>, Er
     Ok(command)
 }
 
-/// How names are compared, an option that only the server has.
+/// The words with `--names`, how names are compared, which only the server has.
 fn with_names<'a>(alloc: Global, command: Command<'a>) -> Result<Command<'a>, Error>
     ensures added { IfOk result (HasNames command.entry) }
     ensures memory { IfErr result (λ error. kind_of error ≡ ErrorKind.OutOfMemory) }
@@ -322,7 +322,7 @@ fn with_names<'a>(alloc: Global, command: Command<'a>) -> Result<Command<'a>, Er
     Ok(command)
 }
 
-/// The limits of an end.
+/// The words with the limits of an end.
 fn with_limits<'a>(alloc: Global, command: Command<'a>) -> Result<Command<'a>, Error>
     ensures added { IfOk result (HasLimits command.entry) }
     ensures memory { IfErr result (λ error. kind_of error ≡ ErrorKind.OutOfMemory) }
