@@ -5,7 +5,7 @@ ghost use Rattle.std.specs.List.{filter_map};
 ghost use Rattle.dap_world.specs.Runs.{Went};
 ghost use Rattle.dap_orders.specs.Orders.{event_of_order};
 ghost use Rattle.dap_orders.specs.Schedules.{event_fault, numbered_lines, schedule_faults};
-ghost use Rattle.dap_capture.specs.Inner.Checking.{FirstFaultOrNoMemory, TellsFirstThenWants};
+ghost use Rattle.dap_capture.specs.Inner.Checking.{TellsFirstOrWants, TellsFirstThenWants};
 ghost use Rattle.dap_capture.specs.Inner.Playing.{PlaysOne};
 ghost use Rattle.dap_capture.specs.Played.{Played, Plays};
 ghost use Rattle.dap_capture.specs.Inner.Playing.{events_of};
@@ -65,7 +65,7 @@ fn play_events<'a>(
     requires short { length lines ≤ INPUT_LIMIT + 1 }
     ensures played { IfOk result
         (λ played. Plays world.old 1 (events_of lines.entry) played.0 played.1.items) }
-    ensures faults { FirstFaultOrNoMemory result (filter_map event_fault lines.entry) }
+    ensures faults { TellsFirstOrWants result (filter_map event_fault lines.entry) }
 {
     let mut text = Vec::new(alloc);
     let mut number = 1;
@@ -91,7 +91,7 @@ fn play_lines(alloc: Global, input: &[u8]) -> Result<(Outcome, Vec<u8>), Capture
     requires small { length input.now ≤ INPUT_LIMIT }
     ensures played { IfOk result
         (λ played. Played (numbered_lines input.now) played.0 played.1.items) }
-    ensures faults { FirstFaultOrNoMemory result (schedule_faults (numbered_lines input.now)) }
+    ensures faults { TellsFirstOrWants result (schedule_faults (numbered_lines input.now)) }
 {
     let mut lines = MeaningfulLines::of(input);
     let Some((at, first)) = lines.next() else {

@@ -84,7 +84,7 @@ fn take_counted(bytes: &[u8]) -> Result<&[u8], Passed>
 }
 
 /// The routing message after a type.
-fn after_type(bytes: &[u8]) -> Result<&[u8], Passed>
+fn behind_type(bytes: &[u8]) -> Result<&[u8], Passed>
     ensures { FindsAs (λ x. x.now) result (typed bytes.now) }
 {
     let [high, low, rest @ ..] = bytes else {
@@ -104,7 +104,7 @@ fn message(frame: &[u8]) -> Result<&[u8], Passed>
         return Err(Passed::OtherFrame);
     }
     let (_, tagged) = frame.split_at(STATIONS);
-    after_type(untagged(tagged))
+    behind_type(untagged(tagged))
 }
 
 /// A message without the padding before it, whose first byte has bit 7 and the count.

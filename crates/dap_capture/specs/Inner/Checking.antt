@@ -4,9 +4,9 @@ use Rattle.linewise.specs.Firsts.{IsFirst}
 use Rattle.linewise.specs.declared.fault.CaptureFault.{CaptureFault}
 use Rattle.linewise.specs.declared.fault.CaptureFault.TheVariants.{NoMemory}
 
--- the first of the faults, where there is one, or out of memory before it
-abbrev pub FirstFaultOrNoMemory : {X : Type 0} → Result X CaptureFault → List CaptureFault → Type 0
-FirstFaultOrNoMemory result faults =
+-- the first of the faults, where there is one and memory sufficed up to it
+abbrev pub TellsFirstOrWants : {X : Type 0} → Result X CaptureFault → List CaptureFault → Type 0
+TellsFirstOrWants result faults =
     MatchResult result (λ _. faults ≡ []) (λ fault. (fault ≡ NoMemory) ⊎ IsFirst faults fault)
 
 -- the first of the faults, where there is one; only else out of memory
