@@ -10,12 +10,12 @@ use Rattle.dap_end.specs.Ports.{EndValue, HandsOver, PortValue}
 use Rattle.dap_end.specs.Moved.{with_link, with_outbox_sent}
 use Rattle.dap_end.specs.Going.{GoneThrough}
 use Rattle.dap_end.specs.Serving.{IsAfter}
-use Rattle.dap_end.specs.Done.{ServingValue, Past}
+use Rattle.dap_end.specs.Done.{ServingValue, ServerHistory}
 use Rattle.dap_end.proofs.Taking.{Grown}
 use Rattle.dap_end.proofs.Going.{gone_stays}
 
 -- a packet came
-pub after_received : (past : Past) (v : ServingValue) (link : LinkValue) → Grown v.port.link link → SendsStill v.port.link link → IsAfter past v → IsAfter past (record v { port = with_link v.port link })
+pub after_received : (past : ServerHistory) (v : ServingValue) (link : LinkValue) → Grown v.port.link link → SendsStill v.port.link link → IsAfter past v → IsAfter past (record v { port = with_link v.port link })
 after_received past v link g sends h =
     record {
       serving = h.serving;
@@ -26,7 +26,7 @@ after_received past v link g sends h =
     }
 
 -- what waited was passed on
-pub after_posted : (past : Past) (v : ServingValue) → IsAfter past v → IsAfter (record past { handed = past.handed ++ v.port.outbox }) (record v { port = with_outbox_sent v.port })
+pub after_posted : (past : ServerHistory) (v : ServingValue) → IsAfter past v → IsAfter (record past { handed = past.handed ++ v.port.outbox }) (record v { port = with_outbox_sent v.port })
 after_posted past v h =
     record {
       serving = h.serving;
@@ -45,5 +45,5 @@ hands_over v port (Err f) may h = h
 pub posted_is : (old new : ServingValue) (n : ℕ) → HandsOver old new n → new ≡ record old { port = with_outbox_sent old.port }
 posted_is old new n h = h.1
 
-pub posted_past : (old new : ServingValue) (n : ℕ) → HandsOver old new n → (past : Past) → IsAfter past old → IsAfter (record past { handed = past.handed ++ old.port.outbox }) new
+pub posted_past : (old new : ServingValue) (n : ℕ) → HandsOver old new n → (past : ServerHistory) → IsAfter past old → IsAfter (record past { handed = past.handed ++ old.port.outbox }) new
 posted_past old new n h past a = subst (IsAfter (record past { handed = past.handed ++ old.port.outbox })) (sym (posted_is old new n h)) (after_posted past old a)

@@ -20,7 +20,7 @@ use Rattle.dap_accessing.specs.Told.{Told, Due, NothingDue, AnswersDue, Wrong, d
 use Rattle.dap_accessing.specs.Asked.{messages_of}
 use Rattle.dap_accessing.specs.Present.{ClientState, ClientAfter, FitsDue, failed_after}
 use Rattle.dap_accessing.proofs.ForCallers.{one_present}
-use Rattle.dap_end.specs.Pasts.{with_answer_read}
+use Rattle.dap_end.specs.Histories.{with_answer_read}
 use Rattle.dap_end.specs.declared.fault.EndFault.{EndFault}
 use Rattle.dap_end.specs.declared.fault.EndFault.TheVariants as end_fault
 use Rattle.dap_end.specs.declared.fault.TakeFault.{TakeFault}
@@ -29,22 +29,22 @@ use Rattle.dap_end.specs.Moved.{with_outbox_sent, with_link}
 use Rattle.dap_end.specs.Asking.{HasAsked, AskedOne, ReadOne, ReadNone, HasDone}
 use Rattle.dap_end.specs.Hearing.{ReadOn, ReadsAll, hears}
 use Rattle.dap_end.specs.Hearing.{begins, goes}
-use Rattle.dap_end.specs.Done.{AskingValue, AskingPast}
+use Rattle.dap_end.specs.Done.{AskingValue, ClientHistory}
 use Rattle.dap_end.specs.Writing.{Behind}
 use Rattle.dap_end.specs.Moved.{sent_more}
 use Rattle.dap_end.specs.Turns.{DidAll, WentOn, TakesPacket}
-use Rattle.dap_end.specs.Pasts.{Still}
+use Rattle.dap_end.specs.Histories.{Still}
 use Rattle.dap_end.specs.Wanting.{is_want}
 use Rattle.dap_end.specs.Inner.Wanting.{went_wanting, took_wanting}
 use Rattle.dap_end.proofs.Taking.{grown}
 use Rattle.dap_end.proofs.Asked.{asked_past, handed_is, handed_past, read_grows, still_received, still_sent}
-use Rattle.dap_end.specs.Pasts.{asked_one}
+use Rattle.dap_end.specs.Histories.{asked_one}
 use Rattle.dap_end.proofs.Determined.{may_or_not, refused_one, no_next}
 use Rattle.dap_end.proofs.Turning.{DoAlike, no_want, went_same, took_same}
 
 -- ---- Asking.
 
-pub asking_one : (past : AskingPast) (request : Request) (old one two : AskingValue) (n m : ℕ) → HasAsked past old → AskedOne request old one n → AskedOne request old two m → (one ≡ two) × (n ≡ m)
+pub asking_one : (past : ClientHistory) (request : Request) (old one two : AskingValue) (n m : ℕ) → HasAsked past old → AskedOne request old one n → AskedOne request old two m → (one ≡ two) × (n ≡ m)
 asking_one past request old one two n m h a b =
     let limit : a.asks.limit ≡ b.asks.limit = a.asks.is_limit past.requests past.answers h.asking ∙ sym (b.asks.is_limit past.requests past.answers h.asking) in
     let messages : a.messages ≡ b.messages = a.asks.spelled ∙ ap (λ (n : ℕ). all_joined (Blocked n (messages_of old.present.identity request))) limit ∙ sym b.asks.spelled in
@@ -67,7 +67,7 @@ back_of : (front xs ys : List Report) → front ++ xs ≡ front ++ ys → xs ≡
 back_of [] xs ys e = e
 back_of (x ∷ front) xs ys e = back_of front xs ys (let tails : front ++ xs ≡ front ++ ys = cc in tails)
 
-pub reading_one : (past : AskingPast) (old one two : AskingValue) (r s : Option Report) → HasAsked past old → ReadOne old one r → ReadOne old two s → (one ≡ two) × (r ≡ s)
+pub reading_one : (past : ClientHistory) (old one two : AskingValue) (r s : Option Report) → HasAsked past old → ReadOne old one r → ReadOne old two s → (one ≡ two) × (r ≡ s)
 reading_one past old one two r s h a b =
     let bytes : b.one.bytes ≡ a.one.bytes = (let both = sym b.one.came ∙ a.one.came in cc) in
     let later : b.one.later ≡ a.one.later = (let both = sym b.one.came ∙ a.one.came in cc) in
@@ -110,7 +110,7 @@ has_sent v (inr d) = d.1
 abbrev Stops : AskingValue → Type 0
 Stops v = (next : AskingValue) (report : Option Report) → ReadOne v next report → ⊥
 
-reads_once : (past : AskingPast) (old one two : AskingValue) (rs ss : List Report) → HasAsked past old → ReadOn old one rs → ReadOn old two ss → Stops one → Stops two → (one ≡ two) × (rs ≡ ss)
+reads_once : (past : ClientHistory) (old one two : AskingValue) (rs ss : List Report) → HasAsked past old → ReadOn old one rs → ReadOn old two ss → Stops one → Stops two → (one ≡ two) × (rs ≡ ss)
 reads_once past old one two rs ss h begins begins a b = (refl, refl)
 reads_once past old one two rs ss h begins (goes n s more y other js) a b = absurd (a n s y)
 reads_once past old one two rs ss h (goes m r more x on is) begins a b = absurd (b m r x)
@@ -124,7 +124,7 @@ failed_reads : (old one : AskingValue) (rs : List Report) → old.present.failed
 failed_reads old one rs e begins = (refl, refl)
 failed_reads old one rs e (goes m r more x on is) = absurd (true≢false (sym e ∙ x.works))
 
-read_past : (past : AskingPast) (old new : AskingValue) (rs : List Report) → HasAsked past old → ReadOn old new rs → (now : AskingPast) × HasAsked now new
+read_past : (past : ClientHistory) (old new : AskingValue) (rs : List Report) → HasAsked past old → ReadOn old new rs → (now : ClientHistory) × HasAsked now new
 read_past past old new rs h on = let g = (read_grows old new rs on).past past h in (g.0, g.1.is)
 
 stops_empty : (v : AskingValue) → v.port.link.coming.inbox ≡ [] → Stops v
@@ -137,7 +137,7 @@ not_wrong Wrong None e h = h
 not_wrong Wrong (Some p) e h = h
 
 -- an answer that is out of sequence is read by nobody
-no_place : (past : AskingPast) (v new next : AskingValue) (report : Option Report) → HasAsked past v → ReadNone v new read_fault.Unexpected → ReadOne v next report → ⊥
+no_place : (past : ClientHistory) (v new next : AskingValue) (report : Option Report) → HasAsked past v → ReadNone v new read_fault.Unexpected → ReadOne v next report → ⊥
 no_place past v new next report h n r =
     let there = n.refused.3 in
     let bytes : n.bytes ≡ r.one.bytes = (let both = sym n.came ∙ r.one.came in cc) in
@@ -146,13 +146,13 @@ no_place past v new next report h n r =
     subst (λ (i : Item). is_unexpected past.requests past.answers i ≡ true) same.0 (there.3 past.requests past.answers h.asking) in
     not_wrong (due_after past.requests (past.answers ++ r.one.item ∷ [])) next.present.pending unexpected (r.past past h).asking.pending
 
-stops_unread : (v new : AskingValue) (f : ReadFault) → f ≢ read_fault.NoMemory → ReadNone v new f → ((past : AskingPast) × HasAsked past v) → Stops v
+stops_unread : (v new : AskingValue) (f : ReadFault) → f ≢ read_fault.NoMemory → ReadNone v new f → ((past : ClientHistory) × HasAsked past v) → Stops v
 stops_unread v new read_fault.Failed want n p = λ next report r. true≢false (sym n.refused.0 ∙ r.works)
 stops_unread v new read_fault.Unexpected want n p = λ next report r. no_place p.0 v new next report p.1 n r
 stops_unread v new read_fault.NoMemory want n p = absurd (want refl)
 
 read_alike : (old other one two : AskingValue) (before xs ys : List Report) → HasDone old → AreAlike old other → Behind before xs (ReadOn old one) → Behind before ys (ReadOn other two)
-    → (((past : AskingPast) × HasAsked past one) → Stops one) → (((past : AskingPast) × HasAsked past two) → Stops two) → AreAlike one two × (xs ≡ ys) × HasDone one
+    → (((past : ClientHistory) × HasAsked past one) → Stops one) → (((past : ClientHistory) × HasAsked past two) → Stops two) → AreAlike one two × (xs ≡ ys) × HasDone one
 read_alike old other one two before xs ys (inl d) like ra rb sa sb =
     let rc : Behind before ys (ReadOn old two) = subst (λ (v : AskingValue). Behind before ys (ReadOn v two)) (sym like) rb in
     let pa = read_past d.0 old one ra.0 d.1 ra.2 in

@@ -26,7 +26,7 @@ use Rattle.dap_accessing.specs.Phase.{limit_after}
 use Rattle.dap_accessing.specs.Present.{ClientState, ClientAfter}
 use Rattle.dap_accessing.specs.Each.{ReadsOn, put_back, reported_behind}
 use Rattle.dap_accessing.specs.Calls.{Asks, Reads}
-use Rattle.dap_end.specs.Pasts.{AreFull, asked_one, with_answer_read}
+use Rattle.dap_end.specs.Histories.{AreFull, asked_one, with_answer_read}
 use Rattle.dap_end.specs.Ports.{HandsOver, PortValue, gone_on}
 use Rattle.dap_end.specs.Moved.{with_link, with_outbox_sent}
 use Rattle.dap_end.specs.Writing.{Behind}
@@ -39,14 +39,14 @@ use Rattle.dap_accessing.specs.declared.fault.ReadFault.{ReadFault}
 use Rattle.dap_end.specs.Asking.{HasAsked, AskedOne, ReadOne, ReadNone}
 use Rattle.dap_end.specs.Hearing.{ReadOn}
 use Rattle.dap_end.specs.Hearing.{begins, goes}
-use Rattle.dap_end.specs.Done.{AskingValue, AskingPast}
+use Rattle.dap_end.specs.Done.{AskingValue, ClientHistory}
 use Rattle.dap_end.specs.Inner.Kept.{IsPort, AreMessages}
 use Rattle.dap_end.specs.Inner.AskingView.{asking_of}
 use Rattle.dap_end.proofs.Taking.{Grown}
 use Rattle.dap_end.proofs.Going.{gone_stays}
 use Rattle.dap_end.proofs.ServingOne.{port_given, port_gone, all_short, fit-both}
 use Rattle.dap_end.proofs.Proceeding.{work, item_left}
-use Rattle.dap_end.specs.Pasts.{Still}
+use Rattle.dap_end.specs.Histories.{Still}
 
 -- a packet came
 pub still_received : (v : AskingValue) (link : LinkValue) → Grown v.port.link link → SendsStill v.port.link link → Still HasAsked v (record v { port = with_link v.port link })
@@ -62,7 +62,7 @@ still_received v link g sends = λ past h.
     }
 
 -- what waited was passed on
-after_handed : (past : AskingPast) (v : AskingValue) → HasAsked past v → HasAsked (record past { handed = past.handed ++ v.port.outbox }) (record v { port = with_outbox_sent v.port })
+after_handed : (past : ClientHistory) (v : AskingValue) → HasAsked past v → HasAsked (record past { handed = past.handed ++ v.port.outbox }) (record v { port = with_outbox_sent v.port })
 after_handed past v h =
     record {
       asking = h.asking;
@@ -78,7 +78,7 @@ after_handed past v h =
 pub handed_is : (old new : AskingValue) (n : ℕ) → HandsOver old new n → new ≡ record old { port = with_outbox_sent old.port }
 handed_is old new n h = h.1
 
-pub handed_past : (old new : AskingValue) (n : ℕ) → HandsOver old new n → (past : AskingPast) → HasAsked past old → HasAsked (record past { handed = past.handed ++ old.port.outbox }) new
+pub handed_past : (old new : AskingValue) (n : ℕ) → HandsOver old new n → (past : ClientHistory) → HasAsked past old → HasAsked (record past { handed = past.handed ++ old.port.outbox }) new
 handed_past old new n h past a = subst (HasAsked (record past { handed = past.handed ++ old.port.outbox })) (sym (handed_is old new n h)) (after_handed past old a)
 
 -- ---- A request.
@@ -120,7 +120,7 @@ asks_one request old after messages outbox n asks own identity is count =
       count = count;
     }
 
-pub asked_past : (request : Request) (old new : AskingValue) (n : ℕ) → AskedOne request old new n → (past : AskingPast) → HasAsked past old → HasAsked (asked_one past old.present.identity request) new
+pub asked_past : (request : Request) (old new : AskingValue) (n : ℕ) → AskedOne request old new n → (past : ClientHistory) → HasAsked past old → HasAsked (asked_one past old.present.identity request) new
 asked_past request old new n a past h =
     let asks = a.asks in
     let messages = a.messages in
@@ -202,7 +202,7 @@ few_blocked limit (m ∷ messages) = omega (arith, blocked-few limit (m ∷ []) 
 -- ---- An answer.
 
 -- one answer more was read, where the client stands as after it
-read_past : (past : AskingPast) (port new : PortValue) (before after : ClientState) (bytes : List ℕ) (later : List (List ℕ)) (answer : Item) (next : ℕ) → AreBytes bytes → port.link.coming.inbox ≡ bytes ∷ later
+read_past : (past : ClientHistory) (port new : PortValue) (before after : ClientState) (bytes : List ℕ) (later : List (List ℕ)) (answer : Item) (next : ℕ) → AreBytes bytes → port.link.coming.inbox ≡ bytes ∷ later
     → ItemAt bytes port.place answer next → next ≤ length bytes → after.identity ≡ before.identity → new ≡ gone_on port bytes later next → HasAsked past (asking_of port before)
     → ClientAfter past.requests (past.answers ++ answer ∷ []) after → HasAsked (with_answer_read past bytes answer next) (asking_of new after)
 read_past past port new before after bytes later answer next fits inbox reads within identity is h stands =
@@ -244,7 +244,7 @@ some_first (m ∷ inbox) h = (m, inbox, refl)
 -- ---- Several answers.
 
 -- What the end did grew into this, and these are the reports that were told.
-pub record HasRead (past now : AskingPast) (old new : AskingValue) (reports : List Report) : Type 0 where
+pub record HasRead (past now : ClientHistory) (old new : AskingValue) (reports : List Report) : Type 0 where
   pub is : HasAsked now new
   pub requests : now.requests ≡ past.requests
   pub asked : now.asked ≡ past.asked
@@ -261,7 +261,7 @@ pub record ReadMore (old new : AskingValue) (reports : List Report) : Type 0 whe
   pub outbox : new.port.outbox ≡ old.port.outbox
   pub own : new.present.own ≡ old.present.own
   pub identity : new.present.identity ≡ old.present.identity
-  pub past : (past : AskingPast) → HasAsked past old → (now : AskingPast) × HasRead past now old new reports
+  pub past : (past : ClientHistory) → HasAsked past old → (now : ClientHistory) × HasRead past now old new reports
 
 read_nothing : (v : AskingValue) → ReadMore v v []
 read_nothing v =
@@ -297,7 +297,7 @@ split_given given inbox later bytes next came =
       | inr inside ↦ rw (ne_eqb next (length bytes) inside) refl
     ]
 
-read_grew : (a b c : AskingValue) (report : Option Report) (told : List Report) (past : AskingPast) (now : AskingPast) → HasRead past now a b told → (r : ReadOne b c report) → HasRead past (with_answer_read now r.one.bytes r.one.item r.one.next) a c (told ++ option_to_list report)
+read_grew : (a b c : AskingValue) (report : Option Report) (told : List Report) (past : ClientHistory) (now : ClientHistory) → HasRead past now a b told → (r : ReadOne b c report) → HasRead past (with_answer_read now r.one.bytes r.one.item r.one.next) a c (told ++ option_to_list report)
 read_grew a b c report told past now g r =
     let link : c.port.link ≡ with_inbox b.port.link (if r.one.next == length r.one.bytes then r.one.later else b.port.link.coming.inbox) = ap (λ (p : PortValue). p.link) r.port in
     record {
@@ -337,7 +337,7 @@ pub read_grows : (a b : AskingValue) (reports : List Report) → ReadOn a b repo
 read_grows a b reports on = read_behind a a b [] reports reports (read_nothing a) on refl
 
 -- what was read on counts after what the end did
-pub counted : (past : AskingPast) (old new : AskingValue) (reports : List Report) → HasAsked past old → ReadMore old new reports → (given : List (List ℕ)) × (answers : List Item)
+pub counted : (past : ClientHistory) (old new : AskingValue) (reports : List Report) → HasAsked past old → ReadMore old new reports → (given : List (List ℕ)) × (answers : List Item)
     × HasAsked (record past { given = given; answers = past.answers ++ answers }) new × (given ++ new.port.link.coming.inbox ≡ past.given ++ old.port.link.coming.inbox)
     × (Told past.requests (past.answers ++ answers) ≡ Told past.requests past.answers ++ reports)
 counted past old new reports h m =

@@ -13,7 +13,7 @@ use Rattle.dap_end.specs.declared.fault.EndFault.{EndFault}
 use Rattle.dap_end.specs.declared.fault.EndFault.TheVariants as end_fault
 use Rattle.dap_end.specs.declared.fault.TakeFault.{TakeFault}
 use Rattle.dap_end.specs.declared.fault.TakeFault.TheVariants as take_fault
-use Rattle.dap_end.specs.Done.{ServingValue, Past}
+use Rattle.dap_end.specs.Done.{ServingValue, ServerHistory}
 use Rattle.dap_end.specs.Ports.{PortValue, HandsOver, bytes_waiting}
 use Rattle.dap_end.specs.Moved.{sent_more}
 use Rattle.dap_end.specs.Serving.{IsAfter, ServedOne}
@@ -136,7 +136,7 @@ resting most mid new handed n count some pos room sends served p sent same full 
     let link = ap (λ (q : PortValue). waiting_bytes q.link) sent in
     omega (arith, some, much, same, zero, idle, link)
 
-pub all_served : (most : ℕ) (past : Past) (old new : ServingValue) (out all : List (List ℕ)) → 0 < most → 0 < old.port.link.setup.seg_size → 0 < new.port.link.setup.window
+pub all_served : (most : ℕ) (past : ServerHistory) (old new : ServingValue) (out all : List (List ℕ)) → 0 < most → 0 < old.port.link.setup.seg_size → 0 < new.port.link.setup.window
     → IsAfter past new → WentOn (serves most) old new out all (Ok tt) → new.port.link.sent ≡ new.port.link.acked → new.port.link.coming.inbox ≡ []
 all_served most past old new out all some pos room h w acked =
     let d = w.done in

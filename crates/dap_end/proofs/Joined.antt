@@ -15,14 +15,14 @@ use Rattle.dap_accessed.specs.Groups.{Answers, After, added, limit_for}
 use Rattle.dap_accessing.specs.Request.{Request}
 use Rattle.dap_accessing.specs.Asked.{Asked}
 use Rattle.dap_accessing.specs.Told.{Told}
-use Rattle.dap_end.specs.Pasts.{AreFull}
+use Rattle.dap_end.specs.Histories.{AreFull}
 use Rattle.dap_end.specs.Ports.{PortValue}
 use Rattle.nsp_link.specs.Receiving.{Receives}
 use Rattle.dap_end.specs.Going.{AreItemsOf, AreFrontOf}
 use Rattle.dap_end.specs.Serving.{IsAfter}
-use Rattle.dap_end.specs.Done.{ServingValue, Past, answers_to, nothing_yet}
+use Rattle.dap_end.specs.Done.{ServingValue, ServerHistory, answers_to, nothing_yet}
 use Rattle.dap_end.specs.Asking.{HasAsked}
-use Rattle.dap_end.specs.Done.{AskingPast}
+use Rattle.dap_end.specs.Done.{ClientHistory}
 use Rattle.dap_end.specs.Runs.{RunsBy}
 use Rattle.dap_end.specs.Headline.{Written}
 use Rattle.dap_end.specs.Calls.{WroteOne, EndEvent, Came, GoesOn, Repeats}
@@ -126,9 +126,9 @@ answers_full own first before (item ∷ items) =
 -- ---- What is true of both ends after any events.
 
 pub record IsLinked (first : Files) (p : Pair) : Type 0 where
-  pub asked : AskingPast
+  pub asked : ClientHistory
   pub asking : HasAsked asked p.a
-  pub served : Past
+  pub served : ServerHistory
   pub serving : IsAfter served p.b
   pub had : served.first ≡ first
   pub requests : asked.requests ≡ p.requests

@@ -13,7 +13,7 @@ use Rattle.std.specs.declared.cmp.Ordering.TheVariants.{Less, Equal, Greater}
 use Rattle.std.specs.Ordering.{match_ordering}
 use Rattle.nsp_link.specs.Link.{LinkValue, piece_of, failed_link}
 use Rattle.nsp_link.specs.Receiving.{Received, run, segment_number, taking_in, ends_link, Bounded, BoundedBytes, LetsGo, Receives}
-use Rattle.dap_end.specs.Pasts.{served}
+use Rattle.dap_end.specs.Histories.{served}
 use Rattle.dap_end.specs.declared.fault.EndFault.{EndFault}
 use Rattle.dap_end.specs.declared.fault.EndFault.TheVariants as end_fault
 use Rattle.dap_end.specs.declared.fault.TakeFault.{TakeFault}
@@ -23,9 +23,9 @@ use Rattle.dap_end.specs.Moved.{with_link}
 use Rattle.dap_end.specs.Moved.{sent_more}
 use Rattle.dap_end.specs.Serving.{IsAfter, ServedOne}
 use Rattle.dap_end.specs.Taking.{ServedInTurn, begins, goes}
-use Rattle.dap_end.specs.Done.{ServingValue, Past, nothing_yet}
+use Rattle.dap_end.specs.Done.{ServingValue, ServerHistory, nothing_yet}
 use Rattle.dap_end.specs.Turns.{DidAll, WroteThen, TookIn, TakesPacket, WentOn}
-use Rattle.dap_end.specs.Pasts.{Still}
+use Rattle.dap_end.specs.Histories.{Still}
 use Rattle.dap_end.specs.Taking.{serves}
 use Rattle.dap_end.proofs.Taking.{grown}
 use Rattle.dap_end.proofs.Afterwards.{after_received, posted_is, posted_past}
@@ -95,7 +95,7 @@ comes_by false old new bytes r e h = bytes_come old new bytes r (h.any e)
 
 -- the end is as after some past, in which it did nothing before a segment came
 abbrev pub IsKnown : ServingValue → Type 0
-IsKnown v = (past : Past) × IsAfter past v × (HasCome v.port ⊎ ((past ≡ nothing_yet past.first) × (v.port.link.coming.inbox ≡ [])))
+IsKnown v = (past : ServerHistory) × IsAfter past v × (HasCome v.port ⊎ ((past ≡ nothing_yet past.first) × (v.port.link.coming.inbox ≡ [])))
 
 known_by : (old : ServingValue) (link : LinkValue) → Comes old.port.link link → Still IsAfter old (with_port old (with_link old.port link)) → IsKnown old → IsKnown (with_port old (with_link old.port link))
 known_by old link (inl came) still (past, h, c) = (past, still past h, inl came)
@@ -111,7 +111,7 @@ posted_known v new n p (past, h, inl came) =
     (record past { handed = past.handed ++ v.port.outbox }, posted_past v new n p past h, inl (subst (λ (w : ServingValue). HasCome w.port) (sym (posted_is v new n p)) came))
 posted_known v new n p (past, h, inr none) =
     let first = nothing_yet past.first in
-    let there : IsAfter first v = subst (λ (q : Past). IsAfter q v) none.0 h in
+    let there : IsAfter first v = subst (λ (q : ServerHistory). IsAfter q v) none.0 h in
     let outbox : v.port.outbox ≡ [] = there.answers in
     let after : IsAfter first new = subst (λ (l : List (List ℕ)). IsAfter (record first { handed = l }) new) outbox (posted_past v new n p first there) in
     (first, after, inr (refl, ap (λ (w : ServingValue). w.port.link.coming.inbox) (posted_is v new n p) ∙ none.1))

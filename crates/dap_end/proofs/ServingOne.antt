@@ -17,13 +17,13 @@ use Rattle.dap_accessed.proofs.ForCallers.{Answers-more}
 use Rattle.dap_accessed.specs.Present.{Present}
 use Rattle.dap_accessed.specs.Served.{Serves, AllAtMost}
 use Rattle.dap_accessed.specs.declared.served.Served.{Served}
-use Rattle.dap_end.specs.Pasts.{served}
+use Rattle.dap_end.specs.Histories.{served}
 use Rattle.dap_end.specs.Ports.{PortValue, gone_on}
 use Rattle.dap_end.specs.Going.{oldest_message}
 use Rattle.dap_end.specs.Going.{given_then}
 use Rattle.dap_end.specs.Going.{GoneThrough}
 use Rattle.dap_end.specs.Serving.{IsAfter, ServedOne}
-use Rattle.dap_end.specs.Done.{ServingValue, Past, answers_to}
+use Rattle.dap_end.specs.Done.{ServingValue, ServerHistory, answers_to}
 use Rattle.dap_end.specs.Inner.Kept.{IsPort, AreMessages}
 use Rattle.dap_end.specs.Inner.ServingView.{serving_of}
 use Rattle.dap_end.proofs.Going.{gone_one}
@@ -79,7 +79,7 @@ fit-both (m ∷ one) two h k = (h.0, fit-both one two h.1 k)
 
 module _ (old : ServingValue) (bytes : List ℕ) (later : List (List ℕ)) (inbox : old.port.link.coming.inbox ≡ bytes ∷ later) (fits : AreBytes bytes) where
   past_one : (after : Present) (s : Served) (serves : Serves bytes old.port.place old.present after s) → old.port.outbox ≡ [] → s.next ≤ length bytes
-      → (past : Past) → IsAfter past old
+      → (past : ServerHistory) → IsAfter past old
       → IsAfter (served past bytes serves.item s.next) (serving_of (record (gone_on old.port bytes later s.next) { outbox = bodies s.answers.items }) after)
   past_one after s serves idle within past h =
       let limit : serves.limit ≡ limit_for old.present.setup past.first past.items = serves.is_limit past.first past.items h.serving in

@@ -28,7 +28,7 @@ ghost use Rattle.dap_end.specs.Each.{with_told};
 ghost use Rattle.dap_end.specs.Hearing.{ReadOn, ReadsAll, hears};
 ghost use Rattle.dap_end.specs.declared.asking.Heard.TheVariants.{Nothing, Part, Report as Completed};
 ghost use Rattle.dap_accessing.specs.declared.report.Report.{Report as TheReport};
-ghost use Rattle.dap_end.specs.Done.{AskingPast, nothing_asked};
+ghost use Rattle.dap_end.specs.Done.{ClientHistory, nothing_asked};
 ghost use Rattle.dap_end.specs.Turns.{WritesReplies, DidAll, WentOn, TakesPacket};
 ghost use Rattle.dap_end.specs.Inner.Answered.{ended_by};
 ghost use Rattle.dap_end.specs.Inner.Kept.{IsPort};
@@ -184,7 +184,8 @@ impl AskingEnd {
           port = record self.old.port { link = self.new.port.link };
         } }
         ensures receives { Receives self.old.port.link self.new.port.link packet.now result }
-        ensures still { (past : AskingPast) → HasAsked past self.old → HasAsked past self.new }
+        ensures still { (history : ClientHistory) → HasAsked history self.old
+            → HasAsked history self.new }
     {
         self.port.receive(packet)
     }
@@ -388,7 +389,8 @@ impl AskingEnd {
             (λ o. IfSome o (λ v. WroteMore self.old.port self.new.port (v.items ∷ []))) }
         ensures err { IfErr result (λ f. (self.new ≡ self.old) × NextFault self.old.port.link f) }
         ensures failed { IsTrue self.old.port.link.failed → IsErrOf result Failed }
-        ensures still { (past : AskingPast) → HasAsked past self.old → HasAsked past self.new }
+        ensures still { (history : ClientHistory) → HasAsked history self.old
+            → HasAsked history self.new }
     {
         self.port.emit()
     }
@@ -401,7 +403,8 @@ impl AskingEnd {
         ensures rest { self.new ≡ record self.old { port = self.new.port } }
         ensures wrote { IfOk result (λ v. WroteMore self.old.port self.new.port (v.items ∷ [])) }
         ensures err { IfErr result (λ f. (self.new ≡ self.old) × (f ≡ fault.NoMemory)) }
-        ensures still { (past : AskingPast) → HasAsked past self.old → HasAsked past self.new }
+        ensures still { (history : ClientHistory) → HasAsked history self.old
+            → HasAsked history self.new }
     {
         self.port.write_next()
     }

@@ -18,7 +18,7 @@ ghost use Rattle.dap_end.specs.Ports.{HandsOver, HasCome, new_port};
 ghost use Rattle.nsp_link.specs.Receiving.{Receives};
 ghost use Rattle.dap_end.specs.Writing.{WroteMore};
 ghost use Rattle.dap_end.specs.Serving.{IsAfter, NotGiven, MayServe, ServedOne};
-ghost use Rattle.dap_end.specs.Done.{Past, nothing_yet};
+ghost use Rattle.dap_end.specs.Done.{ServerHistory, nothing_yet};
 ghost use Rattle.dap_end.specs.Taking.{RestsAt, serves};
 ghost use Rattle.dap_end.specs.Turns.{WritesReplies, DidAll, TakesPacket, WentOn};
 ghost use Rattle.dap_end.specs.Inner.Answered.{ended_by};
@@ -103,8 +103,8 @@ impl ServingEnd {
     /// The files, in the order in which they were made: what all groups of messages so far have made of them.
     pub fn files(&self) -> &FileTable
         ensures held { result.now ≡ self.now.present.files }
-        ensures after { (past : Past) → IsAfter past self.now
-            → result.now ≡ After self.now.present.setup past.first past.items }
+        ensures after { (history : ServerHistory) → IsAfter history self.now
+            → result.now ≡ After self.now.present.setup history.first history.items }
     {
         self.accessed.files()
     }
@@ -156,8 +156,8 @@ impl ServingEnd {
         ensures may { OnOk result (MayAdd self.old.present name.now) }
         ensures files { OnOk result (self.new.present.files
             ≡ with_new_file name.now shape self.old.present.files) }
-        ensures given { OnOk result ((past : Past) → IsAfter past self.old
-            → IsAfter (record past { first = self.new.present.files }) self.new) }
+        ensures given { OnOk result ((history : ServerHistory) → IsAfter history self.old
+            → IsAfter (record history { first = self.new.present.files }) self.new) }
         ensures port { self.new.port ≡ self.old.port }
         ensures own { self.new.present.own ≡ self.old.present.own }
         ensures setup { self.new.present.setup ≡ self.old.present.setup }
@@ -180,8 +180,8 @@ impl ServingEnd {
         ensures may { OnOk result (MayAddRecord self.old.present number body.now) }
         ensures files { OnOk result (self.new.present.files
             ≡ with_record number body.now self.old.present.files) }
-        ensures given { OnOk result ((past : Past) → IsAfter past self.old
-            → IsAfter (record past { first = self.new.present.files }) self.new) }
+        ensures given { OnOk result ((history : ServerHistory) → IsAfter history self.old
+            → IsAfter (record history { first = self.new.present.files }) self.new) }
         ensures port { self.new.port ≡ self.old.port }
         ensures own { self.new.present.own ≡ self.old.present.own }
         ensures setup { self.new.present.setup ≡ self.old.present.setup }
@@ -201,7 +201,8 @@ impl ServingEnd {
           port = record self.old.port { link = self.new.port.link };
         } }
         ensures receives { Receives self.old.port.link self.new.port.link packet.now result }
-        ensures still { (past : Past) → IsAfter past self.old → IsAfter past self.new }
+        ensures still { (history : ServerHistory) → IsAfter history self.old
+            → IsAfter history self.new }
     {
         self.port.receive(packet)
     }
@@ -251,7 +252,8 @@ impl ServingEnd {
             (λ o. IfSome o (λ v. WroteMore self.old.port self.new.port (v.items ∷ []))) }
         ensures err { IfErr result (λ f. (self.new ≡ self.old) × NextFault self.old.port.link f) }
         ensures failed { IsTrue self.old.port.link.failed → IsErrOf result Failed }
-        ensures still { (past : Past) → IsAfter past self.old → IsAfter past self.new }
+        ensures still { (history : ServerHistory) → IsAfter history self.old
+            → IsAfter history self.new }
     {
         self.port.emit()
     }
@@ -264,7 +266,8 @@ impl ServingEnd {
         ensures rest { self.new ≡ record self.old { port = self.new.port } }
         ensures wrote { IfOk result (λ v. WroteMore self.old.port self.new.port (v.items ∷ [])) }
         ensures err { IfErr result (λ f. (self.new ≡ self.old) × (f ≡ fault.NoMemory)) }
-        ensures still { (past : Past) → IsAfter past self.old → IsAfter past self.new }
+        ensures still { (history : ServerHistory) → IsAfter history self.old
+            → IsAfter history self.new }
     {
         self.port.write_next()
     }

@@ -24,7 +24,7 @@ use Rattle.dap_end.specs.declared.fault.TakeFault.TheVariants as take
 use Rattle.dap_end.specs.Ports.{PortValue}
 use Rattle.dap_end.specs.Asking.{HasAsked, AskedOne, HasDone}
 use Rattle.dap_end.specs.Hearing.{hears}
-use Rattle.dap_end.specs.Done.{AskingValue, AskingPast, nothing_asked}
+use Rattle.dap_end.specs.Done.{AskingValue, ClientHistory, nothing_asked}
 use Rattle.dap_end.specs.Turns.{TakesPacket, WentOn}
 use Rattle.dap_end.proofs.ForCallers.{asked_past, has_sent, asking_one, going_alike, taking_alike}
 use Rattle.linewise.specs.declared.talking.Became.{Became}
@@ -183,7 +183,7 @@ ask_why own requests answers request ask.Failed g nf ng x y = absurd x
 ask_why own requests answers request f ask.Failed nf ng x y = absurd y
 
 -- of an end that works
-refused_by : (request : Request) (v : AskingValue) (past : AskingPast) (f : AskFault) → HasAsked past v → AskRefused request v.present f → IsRefused v.present.identity past.requests past.answers request f
+refused_by : (request : Request) (v : AskingValue) (past : ClientHistory) (f : AskFault) → HasAsked past v → AskRefused request v.present f → IsRefused v.present.identity past.requests past.answers request f
 refused_by request v past ask.Failed h r = absurd (true≢false (sym r ∙ h.asking.works))
 refused_by request v past ask.Busy h r = r.1 past.requests past.answers h.asking
 refused_by request v past ask.WrongPhase h r = r.1 past.requests past.answers h.asking
@@ -223,7 +223,7 @@ AsksIt each old request new text came =
     (count : ℕ) × (mid : AskingValue) × AskedOne request old.end mid count × GoesOn (begun each request (record old { end = mid })) (front_text (front.Asked count)) new text came
 
 -- it was asked of both
-it_one : (each : Bool) (old other one two : Asking) (request : Request) (said more : List ℕ) (m n : Came) (past : AskingPast) → HasAsked past old.end → AreSameAsking old other → outcome m ≢ NoMemory → outcome n ≢ NoMemory
+it_one : (each : Bool) (old other one two : Asking) (request : Request) (said more : List ℕ) (m n : Came) (past : ClientHistory) → HasAsked past old.end → AreSameAsking old other → outcome m ≢ NoMemory → outcome n ≢ NoMemory
     → AsksIt each old request one said m → AsksIt each other request two more n → Two one two said more m n
 it_one each old other one two request said more m n past h same nm nn x y =
     let asked : AskedOne request old.end y.1 y.0 = subst (λ (v : AskingValue). AskedOne request v y.1 y.0) (sym same.0) y.2 in
@@ -235,7 +235,7 @@ it_one each old other one two request said more m n past h same nm nn x y =
     going_same (begun each request (record old { end = x.1 })) (begun each request (record other { end = y.1 })) (front_text (front.Asked x.0)) said more one two m n now nm nn x.3 there
 
 -- it was asked of one, and refused by the other
-it_apart : (each : Bool) (old other one two : Asking) (request : Request) (said more : List ℕ) (m n : Came) (past : AskingPast) (f : AskFault) → HasAsked past old.end → (old.end ≡ other.end) → outcome n ≢ NoMemory → AsksIt each old request one said m
+it_apart : (each : Bool) (old other one two : Asking) (request : Request) (said more : List ℕ) (m n : Came) (past : ClientHistory) (f : AskFault) → HasAsked past old.end → (old.end ≡ other.end) → outcome n ≢ NoMemory → AsksIt each old request one said m
     → AskRefused request other.end.present f → AsksNot other two more n f → ⊥
 it_apart each old other one two request said more m n past f h like nn x r y =
     let there : AskRefused request old.end.present f = subst (λ (v : AskingValue). AskRefused request v.present f) (sym like) r in

@@ -310,7 +310,8 @@ fn ask_running(
 /// Asks what the words say.
 fn ask(asking: &mut Asking, asked: &RequestText<'_>, text: &mut Vec<u8>) -> Result<Came, AllocError>
     requires { text.old.items ≡ [] }
-    ensures ok { IfOk result (AskingDoes asking.old (AskOrder.Ask asked.now) asking.new text.new.items) }
+    ensures ok { IfOk result
+        (AskingDoes asking.old (AskOrder.Ask asked.now) asking.new text.new.items) }
     ensures err { OnErr result (Reaches asking.old (AskOrder.Ask asked.now) asking.new) }
 {
     if asking.end.link().has_failed() {

@@ -16,7 +16,7 @@ use Rattle.nsp_link.proofs.ForCallers.{may_queue_parts, sends_all, sends_new}
 use Rattle.dap_accessed.specs.Served.{Answered}
 use Rattle.dap_end.specs.Going.{GoneThrough, given_then}
 use Rattle.dap_end.specs.Moved.{with_outbox_sent, sent_more, with_link}
-use Rattle.dap_end.specs.Pasts.{AreFull}
+use Rattle.dap_end.specs.Histories.{AreFull}
 use Rattle.dap_end.specs.Ports.{EndValue, HandsOver, PortValue, gone_on, new_port}
 use Rattle.dap_end.specs.Writing.{Behind}
 use Rattle.dap_end.proofs.ForCallers.{Grown, fit-both, full-blocked, full-both, gone_nothing, gone_stays, in_append, none_short, port_given, port_gone}

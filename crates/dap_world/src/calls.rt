@@ -12,7 +12,7 @@ ghost use Rattle.dap_end.specs.Moved.{sent_more};
 ghost use Rattle.dap_end.specs.Ports.{HandsOver};
 ghost use Rattle.dap_end.specs.Serving.{IsAfter};
 ghost use Rattle.dap_end.specs.Asking.{HasAsked};
-ghost use Rattle.dap_end.specs.Pasts.{Still};
+ghost use Rattle.dap_end.specs.Histories.{Still};
 ghost use Rattle.dap_world.specs.Inner.Sides.{AreWithinLimit, AskFaultOf, AskedSo, EmitFault, KeptSo, PostFault, PostedSo, WroteWired};
 ghost use Rattle.dap_world.specs.Inner.Splitting.{SentAll};
 ghost use Rattle.dap_world.specs.Inner.Ways.{Delivery, delivered_as};

@@ -8,7 +8,7 @@ use Rattle.dap_accessing.specs.Request.{Request}
 use Rattle.dap_world.specs.Plain.{messages_of, Asked}
 use Rattle.dap_end.proofs.ForCallers.{full-blocked, full-both, in_append}
 use Rattle.dap_world.specs.Inner.Parts.{asked_packets}
-use Rattle.dap_end.specs.Pasts.{AreFull}
+use Rattle.dap_end.specs.Histories.{AreFull}
 
 -- ---- They have the messages of the definitions.
 

@@ -12,7 +12,7 @@ use Rattle.dap_msg.specs.Canon.{canon, Fits}
 use Rattle.dap_msg.specs.Blocked.{NspMessage, blocked_bytes, all_joined, messages_in, AllFit}
 use Rattle.dap_msg.proofs.ForCallers.{one_item, stands_some}
 use Rattle.dap_end.proofs.ForCallers.{back_fit, front_fit, in_append}
-use Rattle.dap_end.specs.Pasts.{AreFull}
+use Rattle.dap_end.specs.Histories.{AreFull}
 use Rattle.dap_world.specs.Inner.Splitting.{SplitsOne}
 use Rattle.dap_world.proofs.Headline.Reading.{at_item, fit_at, ends_at, bytes_at, joined-one}
 

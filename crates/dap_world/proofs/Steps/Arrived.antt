@@ -16,7 +16,7 @@ use Rattle.dap_world.specs.Machine.{arrived}
 use Rattle.dap_world.specs.Inner.Sides.{SideValue, port_of, side_of}
 use Rattle.dap_world.specs.Inner.Ways.{IsWay}
 use Rattle.dap_world.specs.Inner.Parts.{IsCarried}
-use Rattle.dap_end.specs.Pasts.{AreFull}
+use Rattle.dap_end.specs.Histories.{AreFull}
 use Rattle.dap_end.specs.Ports.{gone_on}
 use Rattle.dap_end.proofs.ForCallers.{back_fit, front_fit, in_append}
 use Rattle.dap_world.proofs.Steps.Counting.{segments-first, cut-none, handed-bytes}

@@ -47,7 +47,7 @@ use Rattle.dap_world.specs.Inner.Worlds.{IsWorld}
 use Rattle.dap_end.specs.Ports.{PortValue}
 use Rattle.dap_end.specs.Asking.{AskedOne, HasAsked}
 use Rattle.dap_end.specs.Done.{AskingValue}
-use Rattle.dap_end.specs.Pasts.{asked_one as one_asked}
+use Rattle.dap_end.specs.Histories.{asked_one as one_asked}
 use Rattle.dap_end.proofs.ForCallers.{asked_past, sendable-fit}
 use Rattle.dap_world.proofs.Plain.{Asked-more}
 use Rattle.dap_world.specs.Inner.Sides.{AreWithinLimit, AskFaultOf, AskedSo, side_of}

@@ -43,7 +43,7 @@ use Rattle.dap_world.proofs.Headline.Kept.{kept-step}
 use Rattle.dap_world.proofs.Steps.Ways.{takes, told_gives, told_takes}
 use Rattle.dap_world.proofs.Steps.Arriving.{AllNear, IsDueAs, due}
 use Rattle.dap_world.proofs.Steps.Wrote.{AreAfter, AreThen, StaysAt, asking_parts, serving_parts, at_a, at_b, none_more}
-use Rattle.dap_end.specs.Pasts.{Still}
+use Rattle.dap_end.specs.Histories.{Still}
 
 -- ---- What is near.
 

@@ -20,9 +20,9 @@ use Rattle.dap_end.specs.Moved.{with_outbox_sent as port_posted}
 use Rattle.dap_end.proofs.ForCallers.{handed_is, handed_past, posted_is as hands_over, posted_past, back_fit, in_append}
 use Rattle.dap_end.specs.Asking.{HasAsked}
 use Rattle.dap_end.specs.Ports.{HandsOver as HandedOver}
-use Rattle.dap_end.specs.Done.{AskingValue, AskingPast}
+use Rattle.dap_end.specs.Done.{AskingValue, ClientHistory}
 use Rattle.dap_end.specs.Serving.{IsAfter}
-use Rattle.dap_end.specs.Done.{ServingValue, Past}
+use Rattle.dap_end.specs.Done.{ServingValue, ServerHistory}
 use Rattle.dap_events.specs.declared.event.End.{End}
 use Rattle.dap_events.specs.declared.event.End.TheVariants.{A, B}
 use Rattle.dap_events.specs.declared.event.Event.TheVariants as event
@@ -190,8 +190,8 @@ sent_more p more h splits =
 
 -- whatever the end was after, it passed on what waited too
 abbrev pub HandsOver : Parts → End → Type 0
-HandsOver p A = (past : AskingPast) → HasAsked past (asking_end p) → HasAsked (record past { handed = past.handed ++ p.a.outbox }) (record { port = port_posted (port_of p.a); present = p.accessing })
-HandsOver p B = (past : Past) → IsAfter past (serving_end p) → IsAfter (record past { handed = past.handed ++ p.b.outbox }) (record { port = port_posted (port_of p.b); present = p.accessed })
+HandsOver p A = (past : ClientHistory) → HasAsked past (asking_end p) → HasAsked (record past { handed = past.handed ++ p.a.outbox }) (record { port = port_posted (port_of p.a); present = p.accessing })
+HandsOver p B = (past : ServerHistory) → IsAfter past (serving_end p) → IsAfter (record past { handed = past.handed ++ p.b.outbox }) (record { port = port_posted (port_of p.b); present = p.accessed })
 
 parts_posted : (p : Parts) (end : End) (more : List (List ℕ)) → AreParts p → segments_queued (side p end) ≤ most_segments → SentMore p end more → HandsOver p end → IsWorld (state_of (posted_parts p end more)) → AreParts (posted_parts p end more)
 unfolding reported

@@ -23,12 +23,12 @@ use Rattle.dap_world.specs.Inner.Worlds.{IsWorld}
 use Rattle.nsp_link.specs.Link.{with_inbox}
 use Rattle.dap_end.specs.Ports.{PortValue}
 use Rattle.dap_end.specs.Serving.{IsAfter, MayServe, ServedOne}
-use Rattle.dap_end.specs.Done.{ServingValue, Past, answers_to}
+use Rattle.dap_end.specs.Done.{ServingValue, ServerHistory, answers_to}
 use Rattle.dap_accessed.specs.declared.setup.ServerSetup.{ServerSetup}
 use Rattle.dap_end.proofs.ForCallers.{back_fit, front_fit, front_full, in_append}
 use Rattle.dap_world.specs.Inner.Sides.{AreWithinLimit, side_of}
 use Rattle.dap_world.specs.Inner.Parts.{Parts, AreParts, IsAskedAll, IsServedAll, IsCarried, asked_messages, answers, asking_end, serving_end, served_items, answer_packets, end_state, state_of}
-use Rattle.dap_end.specs.Pasts.{AreFull, served}
+use Rattle.dap_end.specs.Histories.{AreFull, served}
 use Rattle.dap_world.proofs.Steps.Counting.{counted}
 use Rattle.dap_world.proofs.Steps.Packets.{arrived-front, get-front, take-next}
 use Rattle.dap_world.proofs.Headline.Blocks.{asked-all, asked-full}
@@ -226,10 +226,10 @@ module _ (p : Parts) (v : ServingValue) (n : ℕ) (h : AreParts p) (o : ServedOn
   abbrev taken : List Item
   taken = map Whole (taken_of (state_of p))
 
-  abbrev past : Past
+  abbrev past : ServerHistory
   past = record h.serving.0 { first = []; items = map Whole (taken_of (state_of p)) }
 
-  abbrev now : Past
+  abbrev now : ServerHistory
   now = served past o.one.bytes (Whole m) o.one.next
 
   own_is : v.present ≡ as_server p v.present

@@ -9,7 +9,7 @@ use Rattle.dap_msg.specs.Blocked.{NspMessage, all_joined, messages_in}
 use Rattle.nsp_link.specs.Cutting.{cut}
 use Rattle.nsp_link.specs.Coming.{Coming, nothing_came, with_all_taken}
 use Rattle.nsp_link.specs.Link.{LinkValue, Sends, Stands, Writes, IsWrittenPacket}
-use Rattle.dap_end.specs.Pasts.{AreFull}
+use Rattle.dap_end.specs.Histories.{AreFull}
 use Rattle.dap_events.specs.declared.event.End.{End}
 use Rattle.dap_events.specs.declared.event.End.TheVariants.{A, B}
 use Rattle.dap_world.specs.declared.side.Wired.{Wired}

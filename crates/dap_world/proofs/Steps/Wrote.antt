@@ -37,7 +37,7 @@ use Rattle.dap_msg.specs.Blocked.{NspMessage}
 use Rattle.dap_world.proofs.Steps.Counting.{segments-handed, queued}
 use Rattle.dap_world.proofs.Headline.Kept.{kept-step}
 use Rattle.dap_world.proofs.Steps.Ways.{told_writes, told_sent, wrote_side}
-use Rattle.dap_end.specs.Pasts.{Still}
+use Rattle.dap_end.specs.Histories.{Still}
 
 -- whatever the end was after, it is after that still
 abbrev pub StaysAt : Parts → End → SideValue → Type 0

@@ -20,9 +20,9 @@ use Rattle.dap_events.specs.declared.event.End.TheVariants.{A, B}
 use Rattle.dap_world.specs.Machine.{State, EndState, sent_by, taken_of, answers_read, reported}
 use Rattle.dap_world.specs.Inner.Worlds.{IsWorld}
 use Rattle.dap_end.specs.Asking.{HasAsked}
-use Rattle.dap_end.specs.Done.{AskingValue, AskingPast}
+use Rattle.dap_end.specs.Done.{AskingValue, ClientHistory}
 use Rattle.dap_end.specs.Serving.{IsAfter}
-use Rattle.dap_end.specs.Done.{ServingValue, Past, answers_to}
+use Rattle.dap_end.specs.Done.{ServingValue, ServerHistory, answers_to}
 use Rattle.dap_world.specs.Wires.{end_address, sending_of}
 use Rattle.dap_world.specs.Inner.Sides.{SideValue, port_of, AreWithinLimit}
 use Rattle.dap_world.specs.Inner.Ways.{IsWay}
@@ -106,10 +106,10 @@ serving_end p = record { port = port_of p.b; present = p.accessed }
 
 -- whatever else it did on its link, it was asked these and read these, or served these
 abbrev pub IsAskedAll : AskingValue → List Request → (answers : List Item) → Type 0
-IsAskedAll v requests answers = (past : AskingPast) × HasAsked (record past { requests = requests; answers = answers }) v
+IsAskedAll v requests answers = (past : ClientHistory) × HasAsked (record past { requests = requests; answers = answers }) v
 
 abbrev pub IsServedAll : ServingValue → List Item → Type 0
-IsServedAll v items = (past : Past) × IsAfter (record past { first = []; items = items }) v
+IsServedAll v items = (past : ServerHistory) × IsAfter (record past { first = []; items = items }) v
 
 -- ---- What is true of them.
 

@@ -1,7 +1,7 @@
 -- The DAP messages in an NSP message, as bytes.
 use Rattle.std.specs.Prelude.{◌≡◌, ◌≢◌, ℕ, List, [], ◌++◌, map}
 use Rattle.dap_msg.specs.Canon.{canon}
-use Rattle.dap_end.specs.Pasts.{AreFull}
+use Rattle.dap_end.specs.Histories.{AreFull}
 use Rattle.dap_msg.specs.Blocked.{NspMessage, blocked_bytes, all_joined, messages_in, AllFit}
 
 -- whatever messages were joined into these bytes, they are added, each as its own bytes
