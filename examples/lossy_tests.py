@@ -26,6 +26,8 @@ from decnet.lossy import Both, Line
 BUILT = pathlib.Path(__file__).resolve().parent.parent / "crates"
 DAPLIVE = BUILT / "daplive/out/daplive"
 DAPNSP = BUILT / "dapnsp/out/dapnsp"
+# what the ends of a schedule say of themselves
+IDENTITY = ["--ostype", "7", "--filesys", "3", "--syscap", "0"]
 # more events of a kind than a request takes
 MANY = 2048
 
@@ -147,7 +149,7 @@ def differs(seed, count, daplive, dapnsp):
     choice = chance.choice
     segment, window = choice([1, 7, 64, 230, 512, 1400]), choice([1, 2, 8, 32, 127, 2047])
     buffers = choice([64, 100, 1024, 4096]), choice([64, 100, 1024, 4096])
-    common = ["--segment", str(segment), "--window", str(min(window, 127) if segment == 1 else window), "--buffer"]
+    common = [*IDENTITY, "--segment", str(segment), "--window", str(min(window, 127) if segment == 1 else window), "--buffer"]
     line = Line(chance.random(), choice([5, 20, 40]), choice([0, 10, 40]), choice([1, 4, 40]))
     clean = Clean(dapnsp, *buffers)
     requests = Requests(chance, 60 if segment < 64 else choice([60, 400, 3000]))
