@@ -1,5 +1,5 @@
 -- What an admissible request finds: every answer was read.
-use Rattle.std.proofs.Common.{◌≡◌, ℕ, suc, refl, sym, ◌∙◌, true, false, subst, ap, append_assoc, arith, List, [], ◌∷◌, ◌++◌, length, map}
+use Rattle.std.proofs.Common.{◌≡◌, suc, refl, sym, ◌∙◌, true, false, subst, ap, append_assoc, arith, List, [], ◌∷◌, ◌++◌, length, map}
 use Rattle.std.proofs.lemmas.List.{append-nil}
 use Rattle.dap_accessed.specs.declared.setup.ServerSetup.{ServerSetup}
 use Rattle.dap_msg.specs.declared.message.Configuration.{Configuration}

@@ -9,7 +9,6 @@ use Rattle.std.specs.Result.{result_map_both}
 use Rattle.dap_end.specs.declared.fault.EndFault.TheVariants as end_fault
 use Rattle.dap_end.specs.Turns.{WentOn}
 use Rattle.dap_end.specs.By.{end_with}
-use Rattle.dap_end.specs.Inner.NodeInside.{IsNode}
 use Rattle.dap_end.specs.Node.{HasPort, NodeValue, serves_on}
 use Rattle.dap_end.proofs.Links.{by-answered, addresses-of, keeps-addresses, keeps-links, links-of}
 use Rattle.dap_end.proofs.Ports.{never-none, node-moved, port-there}

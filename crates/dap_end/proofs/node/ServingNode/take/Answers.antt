@@ -6,7 +6,6 @@ use Rattle.dap_msg.specs.Blocked.{bodies}
 use Rattle.dap_shared.specs.Noted.{NotedValue}
 use Rattle.dap_end.specs.Turns.{TakesPacket}
 use Rattle.dap_end.specs.By.{end_with}
-use Rattle.dap_end.specs.Inner.NodeInside.{IsNode}
 use Rattle.dap_end.specs.Node.{HasPort, NodeValue, serves_on}
 use Rattle.dap_end.proofs.Links.{by-takes, addresses-of, keeps-addresses, keeps-links, links-of}
 use Rattle.dap_end.proofs.Ports.{never-none, node-moved, port-there}
