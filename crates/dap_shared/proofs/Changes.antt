@@ -89,7 +89,7 @@ unallowed (put_record (Some n) body) file s e = refused-first s.rights.put _ (pu
 unallowed (update_record body) file s e = refused-first s.rights.upd _ (update_record body) file s e
 unallowed delete_record file s e = refused-first s.rights.del _ delete_record file s e
 
-or-true : (b : Bool) → (b || true) ≡ true
+pub or-true : (b : Bool) → (b || true) ≡ true
 or-true true = refl
 or-true false = refl
 

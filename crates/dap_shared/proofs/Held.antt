@@ -3,6 +3,8 @@ use Rattle.std.proofs.Common.{◌≡◌, false, ℕ, zero, suc, ◌<◌, List, [
 use Rattle.std.specs.List.{remove}
 use Rattle.std.specs.Prelude.{IfErr, IfSome, IfOk, OnOk, OnErr, Result, Ok, Err, get_or, set, replicate}
 use Rattle.std.specs.Global.{Vec}
+use Rattle.std.specs.Vec.{with_items}
+use Rattle.std.proofs.lemmas.List.{with_items_is}
 use Rattle.std.proofs.lemmas.Bool.{cases_eq}
 use Rattle.std.proofs.lemmas.List.{get_or-set_same, get_or-set_other, length-map, length-set}
 use Rattle.std.proofs.Math.ListN.{get_or-map}
@@ -84,6 +86,12 @@ held-open v link h =
     is-open v.files (session_at v.setup link v.sessions).phase
     (subst (λ (x : Option OpenFile). IfSome x (λ o. o.at < length v.files)) (sym held) (subst (λ (l : Files). IfSome (open_on (exchange_at link node)) (λ o. o.at < length l)) files (shares.within link)))
     (h.numbers link)
+
+-- the same whatever stands for a link that isn't there
+pub open-alike : (files : Files) (own other : ServerSetup) (link : ℕ) (sessions : List SessionValue) → link < length sessions → IsOpenIn files (session_at own link sessions).phase → IsOpenIn files (session_at other link sessions).phase
+open-alike files own other link [] lt held = absurd (let none : ⊥ = omega (arith, lt) in none)
+open-alike files own other zero (s ∷ sessions) lt held = held
+open-alike files own other (suc link) (s ∷ sessions) lt held = open-alike files own other link sessions (omega (arith, lt)) held
 
 -- one session was put back, and the others have moved up
 pub numbers-then : (own : ServerSetup) (sessions : List SessionValue) (link : ℕ) (r : Option OpenFile) (rest : List SessionValue) (s : SessionValue) → link < length sessions
@@ -233,3 +241,18 @@ new-held own links sessions low e =
       after = new-shared own links sessions e;
       numbers = λ i. subst (λ (l : List SessionValue). HasNumber (session_at own i l).phase) (sym e) (all-fresh own links i);
     }
+
+-- ---- A slice of all sessions is as long as it was.
+
+pub served-many : (own : ServerSetup) (link : ℕ) (item : Item) (files files' : Files) (sessions sessions' : List SessionValue) (r : Result Served NoMemory)
+    → IfOk r (λ served. MovesOn own link item files sessions files' sessions' served.answers) → OnErr r ((files' ≡ files) × (sessions' ≡ sessions)) → length sessions' ≡ length sessions
+served-many own link item files files' sessions sessions' (Ok served) ok err =
+    ap (λ (l : List SessionValue). length l) ok.back
+    ∙ length-set ok.others link ok.session
+    ∙ ap (λ (l : List SessionValue). length l) ok.moves.moved
+    ∙ length-map (set sessions link (no_session own)) (session_moved_up (gone_by files files' (session_at own link sessions).phase))
+    ∙ length-set sessions link (no_session own)
+served-many own link item files files' sessions sessions' (Err f) ok err = ap (λ (l : List SessionValue). length l) err.1
+
+pub refilled : (v : Vec SessionValue) (ws : List SessionValue) → length ws ≡ length v.items → (with_items v ws).items ≡ ws
+refilled v ws many = with_items_is v ws (many ∙ sym v.ok.0)

@@ -1,5 +1,5 @@
 -- What one link's session does beside those of the others.
-use Rattle.std.specs.Prelude.{ℕ, ◌≡◌, ◌≤◌, Bool, true, false, nat_lt, if◌then◌else◌, List, [], ◌∷◌, length, map, Option, Some, None}
+use Rattle.std.specs.Prelude.{ℕ, ◌≡◌, ◌≤◌, Bool, true, false, ◌||◌, nat_lt, if◌then◌else◌, List, [], ◌∷◌, length, map, Option, Some, None}
 use Rattle.std.specs.List.{list_any}
 use Rattle.std.specs.Global.{Vec}
 use Rattle.dap_msg.specs.BothEnds.{greatest_message}
@@ -34,7 +34,15 @@ ServesOrRefuses true item files s files' s' answers =
     × (s.limit ≤ greatest_message)
 ServesOrRefuses false item files s files' s' answers = ServesItem item (with_files files s) (with_files files' s') answers
 
+-- one link's session moved beside others, which are moved up where a file was removed
 pub record MovesBeside (item : Item) (files : Files) (others : List SessionValue) (s : SessionValue) (files' : Files) (others' : List SessionValue) (s' : SessionValue) (answers : Vec (Vec ℕ)) : Type 0 where
   pub does : ServesOrRefuses (is_barred others (asked_in s.setup files s.phase item)) item files s files' s' answers
   pub moved : others' ≡ map (session_moved_up (gone_by files files' s.phase)) others
+  pub there : IsOpenIn files' s'.phase
+
+-- the same beside those of the links before it and of the links after it
+pub record MovesAmong (item : Item) (files : Files) (before : List SessionValue) (s : SessionValue) (after : List SessionValue) (files' : Files) (before' : List SessionValue) (s' : SessionValue) (after' : List SessionValue) (answers : Vec (Vec ℕ)) : Type 0 where
+  pub does : ServesOrRefuses (is_barred before (asked_in s.setup files s.phase item) || is_barred after (asked_in s.setup files s.phase item)) item files s files' s' answers
+  pub first : before' ≡ map (session_moved_up (gone_by files files' s.phase)) before
+  pub rest : after' ≡ map (session_moved_up (gone_by files files' s.phase)) after
   pub there : IsOpenIn files' s'.phase
