@@ -50,13 +50,13 @@ reports_text reports = flat_map report_line reports
 abbrev pub LineAnswer : Type 0
 LineAnswer = List ℕ × Became
 
--- `refused_with` and this word
+-- `refused` and this word
 abbrev pub refused_with : List ℕ → LineAnswer
-refused_with word = (concat (codes "refused_with " ∷ word ∷ line_feed ∷ []), Done)
+refused_with word = (concat (codes "refused " ∷ word ∷ line_feed ∷ []), Done)
 
 -- why a link refuses; bytes that are no packet are answered in the words of a listing
 abbrev pub link_refusal : LinkFault → LineAnswer
-link_refusal (fault.Malformed f) = (codes "refused_with " ++ fault_line f, Done)
+link_refusal (fault.Malformed f) = (codes "refused " ++ fault_line f, Done)
 link_refusal fault.BadSetup = refused_with (codes "bad-setup")
 link_refusal fault.WrongLink = refused_with (codes "wrong-link")
 link_refusal fault.BadSequence = refused_with (codes "bad-sequence")
