@@ -33,7 +33,7 @@ fn look(frame: &[u8], out: &mut Lines) {
     }
 }
 
-/// Takes what is next of the file, and gives back what is behind it.
+/// Takes what is next of the file, and gives back what is after it.
 fn take_next<'a>(
     reading: &mut Reading,
     rest: &'a [u8],

@@ -3,7 +3,7 @@
 use crate::trouble::{Lines, Trouble};
 use dap_accessing::Request;
 use dap_end::{AskingEnd, ServingEnd};
-use nsp_link::LinkSetup;
+use nsp_link::{LARGEST_LIMIT, LinkSetup};
 use std::alloc::Global;
 
 /// The end that serves goes on while fewer bytes wait than this: 1 MiB.
@@ -16,7 +16,7 @@ fn setup(local: u16, remote: u16) -> LinkSetup {
         remote,
         seg_size: 512,
         window: 8,
-        max_message: 65_535,
+        max_message: LARGEST_LIMIT,
     }
 }
 

@@ -10,7 +10,7 @@ use dap_fields::FieldFault;
 use dap_msg::{FaultKind, MsgFault};
 use dap_world::WorldFault;
 use decnet_frames::{Counts, FramesFault};
-use linewise::TalkFault;
+use linewise::CaptureFault;
 use nsp_link::{Got, LinkFault};
 use nsp_seg::SegFault;
 use rec_file::Refusal;
@@ -148,7 +148,13 @@ const OF_FRAMES: &[FramesFault] = &[
     FramesFault::NoMemory,
 ];
 
-const OF_TALKS: &[TalkFault] = &[TalkFault::ReadFailed, TalkFault::WriteFailed];
+const OF_RUNS: &[CaptureFault] = &[
+    CaptureFault::BadLine(7),
+    CaptureFault::TooLarge,
+    CaptureFault::ReadFailed,
+    CaptureFault::WriteFailed,
+    CaptureFault::NoMemory,
+];
 
 /// Prints faults of one type, each in a line.
 fn print<E: Error>(of: &str, faults: &[E], out: &mut Lines) {
@@ -172,7 +178,7 @@ pub fn call(out: &mut Lines) {
     print("end", OF_ENDS, out);
     print("taking", OF_TAKING, out);
     print("world", OF_WORLDS, out);
-    print("talk", OF_TALKS, out);
+    print("run", OF_RUNS, out);
     print("file kind", FILE_KINDS, out);
     print("file", OF_FILES, out);
     print("frames", OF_FRAMES, out);

@@ -2,8 +2,8 @@
 use Rattle.std.proofs.Common.{◌≡◌, ℕ, ◌+◌, ◌≤◌, List, [], ◌++◌, take, drop, length, Result, Ok, Err, arith, refl, ap, sym, subst, ◌∙◌, length-append, append-nil, append_assoc, inl, inr}
 use Rattle.std.proofs.lemmas.List.{take-append-le}
 use Rattle.std.proofs.Math.Seq.{take-append_seam, drop-append_seam}
-use Rattle.capture_file.specs.Units.{IsUnit, extent_of, head_len, kept_of}
-use Rattle.capture_file.specs.Files.{IsCut, IsNone, IsPart, IsWhole, Stops, Units, clamped as offset_of}
+use Rattle.capture_file.specs.Units.{IsUnit, extent_of, head_len, kept_prefix}
+use Rattle.capture_file.specs.Files.{IsCutShort, IsNone, IsPart, IsWhole, Stops, Units, clamped as offset_of}
 use Rattle.capture_file.specs.Files.Units.{no_more, one_more}
 use Rattle.capture_file.specs.Meanings.{Record, format_after, interfaces_after, meaning_of, records_of}
 use Rattle.capture_file.specs.declared.fault.FaultKind.{FaultKind}
@@ -16,7 +16,7 @@ use Rattle.capture_file.proofs.StateLemmas.{head_least}
 -- no unit stands there
 abbrev pub IsStuck : Format → List Interface → List ℕ → Type 0
 IsStuck format interfaces rest = (unit more : List ℕ) (extent : Extent) (meaning : Meaning) → rest ≡ unit ++ more → IsUnit format extent unit
-    → meaning_of format interfaces (kept_of extent unit) ≡ Ok meaning → ⊥
+    → meaning_of format interfaces (kept_prefix extent unit) ≡ Ok meaning → ⊥
 
 -- the head of a unit is that of what begins with it
 head_in : (format : Format) (extent : Extent) (rest unit more : List ℕ) → rest ≡ unit ++ more → IsUnit format extent unit
@@ -83,7 +83,7 @@ stuck_none format interfaces rest kind none unit more extent meaning e is means 
       | inl head ↦ never extent kind (sym (head_in format extent rest unit more e is) ∙ head.1)
       | inr bad ↦
           let one = one_unit format extent bad.2 unit bad.0 more bad.1 is bad.4 (sym e ∙ bad.3) in
-          never_meaning meaning kind (sym means ∙ (ap (λ x. meaning_of format interfaces (kept_of x unit)) one.0 ∙ (ap (λ xs. meaning_of format interfaces (kept_of bad.2 xs)) one.1 ∙ bad.5)))
+          never_meaning meaning kind (sym means ∙ (ap (λ x. meaning_of format interfaces (kept_prefix x unit)) one.0 ∙ (ap (λ xs. meaning_of format interfaces (kept_prefix bad.2 xs)) one.1 ∙ bad.5)))
     ]
 
 -- two faults at one place are one
@@ -99,7 +99,7 @@ one_kind format interfaces rest kind other none nor =
         | inl first ↦ absurd (never bad.2 other (sym (head_in format bad.2 rest bad.0 bad.1 bad.3 bad.4) ∙ first.1))
         | inr worse ↦
             let one = one_unit format bad.2 worse.2 bad.0 worse.0 bad.1 worse.1 bad.4 worse.4 (sym bad.3 ∙ worse.3) in
-            err_meaning kind other (sym bad.5 ∙ (ap (λ x. meaning_of format interfaces (kept_of x bad.0)) one.0 ∙ (ap (λ xs. meaning_of format interfaces (kept_of worse.2 xs)) one.1 ∙ worse.5)))
+            err_meaning kind other (sym bad.5 ∙ (ap (λ x. meaning_of format interfaces (kept_prefix x bad.0)) one.0 ∙ (ap (λ xs. meaning_of format interfaces (kept_prefix worse.2 xs)) one.1 ∙ worse.5)))
       ]
     ]
 
@@ -146,12 +146,12 @@ one_reading x y (one_more {bytes} unit extent meaning is means units) no_more he
     absurd (there unit (bytes ++ x) extent meaning (sym e ∙ append_assoc unit bytes x) is means)
 one_reading x y (one_more {format} {last} {interfaces} {described} {bytes} {records} unit extent meaning is means units) (one_more {last = end} {described = told} {bytes = others} {records = more} other extent2 meaning2 are mean units2) here there e =
     let one = one_unit format extent extent2 unit other (bytes ++ x) (others ++ y) is are (sym (append_assoc unit bytes x) ∙ (e ∙ append_assoc other others y)) in
-    let mean_is : meaning ≡ meaning2 = ok_meaning meaning meaning2 (sym means ∙ (ap (λ z. meaning_of format interfaces (kept_of z unit)) one.0 ∙ (ap (λ xs. meaning_of format interfaces (kept_of extent2 xs)) one.1 ∙ mean))) in
-    let kept_is : kept_of extent unit ≡ kept_of extent2 other = ap (λ z. kept_of z unit) one.0 ∙ ap (λ xs. kept_of extent2 xs) one.1 in
+    let mean_is : meaning ≡ meaning2 = ok_meaning meaning meaning2 (sym means ∙ (ap (λ z. meaning_of format interfaces (kept_prefix z unit)) one.0 ∙ (ap (λ xs. meaning_of format interfaces (kept_prefix extent2 xs)) one.1 ∙ mean))) in
+    let kept_is : kept_prefix extent unit ≡ kept_prefix extent2 other = ap (λ z. kept_prefix z unit) one.0 ∙ ap (λ xs. kept_prefix extent2 xs) one.1 in
     let rest = one_reading x y units (subst (λ (m : Meaning). Units (format_after format m) (interfaces_after interfaces m) others more end told) (sym mean_is) units2) here there one.2 in
     record {
       bytes_are = ap (λ xs. xs ++ bytes) one.1 ∙ ap (λ xs. other ++ xs) rest.bytes_are;
-      records_are = ap (λ k. records_of k meaning ++ records) kept_is ∙ (ap (λ m. records_of (kept_of extent2 other) m ++ records) mean_is ∙ ap (λ r. records_of (kept_of extent2 other) meaning2 ++ r) rest.records_are);
+      records_are = ap (λ k. records_of k meaning ++ records) kept_is ∙ (ap (λ m. records_of (kept_prefix extent2 other) m ++ records) mean_is ∙ ap (λ r. records_of (kept_prefix extent2 other) meaning2 ++ r) rest.records_are);
       last_is = rest.last_is;
       described_are = rest.described_are;
     }
@@ -172,7 +172,7 @@ stops_one bytes records others kind other at place s t =
     (subst (λ (xs : List ℕ). IsNone s.format s.interfaces xs kind) rests s.none)) in
     (one.records_are, one_kind t.format t.interfaces t.rest kind other none t.none, s.offset ∙ (ap (λ f. offset_of (length f)) one.bytes_are ∙ sym t.offset))
 
-pub cuts_one : (bytes : List ℕ) (records others : List Record) (at place : ℕ) → IsCut bytes records at → IsCut bytes others place → (records ≡ others) × (at ≡ place)
+pub cuts_one : (bytes : List ℕ) (records others : List Record) (at place : ℕ) → IsCutShort bytes records at → IsCutShort bytes others place → (records ≡ others) × (at ≡ place)
 cuts_one bytes records others at place s t =
     let joined = sym s.joined ∙ t.joined in
     let one = one_reading s.rest t.rest s.units t.units (stuck_part s.format s.interfaces s.rest s.partial) (stuck_part t.format t.interfaces t.rest t.partial) joined in
@@ -201,7 +201,7 @@ whole_or_stops bytes records others kind at w s =
     let rests = rest_one bytes s.front [] s.rest one.bytes_are joined in
     none_empty s.format s.interfaces kind (subst (λ (xs : List ℕ). IsNone s.format s.interfaces xs kind) (sym rests) s.none)
 
-pub whole_or_cut : (bytes : List ℕ) (records others : List Record) (at : ℕ) → IsWhole bytes records → IsCut bytes others at → ⊥
+pub whole_or_cut : (bytes : List ℕ) (records others : List Record) (at : ℕ) → IsWhole bytes records → IsCutShort bytes others at → ⊥
 whole_or_cut bytes records others at w s =
     let joined = append-nil bytes ∙ s.joined in
     let one = one_reading [] s.rest w.units s.units (stuck_end w.format w.interfaces) (stuck_part s.format s.interfaces s.rest s.partial) joined in
@@ -211,7 +211,7 @@ whole_or_cut bytes records others at w s =
       | inr start ↦ w.begun (one.last_is ∙ start)
     ]
 
-pub cut_or_stops : (bytes : List ℕ) (records others : List Record) (kind : FaultKind) (at place : ℕ) → IsCut bytes records place → Stops bytes others kind at → ⊥
+pub cut_or_stops : (bytes : List ℕ) (records others : List Record) (kind : FaultKind) (at place : ℕ) → IsCutShort bytes records place → Stops bytes others kind at → ⊥
 cut_or_stops bytes records others kind at place s t =
     let joined = sym s.joined ∙ t.joined in
     let one = one_reading s.rest t.rest s.units t.units (stuck_part s.format s.interfaces s.rest s.partial) (stuck_none t.format t.interfaces t.rest kind t.none) joined in

@@ -2,12 +2,12 @@
 use Rattle.std.proofs.Common.{◌≡◌, ℕ, ◌+◌, ◌-◌, ◌<◌, ◌≤◌, nat_lt, Bool, true, false, List, [], ◌++◌, take, drop, length, if◌then◌else◌, Option, Some, None, Ok, Err, arith, refl, ap, sym, subst, ◌∙◌, length-append, append_assoc, append-nil, inl, inr}
 use Rattle.std.proofs.lemmas.List.{take-append-le, drop-append-le, drop_all, take_all, take-append-drop}
 use Rattle.std.proofs.lemmas.Bool.{cond_both, ltb-true, ltb-false}
-use Rattle.capture_file.specs.Units.{IsUnit, extent_of, head_len, kept_of}
+use Rattle.capture_file.specs.Units.{IsUnit, extent_of, head_len, kept_prefix}
 use Rattle.capture_file.specs.Files.{HasUnits, IsNone, Stops, Units, clamped}
 use Rattle.capture_file.specs.Files.Units.{no_more, one_more}
 use Rattle.capture_file.specs.Meanings.{Record, format_after, interfaces_after, meaning_of, records_of}
 use Rattle.capture_file.specs.Reading.{Gathers, HasRead, IsMeasured, given_in, keeps, wanted}
-use Rattle.capture_file.specs.Inner.State.{GoesOn, Lies, Stands, Stays, given_by, goal_of}
+use Rattle.capture_file.specs.Inner.State.{ReadsUnit, Lies, IsInUnits, KeepsUnits, given_by, goal_of}
 use Rattle.capture_file.specs.declared.fault.FaultKind.{FaultKind}
 use Rattle.capture_file.specs.declared.units.Extent.{Extent}
 use Rattle.capture_file.specs.declared.units.Format.{Format}
@@ -53,8 +53,8 @@ goal_ahead format (Some e) seen h =
 passed_more : (b : Bool) (long : ℕ) (rest more : List ℕ) → 12 ≤ length rest → nat_lt (length rest) (long - 4) ≡ b
     → (let goal : ℕ × Bool = if b then (long - 4, false) else (long, true) in
     length rest + length more ≤ goal.0
-    → (goal.1 ≡ true → kept_of (record { long = long; whole = false }) (rest ++ more) ≡ kept_of (record { long = long; whole = false }) rest ++ more)
-    × (goal.1 ≡ false → kept_of (record { long = long; whole = false }) (rest ++ more) ≡ kept_of (record { long = long; whole = false }) rest))
+    → (goal.1 ≡ true → kept_prefix (record { long = long; whole = false }) (rest ++ more) ≡ kept_prefix (record { long = long; whole = false }) rest ++ more)
+    × (goal.1 ≡ false → kept_prefix (record { long = long; whole = false }) (rest ++ more) ≡ kept_prefix (record { long = long; whole = false }) rest))
 passed_more true long rest more head below = λ h. (
   λ f. absurd (cc),
   λ _.
@@ -120,10 +120,10 @@ gathers_more old begun new goal rest part g short lies seen kept goal_is few lie
     (measured_more old.format old.extent rest part g.measured)
     (omega (arith, length-append rest part, goal_within old.format old.extent (length rest)))
 
--- ---- behind units
+-- ---- after units
 
-pub stands_on : (old new : Reading) (bytes part : List ℕ) (records : List Record) (h : HasRead old bytes records) → Stays old new
-    → Gathers new (h.rest ++ part) → Stands new (bytes ++ part) records (h.rest ++ part)
+pub stands_on : (old new : Reading) (bytes part : List ℕ) (records : List Record) (h : HasRead old bytes records) → KeepsUnits old new
+    → Gathers new (h.rest ++ part) → IsInUnits new (bytes ++ part) records (h.rest ++ part)
 stands_on old new bytes part records h stays gathers = record {
   front = h.front;
   joined = ap (λ xs. xs ++ part) h.joined ∙ append_assoc h.front h.rest part;
@@ -156,19 +156,19 @@ stops_at old bytes piece count records kind h none = record {
   offset = h.offset;
 }
 
-pub none_at : (old new : Reading) (rest : List ℕ) (kind : FaultKind) → Stays old new
+pub none_at : (old new : Reading) (rest : List ℕ) (kind : FaultKind) → KeepsUnits old new
     → IsNone new.format new.interfaces.items rest kind → IsNone old.format old.interfaces.items rest kind
 none_at old new rest kind stays none =
     subst (λ (f : Format). IsNone f old.interfaces.items rest kind) stays.format
     (subst (λ (i : List Interface). IsNone new.format i rest kind) stays.interfaces none)
 
-pub stays_both : (old now new : Reading) → Stays old now → Stays now new → Stays old new
+pub stays_both : (old now new : Reading) → KeepsUnits old now → KeepsUnits now new → KeepsUnits old new
 stays_both old now new a b = record { format = b.format ∙ a.format; interfaces = b.interfaces ∙ a.interfaces; offset = b.offset ∙ a.offset }
 
 -- ---- a unit is whole
 
 pub unit_of : (r : Reading) (rest : List ℕ) (e : Extent) → Gathers r rest → r.extent ≡ Some e → e.long ≤ r.seen
-    → IsUnit r.format e rest × (r.kept.items ≡ kept_of e rest)
+    → IsUnit r.format e rest × (r.kept.items ≡ kept_prefix e rest)
 unit_of r rest e g is long =
     let measured = subst (λ (x : Option Extent). IsMeasured r.format x rest) is g.measured in
     let within : length rest ≤ e.long = subst (λ (x : Option Extent). length rest ≤ wanted r.format x) is g.within in
@@ -180,22 +180,22 @@ unit_of r rest e g is long =
 
 -- a unit more
 pub units_more : {format last : Format} {interfaces described : List Interface} {bytes : List ℕ} {records : List Record} (unit : List ℕ) (e : Extent) (meaning : Meaning)
-    → Units format interfaces bytes records last described → IsUnit last e unit → meaning_of last described (kept_of e unit) ≡ Ok meaning
-    → Units format interfaces (bytes ++ unit) (records ++ records_of (kept_of e unit) meaning) (format_after last meaning) (interfaces_after described meaning)
+    → Units format interfaces bytes records last described → IsUnit last e unit → meaning_of last described (kept_prefix e unit) ≡ Ok meaning
+    → Units format interfaces (bytes ++ unit) (records ++ records_of (kept_prefix e unit) meaning) (format_after last meaning) (interfaces_after described meaning)
 units_more unit e meaning (no_more {format} {interfaces}) is means =
     let more = one_more unit e meaning is means no_more in
     subst (λ (records : List Record). Units format interfaces unit records (format_after format meaning) (interfaces_after interfaces meaning))
-    (append-nil (records_of (kept_of e unit) meaning))
-    (subst (λ (bytes : List ℕ). Units format interfaces bytes (records_of (kept_of e unit) meaning ++ []) (format_after format meaning) (interfaces_after interfaces meaning))
+    (append-nil (records_of (kept_prefix e unit) meaning))
+    (subst (λ (bytes : List ℕ). Units format interfaces bytes (records_of (kept_prefix e unit) meaning ++ []) (format_after format meaning) (interfaces_after interfaces meaning))
     (append-nil unit) more)
 units_more unit e meaning (one_more {format} {last} {interfaces} {described} {bytes} {records} first extent said is_first said_is units) is means =
     let more = one_more first extent said is_first said_is (units_more unit e meaning units is means) in
     subst (λ (all : List Record). Units format interfaces ((first ++ bytes) ++ unit) all (format_after last meaning) (interfaces_after described meaning))
-    (sym (append_assoc (records_of (kept_of extent first) said) records (records_of (kept_of e unit) meaning)))
-    (subst (λ (all : List ℕ). Units format interfaces all (records_of (kept_of extent first) said ++ (records ++ records_of (kept_of e unit) meaning)) (format_after last meaning) (interfaces_after described meaning))
+    (sym (append_assoc (records_of (kept_prefix extent first) said) records (records_of (kept_prefix e unit) meaning)))
+    (subst (λ (all : List ℕ). Units format interfaces all (records_of (kept_prefix extent first) said ++ (records ++ records_of (kept_prefix e unit) meaning)) (format_after last meaning) (interfaces_after described meaning))
     (sym (append_assoc first bytes unit)) more)
 
-pub read_on : (r : Reading) (bytes rest : List ℕ) (records : List Record) → Stands r bytes records rest → length rest < wanted r.format r.extent
+pub read_on : (r : Reading) (bytes rest : List ℕ) (records : List Record) → IsInUnits r bytes records rest → length rest < wanted r.format r.extent
     → HasRead r bytes (records ++ [])
 read_on r bytes rest records s short = record {
   front = s.front;
@@ -217,14 +217,14 @@ pub clamped_on : (a b n : ℕ) → a ≡ clamped n → clamped (a + b) ≡ clamp
 clamped_on a b n e = omega arith
 
 pub read_more : (old new : Reading) (bytes rest : List ℕ) (records : List Record) (e : Extent) (meaning : Meaning) (given : Option Given)
-    → Stands old bytes records rest → old.extent ≡ Some e → e.long ≤ old.seen
-    → meaning_of old.format old.interfaces.items old.kept.items ≡ Ok meaning → GoesOn old new meaning given
+    → IsInUnits old bytes records rest → old.extent ≡ Some e → e.long ≤ old.seen
+    → meaning_of old.format old.interfaces.items old.kept.items ≡ Ok meaning → ReadsUnit old new meaning given
     → HasRead new bytes (records ++ given_in new.kept.items given)
 read_more old new bytes rest records e meaning given s is long means goes =
     let unit = unit_of old rest e s.gathers is long in
     let units = units_more rest e meaning s.units unit.0 (ap (λ kept. meaning_of old.format old.interfaces.items kept) (sym unit.1) ∙ means) in
-    let same : given_in new.kept.items given ≡ records_of (kept_of e rest) meaning =
-    ap (λ x. given_in new.kept.items x) goes.given ∙ (ap (λ k. given_in k (given_by meaning)) (goes.kept ∙ unit.1) ∙ records_are (kept_of e rest) meaning) in
+    let same : given_in new.kept.items given ≡ records_of (kept_prefix e rest) meaning =
+    ap (λ x. given_in new.kept.items x) goes.given ∙ (ap (λ k. given_in k (given_by meaning)) (goes.kept ∙ unit.1) ∙ records_are (kept_prefix e rest) meaning) in
     let seen : old.seen ≡ length rest = s.gathers.seen in
     record {
       front = s.front ++ rest;
@@ -251,7 +251,7 @@ head_of r rest g none seen =
     (g.kept (omega (arith, head_least r.format)) ∙ ap (λ x. keeps x rest) none, take_all _ rest (omega arith), omega arith)
 
 kept_head : (whole : Bool) (long : ℕ) (rest : List ℕ) → (whole ≡ false → (length rest ≡ 12) × (16 ≤ long))
-    → kept_of (record { long = long; whole = whole }) rest ≡ rest
+    → kept_prefix (record { long = long; whole = whole }) rest ≡ rest
 kept_head true long rest h = refl
 kept_head false long rest h =
     let few = h refl in

@@ -9,7 +9,7 @@ use Rattle.capture_file.specs.Units.{IsUnit, extent_of, max_unit, record_extent}
 use Rattle.capture_file.specs.Files.{IsWhole, Units}
 use Rattle.capture_file.specs.Files.Units.{no_more, one_more}
 use Rattle.capture_file.specs.Meanings.{Record, meaning_of, record_meaning, records_of}
-use Rattle.capture_file.specs.Written.{Fits, Frame, header_bytes, pcap_bytes, record_bytes, record_in}
+use Rattle.capture_file.specs.Written.{FitsFrame, Frame, file_header_bytes, pcap_bytes, record_bytes, record_of_frame}
 use Rattle.capture_file.specs.declared.fault.FaultKind.{FaultKind}
 use Rattle.capture_file.specs.declared.fault.FaultKind.TheVariants.{BadLength, TooLong}
 use Rattle.capture_file.specs.declared.units.Extent.{Extent}
@@ -24,19 +24,19 @@ use Rattle.capture_file.specs.declared.meaning.Meaning.TheVariants.{Begins, Give
 abbrev pub whole_of : ℕ → Extent
 whole_of long = record { long = long; whole = true }
 
-header_extent : (order : Order) → extent_of Start (take 12 (header_bytes order)) ≡ Ok (whole_of 24)
+header_extent : (order : Order) → extent_of Start (take 12 (file_header_bytes order)) ≡ Ok (whole_of 24)
 unfolding u32_at
 header_extent Big = refl
 header_extent Little = refl
 
-header_long : (order : Order) → length (header_bytes order) ≡ 24
+header_long : (order : Order) → length (file_header_bytes order) ≡ 24
 header_long Big = refl
 header_long Little = refl
 
-header_unit : (order : Order) → IsUnit Start (whole_of 24) (header_bytes order)
+header_unit : (order : Order) → IsUnit Start (whole_of 24) (file_header_bytes order)
 header_unit order = record { has_head = omega (arith, header_long order); extent_is = header_extent order; long = header_long order }
 
-header_means : (order : Order) → meaning_of Start [] (header_bytes order) ≡ Ok (Begins (Pcap order 6))
+header_means : (order : Order) → meaning_of Start [] (file_header_bytes order) ≡ Ok (Begins (Pcap order 6))
 unfolding u32_at
 header_means Big = refl
 header_means Little = refl
@@ -66,7 +66,7 @@ behind_record : (order : Order) (f : Frame) → drop 16 (record_bytes order f) �
 behind_record Big f = refl
 behind_record Little f = refl
 
-record_unit : (order : Order) (f : Frame) → Fits f → IsUnit (Pcap order 6) (whole_of (16 + length f.bytes)) (record_bytes order f)
+record_unit : (order : Order) (f : Frame) → FitsFrame f → IsUnit (Pcap order 6) (whole_of (16 + length f.bytes)) (record_bytes order f)
 record_unit order f fits =
     let long : length f.bytes ≤ max_unit = fits.long in
     record {
@@ -79,7 +79,7 @@ record_unit order f fits =
 abbrev pub given_for : ℕ → ℕ → ℕ → Result Meaning FaultKind
 given_for seconds parts count = Ok (Gives (record { time = Some (record { parts = seconds * 1000000 + parts; resolution = 6; offset = 0 }); is_ethernet = true; from = 16; count = count }))
 
-record_means : (order : Order) (f : Frame) → Fits f → record_meaning order 6 (record_bytes order f) ≡ given_for f.seconds f.parts (length f.bytes)
+record_means : (order : Order) (f : Frame) → FitsFrame f → record_meaning order 6 (record_bytes order f) ≡ given_for f.seconds f.parts (length f.bytes)
 record_means order f fits =
     let kept = record_bytes order f in
     let long : 16 ≤ length kept = omega (arith, record_long order f) in
@@ -92,28 +92,28 @@ record_means order f fits =
 abbrev pub meaning_for : Frame → Meaning
 meaning_for f = Gives (record { time = Some (record { parts = f.seconds * 1000000 + f.parts; resolution = 6; offset = 0 }); is_ethernet = true; from = 16; count = length f.bytes })
 
-record_given : (order : Order) (f : Frame) → records_of (record_bytes order f) (meaning_for f) ≡ record_in f ∷ []
+record_given : (order : Order) (f : Frame) → records_of (record_bytes order f) (meaning_for f) ≡ record_of_frame f ∷ []
 record_given order f =
     let framed : List ℕ → List Record = λ xs. record { time = Some (record { parts = f.seconds * 1000000 + f.parts; resolution = 6; offset = 0 }); is_ethernet = true; bytes = xs } ∷ [] in
     ap framed (ap (λ xs. take (length f.bytes) xs) (behind_record order f) ∙ take-length f.bytes)
 
 -- ---- a file
 
-records_read : (order : Order) (frames : List Frame) → AllByRecursion Fits frames
-    → Units (Pcap order 6) [] (flat_map (record_bytes order) frames) (map record_in frames) (Pcap order 6) []
+records_read : (order : Order) (frames : List Frame) → AllByRecursion FitsFrame frames
+    → Units (Pcap order 6) [] (flat_map (record_bytes order) frames) (map record_of_frame frames) (Pcap order 6) []
 records_read order [] fits = no_more
 records_read order (f ∷ frames) fits =
-    subst (λ (some : List Record). Units (Pcap order 6) [] (record_bytes order f ++ flat_map (record_bytes order) frames) (some ++ map record_in frames) (Pcap order 6) [])
+    subst (λ (some : List Record). Units (Pcap order 6) [] (record_bytes order f ++ flat_map (record_bytes order) frames) (some ++ map record_of_frame frames) (Pcap order 6) [])
     (record_given order f)
     (one_more (record_bytes order f) (whole_of (16 + length f.bytes)) (meaning_for f) (record_unit order f fits.0) (record_means order f fits.0) (records_read order frames fits.1))
 
 not_start : (order : Order) → Pcap order 6 ≡ Start → ⊥
 not_start order e = cc
 
-pub written_read : (order : Order) (frames : List Frame) → AllByRecursion Fits frames → IsWhole (pcap_bytes order frames) (map record_in frames)
+pub written_read : (order : Order) (frames : List Frame) → AllByRecursion FitsFrame frames → IsWhole (pcap_bytes order frames) (map record_of_frame frames)
 written_read order frames fits = record {
   format = Pcap order 6;
   begun = not_start order;
   interfaces = [];
-  units = one_more (header_bytes order) (whole_of 24) (Begins (Pcap order 6)) (header_unit order) (header_means order) (records_read order frames fits);
+  units = one_more (file_header_bytes order) (whole_of 24) (Begins (Pcap order 6)) (header_unit order) (header_means order) (records_read order frames fits);
 }

@@ -1,6 +1,6 @@
 -- A file of captured frames: units end to end.
 use Rattle.std.specs.Prelude.{◌≡◌, ◌≢◌, ℕ, ◌<◌, ◌≤◌, ◌⊎◌, List, [], ◌++◌, take, length, min, Ok, Err}
-use Rattle.capture_file.specs.Units.{IsUnit, extent_of, head_len, kept_of}
+use Rattle.capture_file.specs.Units.{IsUnit, extent_of, head_len, kept_prefix}
 use Rattle.capture_file.specs.Meanings.{Record, format_after, interfaces_after, meaning_of, records_of}
 use Rattle.capture_file.specs.declared.fault.FaultKind.{FaultKind}
 use Rattle.capture_file.specs.declared.units.Extent.{Extent}
@@ -14,9 +14,9 @@ pub data Units : Format → List Interface → (bytes : List ℕ) → List Recor
   no_more : {format : Format} {interfaces : List Interface} → Units format interfaces [] [] format interfaces
   one_more : {format last : Format} {interfaces described : List Interface} {bytes : List ℕ} {records : List Record}
       (unit : List ℕ) (extent : Extent) (meaning : Meaning)
-      → IsUnit format extent unit → meaning_of format interfaces (kept_of extent unit) ≡ Ok meaning
+      → IsUnit format extent unit → meaning_of format interfaces (kept_prefix extent unit) ≡ Ok meaning
       → Units (format_after format meaning) (interfaces_after interfaces meaning) bytes records last described
-      → Units format interfaces (unit ++ bytes) (records_of (kept_of extent unit) meaning ++ records) last described
+      → Units format interfaces (unit ++ bytes) (records_of (kept_prefix extent unit) meaning ++ records) last described
 
 -- a prefix of a file: whole units
 abbrev pub HasUnits : (bytes : List ℕ) → List Record → Format → List Interface → Type 0
@@ -34,7 +34,7 @@ abbrev pub IsNone : Format → List Interface → List ℕ → FaultKind → Typ
 IsNone format interfaces rest kind =
     ((head_len format ≤ length rest) × (extent_of format (take (head_len format) rest) ≡ Err kind))
     ⊎ ((unit more : List ℕ) × (extent : Extent) × (rest ≡ unit ++ more) × IsUnit format extent unit
-    × (meaning_of format interfaces (kept_of extent unit) ≡ Err kind))
+    × (meaning_of format interfaces (kept_prefix extent unit) ≡ Err kind))
 
 -- a count, or 2^64 - 1 where it is greater
 abbrev pub clamped : ℕ → ℕ
@@ -52,7 +52,7 @@ pub record Stops (bytes : List ℕ) (records : List Record) (kind : FaultKind) (
   pub offset : at ≡ clamped (length front)
 
 -- The file is cut short after these records, or is empty: the offset of the last unit.
-pub record IsCut (bytes : List ℕ) (records : List Record) (at : ℕ) : Type 0 where
+pub record IsCutShort (bytes : List ℕ) (records : List Record) (at : ℕ) : Type 0 where
   pub front : List ℕ
   pub rest : List ℕ
   pub format : Format

@@ -1,7 +1,7 @@
 -- What a unit says, by what is kept of it, and how the file continues after it.
 use Rattle.std.specs.Prelude.{ℕ, zero, suc, ◌+◌, ◌-◌, ◌*◌, ◌/◌, ◌%◌, ◌==◌, nat_lt, nat_le, min, Bool, true, false, List, [], ◌∷◌, ◌++◌, take, drop, length, slice_get, slice_range, if◌then◌else◌, Option, Some, None, Result, Ok, Err}
 use Rattle.capture_file.specs.Numbers.{u16_at, u32_at, u64_at}
-use Rattle.capture_file.specs.Units.{is_section, order_of, pcap_of}
+use Rattle.capture_file.specs.Units.{is_section, byte_order_of, pcap_of}
 use Rattle.capture_file.specs.declared.fault.FaultKind.{FaultKind}
 use Rattle.capture_file.specs.declared.fault.FaultKind.TheVariants.{UnknownMagic, UnknownOrder, OtherLink, BadLength, TooManyInterfaces}
 use Rattle.capture_file.specs.declared.units.Order.{Order}
@@ -16,14 +16,14 @@ use Rattle.capture_file.specs.declared.meaning.Meaning.TheVariants.{Begins, Desc
 -- ---- pcap
 
 -- the header's last number has the link type in its lower 16 bits: 1 is Ethernet
-abbrev pub file_of : Option Format → List ℕ → Result Meaning FaultKind
-file_of (Some (Pcap order digits)) kept =
+abbrev pub file_header_of : Option Format → List ℕ → Result Meaning FaultKind
+file_header_of (Some (Pcap order digits)) kept =
     if u32_at order 20 kept % 65536 == 1 then Ok (Begins (Pcap order digits)) else Err OtherLink
-file_of _ kept = Err UnknownMagic
+file_header_of _ kept = Err UnknownMagic
 
 -- what a header says
 abbrev pub file_meaning : List ℕ → Result Meaning FaultKind
-file_meaning kept = if nat_lt (length kept) 24 then Err BadLength else file_of (pcap_of kept) kept
+file_meaning kept = if nat_lt (length kept) 24 then Err BadLength else file_header_of (pcap_of kept) kept
 
 -- a record has seconds, and parts of a second
 abbrev pub record_meaning : Order → ℕ → List ℕ → Result Meaning FaultKind
@@ -49,9 +49,9 @@ section_of (Some order) kept = if ends_well order kept then Ok (Begins (Section 
 
 -- what the header of a section says
 abbrev pub section_meaning : List ℕ → Result Meaning FaultKind
-section_meaning kept = section_of (order_of kept) kept
+section_meaning kept = section_of (byte_order_of kept) kept
 
--- The value of the first option of a code, among at most so many. An option has a code, a length and so many bytes, which are
+-- The value of the first option of a code, among at most this many. An option has a code, a length and that many bytes, which are
 -- padded to a multiple of four; code 0 ends them.
 abbrev pub value_from : (most : ℕ) → Order → (code : ℕ) → List ℕ → Option (List ℕ)
 value_from zero order code options = None
@@ -161,10 +161,10 @@ pub record Record : Type 0 where
   pub bytes : List ℕ
 
 -- the frame that was found in what is kept
-abbrev pub record_of : List ℕ → Given → Record
-record_of kept given = record { time = given.time; is_ethernet = given.is_ethernet; bytes = take given.count (drop given.from kept) }
+abbrev pub frame_record : List ℕ → Given → Record
+frame_record kept given = record { time = given.time; is_ethernet = given.is_ethernet; bytes = take given.count (drop given.from kept) }
 
 -- the frames of a unit: one, or none
 abbrev pub records_of : List ℕ → Meaning → List Record
-records_of kept (Gives given) = record_of kept given ∷ []
+records_of kept (Gives given) = frame_record kept given ∷ []
 records_of kept _ = []

@@ -1,8 +1,8 @@
 -- What a reader of a file has read, in pieces of any size.
 use Rattle.std.specs.Prelude.{◌≡◌, ℕ, ◌+◌, ◌<◌, ◌≤◌, false, List, [], ◌∷◌, ◌++◌, take, length, Option, Some, None, Ok}
-use Rattle.capture_file.specs.Units.{extent_of, head_len, kept_of}
+use Rattle.capture_file.specs.Units.{extent_of, head_len, kept_prefix}
 use Rattle.capture_file.specs.Files.{HasUnits, clamped}
-use Rattle.capture_file.specs.Meanings.{Record, record_of}
+use Rattle.capture_file.specs.Meanings.{Record, frame_record}
 use Rattle.capture_file.specs.declared.units.Extent.{Extent}
 use Rattle.capture_file.specs.declared.units.Format.{Format}
 use Rattle.capture_file.specs.declared.meaning.Given.{Given}
@@ -11,7 +11,7 @@ use Rattle.capture_file.specs.declared.reading.Reading.{Reading}
 -- what is kept of a prefix of a unit
 abbrev pub keeps : Option Extent → List ℕ → List ℕ
 keeps None rest = rest
-keeps (Some extent) rest = kept_of extent rest
+keeps (Some extent) rest = kept_prefix extent rest
 
 -- how many bytes are wanted: of the head, or of the unit
 abbrev pub wanted : Format → Option Extent → ℕ
@@ -47,10 +47,10 @@ abbrev pub IsReady : Reading → Type 0
 IsReady r = (bytes : List ℕ) × (records : List Record) × HasRead r bytes records
 
 -- a frame is within what is kept
-abbrev pub IsWithin : List ℕ → Given → Type 0
-IsWithin kept given = given.from + given.count ≤ length kept
+abbrev pub IsWithinKept : List ℕ → Given → Type 0
+IsWithinKept kept given = given.from + given.count ≤ length kept
 
 -- the records of a frame that was found, or of none
 abbrev pub given_in : List ℕ → Option Given → List Record
 given_in kept None = []
-given_in kept (Some given) = record_of kept given ∷ []
+given_in kept (Some given) = frame_record kept given ∷ []

@@ -50,8 +50,8 @@ abbrev pub is_section : List ℕ → Bool
 is_section head = u32_at Big 0 head == 0x0A0D0D0A
 
 -- its third number tells the byte order
-abbrev pub order_of : List ℕ → Option Order
-order_of head =
+abbrev pub byte_order_of : List ℕ → Option Order
+byte_order_of head =
     if u32_at Big 8 head == 0x1A2B3C4D then Some Big
     else if u32_at Little 8 head == 0x1A2B3C4D then Some Little
     else None
@@ -60,7 +60,7 @@ order_of head =
 abbrev pub is_passed : ℕ → Bool
 is_passed kind = not (kind == 1 || kind == 3 || kind == 6)
 
--- a block of this type and length, which has at least so many bytes
+-- a block of this type and length, which has at least this many bytes
 abbrev pub block_extent : ℕ → ℕ → ℕ → Result Extent FaultKind
 block_extent least kind long =
     if nat_lt long least || not (long % 4 == 0) then Err BadLength
@@ -75,7 +75,7 @@ ordered_extent (Some order) head = block_extent 28 0x0A0D0D0A (u32_at order 4 he
 
 -- how long the header of a section is
 abbrev pub section_extent : List ℕ → Result Extent FaultKind
-section_extent head = ordered_extent (order_of head) head
+section_extent head = ordered_extent (byte_order_of head) head
 
 -- ---- a unit
 
@@ -93,5 +93,5 @@ pub record IsUnit (format : Format) (extent : Extent) (unit : List ℕ) : Type 0
   pub long : length unit ≡ extent.long
 
 -- what is kept of a unit, or of a prefix of one
-abbrev pub kept_of : Extent → List ℕ → List ℕ
-kept_of extent unit = if extent.whole then unit else take 12 unit ++ drop (extent.long - 4) unit
+abbrev pub kept_prefix : Extent → List ℕ → List ℕ
+kept_prefix extent unit = if extent.whole then unit else take 12 unit ++ drop (extent.long - 4) unit

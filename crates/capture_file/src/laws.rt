@@ -2,9 +2,9 @@
 
 ghost use Rattle.std.specs.Prelude.{◌≡◌, ℕ, List, map};
 ghost use Rattle.std.specs.List.{AllByRecursion};
-ghost use Rattle.capture_file.specs.Files.{IsCut, IsWhole, Stops};
+ghost use Rattle.capture_file.specs.Files.{IsCutShort, IsWhole, Stops};
 ghost use Rattle.capture_file.specs.Meanings.{Record};
-ghost use Rattle.capture_file.specs.Written.{Fits, Frame, pcap_bytes, record_in};
+ghost use Rattle.capture_file.specs.Written.{FitsFrame, Frame, pcap_bytes, record_of_frame};
 ghost use Rattle.capture_file.specs.declared.fault.FaultKind.{FaultKind};
 ghost use Rattle.capture_file.specs.declared.units.Order.{Order as TheOrder};
 
@@ -17,17 +17,17 @@ pub fn files_have_one_reading()
         (at place : ℕ) → Stops bytes records kind at → Stops bytes others other place
         → (records ≡ others) × (kind ≡ other) × (at ≡ place) }
     ensures cut { (bytes : List ℕ) (records others : List Record) (at place : ℕ)
-        → IsCut bytes records at → IsCut bytes others place → (records ≡ others) × (at ≡ place) }
+        → IsCutShort bytes records at → IsCutShort bytes others place → (records ≡ others) × (at ≡ place) }
     ensures whole_or_stops { (bytes : List ℕ) (records others : List Record) (kind : FaultKind)
         (at : ℕ) → IsWhole bytes records → Stops bytes others kind at → ⊥ }
     ensures whole_or_cut { (bytes : List ℕ) (records others : List Record) (at : ℕ)
-        → IsWhole bytes records → IsCut bytes others at → ⊥ }
+        → IsWhole bytes records → IsCutShort bytes others at → ⊥ }
     ensures cut_or_stops { (bytes : List ℕ) (records others : List Record) (kind : FaultKind)
-        (at place : ℕ) → IsCut bytes records place → Stops bytes others kind at → ⊥ }
+        (at place : ℕ) → IsCutShort bytes records place → Stops bytes others kind at → ⊥ }
 {}
 
 /// A pcap file of frames, as a plain writer writes it, is read as these frames.
 pub fn written_files_are_read()
-    ensures { (order : TheOrder) (frames : List Frame) → AllByRecursion Fits frames
-        → IsWhole (pcap_bytes order frames) (map record_in frames) }
+    ensures { (order : TheOrder) (frames : List Frame) → AllByRecursion FitsFrame frames
+        → IsWhole (pcap_bytes order frames) (map record_of_frame frames) }
 {}

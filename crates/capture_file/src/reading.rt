@@ -1,11 +1,11 @@
 //! Reading a file that comes in pieces.
 
 ghost use Rattle.std.specs.Prelude.{◌≡◌, ◌≢◌, ◌≤◌, ◌<◌, ◌+◌, ◌^◌, ◌⊎◌, ◌++◌, ◌∷◌, ℕ, List, [], Some, None, true, false, IfErr, IfOk, IfSome, OnOk, length, take, Ok, Err};
-ghost use Rattle.capture_file.specs.Meanings.{Record, record_of};
-ghost use Rattle.capture_file.specs.Files.{IsCut, IsNone, IsWhole, Stops};
-ghost use Rattle.capture_file.specs.Reading.{Gathers, HasRead, IsReady, IsWithin, given_in, keeps, wanted};
+ghost use Rattle.capture_file.specs.Meanings.{Record, frame_record};
+ghost use Rattle.capture_file.specs.Files.{IsCutShort, IsNone, IsWhole, Stops};
+ghost use Rattle.capture_file.specs.Reading.{Gathers, HasRead, IsReady, IsWithinKept, given_in, keeps, wanted};
 ghost use Rattle.capture_file.specs.Inner.Frames.{HasFrame};
-ghost use Rattle.capture_file.specs.Inner.State.{GoesOn, Lies, Stands, Stays, goal_of};
+ghost use Rattle.capture_file.specs.Inner.State.{ReadsUnit, Lies, IsInUnits, KeepsUnits, goal_of};
 
 use crate::meaning::{Given, Interface, Meaning, meaning_of};
 use crate::units::{Extent, Format, TAIL, extent_of, head_len};
@@ -100,7 +100,7 @@ impl Reading {
             × (length rest < wanted self.old.format self.old.extent) }
         ensures within { IfOk result (λ count. count ≤ length piece.now) }
         ensures some { IfOk result (λ count. 0 < length piece.now → 0 < count) }
-        ensures stays { OnOk result (Stays self.old self.new) }
+        ensures stays { OnOk result (KeepsUnits self.old self.new) }
         ensures gathers { IfOk result (λ count. (rest : List ℕ) → Gathers self.old rest
             → length rest < wanted self.old.format self.old.extent
             → Gathers self.new (rest ++ take count piece.now)) }
@@ -118,7 +118,7 @@ impl Reading {
     /// Reads the head of the unit, once it is there.
     fn measure(&mut self) -> Result<(), FaultKind>
         requires { (rest : List ℕ) × Gathers self.old rest }
-        ensures stays { Stays self.old self.new }
+        ensures stays { KeepsUnits self.old self.new }
         ensures gathers { OnOk result ((rest : List ℕ) → Gathers self.old rest
             → Gathers self.new rest) }
         ensures short { OnOk result (self.new.extent ≡ None
@@ -136,11 +136,11 @@ impl Reading {
         Ok(())
     }
 
-    /// Continues after a unit that says this.
-    fn go_on(&mut self, meaning: Meaning) -> Result<Option<Given>, FaultKind>
+    /// Applies what a whole unit says, and begins the next unit.
+    fn apply(&mut self, meaning: Meaning) -> Result<Option<Given>, FaultKind>
         requires { HasFrame self.old.kept.items meaning }
-        ensures goes { IfOk result (GoesOn self.old self.new meaning) }
-        ensures within { IfOk result (λ given. IfSome given (IsWithin self.new.kept.items)) }
+        ensures goes { IfOk result (ReadsUnit self.old self.new meaning) }
+        ensures within { IfOk result (λ given. IfSome given (IsWithinKept self.new.kept.items)) }
         ensures memory { IfErr result (λ kind. kind ≡ FaultKind.NoMemory) }
     {
         self.offset = self.offset.saturating_add(self.seen as u64);
@@ -166,13 +166,13 @@ impl Reading {
     /// What the unit says, once it is whole.
     fn end(&mut self) -> Result<Option<Given>, FaultKind>
         requires stands { (bytes rest : List ℕ) × (records : List Record)
-            × Stands self.old bytes records rest }
+            × IsInUnits self.old bytes records rest }
         requires measured { self.old.extent ≡ None → (rest : List ℕ) → Gathers self.old rest
             → length rest < wanted self.old.format self.old.extent }
         ensures read { IfOk result (λ given. (bytes rest : List ℕ) (records : List Record)
-            → Stands self.old bytes records rest
+            → IsInUnits self.old bytes records rest
             → HasRead self.new bytes (records ++ given_in self.new.kept.items given)) }
-        ensures within { IfOk result (λ given. IfSome given (IsWithin self.new.kept.items)) }
+        ensures within { IfOk result (λ given. IfSome given (IsWithinKept self.new.kept.items)) }
         ensures fault { IfErr result (λ kind. (kind ≡ FaultKind.NoMemory)
             ⊎ ((rest : List ℕ) → Gathers self.old rest
             → IsNone self.old.format self.old.interfaces.items rest kind)) }
@@ -184,7 +184,7 @@ impl Reading {
             return Ok(None);
         }
         match meaning_of(self.format, &self.interfaces, &self.kept) {
-            Ok(meaning) => self.go_on(meaning),
+            Ok(meaning) => self.apply(meaning),
             Err(kind) => Err(kind),
         }
     }
@@ -194,7 +194,7 @@ impl Reading {
         ensures within { IfOk result (λ step. step.taken ≤ length piece.now) }
         ensures some { IfOk result (λ step. 0 < length piece.now → 0 < step.taken) }
         ensures frame { IfOk result
-            (λ step. IfSome step.given (IsWithin self.new.kept.items)) }
+            (λ step. IfSome step.given (IsWithinKept self.new.kept.items)) }
         ensures read { IfOk result (λ step. (bytes : List ℕ) (records : List Record)
             → HasRead self.old bytes records
             → HasRead self.new (bytes ++ take step.taken piece.now)
@@ -226,7 +226,7 @@ impl Reading {
         ensures within { IfOk result (λ step. step.taken ≤ length piece.now) }
         ensures some { IfOk result (λ step. 0 < length piece.now → 0 < step.taken) }
         ensures frame { IfOk result
-            (λ step. IfSome step.given (IsWithin self.new.kept.items)) }
+            (λ step. IfSome step.given (IsWithinKept self.new.kept.items)) }
         ensures read { IfOk result (λ step. (bytes : List ℕ) (records : List Record)
             → HasRead self.old bytes records
             → HasRead self.new (bytes ++ take step.taken piece.now)
@@ -244,8 +244,8 @@ impl Reading {
 
     /// The bytes of the frame that is whole with the last bytes that were taken.
     pub fn frame(&self, given: Given) -> &[u8]
-        requires { IsWithin self.now.kept.items given }
-        ensures { result.now ≡ (record_of self.now.kept.items given).bytes }
+        requires { IsWithinKept self.now.kept.items given }
+        ensures { result.now ≡ (frame_record self.now.kept.items given).bytes }
     {
         let (_, behind) = self.kept.split_at(given.from);
         let (frame, _) = behind.split_at(given.count);
@@ -276,7 +276,7 @@ impl Reading {
             → HasRead self.now bytes records → IsWhole bytes records) }
         ensures cut { IfErr result (λ fault. (fault.kind ≡ FaultKind.CutShort)
             × ((bytes : List ℕ) (records : List Record) → HasRead self.now bytes records
-            → IsCut bytes records fault.at)) }
+            → IsCutShort bytes records fault.at)) }
     {
         let fault = FileFault {
             kind: FaultKind::CutShort,

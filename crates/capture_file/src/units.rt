@@ -1,7 +1,7 @@
 //! The units of a file, and how long they are.
 
 ghost use Rattle.std.specs.Prelude.{◌≡◌, ◌≤◌, ◌+◌, Ok, IfOk, length, true, false};
-ghost use Rattle.capture_file.specs.Units.{block_extent as the_block_extent, extent_of as the_extent, head_len as the_head_len, is_section as the_section, order_of as the_order, pcap_of as the_pcap, section_extent as the_section_extent};
+ghost use Rattle.capture_file.specs.Units.{block_extent as the_block_extent, extent_of as the_extent, head_len as the_head_len, is_section as the_section, byte_order_of as the_order, pcap_of as the_pcap, section_extent as the_section_extent};
 
 use crate::FaultKind;
 use crate::numbers::u32_at;
@@ -20,7 +20,7 @@ pub enum Order {
 pub enum Format {
     /// Nothing was read yet.
     Start,
-    /// A pcap file, whose times have so many digits of a second.
+    /// A pcap file, whose times have this many digits of a second.
     Pcap(Order, u8),
     /// A section of a pcapng file.
     Section(Order),

@@ -7,7 +7,7 @@ use Rattle.clap.specs.declared.error.Error.{Error}
 use Rattle.clap.specs.declared.error.kind.ErrorKind.TheVariants.{OutOfMemory, DisplayHelp}
 use Rattle.cli_faults.specs.Mistakes.{IsMistake, AreMistakes}
 
--- an error where nothing is at fault is want of memory
+-- an error where nothing is at fault is out of memory
 pub only_memory : (kinds : Kinds) (e : Error) → kinds ≡ [] → HasKind kinds e → kind_of e ≡ OutOfMemory
 only_memory [] e none (inl memory) = memory
 only_memory [] e none (inr among) = elim among [ ]

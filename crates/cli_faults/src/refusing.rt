@@ -7,7 +7,7 @@ ghost use Rattle.cli_faults.specs.Mistakes.{IsMistake};
 
 use clap::Error;
 use clap::error::ErrorKind;
-use dap_listing::{CaptureFault, finish, write_text};
+use linewise::{CaptureFault, finish, write_text};
 use std::alloc::Global;
 use std::io::Write;
 

@@ -1,10 +1,10 @@
 //! Lines that a command can't read.
 
 ghost use Rattle.std.specs.Prelude.{◌≡◌};
-ghost use Rattle.dap_listing.specs.Gives.{status_of};
+ghost use Rattle.linewise.specs.Gives.{status_of};
 
 use crate::files::file_kind;
-use dap_listing::{CaptureFault, Outcome, finish};
+use linewise::{CaptureFault, Outcome, finish};
 use std::io::Write;
 
 /// A command that reads lines.

@@ -40,9 +40,9 @@ use Rattle.dap_accessed.specs.declared.verbs.Verb.TheVariants as verbs
 use Rattle.std.specs.Prelude.{◌==◌, take_while, drop}
 use Rattle.std.specs.List.{prefix_len, AllByRecursion}
 use Rattle.std.proofs.lemmas.List.Sums.{take_while-cons}
-use Rattle.dap_msg.specs.BothEnds.{limit_of}
+use Rattle.dap_msg.specs.BothEnds.{message_limit}
 use Rattle.dap_accessed.specs.Standing.{Files, enters}
-use Rattle.dap_accessed.specs.Standing.{place_by, file_at, the_file, Place, Fresh, Ready, Opened, Connected, Store, Stopped, Group, Standing, Scene, Effect}
+use Rattle.dap_accessed.specs.Standing.{index_by, file_at, the_file, Place, Fresh, Ready, Opened, Connected, Store, Stopped, Group, Standing, Scene, Effect}
 use Rattle.dap_accessed.specs.Past.{asked_shape, kept_attributes, is_dropping, ordinal_so_far, next_ordinal}
 use Rattle.dap_accessed.specs.Replies.{bare_status, reason_status, sync_status, reason_of, refusal_status, done_status, record_status, too_large, completed, org_number, format_number, opened_with}
 use Rattle.dap_accessed.specs.Accesses.{permitted, rights_to_create, rights_to_open, make_file, open_file, create_file, access_file, end_stream, complete}
@@ -171,7 +171,7 @@ module _ (own : ServerSetup) (small_own : FieldsFit (Config own.identity)) (scen
 
   accessing : (a : AccessFields) (shape : Option Shape) → Good shape → Sends (access_file own scene a shape)
   accessing a shape g =
-      let found = place_by own.names a.name scene.files in
+      let found = index_by own.names a.name scene.files in
       either (a.func == codes.accfunc.opening) _ _ (opening a.fac found (place-within own.names a.name scene.files))
       (either (a.func == codes.accfunc.creating) _ _ (creating a.name a.fac found shape g) (bare scene.limit least 0x20C0 (lit< tt), tt))
 
@@ -273,7 +273,7 @@ module _ (own : ServerSetup) (small_own : FieldsFit (Config own.identity)) (scen
     with-second change s (Whole (Filedata r body)) h = second change s body
     with-second change s (Whole message) h = (out scene.limit least message h, tt)
 
-  configuring : (small : Bool) (bufsiz : ℕ) → AreSendable scene.limit (if small then enters scene Fresh (bare_status (codes.invalid codes.types.config) ∷ []) else enters (record scene { limit = limit_of bufsiz }) Ready (Config own.identity ∷ [])).answers
+  configuring : (small : Bool) (bufsiz : ℕ) → AreSendable scene.limit (if small then enters scene Fresh (bare_status (codes.invalid codes.types.config) ∷ []) else enters (record scene { limit = message_limit bufsiz }) Ready (Config own.identity ∷ [])).answers
   configuring true bufsiz = (bare scene.limit least 0x9040 (lit< tt), tt)
   configuring false bufsiz = (short scene.limit least _ (answers_fit.identity own.identity small_own), tt)
 

@@ -4,7 +4,7 @@ use Rattle.std.specs.Prelude.{◌==◌, if◌then◌else◌, take_while, drop}
 use Rattle.std.specs.List.{prefix_len, remove}
 use Rattle.std.proofs.lemmas.List.{append-nil}
 use Rattle.dap_msg.specs.Codes as codes
-use Rattle.dap_msg.specs.BothEnds.{is_too_small, limit_of}
+use Rattle.dap_msg.specs.BothEnds.{is_too_small, message_limit}
 use Rattle.dap_msg.specs.declared.message.Message.{Message}
 use Rattle.dap_msg.specs.declared.message.AccessFields.{AccessFields}
 use Rattle.dap_msg.specs.declared.message.ControlFields.{ControlFields}
@@ -22,14 +22,14 @@ use Rattle.dap_accessed.specs.declared.verbs.Verb.{Verb}
 use Rattle.dap_accessed.specs.declared.verbs.Verb.TheVariants as verbs
 use Rattle.dap_accessed.specs.Setup.{lacks, same_name}
 use Rattle.dap_accessed.specs.Replies.{bare_status}
-use Rattle.dap_accessed.specs.Standing.{Files, new_file, place_by, with_file, the_file, Place, Fresh, Ready, Opened, Connected, Store, Stopped, Group, Standing, Scene, Effect, start, enters}
+use Rattle.dap_accessed.specs.Standing.{Files, new_file, index_by, with_file, the_file, Place, Fresh, Ready, Opened, Connected, Store, Stopped, Group, Standing, Scene, Effect, start, enters}
 use Rattle.dap_accessed.specs.Past.{asked_shape, kept_attributes, is_dropping, ordinal_so_far}
 use Rattle.dap_accessed.specs.Accesses.{rights_to_create, rights_to_open, make_file, open_file, create_file, access_file, end_stream, complete}
 use Rattle.dap_accessed.specs.Records.{at_number, verb_of, get_pick, got, record_got, Change, Putting, Updating, changed, fits_limit}
 use Rattle.dap_accessed.specs.Transfers.{fetch, fetch_ends, continue_fetch}
 use Rattle.dap_accessed.specs.Effects.{Begun, Turn, Does, Begins, control_opened, control_connected, turn_in, turn_of, effect_with}
 use Rattle.dap_accessed.specs.Groups.{Grouped, After, stands_after, next_group, more_after}
-use Rattle.dap_accessed.specs.Apart.{AreApart}
+use Rattle.dap_accessed.specs.Apart.{NamesAreApart}
 use Rattle.dap_accessed.proofs.Cuts.{cut-more}
 use Rattle.dap_accessed.proofs.SoundTables.{distinct-with, distinct-without, distinct-more, none-passes}
 
@@ -39,7 +39,7 @@ module _ (own : ServerSetup) where
 
   -- files that are apart where these are
   abbrev Keeps : (old new : Files) → Type 0
-  Keeps old new = AreApart own.names old → AreApart own.names new
+  Keeps old new = NamesAreApart own.names old → NamesAreApart own.names new
 
   module _ (scene : Scene) where
     abbrev Leaves : Effect → Type 0
@@ -66,18 +66,18 @@ module _ (own : ServerSetup) where
     opening fac None = stays
     opening fac (Some at) = either (lacks own.most (rights_to_open fac)) _ _ stays stays
 
-    making : (name : List ℕ) (fac : ℕ) (shape : Option Shape) → place_by own.names name scene.files ≡ None → Leaves (make_file scene name fac shape)
+    making : (name : List ℕ) (fac : ℕ) (shape : Option Shape) → index_by own.names name scene.files ≡ None → Leaves (make_file scene name fac shape)
     making name fac None none = stays
     making name fac (Some shape) none = λ h.
         distinct-more same scene.files (name, new_file shape) h (none-passes (λ (f : List ℕ × FileVal). same f.0 name) scene.files none)
 
-    creating : (name : List ℕ) (fac : ℕ) (found : Option ℕ) (shape : Option Shape) → place_by own.names name scene.files ≡ found → Leaves (create_file own scene name fac found shape)
+    creating : (name : List ℕ) (fac : ℕ) (found : Option ℕ) (shape : Option Shape) → index_by own.names name scene.files ≡ found → Leaves (create_file own scene name fac found shape)
     creating name fac (Some at) shape e = stays
     creating name fac None shape e = either (lacks own.most (rights_to_create fac)) _ _ stays (making name fac shape e)
 
     accessing : (a : AccessFields) (shape : Option Shape) → Leaves (access_file own scene a shape)
     accessing a shape =
-        let found = place_by own.names a.name scene.files in
+        let found = index_by own.names a.name scene.files in
         either (a.func == codes.accfunc.opening) _ _ (opening a.fac found)
         (either (a.func == codes.accfunc.creating) _ _ (creating a.name a.fac found shape refl) stays)
 
@@ -150,7 +150,7 @@ module _ (own : ServerSetup) where
       with-second change s (Whole (Filedata r body)) = second change s body
       with-second change s (Whole message) = stays
 
-    configuring : (small : Bool) (bufsiz : ℕ) → Leaves (if small then enters scene Fresh (bare_status (codes.invalid codes.types.config) ∷ []) else enters (record scene { limit = limit_of bufsiz }) Ready (Config own.identity ∷ []))
+    configuring : (small : Bool) (bufsiz : ℕ) → Leaves (if small then enters scene Fresh (bare_status (codes.invalid codes.types.config) ∷ []) else enters (record scene { limit = message_limit bufsiz }) Ready (Config own.identity ∷ []))
     configuring true bufsiz = stays
     configuring false bufsiz = stays
 
@@ -188,7 +188,7 @@ module _ (own : ServerSetup) where
   more-leaves s (Some b) item = with-second s.scene b.opened b.change b.stream item
 
   abbrev IsApart : Grouped → Type 0
-  IsApart c = AreApart own.names c.standing.scene.files
+  IsApart c = NamesAreApart own.names c.standing.scene.files
 
   apart-on : (first : Files) (before more : List Item) → IsApart (stands_after own first before) → IsApart (stands_after own first (before ++ more))
   apart-on first before [] h = subst (λ (l : List Item). IsApart (stands_after own first l)) (sym (append-nil before)) h
@@ -197,5 +197,5 @@ module _ (own : ServerSetup) where
       let one : IsApart (stands_after own first (before ++ item ∷ [])) = subst IsApart (sym (cut-more own (start first) before item)) (more-leaves c.standing c.begun item h) in
       subst (λ (l : List Item). IsApart (stands_after own first l)) (append_assoc before (item ∷ []) more) (apart-on first (before ++ item ∷ []) more one)
 
-  pub all-apart : (first : Files) (items : List Item) → AreApart own.names first → AreApart own.names (After own first items)
+  pub all-apart : (first : Files) (items : List Item) → NamesAreApart own.names first → NamesAreApart own.names (After own first items)
   all-apart first items h = apart-on first [] items h

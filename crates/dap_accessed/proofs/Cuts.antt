@@ -8,22 +8,22 @@ use Rattle.dap_msg.specs.declared.message.Message.{Message}
 use Rattle.dap_msg.specs.declared.items.Item.{Item}
 use Rattle.dap_accessed.specs.Standing.{Files, Standing, start}
 use Rattle.dap_accessed.specs.Effects.{Begun, Turn, Does, Begins, turn_of}
-use Rattle.dap_accessed.specs.Groups.{Grouped, over, after_two, grouped, stands_after, added, answers_in, Answers, one_more, next_group, more_after, next_answers, answers_after, answers_of}
+use Rattle.dap_accessed.specs.Groups.{Grouped, over, after_two, grouped, stands_after, added, answers_in, Answers, after_item, next_group, more_after, next_answers, answers_after, answers_of}
 use Rattle.dap_accessed.specs.Present.{present_of}
 
-pub cut-more : (own : ServerSetup) (s : Standing) (items : List Item) (item : Item) → grouped own s (items ++ item ∷ []) ≡ one_more own (grouped own s items) item
+pub cut-more : (own : ServerSetup) (s : Standing) (items : List Item) (item : Item) → grouped own s (items ++ item ∷ []) ≡ after_item own (grouped own s items) item
 cut-more own s [] item = refl
 cut-more own s (first ∷ []) item =
     elim (turn_of own s first) as (λ (t : Turn).
     ◌≡◌ {A = Grouped} (elim t [ Does effect ↦ grouped own (over s s.place first effect) (item ∷ []) | Begins begun ↦ grouped own (after_two s begun item) [] ])
-    (one_more own (elim t [ Does effect ↦ record { standing = over s s.place first effect; begun = None } | Begins begun ↦ record { standing = s; begun = Some begun } ]) item)) [
+    (after_item own (elim t [ Does effect ↦ record { standing = over s s.place first effect; begun = None } | Begins begun ↦ record { standing = s; begun = Some begun } ]) item)) [
       | Does effect ↦ refl
       | Begins begun ↦ refl
     ]
 cut-more own s (first ∷ second ∷ items) item =
     elim (turn_of own s first) as (λ (t : Turn).
     ◌≡◌ {A = Grouped} (elim t [ Does effect ↦ grouped own (over s s.place first effect) (second ∷ (items ++ item ∷ [])) | Begins begun ↦ grouped own (after_two s begun second) (items ++ item ∷ []) ])
-    (one_more own (elim t [ Does effect ↦ grouped own (over s s.place first effect) (second ∷ items) | Begins begun ↦ grouped own (after_two s begun second) items ]) item)) [
+    (after_item own (elim t [ Does effect ↦ grouped own (over s s.place first effect) (second ∷ items) | Begins begun ↦ grouped own (after_two s begun second) items ]) item)) [
       | Does effect ↦ cut-more own (over s s.place first effect) (second ∷ items) item
       | Begins begun ↦ cut-more own (after_two s begun second) items item
     ]
@@ -51,5 +51,5 @@ added-is own first items item =
 pub Answers-more : (own : ServerSetup) (first : Files) (items : List Item) (item : Item) → Answers own first (items ++ item ∷ []) ≡ Answers own first items ++ added own first items item
 Answers-more own first items item = Answers-then own first items item ∙ ap (λ (l : List Message). Answers own first items ++ l) (sym (added-is own first items item))
 
-pub present-more : (own : ServerSetup) (first : Files) (items : List Item) (item : Item) → present_of own (stands_after own first (items ++ item ∷ [])) ≡ present_of own (one_more own (stands_after own first items) item)
+pub present-more : (own : ServerSetup) (first : Files) (items : List Item) (item : Item) → present_of own (stands_after own first (items ++ item ∷ [])) ≡ present_of own (after_item own (stands_after own first items) item)
 present-more own first items item = ap (present_of own) (cut-more own (start first) items item)

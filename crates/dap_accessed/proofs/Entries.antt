@@ -37,7 +37,7 @@ module _ (es : List Entry) (at : ℕ) (old_file file : AnyFile) (files : Files) 
       let new_is : file_at at table ≡ any_value file = there name_of any_value es at old_file file files seen within found in
       subst (λ (old : FileVal). Did old (file_at at table)) old_is (subst (λ (new : FileVal). Did (any_value old_file) new) (sym new_is) did)
 
-  -- with the reply of the operation, and what is made of it where want of memory is apart
+  -- with the reply of the operation, and what is made of it where out of memory is apart
   module _ (op : Operation) (before after : StreamVal) (reply : Result ℕ Refusal) where
     pub acts : (r : Result (Result ℕ Refusal) NoMemory) → Acts op (any_value old_file) before (any_value file) after reply
         → IfOk r (λ same. (same ≡ reply) × (is_no_memory reply ≡ false)) → IfOk r (λ same. IsOutcome (act op (file_at at files) before) (file_at at table) after same)

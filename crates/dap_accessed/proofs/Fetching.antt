@@ -27,7 +27,7 @@ use Rattle.dap_accessed.specs.Records.{filedata_of, fits_limit, at_number}
 use Rattle.dap_accessed.specs.Transfers.{fetch, fetch_ends}
 use Rattle.dap_accessed.specs.Served.{Answered}
 
--- the records before the first that is too large, and that one and all behind it
+-- the records before the first that is too large, and that one and all after it
 abbrev leading : ℕ → List (ℕ × List ℕ) → List (ℕ × List ℕ)
 leading limit rs = take_while (fits_limit limit) rs
 

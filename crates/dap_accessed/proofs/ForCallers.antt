@@ -1,7 +1,7 @@
 -- What the crates above may cite of this one's proofs. No other file here is for them.
 
 -- where an end stands after one item more
-pub use Rattle.dap_accessed.specs.Groups.{one_more, more_after, next_group}
+pub use Rattle.dap_accessed.specs.Groups.{after_item, more_after, next_group}
 pub use Rattle.dap_accessed.proofs.Cuts.{cut-more}
 -- the answers to a list and one item more are those to the list, and those that the item adds
 pub use Rattle.dap_accessed.proofs.Cuts.{Answers-more, answers_after-more}

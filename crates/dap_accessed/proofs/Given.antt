@@ -3,9 +3,9 @@ use Rattle.std.proofs.Common.{◌≡◌, ℕ, ◌+◌, ◌<◌, ◌≤◌, Bool,
 use Rattle.std.specs.Prelude.{◌&&◌, ◌||◌, nat_lt, is_none, is_some, IsSome, Option, Result, Ok, Err, OnErr}
 use Rattle.std.specs.FinMap.{get}
 use Rattle.std.proofs.lemmas.Bool.{cases_lt, lt-ltb}
-use Rattle.rec_file.specs.Shapes.{is_seq, limit_of, allows_length}
+use Rattle.rec_file.specs.Shapes.{is_seq, max_number, allows_length}
 use Rattle.rec_file.specs.Files.{FileVal, IsFile, highest_of, stored}
-use Rattle.rec_file.specs.Acts.{out_of_range, is_free}
+use Rattle.rec_file.specs.Acts.{out_of_range, is_free_number}
 use Rattle.rec_file.proofs.ForCallers.{IsFile-placed}
 use Rattle.dap_accessed.specs.declared.fault.AddFault.{AddFault}
 use Rattle.dap_accessed.specs.Standing.{Files, file_at, with_file}
@@ -19,7 +19,7 @@ use Rattle.dap_accessed.proofs.SoundTables.{file-there, files-with}
 -- what is true of a record that isn't refused
 pub record Storable (file : FileVal) (n : ℕ) (body : List ℕ) : Type 0 where
   pub above : 1 ≤ n
-  pub within : n ≤ limit_of file.shape
+  pub within : n ≤ max_number file.shape
   pub free : get file.records n ≡ None
   pub next : IsTrue (is_seq file.shape.org) → n ≡ highest_of file.records + 1
   pub length : IsTrue (allows_length file.shape (length body))
@@ -48,10 +48,10 @@ pub storable : (file : FileVal) (n : ℕ) (body : List ℕ) → IsFile file → 
 storable file n body h may =
     let one = passed (not (allows_length file.shape (length body))) _ _ may in
     let two = passed (out_of_range file.shape n || leaves_gap file n) _ _ one.1 in
-    let three = passed (not (is_free file n)) _ _ two.1 in
+    let three = passed (not (is_free_number file n)) _ _ two.1 in
     let parts = neither (out_of_range file.shape n) (leaves_gap file n) two.0 in
     let range = in_range file n parts.0 in
-    let free : get file.records n ≡ None = is-none (get file.records n) (un_not (is_free file n) three.0) in
+    let free : get file.records n ≡ None = is-none (get file.records n) (un_not (is_free_number file n) three.0) in
     record {
       above = range.0;
       within = range.1;

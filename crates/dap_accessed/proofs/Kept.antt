@@ -4,9 +4,9 @@ use Rattle.std.specs.Prelude.{not, ◌&&◌, ◌||◌, nat_eq, nat_le, is_none, 
 use Rattle.std.proofs.lemmas.Bool.Decides.{nat_tests}
 use Rattle.std.specs.FinMap.{get}
 use Rattle.rec_file.specs.declared.refusals.Refusal.{Refusal}
-use Rattle.rec_file.specs.Shapes.{is_seq, limit_of, allows_length}
+use Rattle.rec_file.specs.Shapes.{is_seq, max_number, allows_length}
 use Rattle.rec_file.specs.Files.{FileVal, IsFile, highest_of}
-use Rattle.rec_file.specs.Acts.{Operation, get_record, put_record, update_record, delete_record, StreamVal, out_of_range, is_free, current_of, keeps_length, free_place, refusals_of, first_refusal, target_number, done, outcome_of, act}
+use Rattle.rec_file.specs.Acts.{Operation, get_record, put_record, update_record, delete_record, StreamVal, out_of_range, is_free_number, current_of, keeps_length, free_place, refusals_of, first_refusal, target_number, effect_of, outcome_of, act}
 use Rattle.rec_file.proofs.ForCallers.{IsFile-placed, IsFile-replaced, IsFile-removed}
 
 pub passed : (b : Bool) (r : Refusal) (rest : Option Refusal) → (if b then Some r else rest) ≡ None → (b ≡ false) × (rest ≡ None)
@@ -25,32 +25,32 @@ pub un_not : (b : Bool) → not b ≡ false → b ≡ true
 un_not true e = refl
 un_not false e = cc
 
-pub in_range : (file : FileVal) (n : ℕ) → out_of_range file.shape n ≡ false → (1 ≤ n) × (n ≤ limit_of file.shape)
+pub in_range : (file : FileVal) (n : ℕ) → out_of_range file.shape n ≡ false → (1 ≤ n) × (n ≤ max_number file.shape)
 in_range file n e =
-    let parts = neither (nat_eq n 0) (not (nat_le n (limit_of file.shape))) e in
+    let parts = neither (nat_eq n 0) (not (nat_le n (max_number file.shape))) e in
     let zero = parts.0 in
-    let low : nat_le n (limit_of file.shape) ≡ true = un_not (nat_le n (limit_of file.shape)) parts.1 in
+    let low : nat_le n (max_number file.shape) ≡ true = un_not (nat_le n (max_number file.shape)) parts.1 in
     (grind (arith, nat_tests), grind (arith, nat_tests))
 
 some_of : {X : Type 0} (o : Option X) → is_none o ≡ false → IsSome o
 some_of None e = cc
 some_of (Some x) e = refl
 
-there : (file : FileVal) (n : ℕ) (free : Bool) → is_free file n ≡ free → is_none (if free then None else Some n) ≡ false → IsSome (get file.records (unwrap_or (if free then None else Some n) 0))
+there : (file : FileVal) (n : ℕ) (free : Bool) → is_free_number file n ≡ free → is_none (if free then None else Some n) ≡ false → IsSome (get file.records (unwrap_or (if free then None else Some n) 0))
 there file n true e h = cc
 there file n false e h = some_of (get file.records n) e
 
 -- a number that isn't occupied counts as none
 abbrev if_occupied : FileVal → Option ℕ → Option ℕ
-if_occupied file current = option_and_then (λ n. if is_free file n then None else Some n) current
+if_occupied file current = option_and_then (λ n. if is_free_number file n then None else Some n) current
 
 occupied : (file : FileVal) (current : Option ℕ) → is_none (if_occupied file current) ≡ false → IsSome (get file.records (unwrap_or (if_occupied file current) 0))
 occupied file None h = cc
-occupied file (Some n) h = there file n (is_free file n) refl h
+occupied file (Some n) h = there file n (is_free_number file n) refl h
 
 -- the file after an operation that isn't refused
 abbrev file_after : Operation → FileVal → StreamVal → FileVal
-file_after op file stream = (done op (target_number op file stream) file stream).file
+file_after op file stream = (effect_of op (target_number op file stream) file stream).file
 
 after-keeps : (op : Operation) (file : FileVal) (stream : StreamVal) → IsFile file → first_refusal (refusals_of op file stream) ≡ None → IsFile (file_after op file stream)
 after-keeps (get_record pick) file stream h e = h

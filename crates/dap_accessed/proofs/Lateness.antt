@@ -11,7 +11,7 @@ use Rattle.dap_msg.specs.declared.message.Message.{Message}
 use Rattle.dap_msg.specs.declared.message.ControlFields.{ControlFields}
 use Rattle.dap_msg.specs.declared.message.AccessFields.{AccessFields}
 use Rattle.dap_msg.specs.declared.message.Message.TheVariants.{Config, Access, Control, Contran, Accomp, Filedata, Other}
-use Rattle.dap_msg.specs.BothEnds.{is_too_small, limit_of}
+use Rattle.dap_msg.specs.BothEnds.{is_too_small, message_limit}
 use Rattle.dap_msg.specs.declared.items.Item.{Item}
 use Rattle.dap_msg.specs.declared.items.Item.TheVariants.{Whole, Malformed}
 use Rattle.rec_file.specs.declared.shapes.Shape.{Shape}
@@ -22,7 +22,7 @@ use Rattle.rec_file.specs.Acts.{StreamVal, act, get_record}
 use Rattle.dap_accessed.specs.declared.phase.OpenFile.{OpenFile}
 use Rattle.dap_accessed.specs.declared.verbs.Verb.{Verb}
 use Rattle.dap_accessed.specs.declared.verbs.Verb.TheVariants as verbs
-use Rattle.dap_accessed.specs.Standing.{Files, place_by, the_file, Place, Fresh, Ready, Opened, Connected, Store, Stopped, Group, Standing, Scene, Effect, start, enters}
+use Rattle.dap_accessed.specs.Standing.{Files, index_by, the_file, Place, Fresh, Ready, Opened, Connected, Store, Stopped, Group, Standing, Scene, Effect, start, enters}
 use Rattle.dap_accessed.specs.Past.{asked_shape, kept_attributes, is_dropping, ordinal_so_far}
 use Rattle.dap_accessed.specs.Replies.{bare_status, too_large}
 use Rattle.dap_accessed.specs.Accesses.{permitted, rights_to_create, rights_to_open, make_file, open_file, create_file, access_file, end_stream, complete}
@@ -64,7 +64,7 @@ module _ (scene : Scene) where
 
   accessing : (own : ServerSetup) (a : AccessFields) (shape : Option Shape) → Late (access_file own scene a shape)
   accessing own a shape =
-      let found = place_by own.names a.name scene.files in
+      let found = index_by own.names a.name scene.files in
       either (a.func == codes.accfunc.opening) _ _ (opening own a.fac found)
       (either (a.func == codes.accfunc.creating) _ _ (creating own a.name a.fac found shape) refl)
 
@@ -209,7 +209,7 @@ configuring own s c false limit refusal answers = (refl, λ other. refl)
 fresh_step : (own : ServerSetup) (s : Standing) (item : Item) → DoesAnyway own (record s { place = Fresh }) item
 fresh_step own s (Malformed fault) = record { files = refl; any = λ other. refl; whole = refl }
 fresh_step own s (Whole (Config c)) =
-    let both = configuring own (record s { place = Fresh }) (Config c) (is_too_small c.bufsiz) (limit_of c.bufsiz) (bare_status (codes.invalid codes.types.config) ∷ []) (Config own.identity ∷ []) in
+    let both = configuring own (record s { place = Fresh }) (Config c) (is_too_small c.bufsiz) (message_limit c.bufsiz) (bare_status (codes.invalid codes.types.config) ∷ []) (Config own.identity ∷ []) in
     record { files = both.0; any = both.1; whole = refl }
 fresh_step own s (Whole (Other n body)) = record { files = refl; any = λ other. refl; whole = refl }
 fresh_step own s (Whole m) = record { files = refl; any = λ other. refl; whole = refl }

@@ -8,7 +8,7 @@ use Rattle.dap_msg.specs.declared.message.Message.{Message}
 use Rattle.dap_msg.specs.declared.message.AccessFields.{AccessFields}
 use Rattle.dap_msg.specs.declared.message.ControlFields.{ControlFields}
 use Rattle.dap_msg.specs.declared.message.Message.TheVariants.{Config, Attrib, Access, Control, Contran, Accomp, Filedata, Other}
-use Rattle.dap_msg.specs.BothEnds.{limit_of, is_too_small}
+use Rattle.dap_msg.specs.BothEnds.{message_limit, is_too_small}
 use Rattle.dap_msg.specs.declared.items.Item.{Item}
 use Rattle.dap_msg.specs.declared.items.Item.TheVariants.{Whole, Malformed}
 use Rattle.rec_file.specs.declared.picks.Pick.{Pick}
@@ -23,7 +23,7 @@ use Rattle.dap_accessed.specs.declared.phase.Phase.{Phase}
 use Rattle.dap_accessed.specs.declared.phase.Phase.TheVariants as phases
 use Rattle.dap_accessed.specs.declared.verbs.Verb.{Verb}
 use Rattle.dap_accessed.specs.declared.verbs.Verb.TheVariants as verbs
-use Rattle.dap_accessed.specs.Standing.{Files, the_file, place_by, Place, Group, Standing, Scene, Effect, Fresh, Ready, Opened, Connected, Store, Stopped, enters}
+use Rattle.dap_accessed.specs.Standing.{Files, the_file, index_by, Place, Group, Standing, Scene, Effect, Fresh, Ready, Opened, Connected, Store, Stopped, enters}
 use Rattle.dap_accessed.specs.Replies.{bare_status}
 use Rattle.dap_accessed.specs.Past.{is_filedata, is_dropping, ordinal_so_far}
 use Rattle.dap_accessed.specs.Accesses.{permitted, rights_to_create, rights_to_open, make_file, open_file, create_file, access_file, end_stream, complete}
@@ -65,7 +65,7 @@ module _ (scene : Scene) where
 
   accessing : (own : ServerSetup) (a : AccessFields) (shape : Option Shape) → Answers (access_file own scene a shape)
   accessing own a shape =
-      let found = place_by own.names a.name scene.files in
+      let found = index_by own.names a.name scene.files in
       either (a.func == codes.accfunc.opening) _ _ (opening own a.fac found)
       (either (a.func == codes.accfunc.creating) _ _ (creating own a.name a.fac found shape) (λ e. cc))
 
@@ -137,7 +137,7 @@ is_storing _ = false
 
 silent : (phase : Phase) (p : Present) (item : Item) → (move_in phase p item).answers ≡ [] → (is_filedata item ≡ true → is_storing phase ≡ false) → is_silent phase item ≡ true
 silent phases.Fresh p (Malformed fault) e h = cc
-silent phases.Fresh p (Whole (Config c)) e h = absurd (either (is_too_small c.bufsiz) (enters (scene_in p) Fresh (bare_status (codes.invalid codes.types.config) ∷ [])) (enters (record (scene_in p) { limit = limit_of c.bufsiz }) Ready (Config p.setup.identity ∷ [])) (λ f. cc) (λ f. cc) e)
+silent phases.Fresh p (Whole (Config c)) e h = absurd (either (is_too_small c.bufsiz) (enters (scene_in p) Fresh (bare_status (codes.invalid codes.types.config) ∷ [])) (enters (record (scene_in p) { limit = message_limit c.bufsiz }) Ready (Config p.setup.identity ∷ [])) (λ f. cc) (λ f. cc) e)
 silent phases.Fresh p (Whole (Other _ _)) e h = refl
 silent phases.Fresh p (Whole message) e h = cc
 silent phases.Ready p (Malformed fault) e h = cc

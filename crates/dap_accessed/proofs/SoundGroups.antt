@@ -9,7 +9,7 @@ use Rattle.dap_msg.specs.declared.message.Message.{Message}
 use Rattle.dap_msg.specs.declared.message.AccessFields.{AccessFields}
 use Rattle.dap_msg.specs.declared.message.ControlFields.{ControlFields}
 use Rattle.dap_msg.specs.declared.message.Message.TheVariants.{Config, Access, Control, Contran, Accomp, Filedata}
-use Rattle.dap_msg.specs.BothEnds.{limit_of, greatest_message, number_of}
+use Rattle.dap_msg.specs.BothEnds.{message_limit, greatest_message, number_of}
 use Rattle.dap_msg.specs.declared.items.Item.{Item}
 use Rattle.dap_msg.specs.declared.items.Item.TheVariants.{Whole, Malformed}
 use Rattle.rec_file.specs.declared.shapes.Shape.{Shape}
@@ -36,7 +36,7 @@ use Rattle.std.specs.Prelude.{◌==◌, take_while, drop}
 use Rattle.std.specs.List.{prefix_len, remove}
 use Rattle.dap_msg.specs.Codes as codes
 use Rattle.dap_accessed.specs.Replies.{bare_status}
-use Rattle.dap_accessed.specs.Standing.{Files, place_of, place_by, with_file, the_file, Place, Fresh, Ready, Opened, Connected, Store, Stopped, Group, Standing, Scene, Effect, start, enters}
+use Rattle.dap_accessed.specs.Standing.{Files, index_of, index_by, with_file, the_file, Place, Fresh, Ready, Opened, Connected, Store, Stopped, Group, Standing, Scene, Effect, start, enters}
 use Rattle.dap_accessed.specs.Past.{asked_shape, kept_attributes, is_dropping, ordinal_so_far}
 use Rattle.dap_accessed.specs.Accesses.{permitted, rights_to_create, rights_to_open, make_file, open_file, create_file, access_file, end_stream, complete}
 use Rattle.dap_accessed.specs.Records.{at_number, verb_of, get_pick, got, record_got, settled, Change, Putting, Updating, changed, fits_limit}
@@ -70,14 +70,14 @@ good-of (Some org) (Some format) mrs mrn = allowed org format mrs mrn _ refl
 pub good-shape : (a : Attributes) → Good (asked_shape a)
 good-shape a = good-of (org_of_code (unwrap_or a.org 0)) (format_of_code (unwrap_or a.rfm 2)) (unwrap_or a.mrs 0) (number_of (unwrap_or a.mrn []))
 
-limit-most : (bufsiz : ℕ) → limit_of bufsiz ≤ greatest_message
+limit-most : (bufsiz : ℕ) → message_limit bufsiz ≤ greatest_message
 limit-most bufsiz =
     elim (cases_lt greatest_message bufsiz) [
       | inl more ↦ let e = lt-ltb greatest_message bufsiz more in grind (arith, e)
       | inr less ↦ grind (arith, less)
     ]
 
-limit-least : (bufsiz : ℕ) → is_too_small bufsiz ≡ false → 64 ≤ limit_of bufsiz
+limit-least : (bufsiz : ℕ) → is_too_small bufsiz ≡ false → 64 ≤ message_limit bufsiz
 limit-least bufsiz e =
     elim (cases_lt greatest_message bufsiz) [
       | inl more ↦ let t = lt-ltb greatest_message bufsiz more in grind (arith, t)
@@ -86,7 +86,7 @@ limit-least bufsiz e =
           | inl few ↦ let t = lt-ltb 0 bufsiz some in let u = lt-ltb bufsiz 64 few in absurd cc
           | inr enough ↦ let t = le-ltb greatest_message bufsiz less in grind (arith, nat_tests)
         ]
-        | inr nothing ↦ let zero : 0 ≡ bufsiz = omega arith in subst (λ n. 64 ≤ limit_of n) zero (lit≤ tt)
+        | inr nothing ↦ let zero : 0 ≡ bufsiz = omega arith in subst (λ n. 64 ≤ message_limit n) zero (lit≤ tt)
       ]
     ]
 
@@ -94,7 +94,7 @@ within-of : (b : Bool) (n len : ℕ) → (b ≡ true → n < len) → IfSome (co
 within-of true n len f = f refl
 within-of false n len f = tt
 
-pub place-within : (names : Names) (name : List ℕ) (files : Files) → IfSome (place_by names name files) (λ n. n < length files)
+pub place-within : (names : Names) (name : List ℕ) (files : Files) → IfSome (index_by names name files) (λ n. n < length files)
 place-within names name files = within-of _ _ _ (λ e. grind (arith, nat_tests))
 
 -- the end that a turn leaves is sound, or the open file is in the table
@@ -141,7 +141,7 @@ module _ (scene : Scene) (files : AreFiles scene.files) (least : 64 ≤ scene.li
   opening own fac None h = entering Ready tt
   opening own fac (Some at) h = either (lacks own.most (rights_to_open fac)) _ _ (entering Ready tt) (entering (Opened _) h)
 
-  making : (name : List ℕ) (fac : ℕ) (shape : Option Shape) → place_of name scene.files ≡ None → Good shape → Leaves (make_file scene name fac shape)
+  making : (name : List ℕ) (fac : ℕ) (shape : Option Shape) → index_of name scene.files ≡ None → Good shape → Leaves (make_file scene name fac shape)
   making name fac None e g = entering Ready tt
   making name fac (Some shape) e good =
       record {
@@ -151,14 +151,14 @@ module _ (scene : Scene) (files : AreFiles scene.files) (least : 64 ≤ scene.li
         most = most;
       }
 
-  creating : (own : ServerSetup) (name : List ℕ) (fac : ℕ) (at : Option ℕ) (shape : Option Shape) → place_by own.names name scene.files ≡ at → Good shape → Leaves (create_file own scene name fac at shape)
+  creating : (own : ServerSetup) (name : List ℕ) (fac : ℕ) (at : Option ℕ) (shape : Option Shape) → index_by own.names name scene.files ≡ at → Good shape → Leaves (create_file own scene name fac at shape)
   creating own name fac (Some at) shape e g = entering Ready tt
   creating own name fac None shape e g =
       either (lacks own.most (rights_to_create fac)) _ _ (entering Ready tt) (making name fac shape (none_exact own.names name scene.files e) g)
 
   accessing : (own : ServerSetup) (a : AccessFields) (shape : Option Shape) → Good shape → Leaves (access_file own scene a shape)
   accessing own a shape g =
-      let found = place_by own.names a.name scene.files in
+      let found = index_by own.names a.name scene.files in
       either (a.func == codes.accfunc.opening) _ _ (opening own a.fac found (place-within own.names a.name scene.files))
       (either (a.func == codes.accfunc.creating) _ _ (creating own a.name a.fac found shape refl g) (entering Ready tt))
 
@@ -238,7 +238,7 @@ module _ (scene : Scene) (files : AreFiles scene.files) (least : 64 ≤ scene.li
     with-second change s (Whole (Filedata r body)) = second change s body
     with-second change s (Whole message) = entering (Connected o s) h
 
-  configuring : (small : Bool) (bufsiz : ℕ) → is_too_small bufsiz ≡ small → (own : ServerSetup) → Leaves (if small then enters scene Fresh (bare_status (codes.invalid codes.types.config) ∷ []) else enters (record scene { limit = limit_of bufsiz }) Ready (Config own.identity ∷ []))
+  configuring : (small : Bool) (bufsiz : ℕ) → is_too_small bufsiz ≡ small → (own : ServerSetup) → Leaves (if small then enters scene Fresh (bare_status (codes.invalid codes.types.config) ∷ []) else enters (record scene { limit = message_limit bufsiz }) Ready (Config own.identity ∷ []))
   configuring true bufsiz e own = entering Fresh tt
   configuring false bufsiz e own =
       record { files = files; opened = tt; least = limit-least bufsiz e; most = limit-most bufsiz }

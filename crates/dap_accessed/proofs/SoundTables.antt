@@ -11,7 +11,7 @@ use Rattle.rec_file.specs.Files.{FileVal, IsFile}
 use Rattle.rec_file.proofs.ForCallers.{IsFile-empty}
 use Rattle.dap_accessed.specs.declared.setup.Names.{Names}
 use Rattle.dap_accessed.specs.declared.setup.Names.TheVariants.{Exact, Folded}
-use Rattle.dap_accessed.specs.Standing.{Files, new_file, place_of, place_by, file_at, with_file}
+use Rattle.dap_accessed.specs.Standing.{Files, new_file, index_of, index_by, file_at, with_file}
 use Rattle.dap_accessed.specs.Sound.{AreFiles}
 
 abbrev pub AllFiles : Files → Type 0
@@ -112,7 +112,7 @@ all-other name (f ∷ files) h =
       )
     ]
 
-new-name : (name : List ℕ) (files : Files) → place_of name files ≡ None → HasNone name files
+new-name : (name : List ℕ) (files : Files) → index_of name files ≡ None → HasNone name files
 new-name name files none =
     let n = prefix_len (λ (f : List ℕ × FileVal). not (bytes_eq f.0 name)) files in
     elim (cases_lt n (length files)) [
@@ -125,7 +125,7 @@ new-name name files none =
 pub files-with : (files : Files) (at : ℕ) (file : FileVal) → AreFiles files → IsFile file → AreFiles (with_file at file files)
 files-with files at file h k = record { files = all-with files at file h.files k; distinct = distinct-with bytes_eq files at file h.distinct }
 
-pub files-more : (files : Files) (name : List ℕ) (shape : Shape) → AreFiles files → IsTrue (is_shape shape) → place_of name files ≡ None → AreFiles (files ++ (name, new_file shape) ∷ [])
+pub files-more : (files : Files) (name : List ℕ) (shape : Shape) → AreFiles files → IsTrue (is_shape shape) → index_of name files ≡ None → AreFiles (files ++ (name, new_file shape) ∷ [])
 files-more files name shape h good none =
     record { files = all-more files _ h.files (IsFile-empty shape good); distinct = distinct-more bytes_eq files _ h.distinct (new-name name files none) }
 
@@ -171,7 +171,7 @@ all-other-bytes : (name : List ℕ) (files : Files) → AllByRecursion (λ f. by
 all-other-bytes name [] h = tt
 all-other-bytes name (f ∷ files) h = (other-bytes f.0 name h.0, all-other-bytes name files h.1)
 
-pub none_exact : (names : Names) (name : List ℕ) (files : Files) → place_by names name files ≡ None → place_of name files ≡ None
+pub none_exact : (names : Names) (name : List ℕ) (files : Files) → index_by names name files ≡ None → index_of name files ≡ None
 none_exact Exact name files e = e
 none_exact Folded name files e =
     none-there (λ (f : List ℕ × FileVal). bytes_eq f.0 name) files (all-other-bytes name files (none-passes (λ (f : List ℕ × FileVal). bytes_eq (fold f.0) (fold name)) files e))

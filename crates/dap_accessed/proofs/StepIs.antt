@@ -19,7 +19,7 @@ use Rattle.dap_accessed.specs.Standing.{Files, Scene, Place, Group, Standing, Ef
 use Rattle.dap_accessed.specs.Past.{asked_shape, kept_attributes, is_dropping, ordinal_so_far, this_store, is_skip, is_ready, is_store, is_access, is_filedata, attributes_in, since_access, was_refused, greatest_ordinal, next_ordinal}
 use Rattle.dap_accessed.specs.Records.{Change, Putting, Updating}
 use Rattle.dap_accessed.specs.Effects.{Begun, Turn, Does, Begins, turn_of, effect_with}
-use Rattle.dap_accessed.specs.Groups.{Grouped, over, added, stands_after, next_group, next_answers, one_more, answers_of}
+use Rattle.dap_accessed.specs.Groups.{Grouped, over, added, stands_after, next_group, next_answers, after_item, answers_of}
 use Rattle.dap_accessed.specs.Present.{Present, Memory, looked_back, present_of, phase_at, StandsAfter}
 use Rattle.dap_accessed.specs.Sessions.{IsIn}
 use Rattle.dap_accessed.specs.Inner.Moves.{Move, move, move_in, turn_by, between, turns, settles, remembers, plain_memory, store_memory, scene_in, drops_next, ordinal_next}
@@ -190,7 +190,7 @@ module _ (own : ServerSetup) (scene : Scene) (past : List Group) where
   pub two-follows : (place : Place) (o : OpenFile) (s : StreamVal) (change : Change) (first item : Item) →
       let begun : Begun = record { first = first; opened = o; stream = s; change = change } in
       let c : Grouped = record { standing = at place; begun = Some begun } in
-      Agrees (move (present_of own c) item) (present_of own (one_more own c item)) (answers_of own c item)
+      Agrees (move (present_of own c) item) (present_of own (after_item own c item)) (answers_of own c item)
   two-follows place o s (Putting key) first item =
       record {
         same_present = after-group (record { own = own.identity.bufsiz; setup = own; limit = scene.limit; files = scene.files; kept = asked_shape (kept_attributes past); phase = phases.PutDue o s key }) (at place) (Connected o s) first (effect_with (Putting key) scene o s item) refl refl refl;
@@ -204,7 +204,7 @@ module _ (own : ServerSetup) (scene : Scene) (past : List Group) where
 
 pub step-is : (own : ServerSetup) (s : Standing) (begun : Option Begun) (item : Item) →
     let c : Grouped = record { standing = s; begun = begun } in
-    Agrees own s.scene s.past (move (present_of own c) item) (present_of own (one_more own c item)) (answers_of own c item)
+    Agrees own s.scene s.past (move (present_of own c) item) (present_of own (after_item own c item)) (answers_of own c item)
 step-is own s None item = one-follows own s.scene s.past s.place item
 step-is own s (Some b) item = two-follows own s.scene s.past s.place b.opened b.stream b.change b.first item
 
@@ -255,10 +255,10 @@ answers-are old item first items h = ap (λ (p : Present). (move p item).answers
 -- ---- From any state.
 
 -- an end that was in a state is in that after the item
-pub in-more : (old new : Present) (item : Item) (c : Grouped) → new ≡ (move old item).present → IsIn c old → IsIn (one_more old.setup c item) new
+pub in-more : (old new : Present) (item : Item) (c : Grouped) → new ≡ (move old item).present → IsIn c old → IsIn (after_item old.setup c item) new
 in-more old new item c e h =
     let own : new.setup ≡ old.setup = ap (λ (p : Present). p.setup) e ∙ same-setup old item in
-    e ∙ ap (λ (p : Present). (move p item).present) h ∙ sym (step-is old.setup c.standing c.begun item).same_present ∙ ap (λ (n : ServerSetup). present_of n (one_more old.setup c item)) (sym own)
+    e ∙ ap (λ (p : Present). (move p item).present) h ∙ sym (step-is old.setup c.standing c.begun item).same_present ∙ ap (λ (n : ServerSetup). present_of n (after_item old.setup c item)) (sym own)
 
 pub answers-in : (old : Present) (item : Item) (c : Grouped) → IsIn c old → (move old item).answers ≡ answers_of old.setup c item
 answers-in old item c h = ap (λ (p : Present). (move p item).answers) h ∙ sym (step-is old.setup c.standing c.begun item).same_answers

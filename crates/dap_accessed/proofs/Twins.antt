@@ -3,7 +3,7 @@ use Rattle.std.proofs.Common.{◌≡◌, ℕ, Bool, true, false, List, [], ◌�
 use Rattle.std.specs.Prelude.{if◌then◌else◌}
 use Rattle.std.proofs.lemmas.List.{append-nil}
 use Rattle.dap_msg.specs.Codes as codes
-use Rattle.dap_msg.specs.BothEnds.{is_too_small, limit_of}
+use Rattle.dap_msg.specs.BothEnds.{is_too_small, message_limit}
 use Rattle.dap_msg.specs.declared.message.Configuration.{Configuration}
 use Rattle.dap_msg.specs.declared.message.Message.{Message}
 use Rattle.dap_msg.specs.declared.message.Message.TheVariants.{Config, Access}
@@ -69,8 +69,8 @@ module _ (identity : Configuration) where
 
   configured : (p : Present) (shape : Option Shape) (small : Bool) (bufsiz : ℕ) (item : Item) → let memory = plain_memory shape in let scene = scene_in p in
       let wrong : Effect = enters scene Fresh (bare_status (codes.invalid codes.types.config) ∷ []) in
-      Follows p (turns (Does (if small then wrong else enters (record scene { limit = limit_of bufsiz }) Ready (Config p.setup.identity ∷ []))) p memory Fresh item)
-      (turns (Does (if small then wrong else enters (record scene { limit = limit_of bufsiz }) Ready (Config identity ∷ []))) (twin p) memory Fresh item)
+      Follows p (turns (Does (if small then wrong else enters (record scene { limit = message_limit bufsiz }) Ready (Config p.setup.identity ∷ []))) p memory Fresh item)
+      (turns (Does (if small then wrong else enters (record scene { limit = message_limit bufsiz }) Ready (Config identity ∷ []))) (twin p) memory Fresh item)
   configured p shape true bufsiz item = record { present = refl; answers = (inl refl, tt) }
   configured p shape false bufsiz item = record { present = refl; answers = (inr (refl, refl), tt) }
 

@@ -7,7 +7,7 @@ use Rattle.dap_msg.specs.declared.message.Message.{Message}
 use Rattle.dap_msg.specs.Canon.{canon, Fits}
 use Rattle.dap_msg.specs.Written.{Appends, no_memory}
 use Rattle.dap_msg.specs.BothEnds.{least_buffer}
-use Rattle.dap_msg.specs.Blocked.{bodies, one_more, AllFit}
+use Rattle.dap_msg.specs.Blocked.{bodies, block_one, AllFit}
 use Rattle.dap_msg.proofs.ForCallers.{Blocked-more}
 use Rattle.std.proofs.Common.{inl, inr}
 use Rattle.std.proofs.lemmas.Bool.{cases_lt, lt-leb, le-leb}
@@ -20,7 +20,7 @@ use Rattle.dap_accessed.specs.Replies.{org_number, format_number}
 use Rattle.dap_accessed.specs.declared.answers.Answer.{Answer}
 use Rattle.dap_accessed.specs.declared.answers.Answer.TheVariants as answer
 use Rattle.dap_accessed.specs.Served.{AllAtMost}
-use Rattle.dap_accessed.specs.Inner.Written.{IsShort, most_bytes}
+use Rattle.dap_accessed.specs.Inner.Written.{IsShortReply, most_bytes}
 use Rattle.dap_accessed.specs.Served.{Answered}
 
 pub org_small : (org : Org) → org_number org < 2 ^ 8
@@ -48,8 +48,8 @@ answered_one limit m answers f h e =
       fits = (f, tt);
     }
 
-at_most_more : (limit : ℕ) (list : List (List ℕ)) (m : List ℕ) → AllAtMost limit list → length m ≤ limit → AllAtMost limit (one_more limit list m)
-unfolding one_more
+at_most_more : (limit : ℕ) (list : List (List ℕ)) (m : List ℕ) → AllAtMost limit list → length m ≤ limit → AllAtMost limit (block_one limit list m)
+unfolding block_one
 at_most_more limit [] m all h = (h, tt)
 at_most_more limit (last ∷ []) m all h =
     elim (cases_lt limit (length (last ++ m))) [
@@ -63,15 +63,15 @@ fit_more [] m all f = (f, tt)
 fit_more (first ∷ messages) m all f = (all.0, fit_more messages m all.1 f)
 
 pub answered_more : (limit : ℕ) (messages : List Message) (m : Message) (old new : Vec (Vec ℕ)) → Fits m → length (canon m) ≤ limit → Answered limit messages old
-    → bodies new.items ≡ one_more limit (bodies old.items) (canon m) → Answered limit (messages ++ m ∷ []) new
+    → bodies new.items ≡ block_one limit (bodies old.items) (canon m) → Answered limit (messages ++ m ∷ []) new
 answered_more limit messages m old new f h before e =
     record {
-      bytes = e ∙ ap (λ l. one_more limit l (canon m)) before.bytes ∙ sym (Blocked-more limit messages m);
+      bytes = e ∙ ap (λ l. block_one limit l (canon m)) before.bytes ∙ sym (Blocked-more limit messages m);
       within = subst (AllAtMost limit) (sym e) (at_most_more limit (bodies old.items) (canon m) before.within h);
       fits = fit_more messages m before.fits f;
     }
 
-pub short_most : (a : Answer) → IsShort a → most_bytes a ≤ least_buffer
+pub short_most : (a : Answer) → IsShortReply a → most_bytes a ≤ least_buffer
 short_most (answer.Config bufsiz) s = lit≤ tt
 short_most (answer.Attributes shape mrn) s = lit≤ tt
 short_most answer.Ack s = lit≤ tt

@@ -10,7 +10,7 @@ use Rattle.rec_file.specs.declared.refusals.Refusal.TheVariants.{NotPermitted}
 use Rattle.dap_accessed.specs.declared.phase.OpenFile.{OpenFile}
 use Rattle.dap_accessed.specs.declared.setup.ServerSetup.{ServerSetup}
 use Rattle.dap_accessed.specs.Setup.{lacks}
-use Rattle.dap_accessed.specs.Standing.{Files, new_file, place_by, file_at, Place, Ready, Opened, Scene, Effect, enters}
+use Rattle.dap_accessed.specs.Standing.{Files, new_file, index_by, file_at, Place, Ready, Opened, Scene, Effect, enters}
 use Rattle.dap_accessed.specs.Replies.{bare_status, reason_of, refused_access, opened_with, completed}
 
 -- the operations that FAC allows
@@ -67,7 +67,7 @@ create_file own scene name fac None shape = permitted own (rights_to_create fac)
 -- an Access, by ACCFUNC: open and create are supported
 abbrev pub access_file : ServerSetup → Scene → AccessFields → Option Shape → Effect
 access_file own scene access shape =
-    let found = place_by own.names access.name scene.files in
+    let found = index_by own.names access.name scene.files in
     if access.func == codes.accfunc.opening then open_file own scene access.fac found
     else if access.func == codes.accfunc.creating then create_file own scene access.name access.fac found shape
     else refuse_access scene (bare_status (codes.unsupported codes.types.access))

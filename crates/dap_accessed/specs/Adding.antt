@@ -5,11 +5,11 @@ use Rattle.rec_file.specs.declared.refusals.Refusal.{Refusal}
 use Rattle.rec_file.specs.declared.refusals.Refusal.TheVariants.{BadLength, NumberOutOfRange, RecordExists}
 use Rattle.rec_file.specs.Shapes.{is_seq, allows_length}
 use Rattle.rec_file.specs.Files.{FileVal, highest_of, stored}
-use Rattle.rec_file.specs.Acts.{out_of_range, is_free, first_refusal}
+use Rattle.rec_file.specs.Acts.{out_of_range, is_free_number, first_refusal}
 use Rattle.dap_accessed.specs.declared.fault.AddFault.{AddFault}
 use Rattle.dap_accessed.specs.declared.fault.AddFault.TheVariants as fault
 use Rattle.dap_msg.specs.declared.items.Item.{Item}
-use Rattle.dap_accessed.specs.Standing.{Files, place_by, new_file, file_at, with_file, Fresh}
+use Rattle.dap_accessed.specs.Standing.{Files, index_by, new_file, file_at, with_file, Fresh}
 use Rattle.dap_accessed.specs.Groups.{stands_after}
 use Rattle.dap_accessed.specs.Present.{Present, StandsAfter}
 
@@ -29,12 +29,12 @@ with_new_file name shape files = files ++ (name, new_file shape) ∷ []
 
 -- no Configuration was served, and no file has this name, as the server compares names
 abbrev pub MayAdd : Present → List ℕ → Type 0
-MayAdd p name = IsFresh p × (place_by p.setup.names name p.files ≡ None)
+MayAdd p name = IsFresh p × (index_by p.setup.names name p.files ≡ None)
 
 -- why a file isn't added, the first reason in this order
 abbrev pub AddRefused : Present → List ℕ → AddFault → Type 0
 AddRefused p name fault.Busy = IsLate p
-AddRefused p name fault.FileExists = IsFresh p × (place_by p.setup.names name p.files ≡ None → ⊥)
+AddRefused p name fault.FileExists = IsFresh p × (index_by p.setup.names name p.files ≡ None → ⊥)
 AddRefused p name fault.NoMemory = MayAdd p name
 AddRefused p name _ = ⊥
 
@@ -53,7 +53,7 @@ abbrev pub record_refusals : FileVal → ℕ → List ℕ → List (Bool × Refu
 record_refusals file n body =
     (not (allows_length file.shape (length body)), BadLength)
     ∷ (out_of_range file.shape n || leaves_gap file n, NumberOutOfRange)
-    ∷ (not (is_free file n), RecordExists)
+    ∷ (not (is_free_number file n), RecordExists)
     ∷ []
 
 -- the file takes the record under this number

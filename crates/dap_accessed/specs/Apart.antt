@@ -5,5 +5,5 @@ use Rattle.dap_accessed.specs.Setup.{same_name}
 use Rattle.dap_accessed.specs.Standing.{Files}
 
 -- no two files have one name, so compared
-abbrev pub AreApart : Names → Files → Type 0
-AreApart names files = IsDistinct (λ f g. same_name names f.0 g.0) files
+abbrev pub NamesAreApart : Names → Files → Type 0
+NamesAreApart names files = IsDistinct (λ f g. same_name names f.0 g.0) files

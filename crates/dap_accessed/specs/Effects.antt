@@ -5,7 +5,7 @@ use Rattle.dap_msg.specs.Codes as codes
 use Rattle.dap_msg.specs.declared.message.Message.{Message}
 use Rattle.dap_msg.specs.declared.message.ControlFields.{ControlFields}
 use Rattle.dap_msg.specs.declared.message.Message.TheVariants.{Config, Attrib, Access, Control, Contran, Ack, Accomp, Filedata, Other}
-use Rattle.dap_msg.specs.BothEnds.{limit_of, is_too_small}
+use Rattle.dap_msg.specs.BothEnds.{message_limit, is_too_small}
 use Rattle.dap_msg.specs.declared.items.Item.{Item}
 use Rattle.dap_msg.specs.declared.items.Item.TheVariants.{Whole, Malformed}
 use Rattle.rec_file.specs.declared.refusals.Refusal.TheVariants.{NotPermitted}
@@ -19,7 +19,7 @@ use Rattle.dap_accessed.specs.Standing.{the_file, Place, Fresh, Ready, Opened, C
 use Rattle.dap_accessed.specs.Replies.{bare_status, sync_status}
 use Rattle.dap_accessed.specs.Past.{asked_shape, kept_attributes, is_dropping, ordinal_so_far}
 use Rattle.dap_accessed.specs.Accesses.{access_file, complete}
-use Rattle.dap_accessed.specs.Records.{at_number, new_stream, verb_of, get_pick, record_got, put_key, refused, settled, Change, Putting, Updating, changed}
+use Rattle.dap_accessed.specs.Records.{at_number, new_stream, verb_of, get_pick, record_got, put_key, refused_effect, settled, Change, Putting, Updating, changed}
 use Rattle.dap_accessed.specs.Transfers.{fetch, continue_fetch, store_one, continue_store}
 
 -- the first message of a group of two, and where it is served
@@ -61,7 +61,7 @@ common_effect scene opened place message = sync scene place message
 abbrev pub effect_fresh : (own : ServerSetup) → Scene → Message → Effect
 effect_fresh own scene (Config c) =
     if is_too_small c.bufsiz then enters scene Fresh (bare_status (codes.invalid codes.types.config) ∷ [])
-    else enters (record scene { limit = limit_of c.bufsiz }) Ready (Config own.identity ∷ [])
+    else enters (record scene { limit = message_limit c.bufsiz }) Ready (Config own.identity ∷ [])
 effect_fresh own scene (Other _ _) = enters scene Fresh []
 effect_fresh own scene message = sync scene Fresh message
 
@@ -100,7 +100,7 @@ abbrev pub control_connected : Verb → Scene → OpenFile → StreamVal → Con
 control_connected verbs.Get scene opened stream control =
     Does (record_got (get_pick (the_file scene.files opened) stream control) scene opened stream)
 control_connected verbs.Fetch scene opened stream control =
-    Does (if stream.rights.get then fetch scene opened stream else refused scene opened stream NotPermitted)
+    Does (if stream.rights.get then fetch scene opened stream else refused_effect scene opened stream NotPermitted)
 control_connected verbs.Put scene opened stream control =
     begins_with control opened stream (Putting (put_key (the_file scene.files opened) stream control))
 control_connected verbs.Update scene opened stream control = begins_with control opened stream Updating

@@ -80,8 +80,8 @@ more_after own s None item = next_group s item (turn_of own s item)
 more_after own s (Some begun) item = record { standing = after_two s begun item; begun = None }
 
 -- the state after one item more
-abbrev pub one_more : (own : ServerSetup) → Grouped → Item → Grouped
-one_more own c item = more_after own c.standing c.begun item
+abbrev pub after_item : (own : ServerSetup) → Grouped → Item → Grouped
+after_item own c item = more_after own c.standing c.begun item
 
 -- the answers of a group; one that is begun has none yet
 abbrev pub next_answers : Turn → List Message

@@ -6,7 +6,7 @@ use Rattle.dap_msg.specs.Codes as codes
 use Rattle.dap_msg.specs.declared.message.Message.{Message}
 use Rattle.dap_msg.specs.declared.message.ControlFields.{ControlFields}
 use Rattle.dap_msg.specs.Canon.{canon}
-use Rattle.dap_msg.specs.BothEnds.{record_of}
+use Rattle.dap_msg.specs.BothEnds.{data_message}
 use Rattle.rec_file.specs.declared.picks.Rights.{Rights}
 use Rattle.rec_file.specs.declared.picks.Pick.{Pick}
 use Rattle.rec_file.specs.declared.picks.Pick.TheVariants.{Next, Key, Rfa}
@@ -87,13 +87,13 @@ get_pick file stream control =
     or_refusal (first_refusal (refusals_before stream.rights.get codes.rac.address file control)) (pick_of control)
 
 -- A refusal leaves the files and the stream's next number, and no current record.
-abbrev pub refused : Scene → OpenFile → StreamVal → Refusal → Effect
-refused scene opened stream refusal =
+abbrev pub refused_effect : Scene → OpenFile → StreamVal → Refusal → Effect
+refused_effect scene opened stream refusal =
     enters scene (Connected opened (uncurrent stream)) (refusal_status refusal [] ∷ [])
 
 -- the Data message of a record, with its number in 4 bytes
 abbrev pub filedata_of : ℕ × List ℕ → Message
-filedata_of r = record_of r.0 r.1
+filedata_of r = data_message r.0 r.1
 
 -- a record's Data message is within the limit
 abbrev pub fits_limit : ℕ → ℕ × List ℕ → Bool
@@ -102,7 +102,7 @@ fits_limit limit r = nat_le (length (canon (filedata_of r))) limit
 -- What a GET answers. A record whose Data message is too long for the peer is refused, and the stream stays before
 -- it.
 abbrev pub got : Result ℕ Refusal → Scene → OpenFile → (before after : StreamVal) → Effect
-got (Err refusal) scene opened before after = refused scene opened before refusal
+got (Err refusal) scene opened before after = refused_effect scene opened before refusal
 got (Ok n) scene opened before after =
     let r : ℕ × List ℕ = (n, unwrap_or (map.get (the_file scene.files opened).records n) []) in
     if fits_limit scene.limit r then enters scene (Connected opened after) (filedata_of r ∷ [])
@@ -110,7 +110,7 @@ got (Ok n) scene opened before after =
 
 -- what a GET does, unless it was refused before
 abbrev pub record_got : Result Pick Refusal → Scene → OpenFile → StreamVal → Effect
-record_got (Err refusal) scene opened stream = refused scene opened stream refusal
+record_got (Err refusal) scene opened stream = refused_effect scene opened stream refusal
 record_got (Ok pick) scene opened stream =
     let outcome = act (get_record pick) (the_file scene.files opened) stream in
     got outcome.reply scene opened stream outcome.stream
@@ -137,7 +137,7 @@ pub data Change : Type 0 where
 
 -- the PUT or the UPDATE, once the Data message has come
 abbrev pub changed : Change → Scene → OpenFile → StreamVal → List ℕ → Effect
-changed (Putting (Err refusal)) scene opened stream body = refused scene opened stream refusal
+changed (Putting (Err refusal)) scene opened stream body = refused_effect scene opened stream refusal
 changed (Putting (Ok key)) scene opened stream body =
     settled scene opened (act (put_record key body) (the_file scene.files opened) stream)
 changed Updating scene opened stream body =

@@ -15,10 +15,10 @@ use Rattle.dap_accessed.specs.declared.phase.OpenFile.{OpenFile}
 use Rattle.dap_accessed.specs.declared.phase.Phase.{Phase}
 use Rattle.dap_accessed.specs.declared.phase.Phase.TheVariants as phases
 use Rattle.dap_accessed.specs.Setup.{lacks, plain_setup}
-use Rattle.dap_accessed.specs.Standing.{Files, place_by, plain_shape}
+use Rattle.dap_accessed.specs.Standing.{Files, index_by, plain_shape}
 use Rattle.dap_accessed.specs.Past.{is_filedata, is_dropping}
 use Rattle.dap_accessed.specs.Accesses.{rights_to_open}
-use Rattle.dap_accessed.specs.Groups.{Grouped, one_more, answers_of}
+use Rattle.dap_accessed.specs.Groups.{Grouped, after_item, answers_of}
 use Rattle.dap_accessed.specs.Present.{Present, present_of}
 use Rattle.dap_accessed.specs.Served.{AllAtMost, Answered}
 
@@ -31,8 +31,8 @@ pub record SessionValue : Type 0 where
   pub phase : Phase
 
 -- with these files
-abbrev pub joined : Files → SessionValue → Present
-joined files s = record { own = s.own; setup = s.setup; limit = s.limit; files = files; kept = s.kept; phase = s.phase }
+abbrev pub with_files : Files → SessionValue → Present
+with_files files s = record { own = s.own; setup = s.setup; limit = s.limit; files = files; kept = s.kept; phase = s.phase }
 
 -- without the files
 abbrev pub session_of : Present → SessionValue
@@ -77,7 +77,7 @@ open_at (phases.Storing o s n) = Some o
 open_at (phases.Dropping o s n) = Some o
 open_at (phases.Stopped o s) = Some o
 
--- a file is gone from the table: those behind it move up
+-- a file is gone from the table: those after it move up
 abbrev pub moved_up : (removed : ℕ) → OpenFile → OpenFile
 moved_up removed opened = record opened { at = if nat_lt removed opened.at then opened.at - 1 else opened.at }
 
@@ -104,7 +104,7 @@ there_if own fac found = if lacks own.most (rights_to_open fac) then None else o
 -- what an Access would open, where it names a file that is there, and asks for no right too many
 abbrev pub would_open : (own : ServerSetup) → Files → AccessFields → Option OpenFile
 would_open own files access =
-    if access.func == codes.accfunc.opening then there_if own access.fac (place_by own.names access.name files) else None
+    if access.func == codes.accfunc.opening then there_if own access.fac (index_by own.names access.name files) else None
 
 -- what an item asks to open: only an Access in Ready does
 abbrev pub asked_in : (own : ServerSetup) → Files → Phase → Item → Option OpenFile
@@ -125,7 +125,7 @@ IsSilentIn own c item =
 -- An item was served. In whatever state the server was, it is in the state after that and this item, and gives the
 -- answers that the item has there, joined within the peer's limit.
 pub record ServesItem (item : Item) (old new : Present) (answers : Vec (Vec ℕ)) : Type 0 where
-  pub stands : (c : Grouped) → IsIn c old → IsIn (one_more old.setup c item) new
+  pub stands : (c : Grouped) → IsIn c old → IsIn (after_item old.setup c item) new
   pub answered : (c : Grouped) → IsIn c old → Answered old.limit (answers_of old.setup c item) answers
   pub within : AllAtMost old.limit (bodies answers.items)
   pub most : old.limit ≤ greatest_message

@@ -19,12 +19,12 @@ abbrev pub Files : Type 0
 Files = List (List ℕ × FileVal)
 
 -- the index of the first file with this name
-abbrev pub place_of : List ℕ → Files → Option ℕ
-place_of name files = position (λ (f : List ℕ × FileVal). bytes_eq f.0 name) files
+abbrev pub index_of : List ℕ → Files → Option ℕ
+index_of name files = position (λ (f : List ℕ × FileVal). bytes_eq f.0 name) files
 
 -- the index of the first file whose name is one with this, so compared
-abbrev pub place_by : Names → List ℕ → Files → Option ℕ
-place_by names name files = position (λ (f : List ℕ × FileVal). same_name names f.0 name) files
+abbrev pub index_by : Names → List ℕ → Files → Option ℕ
+index_by names name files = position (λ (f : List ℕ × FileVal). same_name names f.0 name) files
 
 -- the shape of a file that isn't there: sequential, variable, without limits
 abbrev pub plain_shape : Shape

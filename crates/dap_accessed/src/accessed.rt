@@ -33,14 +33,14 @@ pub struct Accessed {
 
 impl Model for Accessed {
     ghost use Rattle.dap_accessed.specs.Present.{Present};
-    ghost use Rattle.dap_accessed.specs.Sessions.{IsOpenIn, joined};
+    ghost use Rattle.dap_accessed.specs.Sessions.{IsOpenIn, with_files};
     ghost use Rattle.dap_accessed.specs.Stored.{present_code};
 
     ghost Value = { Present };
 
     ghost coded = { present_code };
 
-    ghost view = { λ a. joined a.files a.session };
+    ghost view = { λ a. with_files a.files a.session };
 
     ghost invariant = { λ a. IsOpenIn a.files a.session.phase };
 }

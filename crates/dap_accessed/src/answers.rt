@@ -7,7 +7,7 @@ ghost use Rattle.dap_msg.specs.Sizes.{file_data_size};
 ghost use Rattle.dap_msg.specs.BothEnds.{four_bytes, least_buffer};
 ghost use Rattle.rec_file.specs.Limits.{longest_record};
 ghost use Rattle.dap_accessed.specs.Replies.{attributes_for, completed, format_number, opened_with, org_number, status, too_large};
-ghost use Rattle.dap_accessed.specs.Inner.Written.{AddsAnswer, FitsIn, IsAtMost, IsShort, IsWritable, message_of, most_bytes};
+ghost use Rattle.dap_accessed.specs.Inner.Written.{AddsAnswer, FitsIn, IsAtMost, IsShortReply, IsWritableReply, reply_message, most_bytes};
 ghost use Rattle.dap_accessed.specs.Served.{Answered};
 
 use crate::fault::NoMemory;
@@ -44,8 +44,8 @@ pub(crate) enum Answer<'a> {
 
 /// The refusal of a record that is longer than the peer takes.
 pub(crate) fn too_large<'a>() -> Answer<'a>
-    ensures message { message_of result ≡ too_large }
-    ensures short { IsShort result }
+    ensures message { reply_message result ≡ too_large }
+    ensures short { IsShortReply result }
 {
     Answer::Reason {
         code: RECORD_REFUSED,
@@ -139,10 +139,10 @@ impl<'a> Answer<'a> {
     /// The message that the answer is.
     #[tactic(auto, using(dap_msg::proofs::ForCallers::answers_fit))]
     fn message(&self) -> MessageValue<'_>
-        requires { IsWritable self.now }
-        ensures same { result ≡ message_of self.now }
-        ensures fits { Fits (message_of self.now) }
-        ensures within { IsAtMost (most_bytes self.now) (message_of self.now) }
+        requires { IsWritableReply self.now }
+        ensures same { result ≡ reply_message self.now }
+        ensures fits { Fits (reply_message self.now) }
+        ensures within { IsAtMost (most_bytes self.now) (reply_message self.now) }
     {
         match self {
             Answer::Config(own) => MessageValue::Config(*own),
@@ -163,7 +163,7 @@ impl<'a> Answer<'a> {
 /// One answer in an NSP message of its own.
 pub(crate) fn one(alloc: Global, limit: u16, answer: Answer<'_>) -> Result<Vec<Vec<u8>>, NoMemory>
     requires { FitsIn limit answer }
-    ensures { IfOk result (Answered limit (message_of answer.entry ∷ [])) }
+    ensures { IfOk result (Answered limit (reply_message answer.entry ∷ [])) }
 {
     let mut answers = Vec::new(alloc);
     append(alloc, limit, answer, &mut answers)?;
@@ -178,7 +178,7 @@ pub(crate) fn append(
     answers: &mut Vec<Vec<u8>>,
 ) -> Result<(), NoMemory>
     requires { FitsIn limit answer }
-    ensures { AddsAnswer limit (message_of answer.entry) answers.old answers.new result }
+    ensures { AddsAnswer limit (reply_message answer.entry) answers.old answers.new result }
 {
     append_message(alloc, answers, &answer.message(), usize::from(limit))?;
     Ok(())
@@ -229,9 +229,9 @@ impl Room {
 
     /// The answer in an NSP message of its own.
     pub(crate) fn fill(self, limit: u16, answer: Answer<'_>) -> Vec<Vec<u8>>
-        requires short { IsShort answer }
+        requires short { IsShortReply answer }
         requires room { least_buffer ≤ limit }
-        ensures { Answered limit (message_of answer.entry ∷ []) result }
+        ensures { Answered limit (reply_message answer.entry ∷ []) result }
     {
         let Room {
             mut answers,

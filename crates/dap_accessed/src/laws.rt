@@ -10,10 +10,10 @@ ghost use Rattle.dap_msg.specs.Blocked.{AllFit};
 ghost use Rattle.dap_msg.specs.Sendable.{AreSendable};
 ghost use Rattle.std.specs.List.{AllByRecursion};
 ghost use Rattle.dap_accessed.specs.Sound.{AreFiles, IsSound};
-ghost use Rattle.dap_accessed.specs.Apart.{AreApart};
+ghost use Rattle.dap_accessed.specs.Apart.{NamesAreApart};
 ghost use Rattle.dap_accessed.specs.Twins.{AreTwins, SameMessages};
 ghost use Rattle.dap_accessed.specs.declared.setup.ServerSetup.{ServerSetup};
-ghost use Rattle.dap_accessed.specs.Standing.{Files, place_of, file_at};
+ghost use Rattle.dap_accessed.specs.Standing.{Files, index_of, file_at};
 ghost use Rattle.dap_accessed.specs.Adding.{MayStore, newest, with_new_file, with_record};
 ghost use Rattle.rec_file.specs.Shapes.{is_shape};
 ghost use Rattle.rec_file.specs.declared.shapes.Shape.{Shape};
@@ -52,7 +52,7 @@ pub fn answers_fit()
 /// A file and a record that an end is given leave files that obey their shapes and have different names.
 pub fn given_files_are_sound()
     ensures file { (files : Files) (name : List ℕ) (shape : Shape) → AreFiles files
-        → IsTrue (is_shape shape) → place_of name files ≡ None
+        → IsTrue (is_shape shape) → index_of name files ≡ None
         → AreFiles (with_new_file name shape files) }
     ensures record { (files : Files) (n : ℕ) (body : List ℕ) → AreFiles files → 0 < length files
         → MayStore (file_at (newest files) files) n body → AreFiles (with_record n body files) }
@@ -62,7 +62,7 @@ pub fn given_files_are_sound()
 /// two files of the table fold alike.
 pub fn names_stay_apart()
     ensures { (own : ServerSetup) (first : Files) (items : List TheItem)
-        → AreApart own.names first → AreApart own.names (After own first items) }
+        → NamesAreApart own.names first → NamesAreApart own.names (After own first items) }
 {}
 
 /// Two servers that differ in what they say of themselves alone, of whatever BUFSIZ, do the same: the files after any messages

@@ -2,9 +2,9 @@
 
 ghost use Rattle.std.specs.Prelude.{OnOk, ◌≡◌, ◌<◌, length, OnErr};
 ghost use Rattle.dap_accessed.specs.Records.{uncurrent};
-ghost use Rattle.dap_accessed.specs.Inner.Moves.{Makes, Moves, refuses, refuses_large};
-ghost use Rattle.dap_accessed.specs.Sessions.{IsOpenIn, joined};
-ghost use Rattle.dap_accessed.specs.Inner.Steps.{done};
+ghost use Rattle.dap_accessed.specs.Inner.Moves.{Makes, Moves, refusal_move, refuses_large};
+ghost use Rattle.dap_accessed.specs.Sessions.{IsOpenIn, with_files};
+ghost use Rattle.dap_accessed.specs.Inner.Steps.{step_move};
 ghost use Rattle.dap_accessed.specs.declared.step.Step.TheVariants as steps;
 
 use crate::answers::{Answer, Room, filedata_len, one, too_large};
@@ -33,10 +33,10 @@ impl Session {
         opened: OpenFile,
     ) -> Result<Vec<Vec<u8>>, NoMemory>
         requires { opened.at < length files.old }
-        ensures ok { Makes (done (steps.Purge opened) (joined files.old self.old))
-            (joined files.old self.old) (joined files.new self.new) result }
+        ensures ok { Makes (step_move (steps.Purge opened) (with_files files.old self.old))
+            (with_files files.old self.old) (with_files files.new self.new) result }
         ensures there { OnOk result (IsOpenIn files.new self.new.phase) }
-        ensures err { OnErr result (joined files.new self.new ≡ joined files.old self.old) }
+        ensures err { OnErr result (with_files files.new self.new ≡ with_files files.old self.old) }
     {
         let answers = self.reply(Answer::Complete, Phase::Ready)?;
         if opened.is_new {
@@ -54,9 +54,9 @@ impl Session {
         control: &ControlFields<'_>,
     ) -> Vec<Vec<u8>>
         requires { opened.at < length files.old }
-        ensures moves { Moves (joined files.old self.old)
-            (done (steps.Expect opened stream control.now) (joined files.old self.old))
-            (joined files.new self.new) result }
+        ensures moves { Moves (with_files files.old self.old)
+            (step_move (steps.Expect opened stream control.now) (with_files files.old self.old))
+            (with_files files.new self.new) result }
         ensures there { IsOpenIn files.new self.new.phase }
     {
         let key = key_for(files.file(opened.at), stream, control);
@@ -73,10 +73,10 @@ impl Session {
         control: &ControlFields<'_>,
     ) -> Result<Vec<Vec<u8>>, NoMemory>
         requires { opened.at < length files.old }
-        ensures ok { Makes (done (steps.Get opened stream control.now) (joined files.old self.old))
-            (joined files.old self.old) (joined files.new self.new) result }
+        ensures ok { Makes (step_move (steps.Get opened stream control.now) (with_files files.old self.old))
+            (with_files files.old self.old) (with_files files.new self.new) result }
         ensures there { OnOk result (IsOpenIn files.new self.new.phase) }
-        ensures err { OnErr result (joined files.new self.new ≡ joined files.old self.old) }
+        ensures err { OnErr result (with_files files.new self.new ≡ with_files files.old self.old) }
     {
         let file = files.file(opened.at);
         let pick = match pick_for(file, stream, control) {
@@ -112,10 +112,10 @@ impl Session {
         refusal: Refusal,
     ) -> Result<Vec<Vec<u8>>, NoMemory>
         requires { opened.at < length files.now }
-        ensures ok { Makes (refuses (joined files.now self.old) opened stream refusal)
-            (joined files.now self.old) (joined files.now self.new) result }
+        ensures ok { Makes (refusal_move (with_files files.now self.old) opened stream refusal)
+            (with_files files.now self.old) (with_files files.now self.new) result }
         ensures there { OnOk result (IsOpenIn files.now self.new.phase) }
-        ensures err { OnErr result (joined files.now self.new ≡ joined files.now self.old) }
+        ensures err { OnErr result (with_files files.now self.new ≡ with_files files.now self.old) }
     {
         self.reply(
             refused(refusal),
@@ -131,10 +131,10 @@ impl Session {
         stream: Stream,
     ) -> Result<Vec<Vec<u8>>, NoMemory>
         requires { opened.at < length files.now }
-        ensures ok { Makes (refuses_large (joined files.now self.old) opened stream)
-            (joined files.now self.old) (joined files.now self.new) result }
+        ensures ok { Makes (refuses_large (with_files files.now self.old) opened stream)
+            (with_files files.now self.old) (with_files files.now self.new) result }
         ensures there { OnOk result (IsOpenIn files.now self.new.phase) }
-        ensures err { OnErr result (joined files.now self.new ≡ joined files.now self.old) }
+        ensures err { OnErr result (with_files files.now self.new ≡ with_files files.now self.old) }
     {
         self.reply(
             too_large(),
@@ -150,10 +150,10 @@ impl Session {
         stream: Stream,
     ) -> Result<Vec<Vec<u8>>, NoMemory>
         requires { opened.at < length files.old }
-        ensures ok { Makes (done (steps.Delete opened stream) (joined files.old self.old))
-            (joined files.old self.old) (joined files.new self.new) result }
+        ensures ok { Makes (step_move (steps.Delete opened stream) (with_files files.old self.old))
+            (with_files files.old self.old) (with_files files.new self.new) result }
         ensures there { OnOk result (IsOpenIn files.new self.new.phase) }
-        ensures err { OnErr result (joined files.new self.new ≡ joined files.old self.old) }
+        ensures err { OnErr result (with_files files.new self.new ≡ with_files files.old self.old) }
     {
         let room = Room::new(self.alloc)?;
         let mut after = stream;
@@ -173,10 +173,10 @@ impl Session {
     ) -> Result<Vec<Vec<u8>>, NoMemory>
         requires { opened.at < length files.old }
         ensures ok { Makes
-            (done (steps.Put opened stream key body.entry) (joined files.old self.old))
-            (joined files.old self.old) (joined files.new self.new) result }
+            (step_move (steps.Put opened stream key body.entry) (with_files files.old self.old))
+            (with_files files.old self.old) (with_files files.new self.new) result }
         ensures there { OnOk result (IsOpenIn files.new self.new.phase) }
-        ensures err { OnErr result (joined files.new self.new ≡ joined files.old self.old) }
+        ensures err { OnErr result (with_files files.new self.new ≡ with_files files.old self.old) }
     {
         let key = match key {
             Ok(key) => key,
@@ -199,10 +199,10 @@ impl Session {
     ) -> Result<Vec<Vec<u8>>, NoMemory>
         requires { opened.at < length files.old }
         ensures ok { Makes
-            (done (steps.Update opened stream body.entry) (joined files.old self.old))
-            (joined files.old self.old) (joined files.new self.new) result }
+            (step_move (steps.Update opened stream body.entry) (with_files files.old self.old))
+            (with_files files.old self.old) (with_files files.new self.new) result }
         ensures there { OnOk result (IsOpenIn files.new self.new.phase) }
-        ensures err { OnErr result (joined files.new self.new ≡ joined files.old self.old) }
+        ensures err { OnErr result (with_files files.new self.new ≡ with_files files.old self.old) }
     {
         let room = Room::new(self.alloc)?;
         let mut after = stream;

@@ -3,7 +3,7 @@
 ghost use Rattle.std.specs.Prelude.{◌≡◌, []};
 ghost use Rattle.dap_msg.specs.BothEnds.{four_bytes};
 ghost use Rattle.dap_accessed.specs.Replies.{reason_of, record_status, refusal_status};
-ghost use Rattle.dap_accessed.specs.Inner.Written.{IsShort, message_of};
+ghost use Rattle.dap_accessed.specs.Inner.Written.{IsShortReply, reply_message};
 
 use crate::answers::Answer;
 use dap_msg::codes::{
@@ -33,8 +33,8 @@ pub fn reason_number(refusal: Refusal) -> u8
 
 /// The Status of a refusal.
 pub(crate) fn refused<'a>(refusal: Refusal) -> Answer<'a>
-    ensures message { message_of result ≡ refusal_status refusal [] }
-    ensures short { IsShort result }
+    ensures message { reply_message result ≡ refusal_status refusal [] }
+    ensures short { IsShortReply result }
 {
     match refusal {
         Refusal::EndOfFile => Answer::Status(END_OF_FILE),
@@ -47,8 +47,8 @@ pub(crate) fn refused<'a>(refusal: Refusal) -> Answer<'a>
 
 /// The Status of the refusal of a Filedata of a Store.
 pub(crate) fn store_refused<'a>(refusal: Refusal, ordinal: u32) -> Answer<'a>
-    ensures message { message_of result ≡ refusal_status refusal (four_bytes ordinal) }
-    ensures short { IsShort result }
+    ensures message { reply_message result ≡ refusal_status refusal (four_bytes ordinal) }
+    ensures short { IsShortReply result }
 {
     match refusal {
         Refusal::EndOfFile => Answer::Status(END_OF_FILE),
@@ -61,8 +61,8 @@ pub(crate) fn store_refused<'a>(refusal: Refusal, ordinal: u32) -> Answer<'a>
 
 /// The Status of a PUT, an UPDATE or a DELETE.
 pub(crate) fn settled<'a>(reply: Result<u32, Refusal>) -> Answer<'a>
-    ensures message { message_of result ≡ record_status reply }
-    ensures short { IsShort result }
+    ensures message { reply_message result ≡ record_status reply }
+    ensures short { IsShortReply result }
 {
     match reply {
         Ok(number) => Answer::Done(number.to_le_bytes()),

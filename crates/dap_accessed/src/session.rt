@@ -11,12 +11,12 @@ ghost use Rattle.dap_accessed.specs.Accesses.{fac_or, rights_of, rights_to_creat
 ghost use Rattle.dap_accessed.specs.Groups.{Grouped};
 ghost use Rattle.dap_accessed.specs.Replies.{bare_status, refused_access};
 ghost use Rattle.dap_accessed.specs.Served.{Answered};
-ghost use Rattle.dap_accessed.specs.Sessions.{IsIn, IsOpenIn, IsSilentIn, ServesItem, asked_in, joined, new_session, open_at, phase_moved_up, refused_session, session_with, there_at, would_open};
+ghost use Rattle.dap_accessed.specs.Sessions.{IsIn, IsOpenIn, IsSilentIn, ServesItem, asked_in, with_files, new_session, open_at, phase_moved_up, refused_session, session_with, there_at, would_open};
 ghost use Rattle.dap_accessed.specs.Setup.{IsServerSetup};
 ghost use Rattle.dap_accessed.specs.Inner.Sessions.{Enters};
 ghost use Rattle.dap_accessed.specs.Inner.Moves.{Makes, Moves, creates, is_silent, move, opens, opens_nothing};
-ghost use Rattle.dap_accessed.specs.Inner.Steps.{CanDo, done, is_quiet};
-ghost use Rattle.dap_accessed.specs.Inner.Written.{IsShort, message_of};
+ghost use Rattle.dap_accessed.specs.Inner.Steps.{CanDo, step_move, is_quiet};
+ghost use Rattle.dap_accessed.specs.Inner.Written.{IsShortReply, reply_message};
 ghost use Rattle.dap_accessed.specs.declared.phase.Phase.TheVariants as phases;
 ghost use Rattle.dap_accessed.specs.declared.step.Step.TheVariants as steps;
 
@@ -49,7 +49,7 @@ pub struct Session {
 }
 
 impl Model for Session {
-    ghost use Rattle.dap_accessed.specs.Inner.Sessions.{IsGood};
+    ghost use Rattle.dap_accessed.specs.Inner.Sessions.{IsSession};
     ghost use Rattle.dap_accessed.specs.Stored.{session_code};
     ghost use Rattle.dap_accessed.specs.Sessions.{SessionValue};
 
@@ -65,7 +65,7 @@ impl Model for Session {
       phase = a.phase;
     } };
 
-    ghost invariant = { λ a. IsGood a.setup a.limit a.kept };
+    ghost invariant = { λ a. IsSession a.setup a.limit a.kept };
 }
 
 /// The shape of a file of which no Attributes message says anything.
@@ -99,8 +99,8 @@ fn rights_to_create(fac: u32) -> Rights
 
 /// The answer to an Access that opens nothing.
 fn refused_access<'a>(reason: u8) -> Answer<'a>
-    ensures message { message_of result ≡ refused_access reason }
-    ensures short { IsShort result }
+    ensures message { reply_message result ≡ refused_access reason }
+    ensures short { IsShortReply result }
 {
     Answer::Reason {
         code: ACCESS_REFUSED,
@@ -228,10 +228,10 @@ impl Session {
     /// Does what an item asks for.
     fn act(&mut self, files: &mut FileTable, step: &Step<'_>) -> Result<Vec<Vec<u8>>, NoMemory>
         requires { CanDo files.old step.now }
-        ensures ok { Makes (done step.now (joined files.old self.old))
-            (joined files.old self.old) (joined files.new self.new) result }
+        ensures ok { Makes (step_move step.now (with_files files.old self.old))
+            (with_files files.old self.old) (with_files files.new self.new) result }
         ensures there { OnOk result (IsOpenIn files.new self.new.phase) }
-        ensures err { OnErr result (joined files.new self.new ≡ joined files.old self.old) }
+        ensures err { OnErr result (with_files files.new self.new ≡ with_files files.old self.old) }
         ensures quiet { is_quiet step.now ≡ true → IsOk result }
     {
         match step {
@@ -269,8 +269,8 @@ impl Session {
         answer: Answer<'_>,
         phase: Phase,
     ) -> Result<Vec<Vec<u8>>, NoMemory>
-        requires short { IsShort answer }
-        ensures ok { IfOk result (λ answers. Enters self.old phase (message_of answer.entry ∷ [])
+        requires short { IsShortReply answer }
+        ensures ok { IfOk result (λ answers. Enters self.old phase (reply_message answer.entry ∷ [])
             self.new answers) }
         ensures err { OnErr result (self.new ≡ self.old) }
     {
@@ -279,13 +279,13 @@ impl Session {
         Ok(answers)
     }
 
-    /// Answers the Config of a peer that takes messages of so many bytes.
+    /// Answers the Config of a peer that takes messages of this many bytes.
     fn configure(&mut self, files: &FileTable, limit: u16) -> Result<Vec<Vec<u8>>, NoMemory>
         requires { least_buffer ≤ limit }
-        ensures ok { Makes (done (steps.Configure limit) (joined files.now self.old))
-            (joined files.now self.old) (joined files.now self.new) result }
+        ensures ok { Makes (step_move (steps.Configure limit) (with_files files.now self.old))
+            (with_files files.now self.old) (with_files files.now self.new) result }
         ensures there { OnOk result (IsOpenIn files.now self.new.phase) }
-        ensures err { OnErr result (joined files.now self.new ≡ joined files.now self.old) }
+        ensures err { OnErr result (with_files files.now self.new ≡ with_files files.now self.old) }
     {
         let answers = self.reply(Answer::Config(self.setup.identity), Phase::Ready)?;
         self.limit = limit;
@@ -295,8 +295,8 @@ impl Session {
     /// Keeps the shape that an Access would give a new file.
     fn keep(&mut self, files: &FileTable, shape: Option<Shape>) -> Vec<Vec<u8>>
         requires { CanDo files.now (steps.Keep shape) }
-        ensures moves { Moves (joined files.now self.old)
-            (done (steps.Keep shape) (joined files.now self.old)) (joined files.now self.new) result }
+        ensures moves { Moves (with_files files.now self.old)
+            (step_move (steps.Keep shape) (with_files files.now self.old)) (with_files files.now self.new) result }
         ensures there { IsOpenIn files.now self.new.phase }
     {
         self.kept = shape;
@@ -311,10 +311,10 @@ impl Session {
         name: &[u8],
         fac: u32,
     ) -> Result<Vec<Vec<u8>>, NoMemory>
-        ensures ok { Makes (done (steps.Access func name.entry fac) (joined files.old self.old))
-            (joined files.old self.old) (joined files.new self.new) result }
+        ensures ok { Makes (step_move (steps.Access func name.entry fac) (with_files files.old self.old))
+            (with_files files.old self.old) (with_files files.new self.new) result }
         ensures there { OnOk result (IsOpenIn files.new self.new.phase) }
-        ensures err { OnErr result (joined files.new self.new ≡ joined files.old self.old) }
+        ensures err { OnErr result (with_files files.new self.new ≡ with_files files.old self.old) }
     {
         match func {
             ACCFUNC_OPEN => self.open(files, name, fac),
@@ -329,11 +329,11 @@ impl Session {
         files: &FileTable,
         answer: Answer<'_>,
     ) -> Result<Vec<Vec<u8>>, NoMemory>
-        requires { IsShort answer }
-        ensures ok { Makes (opens_nothing (joined files.now self.old) (message_of answer.entry))
-            (joined files.now self.old) (joined files.now self.new) result }
+        requires { IsShortReply answer }
+        ensures ok { Makes (opens_nothing (with_files files.now self.old) (reply_message answer.entry))
+            (with_files files.now self.old) (with_files files.now self.new) result }
         ensures there { OnOk result (IsOpenIn files.now self.new.phase) }
-        ensures err { OnErr result (joined files.now self.new ≡ joined files.now self.old) }
+        ensures err { OnErr result (with_files files.now self.new ≡ with_files files.now self.old) }
     {
         let answers = self.reply(answer, Phase::Ready)?;
         self.kept = Some(PLAIN);
@@ -347,10 +347,10 @@ impl Session {
         name: &[u8],
         fac: u32,
     ) -> Result<Vec<Vec<u8>>, NoMemory>
-        ensures ok { Makes (opens (joined files.old self.old) name.now fac)
-            (joined files.old self.old) (joined files.new self.new) result }
+        ensures ok { Makes (opens (with_files files.old self.old) name.now fac)
+            (with_files files.old self.old) (with_files files.new self.new) result }
         ensures there { OnOk result (IsOpenIn files.new self.new.phase) }
-        ensures err { OnErr result (joined files.new self.new ≡ joined files.old self.old) }
+        ensures err { OnErr result (with_files files.new self.new ≡ with_files files.old self.old) }
     {
         let Some(at) = files.find_by(self.setup.names, name) else {
             return self.refuse_access(files, Answer::Status(FILE_NOT_FOUND));
@@ -372,10 +372,10 @@ impl Session {
         name: &[u8],
         fac: u32,
     ) -> Result<Vec<Vec<u8>>, NoMemory>
-        ensures ok { Makes (creates (joined files.old self.old) name.now fac)
-            (joined files.old self.old) (joined files.new self.new) result }
+        ensures ok { Makes (creates (with_files files.old self.old) name.now fac)
+            (with_files files.old self.old) (with_files files.new self.new) result }
         ensures there { OnOk result (IsOpenIn files.new self.new.phase) }
-        ensures err { OnErr result (joined files.new self.new ≡ joined files.old self.old) }
+        ensures err { OnErr result (with_files files.new self.new ≡ with_files files.old self.old) }
     {
         if files.find_by(self.setup.names, name).is_some() {
             return self.refuse_access(files, refused_access(REASON_FILE_EXISTS));
@@ -423,11 +423,11 @@ impl Session {
         requires spelled { (m : TheMessage) → item ≡ Whole m → IsSpelled m }
         requires there { IsOpenIn files.old self.old.phase }
         ensures serves { IfOk result (λ served. ServesItem item.entry
-            (joined files.old self.old) (joined files.new self.new) served.answers) }
+            (with_files files.old self.old) (with_files files.new self.new) served.answers) }
         ensures next { IfOk result (λ served. served.next ≡ next) }
         ensures there { IsOpenIn files.new self.new.phase }
         ensures no_memory { OnErr result ((files.new ≡ files.old) × (self.new ≡ self.old)) }
-        ensures unrefused { (c : Grouped) → IsIn c (joined files.old self.old)
+        ensures unrefused { (c : Grouped) → IsIn c (with_files files.old self.old)
             → IsSilentIn self.old.setup c item.entry → IsOk result }
     {
         let answers = self.answer_item(files, item)?;
@@ -442,10 +442,10 @@ impl Session {
     ) -> Result<Vec<Vec<u8>>, NoMemory>
         requires fits { ItemFits item }
         requires there { IsOpenIn files.old self.old.phase }
-        ensures ok { Makes (move (joined files.old self.old) item.entry)
-            (joined files.old self.old) (joined files.new self.new) result }
+        ensures ok { Makes (move (with_files files.old self.old) item.entry)
+            (with_files files.old self.old) (with_files files.new self.new) result }
         ensures there { IsOpenIn files.new self.new.phase }
-        ensures err { OnErr result (joined files.new self.new ≡ joined files.old self.old) }
+        ensures err { OnErr result (with_files files.new self.new ≡ with_files files.old self.old) }
         ensures silent { is_silent self.old.phase item.entry ≡ true → IsOk result }
         ensures most { self.old.limit ≤ greatest_message }
     {

@@ -13,7 +13,7 @@ ghost use Rattle.dap_accessed.specs.Effects.{control_status};
 ghost use Rattle.dap_accessed.specs.Replies.{bare_status};
 ghost use Rattle.dap_accessed.specs.Transfers.{continue_refused};
 ghost use Rattle.dap_accessed.specs.Sessions.{IsOpenIn};
-ghost use Rattle.dap_accessed.specs.Inner.Steps.{Asks, HasOpen, IsCommon};
+ghost use Rattle.dap_accessed.specs.Inner.Steps.{AsksFor, HasOpen, IsCommon};
 ghost use Rattle.rec_file.specs.Limits.{greatest_number};
 ghost use Rattle.dap_accessed.specs.declared.phase.Phase.TheVariants as phases;
 
@@ -67,11 +67,11 @@ pub(crate) enum Step<'a> {
 
 impl Phase {
     /// What an item asks for in this phase, or the code of the Status by which it is refused: no message
-    /// can be read, it has no place here, or it asks for nothing that is done.
+    /// can be read, it is out of sequence, or it asks for nothing that is done.
     pub(crate) fn step<'a>(self, item: Item<'a>) -> Result<Step<'a>, u16>
         requires fits { ItemFits item }
         requires there { (files : Files) × IsOpenIn files self }
-        ensures { Asks self item.entry result }
+        ensures { AsksFor self item.entry result }
     {
         let message = match item {
             Item::Whole(message) => message,
@@ -110,7 +110,7 @@ impl Phase {
     /// The same where a file is open without a stream.
     fn opened<'a>(self, opened: OpenFile, message: MessageValue<'a>) -> Result<Step<'a>, u16>
         requires { self ≡ phases.Opened opened }
-        ensures { Asks self (Whole message.entry) result }
+        ensures { AsksFor self (Whole message.entry) result }
     {
         match message {
             MessageValue::Control(control) => match verb_of(&control) {
@@ -132,7 +132,7 @@ impl Phase {
         message: MessageValue<'a>,
     ) -> Result<Step<'a>, u16>
         requires { self ≡ phases.Connected opened stream }
-        ensures { Asks self (Whole message.entry) result }
+        ensures { AsksFor self (Whole message.entry) result }
     {
         match message {
             MessageValue::Control(control) => match verb_of(&control) {
@@ -165,7 +165,7 @@ impl Phase {
         message: MessageValue<'a>,
     ) -> Result<Step<'a>, u16>
         requires { self ≡ phases.Dropping opened stream ordinal }
-        ensures { Asks self (Whole message.entry) result }
+        ensures { AsksFor self (Whole message.entry) result }
     {
         match message {
             MessageValue::Filedata { .. } => Ok(Step::Enter(Phase::Dropping(
@@ -190,7 +190,7 @@ impl Phase {
     ) -> Result<Step<'a>, u16>
         requires phase { self ≡ phases.Stopped opened stream }
         requires next { stream.next ≤ greatest_number }
-        ensures { Asks self (Whole message.entry) result }
+        ensures { AsksFor self (Whole message.entry) result }
     {
         match message {
             MessageValue::Contran { func } => match func {
@@ -210,7 +210,7 @@ impl Phase {
     fn otherwise<'a>(self, opened: OpenFile, message: MessageValue<'a>) -> Result<Step<'a>, u16>
         requires there { HasOpen self opened }
         requires common { IsCommon self message }
-        ensures { Asks self (Whole message.entry) result }
+        ensures { AsksFor self (Whole message.entry) result }
     {
         match message {
             MessageValue::Control(control) => Err(control_refused(verb_of(&control))),
@@ -231,7 +231,7 @@ impl Phase {
 
 /// What a message asks for where the peer's Config is due.
 fn fresh<'a>(message: MessageValue<'a>) -> Result<Step<'a>, u16>
-    ensures { Asks phases.Fresh (Whole message.entry) result }
+    ensures { AsksFor phases.Fresh (Whole message.entry) result }
 {
     match message {
         MessageValue::Config(config) if is_too_small(config.bufsiz) => Err(invalid(
@@ -246,7 +246,7 @@ fn fresh<'a>(message: MessageValue<'a>) -> Result<Step<'a>, u16>
 /// What a message asks for where no file is open.
 fn ready<'a>(message: MessageValue<'a>) -> Result<Step<'a>, u16>
     requires { IsSpelled message }
-    ensures { Asks phases.Ready (Whole message.entry) result }
+    ensures { AsksFor phases.Ready (Whole message.entry) result }
 {
     match message {
         MessageValue::Attrib(attributes) => Ok(Step::Keep(shape_for(&attributes))),
@@ -260,7 +260,7 @@ fn ready<'a>(message: MessageValue<'a>) -> Result<Step<'a>, u16>
     }
 }
 
-/// The code where a Control has no place and a file is open.
+/// The code where a Control is out of sequence and a file is open.
 fn control_refused(verb: Verb) -> u16
     ensures { bare_status result ≡ control_status verb }
 {

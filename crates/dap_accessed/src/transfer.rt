@@ -2,8 +2,8 @@
 
 ghost use Rattle.std.specs.Prelude.{OnOk, ◌≡◌, ◌≤◌, ◌<◌, ◌+◌, length, IfOk, OnErr};
 ghost use Rattle.dap_accessed.specs.Inner.Moves.{HasFetched, Makes, fetched_phase};
-ghost use Rattle.dap_accessed.specs.Sessions.{IsOpenIn, joined};
-ghost use Rattle.dap_accessed.specs.Inner.Steps.{done};
+ghost use Rattle.dap_accessed.specs.Sessions.{IsOpenIn, with_files};
+ghost use Rattle.dap_accessed.specs.Inner.Steps.{step_move};
 ghost use Rattle.dap_accessed.specs.declared.step.Step.TheVariants as steps;
 ghost use Rattle.rec_file.specs.Limits.{greatest_number};
 ghost use Rattle.dap_accessed.specs.Records.{at_number};
@@ -39,10 +39,10 @@ impl Session {
     ) -> Result<Vec<Vec<u8>>, NoMemory>
         requires { opened.at < length files.old }
         ensures ok { Makes
-            (done (steps.Store opened stream ordinal body.entry) (joined files.old self.old))
-            (joined files.old self.old) (joined files.new self.new) result }
+            (step_move (steps.Store opened stream ordinal body.entry) (with_files files.old self.old))
+            (with_files files.old self.old) (with_files files.new self.new) result }
         ensures there { OnOk result (IsOpenIn files.new self.new.phase) }
-        ensures err { OnErr result (joined files.new self.new ≡ joined files.old self.old) }
+        ensures err { OnErr result (with_files files.new self.new ≡ with_files files.old self.old) }
     {
         let room = Room::new(self.alloc)?;
         let mut after = stream;
@@ -68,10 +68,10 @@ impl Session {
         stream: Stream,
     ) -> Result<Vec<Vec<u8>>, NoMemory>
         requires { opened.at < length files.old }
-        ensures ok { Makes (done (steps.Fetch opened stream) (joined files.old self.old))
-            (joined files.old self.old) (joined files.new self.new) result }
+        ensures ok { Makes (step_move (steps.Fetch opened stream) (with_files files.old self.old))
+            (with_files files.old self.old) (with_files files.new self.new) result }
         ensures there { OnOk result (IsOpenIn files.new self.new.phase) }
-        ensures err { OnErr result (joined files.new self.new ≡ joined files.old self.old) }
+        ensures err { OnErr result (with_files files.new self.new ≡ with_files files.old self.old) }
     {
         let (answers, phase) = self.batch(files, opened, stream)?;
         self.phase = phase;
@@ -87,9 +87,9 @@ impl Session {
     ) -> Result<(Vec<Vec<u8>>, Phase), NoMemory>
         requires { opened.at < length files.now }
         ensures place { IfOk result (λ r. r.1 ≡ fetched_phase
-            (joined files.now self.now) opened stream) }
+            (with_files files.now self.now) opened stream) }
         ensures answers { IfOk result (λ r. HasFetched
-            (joined files.now self.now) opened stream r.0) }
+            (with_files files.now self.now) opened stream r.0) }
         ensures there { IfOk result (λ r. IsOpenIn files.now r.1) }
     {
         let file = files.file(opened.at);

@@ -17,13 +17,13 @@ use Rattle.dap_accessing.specs.declared.report.Ending.TheVariants as ending
 use Rattle.dap_accessing.specs.declared.pending.Pending.{Pending}
 use Rattle.dap_accessing.specs.declared.pending.Pending.TheVariants as pending
 use Rattle.dap_accessing.specs.Told.{Hearing, Reports, Waits, Unexpected, Told}
-use Rattle.dap_accessing.specs.Parts.{ending_of}
+use Rattle.dap_accessing.specs.Parts.{batch_ending}
 use Rattle.dap_accessing.specs.Phase.{phase_next, limit_next}
-use Rattle.dap_accessing.specs.Present.{Present, StandsAfter}
+use Rattle.dap_accessing.specs.Present.{ClientState, ClientAfter}
 use Rattle.std.proofs.lemmas.List.{append-nil}
 use Rattle.dap_accessing.specs.Each.{IsBatch, ReadsOn, kept_behind, none_kept, put_back, records_kept, reported_behind}
 use Rattle.dap_accessing.specs.Inner.Gathers.{gather, gather_batch}
-use Rattle.dap_accessing.specs.Inner.Hears.{Takes}
+use Rattle.dap_accessing.specs.Inner.Hears.{HearsNext}
 use Rattle.dap_accessing.proofs.Gathering.{gathered}
 use Rattle.dap_accessing.proofs.Laws.{still_waits, stands_waiting, stands_reported}
 use Rattle.dap_accessing.proofs.One.{probed-is, same-probes}
@@ -50,7 +50,7 @@ goes-on told records (Filedata recnum body) q g =
       is = sym (alike (pending.Batch (records ++ r ∷ [])) q g);
       behind = λ rest. ap (λ (l : List (ℕ × List ℕ)). gather_batch l rest) (append_assoc told records (r ∷ []));
     }
-goes-on told records (Status s) q g = refused-waits (is_success s.code) (report.Batch records (ending_of s)) (g [] ∙ still_waits q)
+goes-on told records (Status s) q g = refused-waits (is_success s.code) (report.Batch records (batch_ending s)) (g [] ∙ still_waits q)
 goes-on told records m q g = let e : Unexpected ≡ Waits = g [] ∙ still_waits q in let no : ⊥ = cc in absurd no
 
 -- the batch is reported
@@ -81,7 +81,7 @@ status-ends told records m e false done g h =
 
 ends : (told records : List (ℕ × List ℕ)) (m : Message) (done : Report) → ((rest : List Item) → gather_batch records (Whole m ∷ rest) ≡ Reports done rest) → Ends told records m done
 ends told records (Filedata recnum body) done g = let e : Waits ≡ Reports done [] = g [] in let no : ⊥ = cc in absurd no
-ends told records (Status s) done g = status-ends told records (Status s) (ending_of s) (is_success s.code) done g (λ rest. refl)
+ends told records (Status s) done g = status-ends told records (Status s) (batch_ending s) (is_success s.code) done g (λ rest. refl)
 ends told records m done g = let e : Unexpected ≡ Reports done [] = g [] in let no : ⊥ = cc in absurd no
 
 -- ---- Reading.
@@ -89,14 +89,14 @@ ends told records m done g = let e : Unexpected ≡ Reports done [] = g [] in le
 was-batch : (p : Pending) (o : Option Pending) (records : List (ℕ × List ℕ)) → o ≡ Some p → o ≡ Some (pending.Batch records) → p ≡ pending.Batch records
 was-batch p o records e b = let both : Some p ≡ Some (pending.Batch records) = sym e ∙ b in cc
 
-module _ (m : Message) (old new : Present) (told : List (ℕ × List ℕ)) (requests : List Request) (answers : List Item) (b : IsBatch old) (s : StandsAfter requests answers (put_back told old)) where
+module _ (m : Message) (old new : ClientState) (told : List (ℕ × List ℕ)) (requests : List Request) (answers : List Item) (b : IsBatch old) (s : ClientAfter requests answers (put_back told old)) where
   -- where the client stands as if those that were told were kept, and what that reports
   abbrev Stands : Option Report → Type 0
   Stands report =
-      StandsAfter requests (answers ++ Whole m ∷ []) (put_back told new)
+      ClientAfter requests (answers ++ Whole m ∷ []) (put_back told new)
       × (Told requests (answers ++ Whole m ∷ []) ≡ Told requests answers ++ option_to_list (option_map (reported_behind told) report))
 
-  waits-on : Takes (Whole m) old new (Ok None) → Stands None
+  waits-on : HearsNext (Whole m) old new (Ok None) → Stands None
   waits-on t =
       let records = b.0 in
       let g = subst (λ (p : Pending). (rest : List Item) → gather p (Whole m ∷ rest) ≡ gather t.1 rest) (was-batch t.0 old.pending records t.2 b.1) t.3 in
@@ -104,9 +104,9 @@ module _ (m : Message) (old new : Present) (told : List (ℕ × List ℕ)) (requ
       let stood = stands_waiting (Whole m) (put_back told old) (pending.Batch (told ++ records)) (pending.Batch (told ++ (records ++ on.more))) (ap (kept_behind told) b.1) on.behind requests answers s in
       let is : put_back told new ≡ record old { pending = Some (pending.Batch (told ++ (records ++ on.more))) } =
       ap (put_back told) t.4 ∙ ap (λ (q : Pending). record old { pending = kept_behind told (Some q) }) on.is in
-      (subst (StandsAfter requests (answers ++ Whole m ∷ [])) (sym is) stood.0, stood.1)
+      (subst (ClientAfter requests (answers ++ Whole m ∷ [])) (sym is) stood.0, stood.1)
 
-  reports-on : (done : Report) → Takes (Whole m) old new (Ok (Some done)) → Stands (Some done)
+  reports-on : (done : Report) → HearsNext (Whole m) old new (Ok (Some done)) → Stands (Some done)
   reports-on done t =
       let records = b.0 in
       let g = subst (λ (p : Pending). (rest : List Item) → gather p (Whole m ∷ rest) ≡ Reports done rest) (was-batch t.0 old.pending records t.1 b.1) t.2 in
@@ -116,13 +116,13 @@ module _ (m : Message) (old new : Present) (told : List (ℕ × List ℕ)) (requ
       ap (put_back told) t.3
       ∙ ap (λ (p : Phase). record old { phase = p; limit = limit_next old.limit done; pending = None }) (sym (end.phase old.phase))
       ∙ ap (λ (n : ℕ). record old { phase = phase_next old.phase (reported_behind told done); limit = n; pending = None }) (sym (end.limit old.limit)) in
-      (subst (StandsAfter requests (answers ++ Whole m ∷ [])) (sym is) stood.0, stood.1)
+      (subst (ClientAfter requests (answers ++ Whole m ∷ [])) (sym is) stood.0, stood.1)
 
-  stands-on : (report : Option Report) → Takes (Whole m) old new (Ok report) → Stands report
+  stands-on : (report : Option Report) → HearsNext (Whole m) old new (Ok report) → Stands report
   stands-on None t = waits-on t
   stands-on (Some done) t = reports-on done t
 
-pub read_on : (bytes : List ℕ) (at : ℕ) (m : Message) (next : ℕ) (old new : Present) → ItemAt bytes at (Whole m) next → (report : Option Report) → Takes (Whole m) old new (Ok report)
+pub read_on : (bytes : List ℕ) (at : ℕ) (m : Message) (next : ℕ) (old new : ClientState) → ItemAt bytes at (Whole m) next → (report : Option Report) → HearsNext (Whole m) old new (Ok report)
     → ReadsOn bytes at old new (record { report = report; next = next })
 read_on bytes at m next old new reads report t =
     record {

@@ -13,7 +13,7 @@ use Rattle.dap_accessing.specs.declared.pending.Pending.TheVariants as pending
 use Rattle.dap_accessing.specs.declared.pending.Heard.{Heard}
 use Rattle.dap_accessing.specs.declared.pending.Heard.TheVariants as heard
 use Rattle.dap_accessing.specs.Told.{refusal}
-use Rattle.dap_accessing.specs.Parts.{ending_of}
+use Rattle.dap_accessing.specs.Parts.{batch_ending}
 use Rattle.dap_accessing.specs.Inner.Hears.{HasPlace, Hears, IsRecordOrRefusal}
 
 pub heard_place : (p : Pending) (item : Item) (h : Heard) → Hears p item h → (h ≡ heard.Unexpected → ⊥) → HasPlace p item
@@ -30,5 +30,5 @@ record_place _ is = absurd is
 
 pub batch_place : (records : List (ℕ × List ℕ)) (m : Message) → IsRecordOrRefusal m → HasPlace (pending.Batch records) (Whole m)
 batch_place records (Filedata recnum body) is = inl (pending.Batch (records ++ (number_of recnum, body) ∷ []), λ rest. refl)
-batch_place records (Status status) is = inr (report.Batch records (ending_of status), λ rest. rw is refl)
+batch_place records (Status status) is = inr (report.Batch records (batch_ending status), λ rest. rw is refl)
 batch_place records _ is = absurd is

@@ -6,7 +6,7 @@ pub use Rattle.dap_accessing.proofs.Fronts.{behind-more}
 pub use Rattle.dap_accessing.proofs.Fronts.{records-more}
 -- one Status more in front
 pub use Rattle.dap_accessing.proofs.Fronts.{statuses-more}
--- a hearing with more answers is the same with these behind it, unless it waits
+-- a hearing with more answers is the same with these after it, unless it waits
 pub use Rattle.dap_accessing.proofs.Hearings.{Stays}
 -- so is that of each request
 pub use Rattle.dap_accessing.proofs.Hearings.{stays}

@@ -16,7 +16,7 @@ use Rattle.dap_accessing.specs.declared.report.Report.{Report}
 use Rattle.dap_accessing.specs.declared.report.Report.TheVariants as report
 use Rattle.dap_accessing.specs.declared.pending.Pending.{Pending}
 use Rattle.dap_accessing.specs.declared.pending.Pending.TheVariants as pending
-use Rattle.dap_accessing.specs.Told.{Hearing, Unexpected, hear, behind, hear_ack, is_other, hear_file, hear_attributes, has_success, told_of, first_told}
+use Rattle.dap_accessing.specs.Told.{Hearing, Unexpected, hear, after_those, hear_ack, is_other, hear_file, hear_attributes, has_success, told_of, first_told}
 use Rattle.dap_accessing.specs.Parts.{hear_opened, opened_as, is_record, records_in_front, hear_batch_end, is_status, statuses_in_front, hear_store_end}
 use Rattle.dap_accessing.specs.Present.{hear_from}
 use Rattle.dap_accessing.specs.Inner.Hears.{pending_of}
@@ -36,13 +36,13 @@ attributes (Whole (Attrib a) ∷ rest) =
 attributes (_ ∷ rest) = refl
 
 -- a fetch, after these records
-batch : (records : List (ℕ × List ℕ)) (answers : List Item) → hear_batch_end (records ++ records_in_front answers) (behind is_record answers) ≡ gather_batch records answers
+batch : (records : List (ℕ × List ℕ)) (answers : List Item) → hear_batch_end (records ++ records_in_front answers) (after_those is_record answers) ≡ gather_batch records answers
 batch records [] = refl
 batch records (Whole (Filedata recnum body) ∷ rest) =
     let r : ℕ × List ℕ = (number_of recnum, body) in
-    ap (λ l. hear_batch_end (records ++ l) (behind is_record (Whole (Filedata recnum body) ∷ rest))) (records-more recnum body rest)
+    ap (λ l. hear_batch_end (records ++ l) (after_those is_record (Whole (Filedata recnum body) ∷ rest))) (records-more recnum body rest)
     ∙ ap (hear_batch_end (records ++ (r ∷ records_in_front rest))) (behind-more is_record (Whole (Filedata recnum body)) rest refl)
-    ∙ ap (λ l. hear_batch_end l (behind is_record rest)) (sym (append_assoc records (r ∷ []) (records_in_front rest)))
+    ∙ ap (λ l. hear_batch_end l (after_those is_record rest)) (sym (append_assoc records (r ∷ []) (records_in_front rest)))
     ∙ batch (records ++ r ∷ []) rest
 batch records (Whole (Status status) ∷ rest) = ap (λ l. hear_batch_end l (Whole (Status status) ∷ rest)) (append-nil records)
 batch records (_ ∷ rest) = refl
@@ -51,7 +51,7 @@ batch records (_ ∷ rest) = refl
 abbrev stored_as : Option (ℕ × ℕ × ℕ) → List Item → Hearing
 stored_as first answers =
     if has_success (statuses_in_front answers) then Unexpected
-    else hear_store_end (option_or first (first_told (statuses_in_front answers))) (behind is_status answers)
+    else hear_store_end (option_or first (first_told (statuses_in_front answers))) (after_those is_status answers)
 
 option_or-none : {X : Type 0} → (o : Option X) → option_or o None ≡ o
 option_or-none None = refl
@@ -64,12 +64,12 @@ option_or-assoc (Some x) b c = refl
 stored_more : (first : Option (ℕ × ℕ × ℕ)) (status : StatusFields) (rest : List Item)
     → stored_as first (Whole (Status status) ∷ rest) ≡ (if is_success status.code then Unexpected else stored_as (option_or first (Some (told_of status))) rest)
 stored_more first status rest =
-    ap (λ l. if has_success l then Unexpected else hear_store_end (option_or first (first_told l)) (behind is_status (Whole (Status status) ∷ rest))) (statuses-more status rest)
+    ap (λ l. if has_success l then Unexpected else hear_store_end (option_or first (first_told l)) (after_those is_status (Whole (Status status) ∷ rest))) (statuses-more status rest)
     ∙ ap (λ l. if has_success (status ∷ statuses_in_front rest) then Unexpected else hear_store_end (option_or first (Some (told_of status))) l) (behind-more is_status (Whole (Status status)) rest refl)
-    ∙ elim (is_success status.code) as (λ b. (if b || has_success (statuses_in_front rest) then Unexpected else hear_store_end (option_or first (Some (told_of status))) (behind is_status rest))
+    ∙ elim (is_success status.code) as (λ b. (if b || has_success (statuses_in_front rest) then Unexpected else hear_store_end (option_or first (Some (told_of status))) (after_those is_status rest))
     ≡ (if b then Unexpected else stored_as (option_or first (Some (told_of status))) rest)) [
       | true ↦ refl
-      | false ↦ ap (λ o. if has_success (statuses_in_front rest) then Unexpected else hear_store_end o (behind is_status rest)) (option_or-assoc first (Some (told_of status)) (first_told (statuses_in_front rest)))
+      | false ↦ ap (λ o. if has_success (statuses_in_front rest) then Unexpected else hear_store_end o (after_those is_status rest)) (option_or-assoc first (Some (told_of status)) (first_told (statuses_in_front rest)))
     ]
 
 stored : (first : Option (ℕ × ℕ × ℕ)) (answers : List Item) → stored_as first answers ≡ gather_stored first answers

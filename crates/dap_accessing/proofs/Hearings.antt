@@ -14,14 +14,14 @@ use Rattle.dap_accessing.specs.declared.report.Report.{Report}
 use Rattle.dap_accessing.specs.declared.report.Report.TheVariants as report
 use Rattle.dap_msg.specs.Codes.{is_success}
 use Rattle.dap_accessing.specs.Told.{Hearing, Reports, Waits, Unexpected, refusal, hear_refusal, hear_completed, hear, hear_config, hear_ack, hear_record, hear_done, told_of, Told, Due, AnswersDue, Wrong, due_after}
-use Rattle.dap_accessing.specs.Parts.{opened_as, ending_of}
+use Rattle.dap_accessing.specs.Parts.{opened_as, batch_ending}
 use Rattle.dap_accessing.specs.declared.pending.Pending.{Pending}
 use Rattle.dap_accessing.specs.declared.pending.Pending.TheVariants as pending
 use Rattle.dap_accessing.specs.Inner.Hears.{pending_of}
 use Rattle.dap_accessing.specs.Inner.Gathers.{gather_opened, gather_attributes, gather_batch, gather_stored, gather}
 use Rattle.dap_accessing.proofs.Gathering.{asked_gathered}
 
--- the hearing with more answers: the same with these behind it, unless it waits
+-- the hearing with more answers: the same with these after it, unless it waits
 abbrev pub Stays : Hearing → Hearing → List Item → Type 0
 Stays Waits later more = Unit {0}
 Stays (Reports done rest) later more = later ≡ Reports done (rest ++ more)
@@ -82,7 +82,7 @@ stays-done (_ ∷ rest) more = refl
 stays-batch : (records : List (ℕ × List ℕ)) (answers more : List Item) → Stays (gather_batch records answers) (gather_batch records (answers ++ more)) more
 stays-batch records [] more = tt
 stays-batch records (Whole (Filedata recnum body) ∷ rest) more = stays-batch (records ++ (number_of recnum, body) ∷ []) rest more
-stays-batch records (Whole (Status status) ∷ rest) more = stays-if (is_success status.code) (report.Batch records (ending_of status)) rest more
+stays-batch records (Whole (Status status) ∷ rest) more = stays-if (is_success status.code) (report.Batch records (batch_ending status)) rest more
 stays-batch records (_ ∷ rest) more = refl
 
 stays-stored : (first : Option (ℕ × ℕ × ℕ)) (answers more : List Item) → Stays (gather_stored first answers) (gather_stored first (answers ++ more)) more

@@ -15,8 +15,8 @@ use Rattle.dap_msg.specs.BothEnds.{greatest_message}
 use Rattle.dap_accessing.specs.declared.phase.Phase.TheVariants.{Fresh}
 use Rattle.dap_msg.specs.Sendable.{AreSendable}
 use Rattle.dap_accessing.specs.Phase.{phase_next, phase_after, limit_next, limit_after, phases_for, IsNoneDue, IsRefused}
-use Rattle.dap_accessing.specs.Inner.Hears.{pending_of, HasNoPlace, HasPlace, Takes}
-use Rattle.dap_accessing.specs.Present.{Present, failed_after, StandsAfter, FitsDue}
+use Rattle.dap_accessing.specs.Inner.Hears.{pending_of, HasNoPlace, HasPlace, HearsNext}
+use Rattle.dap_accessing.specs.Present.{ClientState, failed_after, ClientAfter, FitsDue}
 use Rattle.dap_accessing.specs.Inner.Gathers.{gather}
 use Rattle.dap_accessing.specs.Calls.{IsAdmittedBy, Asks, Reads, ReadRefused}
 use Rattle.dap_accessing.specs.Prepared.{MayAsk}
@@ -200,8 +200,8 @@ phase_more reports done = fold_more phase_next Fresh reports done
 pub limit_more : (reports : List Report) (done : Report) → limit_after (reports ++ done ∷ []) ≡ limit_next (limit_after reports) done
 limit_more reports done = fold_more limit_next greatest_message reports done
 
-pub stands_asked : (request : Request) (old : Present) → old.pending ≡ None → (requests : List Request) (answers : List Item) → StandsAfter requests answers old
-    → StandsAfter (requests ++ request ∷ []) answers (record old { pending = Some (pending_of request) })
+pub stands_asked : (request : Request) (old : ClientState) → old.pending ≡ None → (requests : List Request) (answers : List Item) → ClientAfter requests answers old
+    → ClientAfter (requests ++ request ∷ []) answers (record old { pending = Some (pending_of request) })
 stands_asked request old none requests answers s =
     let a = asked_one requests answers request (none_pending (due_after requests answers) (subst (λ p. FitsDue (due_after requests answers) p) none s.pending)) in
     record {
@@ -213,19 +213,19 @@ stands_asked request old none requests answers s =
       pending = subst (λ d. FitsDue d (Some (pending_of request))) (sym a.due) (λ more. starts_as request more);
     }
 
-pub nothing_due : (old : Present) → old.pending ≡ None → (requests : List Request) (answers : List Item) → StandsAfter requests answers old → IsNoneDue requests answers
+pub nothing_due : (old : ClientState) → old.pending ≡ None → (requests : List Request) (answers : List Item) → ClientAfter requests answers old → IsNoneDue requests answers
 nothing_due old none requests answers s =
     none_pending (due_after requests answers) (subst (λ p. FitsDue (due_after requests answers) p) none s.pending)
 
-pub something_due : (old : Present) (p : Pending) → old.pending ≡ Some p → (requests : List Request) (answers : List Item) → StandsAfter requests answers old → IsNoneDue requests answers → ⊥
+pub something_due : (old : ClientState) (p : Pending) → old.pending ≡ Some p → (requests : List Request) (answers : List Item) → ClientAfter requests answers old → IsNoneDue requests answers → ⊥
 something_due old p some requests answers s none =
     let l = locate requests answers p s.alone (subst (λ p. FitsDue (due_after requests answers) p) some s.pending) in
     omega (arith, (asked_one requests answers Hello none).none_due, l.short)
 
 -- the end waits for more
-pub stands_waiting : (answer : Item) (old : Present) (p next : Pending) → old.pending ≡ Some p → ((rest : List Item) → gather p (answer ∷ rest) ≡ gather next rest)
-    → (requests : List Request) (answers : List Item) → StandsAfter requests answers old
-    → StandsAfter requests (answers ++ answer ∷ []) (record old { pending = Some next }) × (Told requests (answers ++ answer ∷ []) ≡ Told requests answers ++ [])
+pub stands_waiting : (answer : Item) (old : ClientState) (p next : Pending) → old.pending ≡ Some p → ((rest : List Item) → gather p (answer ∷ rest) ≡ gather next rest)
+    → (requests : List Request) (answers : List Item) → ClientAfter requests answers old
+    → ClientAfter requests (answers ++ answer ∷ []) (record old { pending = Some next }) × (Told requests (answers ++ answer ∷ []) ≡ Told requests answers ++ [])
 stands_waiting answer old p next some e requests answers s =
     let l = locate requests answers p s.alone (subst (λ p. FitsDue (due_after requests answers) p) some s.pending) in
     let waits : gather p (answer ∷ []) ≡ Waits = e [] ∙ still_waits next in
@@ -243,9 +243,9 @@ stands_waiting answer old p next some e requests answers s =
     )
 
 -- the report comes
-pub stands_reported : (answer : Item) (old : Present) (p : Pending) (done : Report) → old.pending ≡ Some p → ((rest : List Item) → gather p (answer ∷ rest) ≡ Reports done rest)
-    → (requests : List Request) (answers : List Item) → StandsAfter requests answers old
-    → StandsAfter requests (answers ++ answer ∷ []) (record old { phase = phase_next old.phase done; limit = limit_next old.limit done; pending = None })
+pub stands_reported : (answer : Item) (old : ClientState) (p : Pending) (done : Report) → old.pending ≡ Some p → ((rest : List Item) → gather p (answer ∷ rest) ≡ Reports done rest)
+    → (requests : List Request) (answers : List Item) → ClientAfter requests answers old
+    → ClientAfter requests (answers ++ answer ∷ []) (record old { phase = phase_next old.phase done; limit = limit_next old.limit done; pending = None })
     × (Told requests (answers ++ answer ∷ []) ≡ Told requests answers ++ done ∷ [])
 stands_reported answer old p done some e requests answers s =
     let l = locate requests answers p s.alone (subst (λ p. FitsDue (due_after requests answers) p) some s.pending) in
@@ -267,9 +267,9 @@ is_wrong NothingDue = false
 is_wrong (AnswersDue _ _) = false
 is_wrong Wrong = true
 
--- an answer that has no place
-pub misplaced : (answer : Item) (old : Present) (p : Pending) → old.pending ≡ Some p → ((rest : List Item) → gather p (answer ∷ rest) ≡ Unexpected)
-    → (requests : List Request) (answers : List Item) → StandsAfter requests answers old → due_after requests (answers ++ answer ∷ []) ≡ Wrong
+-- an answer that is out of sequence
+pub misplaced : (answer : Item) (old : ClientState) (p : Pending) → old.pending ≡ Some p → ((rest : List Item) → gather p (answer ∷ rest) ≡ Unexpected)
+    → (requests : List Request) (answers : List Item) → ClientAfter requests answers old → due_after requests (answers ++ answer ∷ []) ≡ Wrong
 misplaced answer old p some e requests answers s =
     let l = locate requests answers p s.alone (subst (λ p. FitsDue (due_after requests answers) p) some s.pending) in
     l.due (answer ∷ []) ∙ ap (due_by l.last [] (l.so_far ++ answer ∷ [])) (e [])
@@ -302,32 +302,32 @@ pub none_of : (o : Option Pending) → is_some o ≡ false → o ≡ None
 none_of (Some p) e = absurd cc
 none_of None e = refl
 
-pub refuse_busy : (request : Request) (old : Present) → is_some old.pending ≡ true → (requests : List Request) (answers : List Item) → StandsAfter requests answers old → IsRefused old.identity requests answers request fault.Busy
+pub refuse_busy : (request : Request) (old : ClientState) → is_some old.pending ≡ true → (requests : List Request) (answers : List Item) → ClientAfter requests answers old → IsRefused old.identity requests answers request fault.Busy
 refuse_busy request old some requests answers s = let p = some_of old.pending some in something_due old p.0 p.1 requests answers s
 
-in_phase : (request : Request) (old : Present) (b : Bool) → phase_fits old.phase request ≡ b → (requests : List Request) (answers : List Item) → StandsAfter requests answers old → phase_fits (phase_after (Told requests answers)) request ≡ b
+in_phase : (request : Request) (old : ClientState) (b : Bool) → phase_fits old.phase request ≡ b → (requests : List Request) (answers : List Item) → ClientAfter requests answers old → phase_fits (phase_after (Told requests answers)) request ≡ b
 in_phase request old b e requests answers s = ap (λ ph. phase_fits ph request) (sym s.phase) ∙ e
 
-is_in_phase : (request : Request) (old : Present) → phase_fits old.phase request ≡ true → (requests : List Request) (answers : List Item) → StandsAfter requests answers old → IsAmong (phases_for request) (phase_after (Told requests answers))
+is_in_phase : (request : Request) (old : ClientState) → phase_fits old.phase request ≡ true → (requests : List Request) (answers : List Item) → ClientAfter requests answers old → IsAmong (phases_for request) (phase_after (Told requests answers))
 is_in_phase request old e requests answers s = where-fits (phase_after (Told requests answers)) request (in_phase request old true e requests answers s)
 
-pub refuse_phase : (request : Request) (old : Present) → is_some old.pending ≡ false → phase_fits old.phase request ≡ false → (requests : List Request) (answers : List Item) → StandsAfter requests answers old → IsRefused old.identity requests answers request fault.WrongPhase
+pub refuse_phase : (request : Request) (old : ClientState) → is_some old.pending ≡ false → phase_fits old.phase request ≡ false → (requests : List Request) (answers : List Item) → ClientAfter requests answers old → IsRefused old.identity requests answers request fault.WrongPhase
 refuse_phase request old none wrong requests answers s =
     (nothing_due old (none_of old.pending none) requests answers s, λ e. let f : false ≡ true = sym (in_phase request old false wrong requests answers s) ∙ fits-where request (phase_after (Told requests answers)) e in cc)
 
-pub refuse_large : (request : Request) (old : Present) → is_some old.pending ≡ false → phase_fits old.phase request ≡ true → (AreSendable old.limit (messages_of old.identity request) → ⊥)
-    → (requests : List Request) (answers : List Item) → StandsAfter requests answers old → IsRefused old.identity requests answers request fault.TooLarge
+pub refuse_large : (request : Request) (old : ClientState) → is_some old.pending ≡ false → phase_fits old.phase request ≡ true → (AreSendable old.limit (messages_of old.identity request) → ⊥)
+    → (requests : List Request) (answers : List Item) → ClientAfter requests answers old → IsRefused old.identity requests answers request fault.TooLarge
 refuse_large request old none right large requests answers s =
     (nothing_due old (none_of old.pending none) requests answers s, is_in_phase request old right requests answers s, λ e. large (subst (λ n. AreSendable n (messages_of old.identity request)) (sym s.limit) e))
 
-pub admit : (request : Request) (old : Present) → MayAsk old request → IsAdmittedBy old request
+pub admit : (request : Request) (old : ClientState) → MayAsk old request → IsAdmittedBy old request
 admit request old may = λ requests answers s. (
   nothing_due old may.none_due requests answers s,
   is_in_phase request old may.in_phase requests answers s,
   subst (λ n. AreSendable n (messages_of old.identity request)) s.limit may.sendable,
 )
 
-pub may_ask : (request : Request) (old : Present) → old.failed ≡ false → is_some old.pending ≡ false → phase_fits old.phase request ≡ true → AreSendable old.limit (messages_of old.identity request) → old.limit ≤ greatest_message → MayAsk old request
+pub may_ask : (request : Request) (old : ClientState) → old.failed ≡ false → is_some old.pending ≡ false → phase_fits old.phase request ≡ true → AreSendable old.limit (messages_of old.identity request) → old.limit ≤ greatest_message → MayAsk old request
 may_ask request old works none right sendable most = record { works = works; none_due = none_of old.pending none; in_phase = right; sendable = sendable; most = most }
 
 -- ---- What `read` answers.
@@ -335,12 +335,12 @@ may_ask request old works none right sendable most = record { works = works; non
 wrong_unexpected : (requests : List Request) (answers : List Item) (answer : Item) → due_after requests (answers ++ answer ∷ []) ≡ Wrong → is_unexpected requests answers answer ≡ true
 wrong_unexpected requests answers answer e = ap is_wrong e
 
-unexpected_by : (answer : Item) (old : Present) (o : Option Pending) → old.pending ≡ o → HasNoPlace answer o → (requests : List Request) (answers : List Item) → StandsAfter requests answers old → is_unexpected requests answers answer ≡ true
+unexpected_by : (answer : Item) (old : ClientState) (o : Option Pending) → old.pending ≡ o → HasNoPlace answer o → (requests : List Request) (answers : List Item) → ClientAfter requests answers old → is_unexpected requests answers answer ≡ true
 unexpected_by answer old None e none requests answers s =
     wrong_unexpected requests answers answer (unasked requests answers answer (none_pending (due_after requests answers) (subst (λ p. FitsDue (due_after requests answers) p) e s.pending)))
 unexpected_by answer old (Some p) e none requests answers s = wrong_unexpected requests answers answer (misplaced answer old p e none requests answers s)
 
-pub unexpected : (answer : Item) (old : Present) → HasNoPlace answer old.pending → (requests : List Request) (answers : List Item) → StandsAfter requests answers old → is_unexpected requests answers answer ≡ true
+pub unexpected : (answer : Item) (old : ClientState) → HasNoPlace answer old.pending → (requests : List Request) (answers : List Item) → ClientAfter requests answers old → is_unexpected requests answers answer ≡ true
 unexpected answer old none requests answers s = unexpected_by answer old old.pending refl none requests answers s
 
 pub malformed : (p : Pending) (fault : MsgFault) (rest : List Item) → gather p (Malformed fault ∷ rest) ≡ Unexpected
@@ -364,56 +364,56 @@ fits_not_wrong (AnswersDue request so_far) o f = refl
 fits_not_wrong Wrong None f = absurd f
 fits_not_wrong Wrong (Some p) f = absurd f
 
-placed : (answer : Item) (old : Present) (p : Pending) → old.pending ≡ Some p → HasPlace p answer → (requests : List Request) (answers : List Item) → StandsAfter requests answers old → is_unexpected requests answers answer ≡ false
+placed : (answer : Item) (old : ClientState) (p : Pending) → old.pending ≡ Some p → HasPlace p answer → (requests : List Request) (answers : List Item) → ClientAfter requests answers old → is_unexpected requests answers answer ≡ false
 placed answer old p e (inl next) requests answers s =
     fits_not_wrong (due_after requests (answers ++ answer ∷ [])) (Some next.0) (stands_waiting answer old p next.0 e next.1 requests answers s).0.pending
 placed answer old p e (inr done) requests answers s =
     fits_not_wrong (due_after requests (answers ++ answer ∷ [])) None (stands_reported answer old p done.0 e done.1 requests answers s).0.pending
 
 -- an answer that was taken in is read
-pub taken_read : (bytes : List ℕ) (at : ℕ) (m : Message) (next : ℕ) (old new : Present) (report : Option Report) → old.failed ≡ false → ItemAt bytes at (Whole m) next → Takes (Whole m) old new (Ok report)
+pub taken_read : (bytes : List ℕ) (at : ℕ) (m : Message) (next : ℕ) (old new : ClientState) (report : Option Report) → old.failed ≡ false → ItemAt bytes at (Whole m) next → HearsNext (Whole m) old new (Ok report)
     → Reads bytes at old new (record { report = report; next = next })
 taken_read bytes at m next old new None works reads t =
     record {
       works = works;
-      goes_on = ap (λ (p : Present). p.failed) t.4 ∙ works;
+      goes_on = ap (λ (p : ClientState). p.failed) t.4 ∙ works;
       answer = Whole m;
       reads = reads;
       expected = placed (Whole m) old t.0 t.2 (inl (t.1, t.3));
-      stands = λ requests answers s. subst (StandsAfter requests (answers ++ Whole m ∷ [])) (sym t.4) (stands_waiting (Whole m) old t.0 t.1 t.2 t.3 requests answers s).0;
+      stands = λ requests answers s. subst (ClientAfter requests (answers ++ Whole m ∷ [])) (sym t.4) (stands_waiting (Whole m) old t.0 t.1 t.2 t.3 requests answers s).0;
       told = λ requests answers s. (stands_waiting (Whole m) old t.0 t.1 t.2 t.3 requests answers s).1;
     }
 taken_read bytes at m next old new (Some done) works reads t =
     record {
       works = works;
-      goes_on = ap (λ (p : Present). p.failed) t.3 ∙ works;
+      goes_on = ap (λ (p : ClientState). p.failed) t.3 ∙ works;
       answer = Whole m;
       reads = reads;
       expected = placed (Whole m) old t.0 t.1 (inr (done, t.2));
-      stands = λ requests answers s. subst (StandsAfter requests (answers ++ Whole m ∷ [])) (sym t.3) (stands_reported (Whole m) old t.0 done t.1 t.2 requests answers s).0;
+      stands = λ requests answers s. subst (ClientAfter requests (answers ++ Whole m ∷ [])) (sym t.3) (stands_reported (Whole m) old t.0 done t.1 t.2 requests answers s).0;
       told = λ requests answers s. (stands_reported (Whole m) old t.0 done t.1 t.2 requests answers s).1;
     }
 
-pub taken_refused : (bytes : List ℕ) (at : ℕ) (m : Message) (next : ℕ) (old new : Present) (f : ReadFault) → old.failed ≡ false → ItemAt bytes at (Whole m) next → Takes (Whole m) old new (Err f) → ReadRefused bytes at old new f
-taken_refused bytes at m next old new read_fault.Unexpected works reads t = (works, ap (λ (p : Present). p.failed) t.0, t.0, (Whole m, next, reads, unexpected (Whole m) old t.1))
+pub taken_refused : (bytes : List ℕ) (at : ℕ) (m : Message) (next : ℕ) (old new : ClientState) (f : ReadFault) → old.failed ≡ false → ItemAt bytes at (Whole m) next → HearsNext (Whole m) old new (Err f) → ReadRefused bytes at old new f
+taken_refused bytes at m next old new read_fault.Unexpected works reads t = (works, ap (λ (p : ClientState). p.failed) t.0, t.0, (Whole m, next, reads, unexpected (Whole m) old t.1))
 taken_refused bytes at m next old new read_fault.NoMemory works reads t = (works, t.0, (Whole m, next, reads, placed (Whole m) old t.1.0 t.1.1 t.1.2))
 taken_refused bytes at m next old new read_fault.Failed works reads t = absurd t
 
 -- without room for a report what is expected isn't read, and what isn't fails the end
-pub expected_refused : (bytes : List ℕ) (at : ℕ) (item : Item) (next : ℕ) (old : Present) → old.failed ≡ false → ItemAt bytes at item next → ((p : Pending) × (old.pending ≡ Some p) × HasPlace p item)
+pub expected_refused : (bytes : List ℕ) (at : ℕ) (item : Item) (next : ℕ) (old : ClientState) → old.failed ≡ false → ItemAt bytes at item next → ((p : Pending) × (old.pending ≡ Some p) × HasPlace p item)
     → ReadRefused bytes at old old read_fault.NoMemory
 expected_refused bytes at item next old works reads (p, some, place) = (works, refl, (item, next, reads, placed item old p some place))
 
-pub unexpected_refused : (bytes : List ℕ) (at : ℕ) (item : Item) (next : ℕ) (old new : Present) → old.failed ≡ false → ItemAt bytes at item next → HasNoPlace item old.pending → new ≡ failed_after old
+pub unexpected_refused : (bytes : List ℕ) (at : ℕ) (item : Item) (next : ℕ) (old new : ClientState) → old.failed ≡ false → ItemAt bytes at item next → HasNoPlace item old.pending → new ≡ failed_after old
     → ReadRefused bytes at old new read_fault.Unexpected
 unexpected_refused bytes at item next old new works reads none failed =
-    (works, ap (λ (p : Present). p.failed) failed, failed, (item, next, reads, unexpected item old none))
+    (works, ap (λ (p : ClientState). p.failed) failed, failed, (item, next, reads, unexpected item old none))
 
-pub rest_refused : (bytes : List ℕ) (at : ℕ) (fault : MsgFault) (next : ℕ) (old new : Present) → old.failed ≡ false → ItemAt bytes at (Malformed fault) next → new ≡ failed_after old → ReadRefused bytes at old new read_fault.Unexpected
+pub rest_refused : (bytes : List ℕ) (at : ℕ) (fault : MsgFault) (next : ℕ) (old new : ClientState) → old.failed ≡ false → ItemAt bytes at (Malformed fault) next → new ≡ failed_after old → ReadRefused bytes at old new read_fault.Unexpected
 rest_refused bytes at fault next old new works reads failed =
-    (works, ap (λ (p : Present). p.failed) failed, failed, (Malformed fault, next, reads, unexpected (Malformed fault) old (malformed_misplaced old.pending fault)))
+    (works, ap (λ (p : ClientState). p.failed) failed, failed, (Malformed fault, next, reads, unexpected (Malformed fault) old (malformed_misplaced old.pending fault)))
 
-pub asks_of : (request : Request) (old : Present) (p : Pending) (messages : List (List ℕ)) → MayAsk old request → messages ≡ all_joined (Blocked old.limit (messages_of old.identity request)) → p ≡ pending_of request
+pub asks_of : (request : Request) (old : ClientState) (p : Pending) (messages : List (List ℕ)) → MayAsk old request → messages ≡ all_joined (Blocked old.limit (messages_of old.identity request)) → p ≡ pending_of request
     → Asks request old (record old { pending = Some p }) messages
 asks_of request old p messages may spelled e =
     record {
@@ -425,6 +425,6 @@ asks_of request old p messages may spelled e =
       most = may.most;
       sendable = may.sendable;
       spelled = spelled;
-      stands = λ requests answers s. subst (λ q. StandsAfter (requests ++ request ∷ []) answers (record old { pending = Some q })) (sym e) (stands_asked request old may.none_due requests answers s);
+      stands = λ requests answers s. subst (λ q. ClientAfter (requests ++ request ∷ []) answers (record old { pending = Some q })) (sym e) (stands_asked request old may.none_due requests answers s);
       told = λ requests answers s. (asked_one requests answers request (nothing_due old may.none_due requests answers s)).told;
     }

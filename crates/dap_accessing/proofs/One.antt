@@ -15,7 +15,7 @@ use Rattle.dap_accessing.specs.declared.phase.Phase.{Phase}
 use Rattle.dap_accessing.specs.declared.pending.Pending.{Pending}
 use Rattle.dap_accessing.specs.declared.pending.Pending.TheVariants as pending
 use Rattle.dap_accessing.specs.Told.{Hearing, Reports, Due, NothingDue, AnswersDue, Wrong, due_after}
-use Rattle.dap_accessing.specs.Present.{Present, hear_from, FitsDue, StandsAfter}
+use Rattle.dap_accessing.specs.Present.{ClientState, hear_from, FitsDue, ClientAfter}
 
 -- ---- What is pending is told by what it makes of six answers.
 
@@ -102,10 +102,10 @@ one_pending Wrong (Some p) q h k = absurd h
 
 -- ---- All of it.
 
-abbrev kept : Configuration → Bool → Phase → ℕ → Option Pending → Present
+abbrev kept : Configuration → Bool → Phase → ℕ → Option Pending → ClientState
 kept own failed phase limit pending = record { own = own.bufsiz; identity = own; failed = failed; phase = phase; limit = limit; pending = pending }
 
-pub one_present : (requests : List Request) (answers : List Item) (one two : Present) → StandsAfter requests answers one → StandsAfter requests answers two → one.identity ≡ two.identity → one ≡ two
+pub one_present : (requests : List Request) (answers : List Item) (one two : ClientState) → ClientAfter requests answers one → ClientAfter requests answers two → one.identity ≡ two.identity → one ≡ two
 one_present requests answers one two h k own =
     ap (λ (n : ℕ). record one { own = n }) h.own
     ∙ ap (λ (x : Configuration). kept x one.failed one.phase one.limit one.pending) own

@@ -10,7 +10,7 @@ use Rattle.dap_accessing.specs.declared.report.Report.TheVariants as report
 use Rattle.dap_accessing.specs.declared.pending.Pending.{Pending}
 use Rattle.dap_accessing.specs.declared.pending.Pending.TheVariants as pending
 use Rattle.dap_accessing.specs.Told.{Told}
-use Rattle.dap_accessing.specs.Present.{Present, StandsAfter}
+use Rattle.dap_accessing.specs.Present.{ClientState, ClientAfter}
 
 -- the records that are kept of a batch under way
 abbrev pub records_kept : Option Pending → List (ℕ × List ℕ)
@@ -28,7 +28,7 @@ kept_behind told (Some (pending.Batch records)) = Some (pending.Batch (told ++ r
 kept_behind told o = o
 
 -- a client in whose batch these records are put back
-abbrev pub put_back : (told : List (ℕ × List ℕ)) → Present → Present
+abbrev pub put_back : (told : List (ℕ × List ℕ)) → ClientState → ClientState
 put_back told p = record p { pending = kept_behind told p.pending }
 
 -- a report of a batch with these records before its own
@@ -37,15 +37,15 @@ reported_behind told (report.Batch records ending) = report.Batch (told ++ recor
 reported_behind told done = done
 
 -- a batch is under way
-abbrev pub IsBatch : Present → Type 0
+abbrev pub IsBatch : ClientState → Type 0
 IsBatch p = (records : List (ℕ × List ℕ)) × (p.pending ≡ Some (pending.Batch records))
 
 -- The answer at this offset was read while a batch was under way. Whatever records had been taken out before, the client
 -- stands as one that keeps them, and reports the batch without them.
-pub record ReadsOn (bytes : List ℕ) (at : ℕ) (old new : Present) (read : ReadStep) : Type 0 where
+pub record ReadsOn (bytes : List ℕ) (at : ℕ) (old new : ClientState) (read : ReadStep) : Type 0 where
   pub answer : Item
   pub reads : ItemAt bytes at answer read.next
-  pub stands : (told : List (ℕ × List ℕ)) (requests : List Request) (answers : List Item) → IsBatch old → StandsAfter requests answers (put_back told old) →
-      StandsAfter requests (answers ++ answer ∷ []) (put_back told new)
-  pub told : (told : List (ℕ × List ℕ)) (requests : List Request) (answers : List Item) → IsBatch old → StandsAfter requests answers (put_back told old) →
+  pub stands : (told : List (ℕ × List ℕ)) (requests : List Request) (answers : List Item) → IsBatch old → ClientAfter requests answers (put_back told old) →
+      ClientAfter requests (answers ++ answer ∷ []) (put_back told new)
+  pub told : (told : List (ℕ × List ℕ)) (requests : List Request) (answers : List Item) → IsBatch old → ClientAfter requests answers (put_back told old) →
       Told requests (answers ++ answer ∷ []) ≡ Told requests answers ++ option_to_list (option_map (reported_behind told) read.report)

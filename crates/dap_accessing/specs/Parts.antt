@@ -8,19 +8,19 @@ use Rattle.dap_msg.specs.BothEnds.{with_defaults}
 use Rattle.dap_accessing.specs.declared.report.Report.{Report}
 use Rattle.dap_accessing.specs.declared.report.Report.TheVariants as report
 use Rattle.dap_accessing.specs.declared.report.Ending.{Ending}
-use Rattle.dap_accessing.specs.Told.{Hearing, Reports, Unexpected, reason_in, hear_failure, hear_ack, behind, is_other, hear_completed, ending_by, in_front, record_in, status_in}
+use Rattle.dap_accessing.specs.Told.{Hearing, Reports, Unexpected, reason_in, hear_failure, hear_ack, after_those, is_other, hear_completed, ending_by, in_front, record_in, status_in}
 
 -- the Acknowledge that ends an opening; messages of types 10 to 16 before it are ignored
 abbrev pub hear_opened : Report → List Item → Hearing
-hear_opened done answers = hear_ack done (behind is_other answers)
+hear_opened done answers = hear_ack done (after_those is_other answers)
 
 -- the report of an opened file
 abbrev pub opened_as : Attributes → Report
 opened_as a = with_defaults (λ org rfm mrs mrn. report.Opened org rfm mrs mrn) a
 
 -- how a fetch ended
-abbrev pub ending_of : StatusFields → Ending
-ending_of status = ending_by status.code (reason_in status.stv)
+abbrev pub batch_ending : StatusFields → Ending
+batch_ending status = ending_by status.code (reason_in status.stv)
 
 -- a Data message
 abbrev pub is_record : Item → Bool
@@ -32,7 +32,7 @@ records_in_front answers = in_front record_in answers
 
 -- the Status of a fetch, with these records before it
 abbrev pub hear_batch_end : List (ℕ × List ℕ) → List Item → Hearing
-hear_batch_end records answers = hear_failure (λ status. report.Batch records (ending_of status)) answers
+hear_batch_end records answers = hear_failure (λ status. report.Batch records (batch_ending status)) answers
 
 -- a Status message
 abbrev pub is_status : Item → Bool

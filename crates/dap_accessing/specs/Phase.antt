@@ -3,7 +3,7 @@ use Rattle.std.specs.Prelude.{◌≡◌, ℕ, List, [], ◌∷◌, fold}
 use Rattle.std.specs.List.{IsAmong}
 use Rattle.dap_msg.specs.declared.message.Configuration.{Configuration}
 use Rattle.dap_msg.specs.declared.items.Item.{Item}
-use Rattle.dap_msg.specs.BothEnds.{limit_of, greatest_message}
+use Rattle.dap_msg.specs.BothEnds.{message_limit, greatest_message}
 use Rattle.dap_msg.specs.Sendable.{AreSendable}
 use Rattle.dap_accessing.specs.Request.{Request}
 use Rattle.dap_accessing.specs.declared.request.Request.TheVariants.{Hello, Create, OpenFile, Connect, Continue, Close, Purge}
@@ -34,7 +34,7 @@ phase_after reports = fold phase_next Fresh reports
 
 -- the longest message that the peer takes, after a report
 abbrev pub limit_next : ℕ → Report → ℕ
-limit_next limit (report.Ready bufsiz) = limit_of bufsiz
+limit_next limit (report.Ready bufsiz) = message_limit bufsiz
 limit_next limit _ = limit
 
 -- at first 65,535 bytes, and after the answer to Hello what its BUFSIZ allows

@@ -55,8 +55,8 @@ hear_ack done (Whole Ack ∷ rest) = Reports done rest
 hear_ack done answers = hear_refusal answers
 
 -- the answers after the first ones that pass the test
-abbrev pub behind : (Item → Bool) → List Item → List Item
-behind test answers = drop (prefix_len test answers) answers
+abbrev pub after_those : (Item → Bool) → List Item → List Item
+after_those test answers = drop (prefix_len test answers) answers
 
 -- a message of type 10 to 16
 abbrev pub is_other : Item → Bool
@@ -67,12 +67,12 @@ is_other _ = false
 -- Messages of types 10 to 16 between the two are ignored.
 abbrev pub hear_file : List Item → Hearing
 hear_file (Whole (Attrib a) ∷ rest) =
-    with_defaults (λ org rfm mrs mrn. if nat_le mrn greatest_number then hear_ack (report.Opened org rfm mrs mrn) (behind is_other rest) else Unexpected) a
+    with_defaults (λ org rfm mrs mrn. if nat_le mrn greatest_number then hear_ack (report.Opened org rfm mrs mrn) (after_those is_other rest) else Unexpected) a
 hear_file answers = hear_refusal answers
 
 -- an opening; messages of types 10 to 16 before the attributes are ignored too
 abbrev pub hear_attributes : List Item → Hearing
-hear_attributes answers = hear_file (behind is_other answers)
+hear_attributes answers = hear_file (after_those is_other answers)
 
 -- Get: a Data message is the record, a Status with the code for the end of the file is reported as that, any other is
 -- a refusal
@@ -113,7 +113,7 @@ record_in _ = None
 abbrev pub hear_batch : List Item → Hearing
 hear_batch answers =
     hear_failure (λ status. report.Batch (in_front record_in answers) (ending_by status.code (reason_in status.stv)))
-    (behind (λ answer. is_some (record_in answer)) answers)
+    (after_those (λ answer. is_some (record_in answer)) answers)
 
 -- the Status, if the answer is one
 abbrev pub status_in : Item → Option StatusFields
@@ -136,7 +136,7 @@ first_told statuses = option_map told_of (slice_get statuses 0)
 abbrev pub hear_stored : List Item → Hearing
 hear_stored answers =
     if has_success (in_front status_in answers) then Unexpected
-    else hear_completed (report.Stored (first_told (in_front status_in answers))) (behind (λ answer. is_some (status_in answer)) answers)
+    else hear_completed (report.Stored (first_told (in_front status_in answers))) (after_those (λ answer. is_some (status_in answer)) answers)
 
 -- what the answers to a request come to
 abbrev pub hear : Request → List Item → Hearing

@@ -2,23 +2,22 @@
 
 ghost use Rattle.std.specs.Prelude.{◌≡◌, ◌≢◌, ◌≤◌, ◌<◌, ℕ, List, [], ◌∷◌, ◌++◌, true, false, length, map, Some, IfOk, IfErr, OnOk, OnErr};
 ghost use Rattle.dap_accessing.specs.declared.fault.AskFault.TheVariants.{NoMemory};
-ghost use Rattle.dap_msg.specs.BothEnds.{four_bytes, greatest_message, least_buffer, plain_identity};
+ghost use Rattle.dap_msg.specs.BothEnds.{greatest_message, least_buffer, plain_identity};
 ghost use Rattle.dap_msg.specs.Fitting.{FieldsFit};
 ghost use Rattle.dap_msg.specs.declared.message.Message.TheVariants.{Config};
 ghost use Rattle.dap_msg.specs.declared.items.Item.{Item as TheItem};
 ghost use Rattle.dap_msg.specs.declared.items.Item.TheVariants.{Whole};
 ghost use Rattle.dap_msg.specs.Blocked.{bodies};
-ghost use Rattle.dap_accessing.specs.Inner.Hears.{HasNoPlace, HasPlace, HasShortNumbers, Takes};
+ghost use Rattle.dap_accessing.specs.Inner.Hears.{HasNoPlace, HasPlace, HasShortNumbers, HearsNext};
 ghost use Rattle.dap_accessing.specs.declared.pending.Pending.{Pending as ThePending};
 ghost use Rattle.dap_msg.specs.declared.message.Message.{Message as TheMessage};
 ghost use Rattle.dap_msg.specs.Decoding.{IsSpelled};
-ghost use Rattle.dap_accessing.specs.Present.{Present, StandsAfter};
+ghost use Rattle.dap_accessing.specs.Present.{ClientState, ClientAfter};
 ghost use Rattle.dap_msg.specs.Items.{IsPlace};
 ghost use Rattle.dap_accessing.specs.Calls.{Asks, AskRefused, IsAdmittedBy, Reads, ReadRefused};
 ghost use Rattle.dap_accessing.specs.Each.{ReadsOn, none_kept, put_back, records_kept};
 ghost use Rattle.dap_accessing.specs.Told.{Told};
 ghost use Rattle.dap_accessing.specs.Asked.{messages_of};
-ghost use Rattle.dap_accessing.specs.Outgoing.{number_carried};
 ghost use Rattle.dap_accessing.specs.Phase.{IsAdmissible};
 ghost use Rattle.dap_msg.specs.declared.message.Configuration.{Configuration as Own};
 ghost use Rattle.dap_accessing.specs.declared.request.Request.TheVariants.{Hello};
@@ -51,9 +50,9 @@ pub struct Accessing {
 }
 
 impl Model for Accessing {
-    ghost use Rattle.dap_accessing.specs.Present.{Present};
+    ghost use Rattle.dap_accessing.specs.Present.{ClientState};
 
-    ghost Value = { Present };
+    ghost Value = { ClientState };
 
     ghost view = { λ a. record {
       own = a.identity.bufsiz;
@@ -72,7 +71,7 @@ impl Accessing {
         requires high { bufsiz ≤ greatest_message }
         ensures own { result.own ≡ bufsiz }
         ensures identity { result.identity ≡ plain_identity bufsiz }
-        ensures stands { StandsAfter [] [] result }
+        ensures stands { ClientAfter [] [] result }
     {
         Accessing::with_identity(alloc, Configuration::plain(bufsiz))
     }
@@ -83,7 +82,7 @@ impl Accessing {
         requires fits { FieldsFit (Config identity) }
         ensures identity { result.identity ≡ identity }
         ensures own { result.own ≡ identity.bufsiz }
-        ensures stands { StandsAfter [] [] result }
+        ensures stands { ClientAfter [] [] result }
     {
         Accessing {
             alloc,
@@ -99,7 +98,7 @@ impl Accessing {
     pub fn renew(&mut self)
         ensures own { self.new.own ≡ self.old.own }
         ensures identity { self.new.identity ≡ self.old.identity }
-        ensures stands { StandsAfter [] [] self.new }
+        ensures stands { ClientAfter [] [] self.new }
     {
         self.failed = false;
         self.phase = Phase::Fresh;
@@ -120,8 +119,7 @@ impl Accessing {
         ensures own { self.new.own ≡ self.old.own }
         ensures identity { self.new.identity ≡ self.old.identity }
     {
-        let number = request.number();
-        let prepared = self.prepare(request, &number)?;
+        let prepared = self.prepare(request)?;
         self.ask_prepared(request, prepared)
     }
 
@@ -131,20 +129,14 @@ impl Accessing {
         ensures admissible { OnOk result (IsAdmittedBy self.now request.now) }
         ensures refused { IfErr result (λ f. (f ≢ NoMemory) × AskRefused request.now self.now f) }
     {
-        match self.prepare(request, &request.number()) {
+        match self.prepare(request) {
             Ok(_) => Ok(()),
             Err(fault) => Err(fault),
         }
     }
 
-    /// The messages of a request that `ask` would take, memory aside, for `ask_prepared`; refused as there.
-    /// `number` has the bytes of the request's `number`. It takes no memory.
-    pub fn prepare<'a>(
-        &self,
-        request: &'a Request,
-        number: &'a [u8],
-    ) -> Result<Prepared<'a>, AskFault>
-        requires { number.now ≡ four_bytes (number_carried request.now) }
+    /// What `ask_prepared` needs of a request that `ask` would take, memory aside; refused as there. It takes no memory.
+    pub fn prepare(&self, request: &Request) -> Result<Prepared, AskFault>
         ensures works { OnOk result (self.now.failed ≡ false) }
         ensures admissible { OnOk result (IsAdmittedBy self.now request.now) }
         ensures prepared { IfOk result (IsPrepared self.now request.now) }
@@ -159,19 +151,19 @@ impl Accessing {
         if !self.phase.fits(request) {
             return Err(AskFault::WrongPhase);
         }
-        let outgoing = Outgoing::of(self.identity, request, number);
+        let number = request.number();
+        let outgoing = Outgoing::of(self.identity, request, &number);
         match outgoing.count(self.limit) {
-            Some(counts) => Ok(Prepared { outgoing, counts }),
+            Some(counts) => Ok(Prepared { number, counts }),
             None => Err(AskFault::TooLarge),
         }
     }
 
-    /// Asks a request by the messages that `prepare` made of it. They aren't looked at again, and it fails only if
-    /// memory is refused.
+    /// Asks a request that `prepare` looked at. It isn't looked at again, and this fails only if memory is refused.
     pub fn ask_prepared(
         &mut self,
         request: &Request,
-        prepared: Prepared<'_>,
+        prepared: Prepared,
     ) -> Result<Vec<Vec<u8>>, AskFault>
         requires { IsPrepared self.old request.now prepared }
         ensures asks { IfOk result
@@ -181,7 +173,8 @@ impl Accessing {
         ensures own { self.new.own ≡ self.old.own }
         ensures identity { self.new.identity ≡ self.old.identity }
     {
-        let Prepared { outgoing, counts } = prepared;
+        let Prepared { number, counts } = prepared;
+        let outgoing = Outgoing::of(self.identity, request, &number);
         let Ok(messages) = outgoing.blocked(self.alloc, self.limit, counts) else {
             return Err(AskFault::NoMemory);
         };
@@ -192,7 +185,7 @@ impl Accessing {
     /// Takes the message as the next answer.
     fn take(&mut self, message: &MessageValue<'_>) -> Result<Option<Report>, ReadFault>
         requires short { HasShortNumbers message.now }
-        ensures takes { Takes (Whole message.now) self.old self.new result }
+        ensures takes { HearsNext (Whole message.now) self.old self.new result }
         ensures own { self.new.own ≡ self.old.own }
         ensures identity { self.new.identity ≡ self.old.identity }
     {
@@ -252,6 +245,13 @@ impl Accessing {
             Ok(report) => Ok(ReadStep { report, next }),
             Err(fault) => Err(fault),
         }
+    }
+
+    /// Whether an unexpected answer failed this end, so that every request is refused as Failed until `renew`.
+    pub fn has_failed(&self) -> bool
+        ensures { result ≡ self.now.failed }
+    {
+        self.failed
     }
 
     /// The records that are kept of a batch under way: those that came and weren't taken out. None where no batch is under way.
@@ -334,9 +334,9 @@ pub fn identity_is_told_by_hello()
 
 /// What an end keeps follows from the requests and answers that it is after, and from its own Configuration; and it works.
 pub fn standing_is_one()
-    ensures one { (requests : List TheRequest) (answers : List TheItem) (one two : Present)
-        → StandsAfter requests answers one → StandsAfter requests answers two
+    ensures one { (requests : List TheRequest) (answers : List TheItem) (one two : ClientState)
+        → ClientAfter requests answers one → ClientAfter requests answers two
         → one.identity ≡ two.identity → one ≡ two }
-    ensures works { (requests : List TheRequest) (answers : List TheItem) (end : Present)
-        → StandsAfter requests answers end → end.failed ≡ false }
+    ensures works { (requests : List TheRequest) (answers : List TheItem) (end : ClientState)
+        → ClientAfter requests answers end → end.failed ≡ false }
 {}

@@ -7,7 +7,7 @@ ghost use Rattle.dap_msg.specs.Blocked.{AddsOne};
 ghost use Rattle.dap_msg.specs.Canon.{canon, Fits};
 ghost use Rattle.dap_msg.specs.Sizes.{file_data_size};
 ghost use Rattle.dap_accessing.specs.Asked as asked;
-ghost use Rattle.dap_accessing.specs.Outgoing.{AreCounted, IsBlocked, number_carried, first_of, bodies_of, last_of, outgoing_messages};
+ghost use Rattle.dap_accessing.specs.Outgoing.{AreCounted, IsBlocked, number_carried, first_of, record_bodies, last_of, outgoing_messages};
 ghost use Rattle.dap_msg.specs.Sendable.{IsSendable, AreSendable};
 
 use crate::bytes::Octets;
@@ -42,7 +42,7 @@ fn carried_number(request: &Request) -> u32
 impl Request {
     /// The number that its messages carry, in four bytes, the lowest first: a file's MRN, a record's number or its address;
     /// 0 where they carry none (DAP 5.6.0, Attributes and Control messages).
-    pub fn number(&self) -> [u8; 4]
+    pub(crate) fn number(&self) -> [u8; 4]
         ensures { result ≡ four_bytes (number_carried self.now) }
     {
         carried_number(self).to_le_bytes()
@@ -153,7 +153,7 @@ fn last_message(request: &Request) -> Option<MessageValue<'_>>
 
 /// The records of a Store.
 fn records(request: &Request) -> &[Octets]
-    ensures { result.now ≡ bodies_of request.now }
+    ensures { result.now ≡ record_bodies request.now }
 {
     match request {
         Request::Store(list) => list.0.as_slice(),
@@ -306,9 +306,10 @@ impl<'a> Outgoing<'a> {
     }
 }
 
-/// The messages of a request that [`crate::Accessing::prepare`] looked at, with what was counted of them.
+/// What [`crate::Accessing::prepare`] learned of a request: the number that it carries, in four bytes, and what was counted
+/// of its messages.
 #[derive(Drop)]
-pub struct Prepared<'a> {
-    pub(crate) outgoing: Outgoing<'a>,
+pub struct Prepared {
+    pub(crate) number: [u8; 4],
     pub(crate) counts: Counts,
 }

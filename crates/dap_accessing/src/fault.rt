@@ -38,7 +38,7 @@ impl AskFault {
 pub enum ReadFault {
     /// An earlier answer had no place, so the end has failed.
     Failed,
-    /// The answer has no place. Afterwards every call answers `Failed`.
+    /// The answer is out of sequence. Afterwards every call answers `Failed`.
     Unexpected,
     /// Memory ran out. Nothing has changed, and the same call may be made again.
     NoMemory,

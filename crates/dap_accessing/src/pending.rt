@@ -149,7 +149,7 @@ fn is_record_or_refusal(message: &MessageValue<'_>) -> bool
     }
 }
 
-/// A Status where a report is due: it refuses, or has no place where it is a success.
+/// A Status where a report is due: it refuses, or is out of sequence where it is a success.
 fn hear_status(code: u16, stv: &[u8]) -> Heard
     ensures { result ≡ refused_as code (reason_in stv.now) }
 {

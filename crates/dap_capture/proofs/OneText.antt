@@ -14,11 +14,11 @@ use Rattle.dap_world.specs.Setups.{IsWorldSetup}
 use Rattle.dap_world.specs.Wires.{IsOnWire}
 use Rattle.dap_world.proofs.ForCallers.{no_step, one_on_wire, one_reason, one_step}
 use Rattle.dap_text.specs.Reports.{report_text}
-use Rattle.dap_orders.specs.Schedules.{Numbered, said}
+use Rattle.dap_orders.specs.Schedules.{Numbered, numbered_lines}
 use Rattle.dap_capture.specs.Inner.Playing.{events_of}
 use Rattle.dap_text.specs.Tables.{files_text}
 use Rattle.dap_capture.specs.Played.{IsPacketWritten, IsStepText, Played, Plays, empty, end_text, event_line, goes, over, played, refusal_line, refusal_text, setup_refused, stops}
-use Rattle.dap_listing.specs.declared.fault.Outcome.{Outcome}
+use Rattle.linewise.specs.declared.fault.Outcome.{Outcome}
 
 same_end : (a b : End) (x : _) → x ≡ Some a → x ≡ Some b → b ≡ a
 same_end a b x e f = cc
@@ -78,5 +78,5 @@ one_schedule (first ∷ others) one two a b (played setup says good plays) (play
     one_run (fresh setup) 1 (events_of others) one two a b plays
     (subst (λ (x : WorldSetup). Plays (fresh x) 1 (events_of others) two b) (same_setup setup setup' _ says says') plays')
 
-pub one_text : (input a b : List ℕ) (one two : Outcome) → Played (said input) one a → Played (said input) two b → (one ≡ two) × (a ≡ b)
-one_text input a b one two = one_schedule (said input) one two a b
+pub one_text : (input a b : List ℕ) (one two : Outcome) → Played (numbered_lines input) one a → Played (numbered_lines input) two b → (one ≡ two) × (a ≡ b)
+one_text input a b one two = one_schedule (numbered_lines input) one two a b

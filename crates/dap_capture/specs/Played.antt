@@ -12,7 +12,7 @@ use Rattle.dap_events.specs.declared.event.Step.TheVariants as step
 use Rattle.dap_events.specs.declared.event.WorldFault.{WorldFault}
 use Rattle.dap_events.specs.declared.event.WorldFault.TheVariants as fault
 use Rattle.dap_events.specs.declared.setup.WorldSetup.{WorldSetup}
-use Rattle.dap_world.specs.Machine.{State, Sending, Steps, Refuses, fresh, end_of, reported, files_of}
+use Rattle.dap_world.specs.Machine.{State, Sending, Steps, RefusesEvent, fresh, end_of, reported, files_of}
 use Rattle.dap_world.specs.Setups.{IsWorldSetup}
 use Rattle.dap_world.specs.Wires.{IsOnWire}
 use Rattle.dap_world.specs.Runs.{writing_end}
@@ -20,12 +20,12 @@ use Rattle.dap_text.specs.Answers.{ask_text, got_text}
 use Rattle.dap_text.specs.Text.{line_feed}
 use Rattle.dap_text.specs.Reports.{report_text}
 use Rattle.dap_text.specs.Tables.{files_text}
-use Rattle.dap_orders.specs.Orders.{event_of, setup_of}
-use Rattle.dap_orders.specs.Schedules.{Numbered, said, schedule_faults}
-use Rattle.dap_listing.specs.Gives.{Gives}
-use Rattle.dap_listing.specs.declared.fault.CaptureFault.{CaptureFault}
-use Rattle.dap_listing.specs.declared.fault.Outcome.{Outcome}
-use Rattle.dap_listing.specs.declared.fault.Outcome.TheVariants.{Good, Stopped}
+use Rattle.dap_orders.specs.Orders.{event_of, world_setup_of}
+use Rattle.dap_orders.specs.Schedules.{Numbered, numbered_lines, schedule_faults}
+use Rattle.linewise.specs.Gives.{Gives}
+use Rattle.linewise.specs.declared.fault.CaptureFault.{CaptureFault}
+use Rattle.linewise.specs.declared.fault.Outcome.{Outcome}
+use Rattle.linewise.specs.declared.fault.Outcome.TheVariants.{Good, Stopped}
 
 -- the line of an event, after its number
 abbrev pub event_line : ℕ → List ℕ → List ℕ
@@ -77,7 +77,7 @@ pub data Plays : State → ℕ → List Event → Outcome → List ℕ → Type 
       → Plays s number (e ∷ events) outcome (event_line number text ++ rest)
   stops : {s : State} {number : ℕ} {e : Event} {events : List Event}
       (f : WorldFault) (word : List ℕ)
-      → Refuses s e f → refusal_text f ≡ Some word
+      → RefusesEvent s e f → refusal_text f ≡ Some word
       → Plays s number (e ∷ events) Stopped (refusal_line number word ++ files_text (files_of s))
 
 -- The text of a schedule: nothing where there is no line; or the refusal of the setup; or the text of a run from a
@@ -85,12 +85,12 @@ pub data Plays : State → ℕ → List Event → Outcome → List ℕ → Type 
 pub data Played : List Numbered → Outcome → List ℕ → Type 0 where
   empty : Played [] Good []
   setup_refused : {first : Numbered} {others : List Numbered} (setup : WorldSetup)
-      → setup_of first.1 ≡ Some setup → (IsWorldSetup setup → ⊥)
+      → world_setup_of first.1 ≡ Some setup → (IsWorldSetup setup → ⊥)
       → Played (first ∷ others) Stopped (refusal_line 0 (codes "bad-setup"))
   played : {first : Numbered} {others : List Numbered} {outcome : Outcome} {text : List ℕ} (setup : WorldSetup)
-      → setup_of first.1 ≡ Some setup → IsWorldSetup setup → Plays (fresh setup) 1 (filter_map (λ line. event_of line.1) others) outcome text
+      → world_setup_of first.1 ≡ Some setup → IsWorldSetup setup → Plays (fresh setup) 1 (filter_map (λ line. event_of line.1) others) outcome text
       → Played (first ∷ others) outcome text
 
 -- what `schedule` does with an input
 abbrev pub ScheduleGives : List ℕ → Option (List ℕ) → Option (List ℕ) → Result Outcome CaptureFault → Type 0
-ScheduleGives input = Gives (schedule_faults (said input)) (Played (said input)) input
+ScheduleGives input = Gives (schedule_faults (numbered_lines input)) (Played (numbered_lines input)) input

@@ -7,5 +7,6 @@ mod play;
 mod steps;
 
 pub use commands::schedule;
-pub use dap_listing::{CaptureFault, Outcome, messages, show};
+pub use dap_listing::{messages, show};
 pub use laws::schedules_have_one_text;
+pub use linewise::{CaptureFault, Outcome};

@@ -4,17 +4,17 @@ ghost use Rattle.std.specs.Prelude.{◌≡◌, ◌≤◌, ◌+◌, IfErr, IfOk, 
 ghost use Rattle.std.specs.List.{filter_map};
 ghost use Rattle.dap_world.specs.Runs.{Went};
 ghost use Rattle.dap_orders.specs.Orders.{event_of_order};
-ghost use Rattle.dap_orders.specs.Schedules.{event_fault, said, schedule_faults};
+ghost use Rattle.dap_orders.specs.Schedules.{event_fault, numbered_lines, schedule_faults};
 ghost use Rattle.dap_capture.specs.Inner.Checking.{TellsFirstOrWants, TellsFirstThenWants};
 ghost use Rattle.dap_capture.specs.Inner.Playing.{PlaysOne};
 ghost use Rattle.dap_capture.specs.Played.{Played, Plays};
 ghost use Rattle.dap_capture.specs.Inner.Playing.{events_of};
 
 use crate::steps::{push_event, push_refusal, refusal_word};
-use dap_listing::{CaptureFault, INPUT_LIMIT, Outcome};
 use dap_orders::{MeaningfulLines, Order, check_orders, check_schedule, read_order, read_setup};
 use dap_text::push_files;
 use dap_world::{Event, Step, World, WorldFault};
+use linewise::{CaptureFault, INPUT_LIMIT, Outcome};
 use std::alloc::Global;
 
 /// The event happens; a request is given away.
@@ -90,8 +90,8 @@ fn play_events<'a>(
 fn play_lines(alloc: Global, input: &[u8]) -> Result<(Outcome, Vec<u8>), CaptureFault>
     requires small { length input.now ≤ INPUT_LIMIT }
     ensures played { IfOk result
-        (λ played. Played (said input.now) played.0 played.1.items) }
-    ensures faults { TellsFirstOrWants result (schedule_faults (said input.now)) }
+        (λ played. Played (numbered_lines input.now) played.0 played.1.items) }
+    ensures faults { TellsFirstOrWants result (schedule_faults (numbered_lines input.now)) }
 {
     let mut lines = MeaningfulLines::of(input);
     let Some((at, first)) = lines.next() else {
@@ -116,8 +116,8 @@ fn play_lines(alloc: Global, input: &[u8]) -> Result<(Outcome, Vec<u8>), Capture
 pub(crate) fn play(alloc: Global, input: &[u8]) -> Result<(Outcome, Vec<u8>), CaptureFault>
     requires small { length input.now ≤ INPUT_LIMIT }
     ensures played { IfOk result
-        (λ played. Played (said input.now) played.0 played.1.items) }
-    ensures faults { TellsFirstThenWants result (schedule_faults (said input.now)) }
+        (λ played. Played (numbered_lines input.now) played.0 played.1.items) }
+    ensures faults { TellsFirstThenWants result (schedule_faults (numbered_lines input.now)) }
 {
     match play_lines(alloc, input) {
         Err(CaptureFault::NoMemory) => {

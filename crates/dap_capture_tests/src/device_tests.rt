@@ -1,11 +1,11 @@
 //! Devices that fail, with errors of several kinds.
 use crate::engines::{CAPTURE, Engine, LISTING, run};
-use dap_listing::{CaptureFault, Outcome};
+use linewise::{CaptureFault, Outcome};
 use std::alloc::Global;
 use std::io;
 use std::io::{ErrorKind, Read, Write};
 
-/// A device of which a read fails, a write behind so many that took at most 5 bytes each, and a flush, with an error
+/// A device of which a read fails, a write after this many that took at most 5 bytes each, and a flush, with an error
 /// of this kind.
 #[derive(Drop)]
 struct Broken {
@@ -52,7 +52,7 @@ const KINDS: &[ErrorKind] = &[
     ErrorKind::OutOfMemory,
 ];
 
-/// Each engine with an input, the writes before one that fails, and what is written by then. Behind 200 writes all is
+/// Each engine with an input, the writes before one that fails, and what is written by then. After 200 writes all is
 /// written, and the flush fails.
 const WRITING: &[(Engine, &[u8], usize, &[u8])] = &[
     (Engine::Show, CAPTURE, 0, b""),

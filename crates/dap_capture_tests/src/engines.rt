@@ -1,6 +1,7 @@
 //! The three engines, with an input and a text for each.
 use dap_capture::schedule;
-use dap_listing::{CaptureFault, Outcome, messages, show};
+use dap_listing::{messages, show};
+use linewise::{CaptureFault, Outcome};
 use std::alloc::Global;
 use std::io::{Read, Write};
 use std::process::Abort;

@@ -1,8 +1,8 @@
 //! Rows of schedules.
 use crate::engines::{Engine, GREETING, GREETING_PLAYED, gives, run};
-use dap_listing::{CaptureFault, Outcome};
 use dap_text::push_report;
 use dap_world::{Ending, Numbered, Octets, Report};
+use linewise::{CaptureFault, Outcome};
 use std::alloc::{AllocError, Global};
 use std::process::Abort;
 use std::test::Fail;
@@ -206,7 +206,7 @@ fn plays_schedules(rt: HostRuntime) -> Result<(), Fail> {
     Ok(())
 }
 
-/// Bytes, and others behind them.
+/// Bytes, and others after them.
 fn joined(alloc: Global, front: &[u8], back: &[u8]) -> Result<Vec<u8>, AllocError> {
     let mut all = Vec::from_slice(alloc, front)?;
     all.extend_from_slice(back)?;

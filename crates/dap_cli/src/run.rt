@@ -5,13 +5,13 @@ ghost use Rattle.clap.specs.Words.{fault_of};
 ghost use Rattle.cli_faults.specs.Mistakes.{AreMistakes};
 ghost use Rattle.dap_words.specs.Choosing.{Chooses, dapnsp, word_of};
 ghost use Rattle.dap_words.specs.declared.choice.Choice.{Choice};
-ghost use Rattle.dap_cli.specs.Run.{Answers, RunGives};
+ghost use Rattle.dap_cli.specs.Run.{CommandGives, RunGives};
 
 use clap::error::ErrorKind;
 use cli_faults::{Fronted, Reading, finish_reading, refuse};
 use dap_capture::{CaptureFault, Outcome, messages, schedule, show};
-use dap_listing::finish;
 use dap_words::{Choice, read_words};
+use linewise::finish;
 use std::alloc::Global;
 use std::io::{Read, Write};
 
@@ -37,7 +37,7 @@ fn run_lines<R: Read, W: Write>(
     writer: &mut W,
 ) -> Result<Outcome, CaptureFault>
     ensures { IfSome (R.remaining reader.old)
-        (λ input. Answers choice input (W.contents writer.old) (W.contents writer.new) result) }
+        (λ input. CommandGives choice input (W.contents writer.old) (W.contents writer.new) result) }
 {
     match choice {
         Choice::Show => show(alloc, reader, writer),

@@ -15,7 +15,7 @@ struct Left {
     told: Vec<u8>,
 }
 
-/// The program's name, and words behind it.
+/// The program's name, and words after it.
 fn words_of(alloc: Global, words: &[&str]) -> Result<Vec<String>, Fail> {
     let mut list = Vec::new(alloc);
     list.push(String::from_str(alloc, "dapnsp")?)?;
@@ -286,7 +286,7 @@ fn ends_with_1_where_a_schedule_stops(rt: HostRuntime) -> Result<(), Fail> {
     Ok(())
 }
 
-/// A device of which a read fails, a write behind so many that took at most 5 bytes each, and a flush, with an error
+/// A device of which a read fails, a write after this many that took at most 5 bytes each, and a flush, with an error
 /// of this kind.
 #[derive(Drop)]
 struct Broken {
@@ -348,7 +348,7 @@ fn tells_readers_that_fail(rt: HostRuntime) -> Result<(), Fail> {
 /// A packet of each kind.
 const CAPTURE: &[u8] = b"> 600201040305800100060200\n< 0402010403ff8f\n> 1002010403\n";
 
-/// Words, an input, the writes before one that fails, and what is written by then. Behind 200 writes all is written, and
+/// Words, an input, the writes before one that fails, and what is written by then. After 200 writes all is written, and
 /// the flush fails.
 const WRITING: &[(&str, &[u8], usize, &[u8])] = &[
     ("show", CAPTURE, 0, b""),

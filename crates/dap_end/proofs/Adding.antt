@@ -14,7 +14,7 @@ use Rattle.dap_accessed.specs.Present.{Present, StandsAfter}
 use Rattle.dap_accessed.specs.Adding.{IsFresh, MayAdd, MayAddRecord, AddRefused, RecordRefused}
 use Rattle.dap_end.specs.Ports.{HasCome}
 use Rattle.dap_end.specs.Serving.{IsAfter, NotGiven}
-use Rattle.dap_end.specs.Done.{ServingValue, Past, answers_to}
+use Rattle.dap_end.specs.Done.{ServingValue, ServerHistory, answers_to}
 use Rattle.dap_end.specs.Inner.ServingView.{serving_of}
 
 -- before a Config the answers are those of any files at first
@@ -37,7 +37,7 @@ answers_given own first other before (item ∷ items) fresh =
 -- the end was given files, and stands as if it had had them at first
 pub given : (old : ServingValue) (after : Present) (r : Result (Unit {0}) AddFault) → after.setup ≡ old.present.setup → OnOk r (IsFresh old.present)
     → OnOk r ((first : Files) (items : List Item) → StandsAfter first items old.present → StandsAfter after.files items after)
-    → OnOk r ((past : Past) → IsAfter past old → IsAfter (record past { first = after.files }) (serving_of old.port after))
+    → OnOk r ((past : ServerHistory) → IsAfter past old → IsAfter (record past { first = after.files }) (serving_of old.port after))
 given old after (Ok u) own fresh stands = λ past h.
     let own_old = old.present.setup in
     let is_fresh = fresh.is past.first past.items h.serving in

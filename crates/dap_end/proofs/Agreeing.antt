@@ -126,7 +126,7 @@ heard-more (q ∷ rs) r answers reports b done h e =
       rest = heard-more rs r h.back h.later b done h.rest e;
     }
 
--- with the answers to the requests behind it
+-- with the answers to the requests after it
 hear-all : (r : Request) (answers front back : List Item) (done : Report) → answers ≡ front ++ back → hear r front ≡ Reports done [] → hear r answers ≡ Reports done back
 hear-all r answers front back done parts heard =
     let s : Stays (Reports done []) (hear r (front ++ back)) back = subst (λ (h : Hearing). Stays h (hear r (front ++ back)) back) heard (stays r front back) in

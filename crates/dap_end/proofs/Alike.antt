@@ -1,4 +1,4 @@
--- What a call of an asking end answers and leaves follows from what it did and what came, want of memory aside.
+-- What a call of an asking end answers and leaves follows from what it did and what came, out of memory aside.
 use Rattle.std.proofs.Common.{◌≡◌, ◌≢◌, ℕ, refl, sym, ◌∙◌, subst, ap, true, false, true≢false, List, [], ◌∷◌, ◌++◌, length, inl, inr, IsTrue}
 use Rattle.std.specs.Prelude.{Option, Some, None, Result, Ok, Err, option_to_list}
 use Rattle.dap_fields.specs.Spelling.{AreBytes}
@@ -18,40 +18,40 @@ use Rattle.dap_accessing.specs.declared.fault.ReadFault.{ReadFault}
 use Rattle.dap_accessing.specs.declared.fault.ReadFault.TheVariants as read_fault
 use Rattle.dap_accessing.specs.Told.{Told, Due, NothingDue, AnswersDue, Wrong, due_after, is_unexpected}
 use Rattle.dap_accessing.specs.Asked.{messages_of}
-use Rattle.dap_accessing.specs.Present.{Present, StandsAfter, FitsDue, failed_after}
+use Rattle.dap_accessing.specs.Present.{ClientState, ClientAfter, FitsDue, failed_after}
 use Rattle.dap_accessing.proofs.ForCallers.{one_present}
-use Rattle.dap_end.specs.Pasts.{read_one}
+use Rattle.dap_end.specs.Histories.{with_answer_read}
 use Rattle.dap_end.specs.declared.fault.EndFault.{EndFault}
 use Rattle.dap_end.specs.declared.fault.EndFault.TheVariants as end_fault
 use Rattle.dap_end.specs.declared.fault.TakeFault.{TakeFault}
 use Rattle.dap_end.specs.Ports.{HandsOver, PortValue, gone_on}
-use Rattle.dap_end.specs.Moved.{posted, with_link}
+use Rattle.dap_end.specs.Moved.{with_outbox_sent, with_link}
 use Rattle.dap_end.specs.Asking.{HasAsked, AskedOne, ReadOne, ReadNone, HasDone}
-use Rattle.dap_end.specs.Hearing.{ReadOn, ReadsAll, asks}
+use Rattle.dap_end.specs.Hearing.{ReadOn, ReadsAll, hears}
 use Rattle.dap_end.specs.Hearing.{begins, goes}
-use Rattle.dap_end.specs.Done.{AskingValue, AskingPast}
+use Rattle.dap_end.specs.Done.{AskingValue, ClientHistory}
 use Rattle.dap_end.specs.Writing.{Behind}
 use Rattle.dap_end.specs.Moved.{sent_more}
-use Rattle.dap_end.specs.Turns.{DidAll, WentOn, Takes}
-use Rattle.dap_end.specs.Pasts.{Still}
+use Rattle.dap_end.specs.Turns.{DidAll, WentOn, TakesPacket}
+use Rattle.dap_end.specs.Histories.{Still}
 use Rattle.dap_end.specs.Wanting.{is_want}
 use Rattle.dap_end.specs.Inner.Wanting.{went_wanting, took_wanting}
 use Rattle.dap_end.proofs.Taking.{grown}
 use Rattle.dap_end.proofs.Asked.{asked_past, handed_is, handed_past, read_grows, still_received, still_sent}
-use Rattle.dap_end.specs.Pasts.{asked_one}
+use Rattle.dap_end.specs.Histories.{asked_one}
 use Rattle.dap_end.proofs.Determined.{may_or_not, refused_one, no_next}
 use Rattle.dap_end.proofs.Turning.{DoAlike, no_want, went_same, took_same}
 
 -- ---- Asking.
 
-pub asking_one : (past : AskingPast) (request : Request) (old one two : AskingValue) (n m : ℕ) → HasAsked past old → AskedOne request old one n → AskedOne request old two m → (one ≡ two) × (n ≡ m)
+pub asking_one : (past : ClientHistory) (request : Request) (old one two : AskingValue) (n m : ℕ) → HasAsked past old → AskedOne request old one n → AskedOne request old two m → (one ≡ two) × (n ≡ m)
 asking_one past request old one two n m h a b =
     let limit : a.asks.limit ≡ b.asks.limit = a.asks.is_limit past.requests past.answers h.asking ∙ sym (b.asks.is_limit past.requests past.answers h.asking) in
     let messages : a.messages ≡ b.messages = a.asks.spelled ∙ ap (λ (n : ℕ). all_joined (Blocked n (messages_of old.present.identity request))) limit ∙ sym b.asks.spelled in
     let now = asked_one past old.present.identity request in
     let present : one.present ≡ two.present = one_present now.requests now.answers one.present two.present (asked_past request old one n a past h).asking (asked_past request old two m b past h).asking (a.identity ∙ sym b.identity) in
     let port : one.port ≡ two.port = a.port ∙ ap (λ (l : List (List ℕ)). record old.port { outbox = old.port.outbox ++ l }) messages ∙ sym b.port in (
-      ap (λ (p : PortValue). record one { port = p }) port ∙ ap (λ (x : Present). record two { present = x }) present,
+      ap (λ (p : PortValue). record one { port = p }) port ∙ ap (λ (x : ClientState). record two { present = x }) present,
       a.count ∙ ap length messages ∙ sym b.count,
     )
 
@@ -67,14 +67,14 @@ back_of : (front xs ys : List Report) → front ++ xs ≡ front ++ ys → xs ≡
 back_of [] xs ys e = e
 back_of (x ∷ front) xs ys e = back_of front xs ys (let tails : front ++ xs ≡ front ++ ys = cc in tails)
 
-pub reading_one : (past : AskingPast) (old one two : AskingValue) (r s : Option Report) → HasAsked past old → ReadOne old one r → ReadOne old two s → (one ≡ two) × (r ≡ s)
+pub reading_one : (past : ClientHistory) (old one two : AskingValue) (r s : Option Report) → HasAsked past old → ReadOne old one r → ReadOne old two s → (one ≡ two) × (r ≡ s)
 reading_one past old one two r s h a b =
     let bytes : b.one.bytes ≡ a.one.bytes = (let both = sym b.one.came ∙ a.one.came in cc) in
     let later : b.one.later ≡ a.one.later = (let both = sym b.one.came ∙ a.one.came in cc) in
     let same = one_item a.one.bytes old.port.place a.one.item b.one.item a.one.next b.one.next a.one.fits a.one.reads (subst (λ (l : List ℕ). ItemAt l old.port.place b.one.item b.one.next) bytes b.one.reads) in
     let answers : past.answers ++ b.one.item ∷ [] ≡ past.answers ++ a.one.item ∷ [] = ap (λ (i : Item). past.answers ++ i ∷ []) same.0 in
     let present : one.present ≡ two.present =
-    one_present past.requests (past.answers ++ a.one.item ∷ []) one.present two.present (a.past past h).asking (subst (λ (l : List Item). StandsAfter past.requests l two.present) answers (b.past past h).asking) (a.identity ∙ sym b.identity) in
+    one_present past.requests (past.answers ++ a.one.item ∷ []) one.present two.present (a.past past h).asking (subst (λ (l : List Item). ClientAfter past.requests l two.present) answers (b.past past h).asking) (a.identity ∙ sym b.identity) in
     let port : one.port ≡ two.port =
     a.port ∙ ap (λ (k : ℕ). gone_on old.port a.one.bytes a.one.later k) (sym same.1)
     ∙ ap (λ (l : List ℕ). gone_on old.port l a.one.later b.one.next) (sym bytes)
@@ -82,7 +82,7 @@ reading_one past old one two r s h a b =
     ∙ sym b.port in
     let told : option_to_list r ≡ option_to_list s =
     back_of (Told past.requests past.answers) (option_to_list r) (option_to_list s) (sym (a.told past h) ∙ ap (Told past.requests) (sym answers) ∙ b.told past h) in (
-      ap (λ (p : PortValue). record one { port = p }) port ∙ ap (λ (x : Present). record two { present = x }) present,
+      ap (λ (p : PortValue). record one { port = p }) port ∙ ap (λ (x : ClientState). record two { present = x }) present,
       one_option r s told,
     )
 
@@ -110,13 +110,13 @@ has_sent v (inr d) = d.1
 abbrev Stops : AskingValue → Type 0
 Stops v = (next : AskingValue) (report : Option Report) → ReadOne v next report → ⊥
 
-reads_once : (past : AskingPast) (old one two : AskingValue) (rs ss : List Report) → HasAsked past old → ReadOn old one rs → ReadOn old two ss → Stops one → Stops two → (one ≡ two) × (rs ≡ ss)
+reads_once : (past : ClientHistory) (old one two : AskingValue) (rs ss : List Report) → HasAsked past old → ReadOn old one rs → ReadOn old two ss → Stops one → Stops two → (one ≡ two) × (rs ≡ ss)
 reads_once past old one two rs ss h begins begins a b = (refl, refl)
 reads_once past old one two rs ss h begins (goes n s more y other js) a b = absurd (a n s y)
 reads_once past old one two rs ss h (goes m r more x on is) begins a b = absurd (b m r x)
 reads_once past old one two rs ss h (goes m r more x on is) (goes n s rest y other js) a b =
     let same = reading_one past old m n r s h x y in
-    let next = reads_once (read_one past x.one.bytes x.one.item x.one.next) m one two more rest (x.past past h) on (subst (λ (v : AskingValue). ReadOn v two rest) (sym same.0) other) a b in
+    let next = reads_once (with_answer_read past x.one.bytes x.one.item x.one.next) m one two more rest (x.past past h) on (subst (λ (v : AskingValue). ReadOn v two rest) (sym same.0) other) a b in
     (next.0, is ∙ ap (λ (l : List Report). option_to_list r ++ l) next.1 ∙ ap (λ (o : Option Report). option_to_list o ++ rest) same.1 ∙ sym js)
 
 -- an end that failed reads nothing
@@ -124,7 +124,7 @@ failed_reads : (old one : AskingValue) (rs : List Report) → old.present.failed
 failed_reads old one rs e begins = (refl, refl)
 failed_reads old one rs e (goes m r more x on is) = absurd (true≢false (sym e ∙ x.works))
 
-read_past : (past : AskingPast) (old new : AskingValue) (rs : List Report) → HasAsked past old → ReadOn old new rs → (now : AskingPast) × HasAsked now new
+read_past : (past : ClientHistory) (old new : AskingValue) (rs : List Report) → HasAsked past old → ReadOn old new rs → (now : ClientHistory) × HasAsked now new
 read_past past old new rs h on = let g = (read_grows old new rs on).past past h in (g.0, g.1.is)
 
 stops_empty : (v : AskingValue) → v.port.link.coming.inbox ≡ [] → Stops v
@@ -136,8 +136,8 @@ not_wrong (AnswersDue request so_far) p e h = true≢false (sym e)
 not_wrong Wrong None e h = h
 not_wrong Wrong (Some p) e h = h
 
--- an answer that has no place is read by nobody
-no_place : (past : AskingPast) (v new next : AskingValue) (report : Option Report) → HasAsked past v → ReadNone v new read_fault.Unexpected → ReadOne v next report → ⊥
+-- an answer that is out of sequence is read by nobody
+no_place : (past : ClientHistory) (v new next : AskingValue) (report : Option Report) → HasAsked past v → ReadNone v new read_fault.Unexpected → ReadOne v next report → ⊥
 no_place past v new next report h n r =
     let there = n.refused.3 in
     let bytes : n.bytes ≡ r.one.bytes = (let both = sym n.came ∙ r.one.came in cc) in
@@ -146,13 +146,13 @@ no_place past v new next report h n r =
     subst (λ (i : Item). is_unexpected past.requests past.answers i ≡ true) same.0 (there.3 past.requests past.answers h.asking) in
     not_wrong (due_after past.requests (past.answers ++ r.one.item ∷ [])) next.present.pending unexpected (r.past past h).asking.pending
 
-stops_unread : (v new : AskingValue) (f : ReadFault) → f ≢ read_fault.NoMemory → ReadNone v new f → ((past : AskingPast) × HasAsked past v) → Stops v
+stops_unread : (v new : AskingValue) (f : ReadFault) → f ≢ read_fault.NoMemory → ReadNone v new f → ((past : ClientHistory) × HasAsked past v) → Stops v
 stops_unread v new read_fault.Failed want n p = λ next report r. true≢false (sym n.refused.0 ∙ r.works)
 stops_unread v new read_fault.Unexpected want n p = λ next report r. no_place p.0 v new next report p.1 n r
 stops_unread v new read_fault.NoMemory want n p = absurd (want refl)
 
 read_alike : (old other one two : AskingValue) (before xs ys : List Report) → HasDone old → AreAlike old other → Behind before xs (ReadOn old one) → Behind before ys (ReadOn other two)
-    → (((past : AskingPast) × HasAsked past one) → Stops one) → (((past : AskingPast) × HasAsked past two) → Stops two) → AreAlike one two × (xs ≡ ys) × HasDone one
+    → (((past : ClientHistory) × HasAsked past one) → Stops one) → (((past : ClientHistory) × HasAsked past two) → Stops two) → AreAlike one two × (xs ≡ ys) × HasDone one
 read_alike old other one two before xs ys (inl d) like ra rb sa sb =
     let rc : Behind before ys (ReadOn old two) = subst (λ (v : AskingValue). Behind before ys (ReadOn v two)) (sym like) rb in
     let pa = read_past d.0 old one ra.0 d.1 ra.2 in
@@ -183,7 +183,7 @@ unread old new before all f want u = u
 abbrev Left : (old new : AskingValue) → (before all : List Report) → LinkFault → Type 0
 Left old new before all f = Behind before all (ReadOn old new) × (new.port.link.coming.inbox ≡ []) × SendAllFault new.port.link new.port.outbox f
 
-left_of : (old new : AskingValue) (before all : List Report) (f : LinkFault) → DidAll (asks before all) old new (Err (end_fault.Link f)) → Left old new before all f
+left_of : (old new : AskingValue) (before all : List Report) (f : LinkFault) → DidAll (hears before all) old new (Err (end_fault.Link f)) → Left old new before all f
 left_of old new before all f (mid, on, (is, none, h)) = subst (λ (v : AskingValue). Left old v before all f) (sym is) (on, none, h)
 
 handed_done : (v new : AskingValue) (n : ℕ) → HandsOver v new n → HasDone v → HasDone new
@@ -191,11 +191,11 @@ handed_done v new n h (inl d) = inl (_, handed_past v new n h d.0 d.1)
 handed_done v new n h (inr d) =
     subst HasDone (sym (handed_is v new n h)) (inr (d.0, (d.1.0 ++ v.port.outbox, sends_all v.port.link d.1.0 v.port.outbox d.1.1)))
 
-heard_alike : (old other one two : AskingValue) (before xs ys : List Report) → HasDone old → AreAlike old other → DidAll (asks before xs) old one (Ok tt) → DidAll (asks before ys) other two (Ok tt) → AreAlike one two × (xs ≡ ys) × HasDone one
+heard_alike : (old other one two : AskingValue) (before xs ys : List Report) → HasDone old → AreAlike old other → DidAll (hears before xs) old one (Ok tt) → DidAll (hears before ys) other two (Ok tt) → AreAlike one two × (xs ≡ ys) × HasDone one
 heard_alike old other one two before xs ys d like a b =
     let t = read_alike old other a.0 b.0 before xs ys d like a.2 b.2 (λ p. stops_empty a.0 a.3) (λ p. stops_empty b.0 b.3) in
-    let there = alike_port a.0 b.0 (posted a.0.port) (posted b.0.port) t.0 (ap posted (same_port a.0 b.0 t.0)) in (
-      subst (λ (v : AskingValue). AreAlike v two) (sym (handed_is a.0 one a.1 a.4)) (subst (λ (v : AskingValue). AreAlike (record a.0 { port = posted a.0.port }) v) (sym (handed_is b.0 two b.1 b.4)) there),
+    let there = alike_port a.0 b.0 (with_outbox_sent a.0.port) (with_outbox_sent b.0.port) t.0 (ap with_outbox_sent (same_port a.0 b.0 t.0)) in (
+      subst (λ (v : AskingValue). AreAlike v two) (sym (handed_is a.0 one a.1 a.4)) (subst (λ (v : AskingValue). AreAlike (record a.0 { port = with_outbox_sent a.0.port }) v) (sym (handed_is b.0 two b.1 b.4)) there),
       t.1,
       handed_done a.0 one a.1 a.4 t.2,
     )
@@ -207,7 +207,7 @@ empty_apart old other one mid two before xs ys f d like want ra none rb n =
     let t = read_alike old other one mid before xs ys d like ra rb (λ p. stops_empty one none) (λ p. stops_unread mid two f want n p) in
     no_next n.bytes n.later (sym none ∙ ap (λ (v : AskingValue). v.port.link.coming.inbox) t.0 ∙ n.came)
 
-heard_apart : (old other one two : AskingValue) (before xs ys : List Report) (f : EndFault) → HasDone old → AreAlike old other → is_want f ≡ false → DidAll (asks before xs) old one (Ok tt) → DidAll (asks before ys) other two (Err f) → ⊥
+heard_apart : (old other one two : AskingValue) (before xs ys : List Report) (f : EndFault) → HasDone old → AreAlike old other → is_want f ≡ false → DidAll (hears before xs) old one (Ok tt) → DidAll (hears before ys) other two (Err f) → ⊥
 heard_apart old other one two before xs ys (end_fault.Link f) d like want a b =
     let l = left_of other two before ys f b in
     let t = read_alike old other a.0 two before xs ys d like a.2 l.0 (λ p. stops_empty a.0 a.3) (λ p. stops_empty two l.1) in
@@ -218,13 +218,13 @@ heard_apart old other one two before xs ys (end_fault.Read f) d like want a b =
 
 left_alike : (a b one two : AskingValue) (f g : ReadFault) → f ≢ read_fault.NoMemory → g ≢ read_fault.NoMemory → AreAlike a b → HasDone a → ReadNone a one f → ReadNone b two g → AreAlike one two × (f ≡ g) × HasDone one
 left_alike a b one two read_fault.Failed read_fault.Failed nf ng like d x y =
-    let ea : one ≡ a = ap (λ (p : PortValue). record one { port = p }) x.port ∙ ap (λ (k : Present). record a { present = k }) x.refused.1 in
-    let eb : two ≡ b = ap (λ (p : PortValue). record two { port = p }) y.port ∙ ap (λ (k : Present). record b { present = k }) y.refused.1 in
+    let ea : one ≡ a = ap (λ (p : PortValue). record one { port = p }) x.port ∙ ap (λ (k : ClientState). record a { present = k }) x.refused.1 in
+    let eb : two ≡ b = ap (λ (p : PortValue). record two { port = p }) y.port ∙ ap (λ (k : ClientState). record b { present = k }) y.refused.1 in
     (subst (λ (v : AskingValue). AreAlike v two) (sym ea) (subst (λ (v : AskingValue). AreAlike a v) (sym eb) like), refl, subst HasDone (sym ea) d)
 left_alike a b one two read_fault.Unexpected read_fault.Unexpected nf ng like d x y =
     let sent = has_sent a d in (
       ap (λ (p : PortValue). record one { port = p }) (x.port ∙ same_port a b like ∙ sym y.port)
-          ∙ ap (λ (k : Present). record two { present = k }) (x.refused.2 ∙ ap (λ (v : AskingValue). failed_after v.present) like ∙ sym y.refused.2),
+          ∙ ap (λ (k : ClientState). record two { present = k }) (x.refused.2 ∙ ap (λ (v : AskingValue). failed_after v.present) like ∙ sym y.refused.2),
       refl,
       inr (x.refused.1, (sent.0, subst (λ (p : PortValue). Sends p.link sent.0) (sym x.port) sent.1)),
     )
@@ -265,7 +265,7 @@ reading_alike old other one two before xs ys (Err f) (Err g) d like nr ns a b =
     let t = unread_alike old other one two before xs ys f g d like (λ k. nr (ap not_read k)) (λ k. ns (ap not_read k)) a b in
     (t.0, ap not_read t.1, t.2, t.3)
 
-stopped_alike : (old other one two : AskingValue) (before xs ys : List Report) (f g : EndFault) → HasDone old → AreAlike old other → is_want f ≡ false → is_want g ≡ false → DidAll (asks before xs) old one (Err f) → DidAll (asks before ys) other two (Err g)
+stopped_alike : (old other one two : AskingValue) (before xs ys : List Report) (f g : EndFault) → HasDone old → AreAlike old other → is_want f ≡ false → is_want g ≡ false → DidAll (hears before xs) old one (Err f) → DidAll (hears before ys) other two (Err g)
     → AreAlike one two × (f ≡ g) × (xs ≡ ys) × HasDone one
 stopped_alike old other one two before xs ys (end_fault.Link f) (end_fault.Link g) d like nf ng a b =
     let l = left_of old one before xs f a in
@@ -288,7 +288,7 @@ stopped_alike old other one two before xs ys (end_fault.Read f) (end_fault.Read 
 abbrev not_done : EndFault → Result (Unit {0}) EndFault
 not_done f = Err f
 
-all_alike : (old other one two : AskingValue) (before xs ys : List Report) (r s : Result (Unit {0}) EndFault) → HasDone old → AreAlike old other → went_wanting r ≡ false → went_wanting s ≡ false → DidAll (asks before xs) old one r → DidAll (asks before ys) other two s
+all_alike : (old other one two : AskingValue) (before xs ys : List Report) (r s : Result (Unit {0}) EndFault) → HasDone old → AreAlike old other → went_wanting r ≡ false → went_wanting s ≡ false → DidAll (hears before xs) old one r → DidAll (hears before ys) other two s
     → AreAlike one two × (r ≡ s) × (xs ≡ ys) × HasDone one
 all_alike old other one two before xs ys (Ok u) (Ok w) d like nr ns a b = let t = heard_alike old other one two before xs ys d like a b in (t.0, refl, t.1, t.2)
 all_alike old other one two before xs ys (Ok u) (Err g) d like nr ns a b = absurd (heard_apart old other one two before xs ys g d like ns a b)
@@ -303,7 +303,7 @@ stays_done old new port (inl d) rest still sends = inl (d.0, subst (HasAsked d.0
 stays_done old new port (inr d) rest still sends =
     inr (ap (λ (v : AskingValue). v.present.failed) rest ∙ d.0, (d.1.0, subst (λ (v : AskingValue). Sends v.port.link d.1.0) (sym rest) (sends d.1.0 d.1.1)))
 
-asks_alike : (before rs ss : List Report) → DoAlike (asks before rs) (asks before ss) AreAlike HasDone (rs ≡ ss)
+asks_alike : (before rs ss : List Report) → DoAlike (hears before rs) (hears before ss) AreAlike HasDone (rs ≡ ss)
 asks_alike before rs ss =
     record {
       port = same_port;
@@ -319,9 +319,9 @@ asks_alike before rs ss =
     }
 
 pub going_alike : (old other one two : AskingValue) (out xs ys : List (List ℕ)) (before rs ss : List Report) (r s : Result (Unit {0}) EndFault) → HasDone old → AreAlike old other → went_wanting r ≡ false → went_wanting s ≡ false
-    → WentOn (asks before rs) old one out xs r → WentOn (asks before ss) other two out ys s → AreAlike one two × (r ≡ s) × (xs ≡ ys) × (rs ≡ ss) × HasDone one
+    → WentOn (hears before rs) old one out xs r → WentOn (hears before ss) other two out ys s → AreAlike one two × (r ≡ s) × (xs ≡ ys) × (rs ≡ ss) × HasDone one
 going_alike old other one two out xs ys before rs ss r s d like nr ns a b = went_same _ _ _ _ _ (asks_alike before rs ss) old other one two out xs ys r s d like nr ns a b
 
 pub taking_alike : (old other one two : AskingValue) (bytes : List ℕ) (r s : Result Got TakeFault) (out xs ys : List (List ℕ)) (before rs ss : List Report) → AreBytes bytes → HasDone old → AreAlike old other → took_wanting r ≡ false → took_wanting s ≡ false
-    → Takes (asks before rs) old one bytes out xs r → Takes (asks before ss) other two bytes out ys s → AreAlike one two × (r ≡ s) × (xs ≡ ys) × (rs ≡ ss) × HasDone one
+    → TakesPacket (hears before rs) old one bytes out xs r → TakesPacket (hears before ss) other two bytes out ys s → AreAlike one two × (r ≡ s) × (xs ≡ ys) × (rs ≡ ss) × HasDone one
 taking_alike old other one two bytes r s out xs ys before rs ss fits d like nr ns a b = took_same _ _ _ _ _ (asks_alike before rs ss) old other one two bytes out xs ys r s fits d like nr ns a b

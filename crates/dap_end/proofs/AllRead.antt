@@ -1,5 +1,5 @@
 -- What an admissible request finds: every answer was read.
-use Rattle.std.proofs.Common.{◌≡◌, ℕ, suc, refl, sym, ◌∙◌, true, false, subst, ap, append_assoc, arith, List, [], ◌∷◌, ◌++◌, length, map}
+use Rattle.std.proofs.Common.{◌≡◌, suc, refl, sym, ◌∙◌, true, false, subst, ap, append_assoc, arith, List, [], ◌∷◌, ◌++◌, length, map}
 use Rattle.std.proofs.lemmas.List.{append-nil}
 use Rattle.dap_accessed.specs.declared.setup.ServerSetup.{ServerSetup}
 use Rattle.dap_msg.specs.declared.message.Configuration.{Configuration}
@@ -24,7 +24,7 @@ no_place_by r rs answers answer (Reports done rest) s e on = ap (due_by r rs (an
 no_place_by r rs answers answer Waits s e on = let no : ⊥ = omega arith in absurd no
 no_place_by r rs answers answer Unexpected s e on = let no : ⊥ = omega arith in absurd no
 
--- where there is a report for each request, one answer more has no place
+-- where there is a report for each request, one answer more is out of sequence
 pub no_place : (rs : List Request) (answers : List Item) (answer : Item) → length (Told rs answers) ≡ length rs → due_after rs (answers ++ answer ∷ []) ≡ Wrong
 no_place [] [] answer e = refl
 no_place [] (a ∷ answers) answer e = refl
@@ -51,7 +51,7 @@ pub all_told : (own_a : Configuration) (own_b : ServerSetup) (first : Files) (rs
 all_told own_a own_b first rs front back expected e told =
     sym (append-nil front) ∙ ap (λ (l : List Item). front ++ l) (sym (left_by own_a own_b first rs front back expected e told)) ∙ e
 
--- none is left behind a front after which no report is due
+-- none is left after a front after which no report is due
 pub none_left : (own_a : Configuration) (own_b : ServerSetup) (first : Files) (rs : List Request) (front back : List Item) → AreExpected own_a own_b first rs → front ++ back ≡ map Whole (asked_answers own_a own_b first rs)
     → IsNoneDue rs front → back ≡ []
 none_left own_a own_b first rs front back expected e none = left_by own_a own_b first rs front back expected e (each_told rs front none)

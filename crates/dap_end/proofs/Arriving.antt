@@ -1,4 +1,4 @@
--- Runs by what came in them.
+-- ServerRuns by what came in them.
 use Rattle.std.proofs.Common.{subst, List, [], ◌∷◌, ◌++◌, ℕ, inl, inr}
 use Rattle.std.specs.List.{AllByRecursion}
 use Rattle.nsp_link.specs.Link.{LinkValue}
@@ -6,7 +6,7 @@ use Rattle.dap_accessing.specs.Request.{Request}
 use Rattle.dap_accessing.specs.declared.report.Report.{Report}
 use Rattle.dap_end.specs.Done.{ServingValue, AskingValue}
 use Rattle.dap_end.specs.Headline.{Arrival, Written}
-use Rattle.dap_end.specs.Calls.{IsOneOf, RunsAs, Runs, AskingRunsAs, AskingRuns}
+use Rattle.dap_end.specs.Calls.{IsOneOf, RunsAs, ServerRuns, AskingRunsAs, AskingRuns}
 use Rattle.dap_end.proofs.Running as serving
 use Rattle.dap_end.proofs.Hearing as hearing
 use Rattle.dap_end.proofs.Calling as asking
@@ -26,18 +26,18 @@ in_back : (came later : List Arrival) (v : LinkValue) (bytes : List ℕ) → IsO
 in_back [] later v bytes h = h
 in_back (c ∷ came) later v bytes h = inr (in_back came later v bytes h)
 
--- ---- Runs of one end in which all that came came so.
+-- ---- ServerRuns of one end in which all that came came so.
 
-pub served_as : (comes : LinkValue → List ℕ → Type 0) (came : List Arrival) (old new : ServingValue) (wrote : List Written) → AllByRecursion (λ c. comes c.0 c.1) came → Runs came old new wrote → RunsAs comes old new wrote
+pub served_as : (comes : LinkValue → List ℕ → Type 0) (came : List Arrival) (old new : ServingValue) (wrote : List Written) → AllByRecursion (λ c. comes c.0 c.1) came → ServerRuns came old new wrote → RunsAs comes old new wrote
 served_as comes came old new wrote all r = (r.0, serving.runs_where (IsOneOf came) comes (each_is comes came all) r.0 (old, []) (new, wrote) r.1)
 
 pub asked_as : (comes : LinkValue → List ℕ → Type 0) (came : List Arrival) (requests : List Request) (old new : AskingValue) (reports : List Report) (wrote : List Written) → AllByRecursion (λ c. comes c.0 c.1) came
     → AskingRuns came requests old new reports wrote → AskingRunsAs comes requests old new reports wrote
 asked_as comes came requests old new reports wrote all r = (r.0, r.1, hearing.runs_where (IsOneOf came) comes (each_is comes came all) r.0 (old, [], []) (new, reports, wrote) r.2)
 
--- ---- Runs join.
+-- ---- ServerRuns join.
 
-pub more_served : (came later : List Arrival) (old mid new : ServingValue) (ws more : List Written) → Runs came old mid ws → Runs later mid new more → Runs (came ++ later) old new (ws ++ more)
+pub more_served : (came later : List Arrival) (old mid new : ServingValue) (ws more : List Written) → ServerRuns came old mid ws → ServerRuns later mid new more → ServerRuns (came ++ later) old new (ws ++ more)
 more_served came later old mid new ws more r q =
     serving.more_calls (IsOneOf (came ++ later)) old mid new ws more
     (r.0, serving.runs_where (IsOneOf came) (IsOneOf (came ++ later)) (in_front came later) r.0 (old, []) (mid, ws) r.1)

@@ -11,8 +11,8 @@ use Rattle.dap_msg.specs.Canon.{canon}
 use Rattle.dap_msg.specs.declared.items.Item.{Item}
 use Rattle.dap_msg.specs.Items.{IsPlace, ItemAt}
 use Rattle.dap_msg.specs.Sendable.{AreSendable}
-use Rattle.dap_msg.specs.Blocked.{NspMessage, joined, Blocked, blocked_after, all_joined, messages_in, AllFit}
-use Rattle.dap_msg.specs.Inner.Blocked.{IsWithin, AllWithin}
+use Rattle.dap_msg.specs.Blocked.{NspMessage, blocked_bytes, Blocked, blocked_after, all_joined, messages_in, AllFit}
+use Rattle.dap_msg.specs.Inner.Blocked.{IsWithinLimit, AllWithin}
 use Rattle.dap_msg.proofs.ForCallers.{messages_in-Blocked, within_limit, one_item}
 use Rattle.nsp_link.specs.Link.{LinkValue, Sends, SendsStill, Stands, with_inbox}
 use Rattle.nsp_link.proofs.ForCallers.{sends_all, may_queue_parts}
@@ -23,12 +23,12 @@ use Rattle.dap_accessing.specs.declared.fault.ReadStep.{ReadStep}
 use Rattle.dap_accessing.specs.Asked.{Asked, messages_of}
 use Rattle.dap_accessing.specs.Told.{Told}
 use Rattle.dap_accessing.specs.Phase.{limit_after}
-use Rattle.dap_accessing.specs.Present.{Present, StandsAfter}
+use Rattle.dap_accessing.specs.Present.{ClientState, ClientAfter}
 use Rattle.dap_accessing.specs.Each.{ReadsOn, put_back, reported_behind}
 use Rattle.dap_accessing.specs.Calls.{Asks, Reads}
-use Rattle.dap_end.specs.Pasts.{AreFull, asked_one, read_one}
+use Rattle.dap_end.specs.Histories.{AreFull, asked_one, with_answer_read}
 use Rattle.dap_end.specs.Ports.{HandsOver, PortValue, gone_on}
-use Rattle.dap_end.specs.Moved.{with_link, posted}
+use Rattle.dap_end.specs.Moved.{with_link, with_outbox_sent}
 use Rattle.dap_end.specs.Writing.{Behind}
 use Rattle.dap_end.specs.Moved.{sent_more}
 use Rattle.dap_end.specs.Going.{given_then}
@@ -39,14 +39,14 @@ use Rattle.dap_accessing.specs.declared.fault.ReadFault.{ReadFault}
 use Rattle.dap_end.specs.Asking.{HasAsked, AskedOne, ReadOne, ReadNone}
 use Rattle.dap_end.specs.Hearing.{ReadOn}
 use Rattle.dap_end.specs.Hearing.{begins, goes}
-use Rattle.dap_end.specs.Done.{AskingValue, AskingPast}
-use Rattle.dap_end.specs.Inner.Kept.{IsPort, AreShort}
+use Rattle.dap_end.specs.Done.{AskingValue, ClientHistory}
+use Rattle.dap_end.specs.Inner.Kept.{IsPort, AreMessages}
 use Rattle.dap_end.specs.Inner.AskingView.{asking_of}
 use Rattle.dap_end.proofs.Taking.{Grown}
 use Rattle.dap_end.proofs.Going.{gone_stays}
 use Rattle.dap_end.proofs.ServingOne.{port_given, port_gone, all_short, fit-both}
 use Rattle.dap_end.proofs.Proceeding.{work, item_left}
-use Rattle.dap_end.specs.Pasts.{Still}
+use Rattle.dap_end.specs.Histories.{Still}
 
 -- a packet came
 pub still_received : (v : AskingValue) (link : LinkValue) → Grown v.port.link link → SendsStill v.port.link link → Still HasAsked v (record v { port = with_link v.port link })
@@ -61,8 +61,8 @@ still_received v link g sends = λ past h.
       full = h.full;
     }
 
--- what waited was handed over
-after_handed : (past : AskingPast) (v : AskingValue) → HasAsked past v → HasAsked (record past { handed = past.handed ++ v.port.outbox }) (record v { port = posted v.port })
+-- what waited was passed on
+after_handed : (past : ClientHistory) (v : AskingValue) → HasAsked past v → HasAsked (record past { handed = past.handed ++ v.port.outbox }) (record v { port = with_outbox_sent v.port })
 after_handed past v h =
     record {
       asking = h.asking;
@@ -75,10 +75,10 @@ after_handed past v h =
     }
 
 -- the end then
-pub handed_is : (old new : AskingValue) (n : ℕ) → HandsOver old new n → new ≡ record old { port = posted old.port }
+pub handed_is : (old new : AskingValue) (n : ℕ) → HandsOver old new n → new ≡ record old { port = with_outbox_sent old.port }
 handed_is old new n h = h.1
 
-pub handed_past : (old new : AskingValue) (n : ℕ) → HandsOver old new n → (past : AskingPast) → HasAsked past old → HasAsked (record past { handed = past.handed ++ old.port.outbox }) new
+pub handed_past : (old new : AskingValue) (n : ℕ) → HandsOver old new n → (past : ClientHistory) → HasAsked past old → HasAsked (record past { handed = past.handed ++ old.port.outbox }) new
 handed_past old new n h past a = subst (HasAsked (record past { handed = past.handed ++ old.port.outbox })) (sym (handed_is old new n h)) (after_handed past old a)
 
 -- ---- A request.
@@ -108,7 +108,7 @@ full-within limit ((m ∷ more) ∷ packets) h = ((λ e. (let none : ⊥ = cc in
 pub full-blocked : (limit : ℕ) (messages : List Message) → AreFull (Blocked limit messages)
 full-blocked limit messages = full-within limit (Blocked limit messages) (within_limit limit messages)
 
-pub asks_one : (request : Request) (old : AskingValue) (after : Present) (messages outbox : List (List ℕ)) (n : ℕ) → Asks request old.present after messages → after.own ≡ old.present.own → after.identity ≡ old.present.identity
+pub asks_one : (request : Request) (old : AskingValue) (after : ClientState) (messages outbox : List (List ℕ)) (n : ℕ) → Asks request old.present after messages → after.own ≡ old.present.own → after.identity ≡ old.present.identity
     → outbox ≡ old.port.outbox ++ messages → n ≡ length messages → AskedOne request old (asking_of (record old.port { outbox = outbox }) after) n
 asks_one request old after messages outbox n asks own identity is count =
     record {
@@ -120,7 +120,7 @@ asks_one request old after messages outbox n asks own identity is count =
       count = count;
     }
 
-pub asked_past : (request : Request) (old new : AskingValue) (n : ℕ) → AskedOne request old new n → (past : AskingPast) → HasAsked past old → HasAsked (asked_one past old.present.identity request) new
+pub asked_past : (request : Request) (old new : AskingValue) (n : ℕ) → AskedOne request old new n → (past : ClientHistory) → HasAsked past old → HasAsked (asked_one past old.present.identity request) new
 asked_past request old new n a past h =
     let asks = a.asks in
     let messages = a.messages in
@@ -136,7 +136,7 @@ asked_past request old new n a past h =
           ∙ ap (λ (l : List Message). l ++ messages_of old.present.identity request) h.messages
           ∙ sym (Asked-more old.present.identity past.requests request) ∙ ap (λ (k : Configuration). Asked k (past.requests ++ request ∷ [])) (sym a.identity);
       waiting = ap (λ (l : List (List ℕ)). past.handed ++ l) outbox ∙ sym (append_assoc past.handed old.port.outbox messages)
-          ∙ ap (λ (l : List (List ℕ)). l ++ messages) h.waiting ∙ ap (λ (l : List (List ℕ)). all_joined past.asked ++ l) (asks.spelled ∙ ap (λ (n : ℕ). all_joined (Blocked n (messages_of old.present.identity request))) is_limit) ∙ sym (map-append joined past.asked block);
+          ∙ ap (λ (l : List (List ℕ)). l ++ messages) h.waiting ∙ ap (λ (l : List (List ℕ)). all_joined past.asked ++ l) (asks.spelled ∙ ap (λ (n : ℕ). all_joined (Blocked n (messages_of old.present.identity request))) is_limit) ∙ sym (map-append blocked_bytes past.asked block);
       fit =
           subst AllFit (sym (in_append past.asked block ∙ ap (λ (l : List Message). messages_in past.asked ++ l) (messages_in-Blocked limit (messages_of old.present.identity request))))
           (fit-both (messages_in past.asked) (messages_of old.present.identity request) h.fit (sendable-fit _ (messages_of old.present.identity request) (asks.admissible past.requests past.answers h.asking).2));
@@ -158,7 +158,7 @@ unfolding AreWithin
 within-back limit [] ys h = h
 within-back limit (x ∷ xs) ys h = within-back limit xs ys h.1
 
-within-one : (limit : ℕ) (p : NspMessage) → IsWithin limit p → AreWithin limit p → length (joined p) ≤ limit
+within-one : (limit : ℕ) (p : NspMessage) → IsWithinLimit limit p → AreWithin limit p → length (blocked_bytes p) ≤ limit
 unfolding AreWithin
 within-one limit [] h all = absurd h
 within-one limit (m ∷ []) h all = let one = ap length (append-nil (canon m)) in omega (arith, one, all.0)
@@ -174,23 +174,23 @@ unfolding AreWithin
 sendable-within limit [] h = tt
 sendable-within limit (m ∷ messages) h = (h.0.1, sendable-within limit messages h.1)
 
-pub asks_short : (request : Request) (old after : Present) (messages : List (List ℕ)) → Asks request old after messages → AreShort messages
+pub asks_short : (request : Request) (old after : ClientState) (messages : List (List ℕ)) → Asks request old after messages → AreMessages messages
 asks_short request old after messages asks =
     let limit = asks.limit in
-    subst AreShort (sym asks.spelled)
+    subst AreMessages (sym asks.spelled)
     (all_short limit (all_joined (Blocked limit (messages_of old.identity request))) asks.most
     (packets-within limit (Blocked limit (messages_of old.identity request)) (within_limit limit (messages_of old.identity request))
     (subst (AreWithin limit) (sym (messages_in-Blocked limit (messages_of old.identity request))) (sendable-within limit (messages_of old.identity request) asks.sendable))))
 
-pub port_asks : (p : PortValue) (messages outbox : List (List ℕ)) → IsPort p → AreShort messages → outbox ≡ p.outbox ++ messages → IsPort (record p { outbox = outbox })
+pub port_asks : (p : PortValue) (messages outbox : List (List ℕ)) → IsPort p → AreMessages messages → outbox ≡ p.outbox ++ messages → IsPort (record p { outbox = outbox })
 port_asks p messages outbox h short is =
-    record { place = h.place; short = subst AreShort (sym is) (All-append (λ m. length m ≤ 65535) p.outbox messages h.short short) }
+    record { place = h.place; short = subst AreMessages (sym is) (All-append (λ m. length m ≤ 65535) p.outbox messages h.short short) }
 
 -- there are no more NSP messages than messages
 blocked-few : (limit : ℕ) (last : NspMessage) (messages : List Message) → length (blocked_after limit last messages) ≤ length messages + 1
 blocked-few limit last [] = omega arith
 blocked-few limit last (m ∷ messages) =
-    elim (nat_le (length (joined (last ++ m ∷ []))) limit) as (λ b. length (if b then blocked_after limit (last ++ m ∷ []) messages else last ∷ blocked_after limit (m ∷ []) messages) ≤ length (m ∷ messages) + 1) [
+    elim (nat_le (length (blocked_bytes (last ++ m ∷ []))) limit) as (λ b. length (if b then blocked_after limit (last ++ m ∷ []) messages else last ∷ blocked_after limit (m ∷ []) messages) ≤ length (m ∷ messages) + 1) [
       | true ↦ omega (arith, blocked-few limit (last ++ m ∷ []) messages)
       | false ↦ omega (arith, blocked-few limit (m ∷ []) messages)
     ]
@@ -202,11 +202,11 @@ few_blocked limit (m ∷ messages) = omega (arith, blocked-few limit (m ∷ []) 
 -- ---- An answer.
 
 -- one answer more was read, where the client stands as after it
-read_past : (past : AskingPast) (port new : PortValue) (before after : Present) (bytes : List ℕ) (later : List (List ℕ)) (answer : Item) (next : ℕ) → AreBytes bytes → port.link.coming.inbox ≡ bytes ∷ later
+read_past : (past : ClientHistory) (port new : PortValue) (before after : ClientState) (bytes : List ℕ) (later : List (List ℕ)) (answer : Item) (next : ℕ) → AreBytes bytes → port.link.coming.inbox ≡ bytes ∷ later
     → ItemAt bytes port.place answer next → next ≤ length bytes → after.identity ≡ before.identity → new ≡ gone_on port bytes later next → HasAsked past (asking_of port before)
-    → StandsAfter past.requests (past.answers ++ answer ∷ []) after → HasAsked (read_one past bytes answer next) (asking_of new after)
+    → ClientAfter past.requests (past.answers ++ answer ∷ []) after → HasAsked (with_answer_read past bytes answer next) (asking_of new after)
 read_past past port new before after bytes later answer next fits inbox reads within identity is h stands =
-    subst (λ (p : PortValue). HasAsked (read_one past bytes answer next) (asking_of p after)) (sym is) (record {
+    subst (λ (p : PortValue). HasAsked (with_answer_read past bytes answer next) (asking_of p after)) (sym is) (record {
       asking = stands;
       gone = port_gone port bytes later next past.given past.answers answer fits inbox h.gone reads within;
       sends = record { queue = h.sends.queue; acked = h.sends.acked; part = h.sends.part };
@@ -216,7 +216,7 @@ read_past past port new before after bytes later answer next fits inbox reads wi
       full = h.full;
     })
 
-pub reads_one : (old : AskingValue) (bytes : List ℕ) (later : List (List ℕ)) → AreBytes bytes → (after : Present) (port : PortValue) (step : ReadStep) → old.port.link.coming.inbox ≡ bytes ∷ later → IsPlace old.port.place bytes
+pub reads_one : (old : AskingValue) (bytes : List ℕ) (later : List (List ℕ)) → AreBytes bytes → (after : ClientState) (port : PortValue) (step : ReadStep) → old.port.link.coming.inbox ≡ bytes ∷ later → IsPlace old.port.place bytes
     → (r : Reads bytes old.port.place old.present after step) → ReadsOn bytes old.port.place old.present after step → step.next ≤ length bytes → after.own ≡ old.present.own → after.identity ≡ old.present.identity
     → port ≡ gone_on old.port bytes later step.next → ReadOne old (asking_of port after) step.report
 reads_one old bytes later fits after port step inbox place r on within own identity is =
@@ -232,7 +232,7 @@ reads_one old bytes later fits after port step inbox place r on within own ident
       past = λ past h. read_past past old.port port old.present after bytes later r.answer step.next fits inbox r.reads within identity is h (r.stands past.requests past.answers h.asking);
       told = λ past h. r.told past.requests past.answers h.asking;
       past_on = λ told past b h. read_past past old.port port (put_back told old.present) (put_back told after) bytes later r.answer step.next fits inbox r.reads within identity is h
-          (subst (λ (i : Item). StandsAfter past.requests (past.answers ++ i ∷ []) (put_back told after)) same (on.stands told past.requests past.answers b h.asking));
+          (subst (λ (i : Item). ClientAfter past.requests (past.answers ++ i ∷ []) (put_back told after)) same (on.stands told past.requests past.answers b h.asking));
       told_on = λ told past b h. subst (λ (i : Item). Told past.requests (past.answers ++ i ∷ []) ≡ Told past.requests past.answers ++ option_to_list (option_map (reported_behind told) step.report)) same
           (on.told told past.requests past.answers b h.asking);
     }
@@ -244,7 +244,7 @@ some_first (m ∷ inbox) h = (m, inbox, refl)
 -- ---- Several answers.
 
 -- What the end did grew into this, and these are the reports that were told.
-pub record HasRead (past now : AskingPast) (old new : AskingValue) (reports : List Report) : Type 0 where
+pub record HasRead (past now : ClientHistory) (old new : AskingValue) (reports : List Report) : Type 0 where
   pub is : HasAsked now new
   pub requests : now.requests ≡ past.requests
   pub asked : now.asked ≡ past.asked
@@ -261,7 +261,7 @@ pub record ReadMore (old new : AskingValue) (reports : List Report) : Type 0 whe
   pub outbox : new.port.outbox ≡ old.port.outbox
   pub own : new.present.own ≡ old.present.own
   pub identity : new.present.identity ≡ old.present.identity
-  pub past : (past : AskingPast) → HasAsked past old → (now : AskingPast) × HasRead past now old new reports
+  pub past : (past : ClientHistory) → HasAsked past old → (now : ClientHistory) × HasRead past now old new reports
 
 read_nothing : (v : AskingValue) → ReadMore v v []
 read_nothing v =
@@ -297,7 +297,7 @@ split_given given inbox later bytes next came =
       | inr inside ↦ rw (ne_eqb next (length bytes) inside) refl
     ]
 
-read_grew : (a b c : AskingValue) (report : Option Report) (told : List Report) (past : AskingPast) (now : AskingPast) → HasRead past now a b told → (r : ReadOne b c report) → HasRead past (read_one now r.one.bytes r.one.item r.one.next) a c (told ++ option_to_list report)
+read_grew : (a b c : AskingValue) (report : Option Report) (told : List Report) (past : ClientHistory) (now : ClientHistory) → HasRead past now a b told → (r : ReadOne b c report) → HasRead past (with_answer_read now r.one.bytes r.one.item r.one.next) a c (told ++ option_to_list report)
 read_grew a b c report told past now g r =
     let link : c.port.link ≡ with_inbox b.port.link (if r.one.next == length r.one.bytes then r.one.later else b.port.link.coming.inbox) = ap (λ (p : PortValue). p.link) r.port in
     record {
@@ -311,7 +311,7 @@ read_grew a b c report told past now g r =
           ∙ ap (λ (l : List Report). l ++ option_to_list report) g.told ∙ append_assoc (Told past.requests past.answers) told (option_to_list report);
       given = subst (λ (l : LinkValue). given_then now.given r.one.bytes r.one.next ++ l.coming.inbox ≡ now.given ++ b.port.link.coming.inbox) (sym link)
           (split_given now.given b.port.link.coming.inbox r.one.later r.one.bytes r.one.next r.one.came) ∙ g.given;
-      stands = λ size messages s. subst (λ (l : LinkValue). Stands l size messages (read_one now r.one.bytes r.one.item r.one.next).given) (sym link)
+      stands = λ size messages s. subst (λ (l : LinkValue). Stands l size messages (with_answer_read now r.one.bytes r.one.item r.one.next).given) (sym link)
           (port_given b.port r.one.bytes r.one.later r.one.next size messages now.given r.one.came (g.stands size messages s));
     }
 
@@ -324,7 +324,7 @@ read_then a b c told report m r =
       outbox = ap (λ (p : PortValue). p.outbox) r.port ∙ m.outbox;
       own = r.own ∙ m.own;
       identity = r.identity ∙ m.identity;
-      past = λ past h. (let g = m.past past h in (read_one g.0 r.one.bytes r.one.item r.one.next, read_grew a b c report told past g.0 g.1 r));
+      past = λ past h. (let g = m.past past h in (with_answer_read g.0 r.one.bytes r.one.item r.one.next, read_grew a b c report told past g.0 g.1 r));
     }
 
 read_behind : (a b c : AskingValue) (told more all : List Report) → ReadMore a b told → ReadOn b c more → all ≡ told ++ more → ReadMore a c all
@@ -336,8 +336,8 @@ read_behind a b c told more all m (goes mid report rest r on is) e =
 pub read_grows : (a b : AskingValue) (reports : List Report) → ReadOn a b reports → ReadMore a b reports
 read_grows a b reports on = read_behind a a b [] reports reports (read_nothing a) on refl
 
--- what was read on counts behind what the end did
-pub counted : (past : AskingPast) (old new : AskingValue) (reports : List Report) → HasAsked past old → ReadMore old new reports → (given : List (List ℕ)) × (answers : List Item)
+-- what was read on counts after what the end did
+pub counted : (past : ClientHistory) (old new : AskingValue) (reports : List Report) → HasAsked past old → ReadMore old new reports → (given : List (List ℕ)) × (answers : List Item)
     × HasAsked (record past { given = given; answers = past.answers ++ answers }) new × (given ++ new.port.link.coming.inbox ≡ past.given ++ old.port.link.coming.inbox)
     × (Told past.requests (past.answers ++ answers) ≡ Told past.requests past.answers ++ reports)
 counted past old new reports h m =
@@ -387,7 +387,7 @@ pub left_asked : (old new : AskingValue) (request : Request) (r : Result ℕ Ask
     → (old.present.failed ≡ true → 0 < length old.port.link.coming.inbox) → new.present.failed ≡ true → 0 < length new.port.link.coming.inbox
 left_asked old new request (Ok n) ok err left failed = absurd (true≢false (sym failed ∙ ok.asks.goes_on))
 left_asked old new request (Err f) ok err left failed =
-    subst (λ (p : PortValue). 0 < length p.link.coming.inbox) (sym err.0) (left (ap (λ (p : Present). p.failed) (sym err.1) ∙ failed))
+    subst (λ (p : PortValue). 0 < length p.link.coming.inbox) (sym err.0) (left (ap (λ (p : ClientState). p.failed) (sym err.1) ∙ failed))
 
 pub left_unread : (old new : AskingValue) (f : ReadFault) → ReadNone old new f → 0 < length new.port.link.coming.inbox
 left_unread old new f n = subst (λ (p : PortValue). 0 < length p.link.coming.inbox) (sym n.port) (let some = ap length n.came in omega (arith, some))

@@ -13,12 +13,12 @@ use Rattle.dap_end.specs.declared.fault.EndFault.{EndFault}
 use Rattle.dap_end.specs.declared.fault.EndFault.TheVariants as end_fault
 use Rattle.dap_end.specs.declared.fault.TakeFault.{TakeFault}
 use Rattle.dap_end.specs.declared.fault.TakeFault.TheVariants as take_fault
-use Rattle.dap_end.specs.Done.{ServingValue, Past}
+use Rattle.dap_end.specs.Done.{ServingValue, ServerHistory}
 use Rattle.dap_end.specs.Ports.{PortValue, HandsOver, bytes_waiting}
 use Rattle.dap_end.specs.Moved.{sent_more}
 use Rattle.dap_end.specs.Serving.{IsAfter, ServedOne}
 use Rattle.dap_end.specs.Taking.{ServedInTurn, begins, goes, IsBounded, serves}
-use Rattle.dap_end.specs.Turns.{DidAll, WroteThen, WentOn, Answered, TookIn, TookThen, Takes}
+use Rattle.dap_end.specs.Turns.{DidAll, WroteThen, WentOn, WritesReplies, TookIn, TookThen, TakesPacket}
 use Rattle.dap_end.proofs.Afterwards.{posted_is}
 use Rattle.dap_end.proofs.Determined.{running}
 use Rattle.dap_end.proofs.Proceeding.{bytes_posted, inbox_posted, none_waits as none_here}
@@ -76,7 +76,7 @@ wrote_bounded most old new out all wrote n pos w sent =
     bounded_as most old old w.mid new (ap (λ (p : PortValue). bytes_waiting p) sent) (all_bounded most old w.mid (Ok tt) pos w.done)
 
 answer_bounded : (most : ℕ) (old new : ServingValue) (got : Got) (out all : List (List ℕ)) (r : Result (Unit {0}) EndFault) → 0 < old.port.link.setup.seg_size
-    → Answered (serves most) old new got out all r → IsBounded most old old new
+    → WritesReplies (serves most) old new got out all r → IsBounded most old old new
 answer_bounded most old new got out all (Ok u) pos w = wrote_bounded most old new out all _ _ pos w w.wrote.2.1.sent
 answer_bounded most old new got out all (Err f) pos (inl h) = all_bounded most old new (Err f) pos h.0
 answer_bounded most old new got out all (Err f) pos (inr h) = wrote_bounded most old new out all _ _ pos h.1 h.1.wrote.2.0.sent
@@ -108,7 +108,7 @@ then_bounded most old new bytes got out all r pos (mid, t, w) =
     (mid, Ok got, t, bounded_before most old mid new (took_fewer old mid bytes (Ok got) t) (answer_bounded most mid new got out all r size w))
 
 pub taking_bounded : (most : ℕ) (old new : ServingValue) (bytes : List ℕ) (out all : List (List ℕ)) (r : Result Got TakeFault) → 0 < old.port.link.setup.seg_size
-    → Takes (serves most) old new bytes out all r → TakenBy most old new bytes
+    → TakesPacket (serves most) old new bytes out all r → TakenBy most old new bytes
 taking_bounded most old new bytes out all (Ok got) pos t = then_bounded most old new bytes got out all (Ok tt) pos t
 taking_bounded most old new bytes out all (Err (take_fault.Refused f)) pos t = (new, Err f, t.0, inl (took_fewer old new bytes (Err f) t.0))
 taking_bounded most old new bytes out all (Err (take_fault.Unfinished got f)) pos t = then_bounded most old new bytes got out all (Err f) pos t
@@ -136,7 +136,7 @@ resting most mid new handed n count some pos room sends served p sent same full 
     let link = ap (λ (q : PortValue). waiting_bytes q.link) sent in
     omega (arith, some, much, same, zero, idle, link)
 
-pub all_served : (most : ℕ) (past : Past) (old new : ServingValue) (out all : List (List ℕ)) → 0 < most → 0 < old.port.link.setup.seg_size → 0 < new.port.link.setup.window
+pub all_served : (most : ℕ) (past : ServerHistory) (old new : ServingValue) (out all : List (List ℕ)) → 0 < most → 0 < old.port.link.setup.seg_size → 0 < new.port.link.setup.window
     → IsAfter past new → WentOn (serves most) old new out all (Ok tt) → new.port.link.sent ≡ new.port.link.acked → new.port.link.coming.inbox ≡ []
 all_served most past old new out all some pos room h w acked =
     let d = w.done in

@@ -15,13 +15,13 @@ use Rattle.dap_end.specs.declared.fault.TakeFault.{TakeFault}
 use Rattle.dap_end.specs.declared.fault.TakeFault.TheVariants as take_fault
 use Rattle.dap_end.specs.Ports.{EndValue, HandsOver, PortValue, bytes_waiting}
 use Rattle.dap_end.specs.By.{ServesAt, ServedBy, TurnsBy, MayServeAt, begins, goes, serves_by, end_with}
-use Rattle.dap_end.specs.Moved.{posted}
+use Rattle.dap_end.specs.Moved.{with_outbox_sent}
 use Rattle.dap_end.specs.Inner.Answered.{ended_by}
 use Rattle.dap_end.specs.Done.{ServingValue}
 use Rattle.dap_end.specs.Serving.{ServedOne, MayServe}
 use Rattle.dap_end.specs.Taking.{HasRoom, ServedInTurn, serves}
 use Rattle.dap_end.specs.Taking as taking
-use Rattle.dap_end.specs.Turns.{Answered, DidAll, EndOf, Takes, WentOn, WroteThen}
+use Rattle.dap_end.specs.Turns.{WritesReplies, DidAll, EndOf, TakesPacket, WentOn, WroteThen}
 use Rattle.dap_end.specs.Writing.{Behind, WroteMore}
 use Rattle.std.specs.Result.{result_map_both}
 use Rattle.dap_end.proofs.Turning.{went_by}
@@ -69,8 +69,8 @@ module _ {P : Type 0} where
   on_more serves most a b posted c count n begins p room s = goes posted c count n p room s begins
   on_more serves most a b posted c count n (goes first mid k m q has t on) p room s = goes first mid k m q has t (on_more serves most mid b posted c count n on p room s)
 
-  -- what waited was handed over
-  pub hands : (p q : PortValue) (s : P) (n : ℕ) → IsTrue (may_queue p.link p.outbox) → (q ≡ posted p) × (n ≡ length p.outbox) → HandsOver (end_with p s) (end_with q s) n
+  -- what waited was passed on
+  pub hands : (p q : PortValue) (s : P) (n : ℕ) → IsTrue (may_queue p.link p.outbox) → (q ≡ with_outbox_sent p) × (n ≡ length p.outbox) → HandsOver (end_with p s) (end_with q s) n
   hands p q s n may is = (may, ap (λ (r : PortValue). end_with r s) is.0, is.1)
 
   -- all was served, and then segments were written
@@ -95,12 +95,12 @@ module _ {P : Type 0} where
     map_wrote : (writes : PortValue → PortValue → List (List ℕ) → Type 0) (a b : EndValue P) (out all : List (List ℕ)) → WroteThen e writes a b out all → WroteThen f writes a b out all
     map_wrote writes a b out all w = record { mid = w.mid; done = map_did a w.mid (Ok tt) w.done; rest = w.rest; wrote = w.wrote }
 
-    pub map_answered : (a b : EndValue P) (got : Got) (out all : List (List ℕ)) (r : Result (Unit {0}) EndFault) → Answered e a b got out all r → Answered f a b got out all r
+    pub map_answered : (a b : EndValue P) (got : Got) (out all : List (List ℕ)) (r : Result (Unit {0}) EndFault) → WritesReplies e a b got out all r → WritesReplies f a b got out all r
     map_answered a b got out all (Ok u) h = map_wrote _ a b out all h
     map_answered a b got out all (Err w) (inl h) = inl (map_did a b (Err w) h.0, h.1)
     map_answered a b got out all (Err w) (inr h) = inr (h.0, map_wrote _ a b out all h.1)
 
-    pub map_takes : (a b : EndValue P) (bytes : List ℕ) (out all : List (List ℕ)) (r : Result Got TakeFault) → Takes e a b bytes out all r → Takes f a b bytes out all r
+    pub map_takes : (a b : EndValue P) (bytes : List ℕ) (out all : List (List ℕ)) (r : Result Got TakeFault) → TakesPacket e a b bytes out all r → TakesPacket f a b bytes out all r
     map_takes a b bytes out all (Ok got) h = (h.0, h.1, map_answered h.0 b got out all (Ok tt) h.2)
     map_takes a b bytes out all (Err (take_fault.Refused w)) h = (h.0, h.1, also.quiet h.2)
     map_takes a b bytes out all (Err (take_fault.Unfinished got w)) h = (h.0, h.1, map_answered h.0 b got out all (Err w) h.2)

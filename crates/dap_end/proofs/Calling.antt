@@ -11,7 +11,7 @@ use Rattle.dap_accessing.specs.Request.{Request}
 use Rattle.dap_accessing.specs.declared.report.Report.{Report}
 use Rattle.dap_accessing.specs.declared.fault.ReadFault.{ReadFault}
 use Rattle.dap_accessing.specs.declared.fault.ReadFault.TheVariants as read_fault
-use Rattle.dap_accessing.specs.Present.{Present}
+use Rattle.dap_accessing.specs.Present.{ClientState}
 use Rattle.dap_end.specs.declared.fault.EndFault.{EndFault}
 use Rattle.dap_end.specs.declared.fault.TakeFault.{TakeFault}
 use Rattle.dap_end.specs.declared.fault.TakeFault.TheVariants as take_fault
@@ -21,12 +21,12 @@ use Rattle.dap_end.specs.declared.fault.EndFault.TheVariants as end_fault
 use Rattle.dap_end.specs.Ports.{HandsOver, PortValue}
 use Rattle.dap_end.specs.Writing.{Acknowledged, wants_ack, WroteMore, Behind, WroteAnswer, WrotePart}
 use Rattle.dap_end.specs.Asking.{AskedOne, ReadOne, ReadNone}
-use Rattle.dap_end.specs.Hearing.{ReadOn, ReadsAll, asks}
+use Rattle.dap_end.specs.Hearing.{ReadOn, ReadsAll, hears}
 use Rattle.dap_end.specs.Hearing.{begins, goes as reads_first}
 use Rattle.dap_end.specs.Done.{AskingValue}
-use Rattle.dap_end.specs.Turns.{Answered, DidAll, Takes, TookIn, TookThen, WentOn, WroteThen}
-use Rattle.dap_end.specs.Headline.{Written, bytes_of}
-use Rattle.dap_end.specs.Calls.{numbered, Came, GoesOn, Repeats}
+use Rattle.dap_end.specs.Turns.{WritesReplies, DidAll, TakesPacket, TookIn, TookThen, WentOn, WroteThen}
+use Rattle.dap_end.specs.Headline.{Written, written_bytes}
+use Rattle.dap_end.specs.Calls.{numbered_packets, Came, GoesOn, Repeats}
 use Rattle.dap_end.specs.Calls.{AskingEvent, Asks, By, AskingStepped, AskingRunsAs, requests_in}
 use Rattle.dap_end.proofs.Packets.{ack_written}
 use Rattle.dap_end.proofs.Emitting.{wrote_nothing}
@@ -62,7 +62,7 @@ module _ (comes : LinkValue → List ℕ → Type 0) where
   shifted (event ∷ events) rs front old new r =
       ((r.0.0, rs ++ r.0.1, front ++ r.0.2), r.1, step_shifted event rs front r.1 old r.0 r.2, shifted events rs front r.0 new r.3)
 
-  -- behind these
+  -- after these
   pub behind_these : (events : List AskingEvent) (old new : AskingValue) (rs reports : List Report) (front wrote : List Written) → RunsBy (AskingStepped comes) (old, [], []) events (new, reports, wrote)
       → RunsBy (AskingStepped comes) (old, rs, front) events (new, rs ++ reports, front ++ wrote)
   behind_these events old new rs reports front wrote r =
@@ -113,29 +113,29 @@ module _ (comes : LinkValue → List ℕ → Type 0) where
   pub receiving_is : (old new : AskingValue) (bytes : List ℕ) (r : Result Got LinkFault) → comes old.port.link bytes → TookIn old new bytes r → AskingRunsAs comes [] old new [] []
   receiving_is old new bytes r h t = one_event old new (By (Came bytes)) [] [] (came old new bytes r h t)
 
-  -- all was read and handed over, and these segments written
-  goes : (old heard new : AskingValue) (before after : List Report) (packets : List (List ℕ)) → (h : DidAll (asks before after) old heard (Ok tt)) → WroteMore heard.port new.port packets → new ≡ record heard { port = new.port }
-      → (let ws = numbered (heard.port.link.sent + 1) heard.port.link.coming.received packets in AskingStepped comes (old, [], []) (By GoesOn) ws (new, h.2.0, ws))
+  -- all was read and passed on, and these segments written
+  goes : (old heard new : AskingValue) (before after : List Report) (packets : List (List ℕ)) → (h : DidAll (hears before after) old heard (Ok tt)) → WroteMore heard.port new.port packets → new ≡ record heard { port = new.port }
+      → (let ws = numbered_packets (heard.port.link.sent + 1) heard.port.link.coming.received packets in AskingStepped comes (old, [], []) (By GoesOn) ws (new, h.2.0, ws))
   goes old heard new before after packets h w rest = ((heard, packets, (h.0, (h.2.0, refl, h.2.2), inr (h.1, h.4)), w, rest, refl), refl)
 
-  -- a run whose packets and reports stand behind those that were there
+  -- a run whose packets and reports stand after those that were there
   abbrev pub AreAskingCalls : AskingValue → AskingValue → (out all : List (List ℕ)) → (before after : List Report) → Type 0
   AreAskingCalls old new out all before after =
-      (reports : List Report) × (wrote : List Written) × AskingRunsAs comes [] old new reports wrote × (all ≡ out ++ bytes_of wrote) × (after ≡ before ++ reports)
+      (reports : List Report) × (wrote : List Written) × AskingRunsAs comes [] old new reports wrote × (all ≡ out ++ written_bytes wrote) × (after ≡ before ++ reports)
 
-  behind : (out all packets : List (List ℕ)) (k a : ℕ) → all ≡ out ++ packets → all ≡ out ++ bytes_of (numbered k a packets)
+  behind : (out all packets : List (List ℕ)) (k a : ℕ) → all ≡ out ++ packets → all ≡ out ++ written_bytes (numbered_packets k a packets)
   behind out all packets k a e = e ∙ ap (λ (l : List (List ℕ)). out ++ l) (sym (numbered_bytes k a packets))
 
   took_by : (old mid new : AskingValue) (bytes : List ℕ) (out all : List (List ℕ)) (before after : List Report) → AskingStepped comes (old, [], []) (By (Came bytes)) [] (mid, [], []) → AreAskingCalls mid new out all before after
       → AreAskingCalls old new out all before after
   took_by old mid new bytes out all before after s c = (c.0, c.1, (By (Came bytes) ∷ c.2.0, c.2.1, ((mid, [], []), [], s, c.2.2)), c.3, c.4)
 
-  answered_is : (old heard new : AskingValue) (out all packets written : List (List ℕ)) (before after : List Report) (wants : Bool) → DidAll (asks before after) old heard (Ok tt) → new ≡ record heard { port = new.port } → WroteMore heard.port new.port written
+  answered_is : (old heard new : AskingValue) (out all packets written : List (List ℕ)) (before after : List Report) (wants : Bool) → DidAll (hears before after) old heard (Ok tt) → new ≡ record heard { port = new.port } → WroteMore heard.port new.port written
       → all ≡ out ++ packets → Acknowledged new.port wants written packets → AreAskingCalls old new out all before after
   answered_is old heard new out all packets written before after false h rest w is ack =
       (h.2.0, _, one_event old new (By GoesOn) _ _ (goes old heard new before after written h w rest), behind out all written _ _ (is ∙ ap (λ (l : List (List ℕ)). out ++ l) ack), h.2.1)
   answered_is old heard new out all packets written before after true h rest w is ack =
-      let first = numbered (heard.port.link.sent + 1) heard.port.link.coming.received written in
+      let first = numbered_packets (heard.port.link.sent + 1) heard.port.link.coming.received written in
       let last : Written = record { bytes = ack.0; segment = None; acks = new.port.link.coming.received } in
       let both = more_calls [] [] old new new h.2.0 [] first (last ∷ []) (one_event old new (By GoesOn) _ first (goes old heard new before after written h w rest)) (ack_is new ack.0 ack.2) in (
         h.2.0,
@@ -145,18 +145,18 @@ module _ (comes : LinkValue → List ℕ → Type 0) where
         h.2.1,
       )
 
-  whole_is : (old new : AskingValue) (got : Got) (out all : List (List ℕ)) (before after : List Report) → WroteThen (asks before after) (λ p q. WroteAnswer p q got) old new out all → AreAskingCalls old new out all before after
+  whole_is : (old new : AskingValue) (got : Got) (out all : List (List ℕ)) (before after : List Report) → WroteThen (hears before after) (λ p q. WroteAnswer p q got) old new out all → AreAskingCalls old new out all before after
   whole_is old new got out all before after w =
       let (packets, is, a) = w.wrote in answered_is old w.mid new out all packets a.0 before after (wants_ack got (length a.0)) w.done w.rest a.1 is a.3
 
-  some_is : (old new : AskingValue) (got : Got) (out all : List (List ℕ)) (before after : List Report) → WroteThen (asks before after) (λ p q. WrotePart p q got) old new out all → AreAskingCalls old new out all before after
+  some_is : (old new : AskingValue) (got : Got) (out all : List (List ℕ)) (before after : List Report) → WroteThen (hears before after) (λ p q. WrotePart p q got) old new out all → AreAskingCalls old new out all before after
   some_is old new got out all before after w =
       (w.done.2.0, _, one_event old new (By GoesOn) _ _ (goes old w.mid new before after w.wrote.0 w.done w.wrote.2.0 w.rest), behind out all w.wrote.0 _ _ w.wrote.1, w.done.2.1)
 
 -- ---- Calls that didn't do all.
 
 same_end : (mid new : AskingValue) → new.port ≡ mid.port → new.present ≡ mid.present → new ≡ mid
-same_end mid new p a = ap (λ (x : PortValue). record new { port = x }) p ∙ ap (λ (x : Present). record mid { present = x }) a
+same_end mid new p a = ap (λ (x : PortValue). record new { port = x }) p ∙ ap (λ (x : ClientState). record mid { present = x }) a
 
 -- an answer that wasn't read, and has a place, left the end as it was
 none_read : (mid new : AskingValue) (f : ReadFault) → ReadNone mid new f → f ≢ read_fault.Unexpected → new ≡ mid
@@ -167,7 +167,7 @@ none_read mid new read_fault.Unexpected n other = absurd (other refl)
 part_read : (old new : AskingValue) (before after : List Report) (f : ReadFault) → ReadsAll old new before after (Err f) → f ≢ read_fault.Unexpected → Behind before after (ReadOn old new)
 part_read old new before after f (mid, on, n) other = subst (λ (v : AskingValue). Behind before after (ReadOn old v)) (sym (none_read mid new f n other)) on
 
-heard_part : (old new : AskingValue) (before after : List Report) (f : EndFault) → DidAll (asks before after) old new (Err f) → f ≢ end_fault.Read read_fault.Unexpected → Behind before after (ReadOn old new)
+heard_part : (old new : AskingValue) (before after : List Report) (f : EndFault) → DidAll (hears before after) old new (Err f) → f ≢ end_fault.Read read_fault.Unexpected → Behind before after (ReadOn old new)
 heard_part old new before after (end_fault.Link f) h other = subst (λ (v : AskingValue). Behind before after (ReadOn old v)) (sym h.2.0) h.1
 heard_part old new before after (end_fault.Read f) h other = part_read old new before after f h (λ e. other (ap (λ (x : ReadFault). end_fault.Read x) e))
 
@@ -186,22 +186,22 @@ module _ (comes : LinkValue → List ℕ → Type 0) where
       (r.0, [], one_event comes old new (By GoesOn) r.0 [] ((new, [], (new, (r.0, refl, r.2), inl refl), wrote_nothing new.port, refl, refl), refl), same ∙ sym (append-nil out), r.1)
 
   answer_is : (old new : AskingValue) (got : Got) (out all : List (List ℕ)) (before after : List Report) (r : Result (Unit {0}) EndFault) → IfErr r (λ f. f ≢ end_fault.Read read_fault.Unexpected)
-      → Answered (asks before after) old new got out all r → AreAskingCalls comes old new out all before after
+      → WritesReplies (hears before after) old new got out all r → AreAskingCalls comes old new out all before after
   answer_is old new got out all before after (Ok done) other w = whole_is comes old new got out all before after w
   answer_is old new got out all before after (Err f) other (inl h) = read_only old new out all before after (heard_part old new before after f h.0 other) h.1
   answer_is old new got out all before after (Err f) other (inr h) = some_is comes old new got out all before after h.1
 
   pub going_on_is : (old new : AskingValue) (out all : List (List ℕ)) (before after : List Report) (r : Result (Unit {0}) EndFault) → IfErr r (λ f. f ≢ end_fault.Read read_fault.Unexpected)
-      → WentOn (asks before after) old new out all r → AreAskingCalls comes old new out all before after
+      → WentOn (hears before after) old new out all r → AreAskingCalls comes old new out all before after
   going_on_is old new out all before after r other w = answer_is old new AckOnly out all before after r other w
 
   then_is : (old new : AskingValue) (bytes : List ℕ) (got : Got) (out all : List (List ℕ)) (before after : List Report) (r : Result (Unit {0}) EndFault) → IfErr r (λ f. f ≢ end_fault.Read read_fault.Unexpected) → comes old.port.link bytes
-      → TookThen (asks before after) old new bytes got out all r → AreAskingCalls comes old new out all before after
+      → TookThen (hears before after) old new bytes got out all r → AreAskingCalls comes old new out all before after
   then_is old new bytes got out all before after r other h (mid, t, a) =
       took_by comes old mid new bytes out all before after (came comes old mid bytes (Ok got) h t) (answer_is mid new got out all before after r other a)
 
   pub taken_is : (old new : AskingValue) (bytes : List ℕ) (out all : List (List ℕ)) (before after : List Report) (r : Result Got TakeFault) → IfErr r (λ f. why f ≢ end_fault.Read read_fault.Unexpected)
-      → comes old.port.link bytes → Takes (asks before after) old new bytes out all r → AreAskingCalls comes old new out all before after
+      → comes old.port.link bytes → TakesPacket (hears before after) old new bytes out all r → AreAskingCalls comes old new out all before after
   taken_is old new bytes out all before after (Ok got) other h t = then_is old new bytes got out all before after (Ok tt) tt h t
   taken_is old new bytes out all before after (Err (take_fault.Refused f)) other h t =
       ([], [], receiving_is comes old new bytes (Err f) h t.0, t.1 ∙ sym (append-nil out), t.2 ∙ sym (append-nil before))

@@ -9,10 +9,10 @@ use Rattle.nsp_link.proofs.ForCallers.{stands_new, may_queue_parts}
 use Rattle.dap_accessing.specs.Request.{Request}
 use Rattle.dap_accessing.specs.declared.report.Report.{Report}
 use Rattle.dap_accessing.specs.Told.{Told}
-use Rattle.dap_end.specs.Pasts.{asked_one}
+use Rattle.dap_end.specs.Histories.{asked_one}
 use Rattle.dap_end.specs.Ports.{PortValue, new_port}
 use Rattle.dap_end.specs.Asking.{HasAsked}
-use Rattle.dap_end.specs.Done.{AskingValue, AskingPast, nothing_asked}
+use Rattle.dap_end.specs.Done.{AskingValue, ClientHistory, nothing_asked}
 use Rattle.dap_end.specs.Headline.{Written}
 use Rattle.dap_end.specs.Joined.{IsBrought}
 use Rattle.dap_end.specs.Calls.{AskingEvent, AskingStepped, Asks, By, Came, GoesOn, Repeats, WroteOne, requests_in}
@@ -34,7 +34,7 @@ pub record Client : Type 0 where
 
 -- The link was handed these NSP messages, gave those away, and wrote these packets.
 pub record IsJoinedTo (link : LinkValue) (handed given : List (List ℕ)) (wire : List Written) (c : Client) : Type 0 where
-  pub asked : AskingPast
+  pub asked : ClientHistory
   pub asking : HasAsked asked c.a
   pub requests : asked.requests ≡ c.requests
   pub told : c.reports ≡ Told asked.requests asked.answers
@@ -87,9 +87,9 @@ new_joined s t c o port asking wrote requests reports =
 
 -- ---- The client is called.
 
--- the front of what it did before a segment is written: it read, and handed over
-record Hands (past : AskingPast) (old heard handed : AskingValue) : Type 0 where
-  now : AskingPast
+-- the front of what it did before a segment is written: it read, and passed on
+record Hands (past : ClientHistory) (old heard handed : AskingValue) : Type 0 where
+  now : ClientHistory
   is : HasAsked now handed
   requests : now.requests ≡ past.requests
   answers : now.answers ≡ past.answers
@@ -100,7 +100,7 @@ record Hands (past : AskingPast) (old heard handed : AskingValue) : Type 0 where
   link : handed.port.link ≡ record (with_inbox heard.port.link handed.port.link.coming.inbox) { queue = handed.port.link.queue }
   same : (size : ℕ) (messages given : List (List ℕ)) → Stands heard.port.link size messages given → Stands handed.port.link size messages given
 
-hands : (past : AskingPast) (old heard handed : AskingValue) → HasAsked past heard → HandedOver heard handed → Hands past old heard handed
+hands : (past : ClientHistory) (old heard handed : AskingValue) → HasAsked past heard → HandedOver heard handed → Hands past old heard handed
 hands past old heard handed h (inl same) =
     subst (Hands past old heard) (sym same)
     (record { now = past; is = h; requests = refl; answers = refl; more = []; more_is = sym (append-nil past.handed); short = none_short heard.port.link; given = refl; link = refl; same = λ size messages given s. s })

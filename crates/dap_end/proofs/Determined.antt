@@ -1,4 +1,4 @@
--- What a call answers and leaves follows from what the end did and what came, want of memory aside.
+-- What a call answers and leaves follows from what the end did and what came, out of memory aside.
 use Rattle.std.proofs.Common.{◌≡◌, ◌≢◌, ℕ, arith, refl, sym, ◌∙◌, subst, ap, false, true≢false, List, [], ◌∷◌, ◌++◌, length, inl, inr}
 use Rattle.std.specs.Prelude.{Bool, IsTrue, Result, Ok, Err}
 use Rattle.dap_accessed.specs.declared.setup.ServerSetup.{ServerSetup}
@@ -14,18 +14,18 @@ use Rattle.nsp_link.specs.Sending.{may_queue, SendAllFault}
 use Rattle.dap_accessed.specs.Standing.{Files}
 use Rattle.dap_accessed.specs.Present.{Present, present_of}
 use Rattle.dap_accessed.specs.Groups.{stands_after}
-use Rattle.dap_end.specs.Pasts.{served}
+use Rattle.dap_end.specs.Histories.{served}
 use Rattle.dap_end.specs.declared.fault.EndFault.{EndFault}
 use Rattle.dap_end.specs.declared.fault.EndFault.TheVariants as end_fault
 use Rattle.dap_end.specs.declared.fault.TakeFault.{TakeFault}
 use Rattle.dap_end.specs.Ports.{HandsOver, gone_on}
-use Rattle.dap_end.specs.Moved.{posted}
+use Rattle.dap_end.specs.Moved.{with_outbox_sent}
 use Rattle.dap_end.specs.Going.{StandFrom}
 use Rattle.dap_end.specs.Serving.{IsAfter, ServedOne}
 use Rattle.dap_end.specs.Taking.{ServedInTurn, begins, goes}
-use Rattle.dap_end.specs.Done.{ServingValue, Past, answers_to}
+use Rattle.dap_end.specs.Done.{ServingValue, ServerHistory, answers_to}
 use Rattle.dap_end.specs.Taking.{HasRoom, RestsAt, serves}
-use Rattle.dap_end.specs.Turns.{DidAll, WentOn, Takes}
+use Rattle.dap_end.specs.Turns.{DidAll, WentOn, TakesPacket}
 use Rattle.dap_end.specs.Inner.Wanting.{went_wanting, took_wanting}
 use Rattle.dap_msg.proofs.ForCallers.{one_item}
 use Rattle.nsp_link.proofs.ForCallers.{may_queue_parts}
@@ -53,7 +53,7 @@ outbox_one first handed xs ys items more own other same e a b =
     same_back handed xs ys
     (a ∙ ap (λ (n : ServerSetup). all_joined (answers_to n first [] items)) e ∙ ap (λ (l : List Item). all_joined (answers_to other first [] l)) same ∙ sym b)
 
-pub serving_one : (past : Past) (old one two : ServingValue) (n m : ℕ) → IsAfter past old → ServedOne old one n → ServedOne old two m → (one ≡ two) × (n ≡ m)
+pub serving_one : (past : ServerHistory) (old one two : ServingValue) (n m : ℕ) → IsAfter past old → ServedOne old one n → ServedOne old two m → (one ≡ two) × (n ≡ m)
 serving_one past old one two n m h a b =
     let bytes : b.one.bytes ≡ a.one.bytes = (let both = sym b.one.came ∙ a.one.came in cc) in
     let later : b.one.later ≡ a.one.later = (let both = sym b.one.came ∙ a.one.came in cc) in
@@ -83,7 +83,7 @@ no_front (x ∷ items) at to h = absurd (omega (arith, h.1))
 abbrev Stops : (most : ℕ) → ServingValue → Type 0
 Stops most v = (posted mid : ServingValue) (count n : ℕ) → HandsOver v posted count → HasRoom most v.port → ServedOne posted mid n → ⊥
 
-serves_once : (most : ℕ) (past : Past) (old one two : ServingValue) → IsAfter past old → ServedInTurn most old one → ServedInTurn most old two → Stops most one → Stops most two → one ≡ two
+serves_once : (most : ℕ) (past : ServerHistory) (old one two : ServingValue) → IsAfter past old → ServedInTurn most old one → ServedInTurn most old two → Stops most one → Stops most two → one ≡ two
 serves_once most past old one two h begins begins a b = refl
 serves_once most past old one two h begins (goes p m k n x has y on) a b = absurd (a p m k n x has y)
 serves_once most past old one two h (goes p m k n x has y on) begins a b = absurd (b p m k n x has y)
@@ -109,7 +109,7 @@ stops_resting most v (inr full) = λ posted mid k n x room y. omega (arith, full
 pub running : (b : Bool) → IsTrue b → b ≡ false → ⊥
 running b t e = true≢false (sym t ∙ e)
 
--- what may be handed over isn't refused
+-- what may be passed on isn't refused
 pub may_or_not : (v : LinkValue) (messages : List (List ℕ)) (f : LinkFault) → f ≢ fault.NoMemory → IsTrue (may_queue v messages) → SendAllFault v messages f → ⊥
 may_or_not v messages fault.Failed want may h = running v.failed h (may_queue_parts v messages may).0
 may_or_not v messages fault.MessageTooLong want may h = omega (arith, (may_queue_parts v messages may).1 h.1.0 [] h.1.1, h.1.2)
@@ -139,14 +139,14 @@ refused_one v messages f g nf ng a b = absurd a
 stops_refused : (most : ℕ) (v : ServingValue) (f : LinkFault) → f ≢ fault.NoMemory → SendAllFault v.port.link v.port.outbox f → Stops most v
 stops_refused most v f want h = λ posted mid k n x room y. may_or_not v.port.link v.port.outbox f want x.0 h
 
--- nothing was left to serve, and then what waits was handed over
+-- nothing was left to serve, and then what waits was passed on
 abbrev Up : (most : ℕ) → ServingValue → ServingValue → Type 0
 Up most old new = (last : ServingValue) × (n : ℕ) × ServedInTurn most old last × RestsAt most last × HandsOver last new n
 
-up_one : (most : ℕ) (past : Past) (old one two : ServingValue) → IsAfter past old → Up most old one → Up most old two → one ≡ two
+up_one : (most : ℕ) (past : ServerHistory) (old one two : ServingValue) → IsAfter past old → Up most old one → Up most old two → one ≡ two
 up_one most past old one two h a b =
     let last = serves_once most past old a.0 b.0 h a.2 b.2 (stops_resting most a.0 a.3) (stops_resting most b.0 b.3) in
-    posted_is a.0 one a.1 a.4 ∙ ap (λ (v : ServingValue). record v { port = posted v.port }) last ∙ sym (posted_is b.0 two b.1 b.4)
+    posted_is a.0 one a.1 a.4 ∙ ap (λ (v : ServingValue). record v { port = with_outbox_sent v.port }) last ∙ sym (posted_is b.0 two b.1 b.4)
 
 -- what waits is refused
 abbrev Stopped : (most : ℕ) → ServingValue → ServingValue → LinkFault → Type 0
@@ -156,12 +156,12 @@ stopped_of : (most : ℕ) (old new : ServingValue) (f : LinkFault) → f ≢ fau
 stopped_of most old new f want (mid, on, inl (is, h)) = subst (λ (v : ServingValue). Stopped most old v f) (sym is) (on, h)
 stopped_of most old new f want (mid, on, inr h) = absurd (want h.0)
 
-up_or_not : (most : ℕ) (past : Past) (old one two : ServingValue) (f : LinkFault) → IsAfter past old → f ≢ fault.NoMemory → Up most old one → Stopped most old two f → ⊥
+up_or_not : (most : ℕ) (past : ServerHistory) (old one two : ServingValue) (f : LinkFault) → IsAfter past old → f ≢ fault.NoMemory → Up most old one → Stopped most old two f → ⊥
 up_or_not most past old one two f h want a b =
     let last = serves_once most past old a.0 two h a.2 b.0 (stops_resting most a.0 a.3) (stops_refused most two f want b.1) in
     may_or_not two.port.link two.port.outbox f want (subst (λ (v : ServingValue). IsTrue (may_queue v.port.link v.port.outbox)) last a.4.0) b.1
 
-stopped_one : (most : ℕ) (past : Past) (old one two : ServingValue) (f g : LinkFault) → IsAfter past old → f ≢ fault.NoMemory → g ≢ fault.NoMemory → Stopped most old one f → Stopped most old two g → (one ≡ two) × (f ≡ g)
+stopped_one : (most : ℕ) (past : ServerHistory) (old one two : ServingValue) (f g : LinkFault) → IsAfter past old → f ≢ fault.NoMemory → g ≢ fault.NoMemory → Stopped most old one f → Stopped most old two g → (one ≡ two) × (f ≡ g)
 stopped_one most past old one two f g h nf ng a b =
     let last = serves_once most past old one two h a.0 b.0 (stops_refused most one f nf a.1) (stops_refused most two g ng b.1) in
     (last, refused_one two.port.link two.port.outbox f g nf ng (subst (λ (v : ServingValue). SendAllFault v.port.link v.port.outbox f) last a.1) b.1)
@@ -169,7 +169,7 @@ stopped_one most past old one two f g h nf ng a b =
 abbrev failed_by : LinkFault → Result (Unit {0}) EndFault
 failed_by f = Err (end_fault.Link f)
 
-pub all_one : (most : ℕ) (past : Past) (old one two : ServingValue) (r s : Result (Unit {0}) EndFault) → IsAfter past old → went_wanting r ≡ false → went_wanting s ≡ false → DidAll (serves most) old one r → DidAll (serves most) old two s → (one ≡ two) × (r ≡ s)
+pub all_one : (most : ℕ) (past : ServerHistory) (old one two : ServingValue) (r s : Result (Unit {0}) EndFault) → IsAfter past old → went_wanting r ≡ false → went_wanting s ≡ false → DidAll (serves most) old one r → DidAll (serves most) old two s → (one ≡ two) × (r ≡ s)
 all_one most past old one two (Ok u) (Ok w) h nr ns a b = (up_one most past old one two h a b, refl)
 all_one most past old one two (Ok u) (Err (end_fault.Link g)) h nr ns a b = absurd (up_or_not most past old one two g h (no_want g ns) a (stopped_of most old two g (no_want g ns) b))
 all_one most past old one two (Ok u) (Err (end_fault.Read g)) h nr ns a b = absurd b.2
@@ -179,14 +179,14 @@ all_one most past old one two (Err (end_fault.Link f)) (Err (end_fault.Link g)) 
 all_one most past old one two (Err (end_fault.Link f)) (Err (end_fault.Read g)) h nr ns a b = absurd b.2
 all_one most past old one two (Err (end_fault.Read f)) s h nr ns a b = absurd a.2
 
-all_after : (most : ℕ) (past : Past) (old new : ServingValue) (r : Result (Unit {0}) EndFault) → IsAfter past old → DidAll (serves most) old new r → (now : Past) × IsAfter now new
+all_after : (most : ℕ) (past : ServerHistory) (old new : ServingValue) (r : Result (Unit {0}) EndFault) → IsAfter past old → DidAll (serves most) old new r → (now : ServerHistory) × IsAfter now new
 all_after most past old new r h d = let g = (all_grew most old new r d).past past h in (g.0, g.1.is)
 
 -- ---- Going on, and taking.
 
 -- the end is as after some past
 abbrev IsSome : ServingValue → Type 0
-IsSome v = (past : Past) × IsAfter past v
+IsSome v = (past : ServerHistory) × IsAfter past v
 
 all_alike : (most : ℕ) (old other one two : ServingValue) (r s : Result (Unit {0}) EndFault) → IsSome old → old ≡ other → went_wanting r ≡ false → went_wanting s ≡ false → DidAll (serves most) old one r → DidAll (serves most) other two s
     → (one ≡ two) × (r ≡ s) × Unit {0} × IsSome one
@@ -206,12 +206,12 @@ serves_alike most =
       quiet = λ a b. tt;
     }
 
-pub going_one : (most : ℕ) (past : Past) (old one two : ServingValue) (out xs ys : List (List ℕ)) (r s : Result (Unit {0}) EndFault) → IsAfter past old → went_wanting r ≡ false → went_wanting s ≡ false → WentOn (serves most) old one out xs r → WentOn (serves most) old two out ys s
+pub going_one : (most : ℕ) (past : ServerHistory) (old one two : ServingValue) (out xs ys : List (List ℕ)) (r s : Result (Unit {0}) EndFault) → IsAfter past old → went_wanting r ≡ false → went_wanting s ≡ false → WentOn (serves most) old one out xs r → WentOn (serves most) old two out ys s
     → (one ≡ two) × (r ≡ s) × (xs ≡ ys)
 going_one most past old one two out xs ys r s h nr ns a b =
     let t = went_same _ _ _ _ _ (serves_alike most) old old one two out xs ys r s (past, h) refl nr ns a b in (t.0, t.1, t.2)
 
-pub taking_one : (most : ℕ) (past : Past) (old one two : ServingValue) (bytes : List ℕ) (r s : Result Got TakeFault) (out xs ys : List (List ℕ)) → AreBytes bytes → IsAfter past old → took_wanting r ≡ false → took_wanting s ≡ false
-    → Takes (serves most) old one bytes out xs r → Takes (serves most) old two bytes out ys s → (one ≡ two) × (r ≡ s) × (xs ≡ ys)
+pub taking_one : (most : ℕ) (past : ServerHistory) (old one two : ServingValue) (bytes : List ℕ) (r s : Result Got TakeFault) (out xs ys : List (List ℕ)) → AreBytes bytes → IsAfter past old → took_wanting r ≡ false → took_wanting s ≡ false
+    → TakesPacket (serves most) old one bytes out xs r → TakesPacket (serves most) old two bytes out ys s → (one ≡ two) × (r ≡ s) × (xs ≡ ys)
 taking_one most past old one two bytes r s out xs ys fits h nr ns a b =
     let t = took_same _ _ _ _ _ (serves_alike most) old old one two bytes out xs ys r s fits (past, h) refl nr ns a b in (t.0, t.1, t.2)

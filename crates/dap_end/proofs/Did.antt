@@ -20,7 +20,7 @@ no_outbox told p value none =
     let none_there = ap total_length none in
     omega (arith, value, none_there)
 
--- An end with port p, then q once what waited was handed over, of which the link tells so many bytes.
+-- An end with port p, then q once what waited was passed on, of which the link tells this many bytes.
 module _ {P : Type 0} (serves : ServesAt P) (most told : ℕ) (p q : PortValue) (s : P) (n : ℕ)
     (hands : HandsOver (end_with p s) (end_with q s) n) (value : told ≡ waiting_bytes q.link) (valid : IsLink q.link) where
   here : told ≡ bytes_waiting p

@@ -1,5 +1,5 @@
 -- A client from which no record is taken out stays as it is.
-use Rattle.std.proofs.Common.{◌≡◌, ℕ, refl, sym, ap, List, [], Some, None}
+use Rattle.std.proofs.Common.{◌≡◌, ℕ, refl, sym, ap, List, [], Some}
 use Rattle.std.specs.Prelude.{Option}
 use Rattle.dap_accessing.specs.declared.pending.Pending.{Pending}
 use Rattle.dap_accessing.specs.declared.pending.Pending.TheVariants as pending

@@ -41,7 +41,7 @@ use Rattle.dap_end.proofs.Joined.{IsLinked, first_ones, answers_full, pair_step}
 
 -- ---- What is read is a front of all answers to the requests.
 
--- items that are a front of what was handed over are a front of all answers to all requests
+-- items that are a front of what was passed on are a front of all answers to all requests
 pub in_order : (first : Files) (p : Pair) (j : IsLinked first p) (items : List Item) → AreFrontOf j.served.handed items
     → (back : List Item) × (items ++ back ≡ map Whole (asked_answers p.a.present.identity p.b.present.setup first p.requests))
 in_order first p j items front =

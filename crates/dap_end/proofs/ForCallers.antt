@@ -16,7 +16,7 @@ pub use Rattle.dap_end.proofs.Asked.{few_blocked}
 -- messages have spellings: those of two lists, of a front, of the rest
 pub use Rattle.dap_end.proofs.ServingOne.{fit-both}
 pub use Rattle.dap_end.proofs.Joined.{front_fit, back_fit}
--- what a request that was asked, and what was handed over, leave
+-- what a request that was asked, and what was passed on, leave
 pub use Rattle.dap_end.proofs.Asked.{asked_past, handed_is, handed_past}
 pub use Rattle.dap_end.proofs.Afterwards.{posted_is, posted_past}
 -- the packets of one segment more; segments have one list of packets
@@ -31,13 +31,13 @@ pub use Rattle.dap_end.proofs.Known.{IsKnown, new_known, going_known, taking_kno
 pub use Rattle.dap_end.proofs.Agreeing.{one-report-each, none-unexpected, both-agree}
 pub use Rattle.dap_end.proofs.AllRead.{all_told, all_read, answers-front, admissible-more}
 pub use Rattle.dap_end.proofs.Goes.{limit-own}
--- what a link of which a message more came leaves of what was gone through; and one item more
+-- what a link of which a message more came leaves of what was processed; and one item more
 pub use Rattle.dap_end.proofs.Taking.{Grown, grown}
 pub use Rattle.dap_end.proofs.Going.{gone_nothing, gone_stays}
 pub use Rattle.dap_end.proofs.ServingOne.{port_given, port_gone}
 -- the packets that an end wrote, after one that came
 pub use Rattle.dap_end.proofs.Packets.{ack_written, written_on}
--- what was gone through is of what the peer sent; and items that are a front of messages are the first of these
+-- what was processed is of what the peer sent; and items that are a front of messages are the first of these
 pub use Rattle.dap_end.proofs.Fronts.{served_front}
 pub use Rattle.dap_end.proofs.Joined.{Taken, first_ones}
 -- two links, each of which takes what the other sends: a packet comes, and an end writes one, or goes on
@@ -45,7 +45,7 @@ pub use Rattle.dap_end.proofs.Ways.{AreJoined, swapped, comes}
 pub use Rattle.dap_end.proofs.Moving.{again_sent, goes, wrote_one}
 -- a client that is joined to a link: at first, and after an event of it
 pub use Rattle.dap_end.proofs.Clients.{Client, IsJoinedTo, asks, new_joined}
--- no message is too long to be handed over, where there is none
+-- no message is too long to be passed on, where there is none
 pub use Rattle.dap_end.proofs.Proceeding.{none_short}
 -- calls of an end are events of it, whatever it does by itself
 pub use Rattle.dap_end.proofs.Stepping.{SteppedBy, RunsIn, AreCalls, ack_is, again_is, going_on_is, runs_then, taken_is}
@@ -53,6 +53,6 @@ pub use Rattle.dap_end.proofs.Stepping.{SteppedBy, RunsIn, AreCalls, ack_is, aga
 pub use Rattle.dap_end.proofs.Hearing.{requests_of}
 pub use Rattle.dap_end.proofs.Calling.{SoFar, behind_these}
 pub use Rattle.dap_end.proofs.Arriving.{asked_as}
--- what two ends that are alike do is alike; what waits is refused for one reason, and not where it may be handed over
+-- what two ends that are alike do is alike; what waits is refused for one reason, and not where it may be passed on
 pub use Rattle.dap_end.proofs.Turning.{DoAlike, no_want, took_same, went_same}
 pub use Rattle.dap_end.proofs.Determined.{may_or_not, refused_one}

@@ -1,4 +1,4 @@
--- What was gone through is a front of the items of what the peer sends.
+-- What was processed is a front of the items of what the peer sends.
 use Rattle.std.proofs.Common.{◌≡◌, ℕ, ◌<◌, arith, refl, sym, ◌∙◌, subst, ap, append_assoc, List, [], ◌∷◌, ◌++◌, length}
 use Rattle.std.specs.Prelude.{drop}
 use Rattle.std.proofs.lemmas.List.{append-nil, take-append-drop}
@@ -9,7 +9,7 @@ use Rattle.dap_msg.specs.Items.{Items, ItemsFrom}
 use Rattle.dap_msg.proofs.ForCallers.{one_item, have_items}
 use Rattle.nsp_link.specs.Link.{LinkValue, Stands}
 use Rattle.nsp_link.proofs.ForCallers.{whole_of}
-use Rattle.dap_end.specs.Going.{oldest}
+use Rattle.dap_end.specs.Going.{oldest_message}
 use Rattle.dap_end.specs.Going.{AreItemsOf, AreFrontOf}
 use Rattle.dap_end.specs.Going.{StandFrom, GoneThrough}
 
@@ -29,7 +29,7 @@ same_items [] a b fits h k = h ∙ sym k
 same_items (x ∷ xs) a b fits h k =
     h.2 ∙ ap (λ (l : List Item). l ++ h.1) (one_list x h.0 k.0 fits.0 h.3 k.3) ∙ ap (λ (l : List Item). k.0 ++ l) (same_items xs h.1 k.1 fits.1 h.4 k.4) ∙ sym k.2
 
--- items that stand in front of the bytes are the first of all
+-- items that stand before the bytes are the first of all
 front_items : (bytes : List ℕ) (begun all : List Item) (at to : ℕ) → AreBytes bytes → StandFrom bytes at begun to → ItemsFrom bytes at all → (rest : List Item) × (all ≡ begun ++ rest)
 front_items bytes [] all at to fits h k = (all, refl)
 front_items bytes (item ∷ begun) [] at to fits h k = absurd k
@@ -40,7 +40,7 @@ front_items bytes (item ∷ begun) (x ∷ y ∷ all) at to fits h k =
     let rest = front_items bytes begun (y ∷ all) h.0 to fits h.3 (subst (λ (n : ℕ). ItemsFrom bytes n (y ∷ all)) same.1 k.3) in
     (rest.0, ap (λ (z : Item). z ∷ (y ∷ all)) same.0 ∙ ap (λ (l : List Item). item ∷ l) rest.1)
 
-front_of_next : (inbox rest : List (List ℕ)) (begun b : List Item) (place : ℕ) → (0 < length begun → AreBytes (oldest inbox)) → StandFrom (oldest inbox) 0 begun place → AreItemsOf (inbox ++ rest) b → (more : List Item) × (b ≡ begun ++ more)
+front_of_next : (inbox rest : List (List ℕ)) (begun b : List Item) (place : ℕ) → (0 < length begun → AreBytes (oldest_message inbox)) → StandFrom (oldest_message inbox) 0 begun place → AreItemsOf (inbox ++ rest) b → (more : List Item) × (b ≡ begun ++ more)
 front_of_next inbox rest [] b place fits h k = (b, refl)
 front_of_next [] rest (item ∷ begun) b place fits h k = absurd (omega (arith, h.1))
 front_of_next (m ∷ inbox) rest (item ∷ begun) b place fits h k =
@@ -56,7 +56,7 @@ gone_front given inbox rest place items g = λ all k.
           ∙ sym (append_assoc g.done g.begun next.0) ∙ ap (λ (l : List Item). l ++ next.0) (sym g.all),
     )
 
--- what was gone through is a front of what came
+-- what was processed is a front of what came
 pub here_front : (given inbox : List (List ℕ)) (place : ℕ) (items : List Item) → GoneThrough given inbox place items → AreFrontOf (given ++ inbox) items
 here_front given inbox place items g = subst (λ (l : List (List ℕ)). AreFrontOf (given ++ l) items) (append-nil inbox) (gone_front given inbox [] place items g)
 

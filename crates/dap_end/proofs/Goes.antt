@@ -22,10 +22,10 @@ use Rattle.dap_accessed.specs.declared.phase.OpenFile.{OpenFile}
 use Rattle.std.specs.Prelude.{take_while, drop}
 use Rattle.std.specs.List.{prefix_len}
 use Rattle.dap_msg.specs.Codes as codes
-use Rattle.dap_accessed.specs.Standing.{Files, Place, Group, Standing, Scene, Effect, enters, the_file, place_by, file_at}
+use Rattle.dap_accessed.specs.Standing.{Files, Place, Group, Standing, Scene, Effect, enters, the_file, index_by, file_at}
 use Rattle.dap_accessed.specs.Standing as at
 use Rattle.dap_accessed.specs.Replies.{reason_of, refused_access, bare_status, record_status, reason_of, too_large}
-use Rattle.dap_accessed.specs.Records.{uncurrent, at_number, filedata_of, fits_limit, get_pick, put_key, record_got, got, refused, settled, changed, Change, Putting, Updating}
+use Rattle.dap_accessed.specs.Records.{uncurrent, at_number, filedata_of, fits_limit, get_pick, put_key, record_got, got, refused_effect, settled, changed, Change, Putting, Updating}
 use Rattle.dap_accessed.specs.Transfers.{fetch, fetch_ends}
 use Rattle.dap_accessed.specs.Groups.{Grouped, over, answers_in}
 use Rattle.dap_accessing.specs.declared.request.By.{By}
@@ -41,14 +41,14 @@ use Rattle.dap_accessing.specs.declared.phase.Phase.{Phase}
 use Rattle.dap_accessing.specs.declared.phase.Phase.TheVariants.{Fresh, Ready, Opened, Connected, Stopped}
 use Rattle.dap_accessing.specs.Asked.{messages_of}
 use Rattle.dap_msg.specs.Codes.{is_success}
-use Rattle.dap_accessing.specs.Told.{Hearing, Reports, Unexpected, hear, hear_done, behind, hear_batch, hear_record}
-use Rattle.dap_accessing.specs.Parts.{is_record, records_in_front, hear_batch_end, ending_of}
+use Rattle.dap_accessing.specs.Told.{Hearing, Reports, Unexpected, hear, hear_done, after_those, hear_batch, hear_record}
+use Rattle.dap_accessing.specs.Parts.{is_record, records_in_front, hear_batch_end, batch_ending}
 use Rattle.dap_accessing.specs.Phase.{phase_next, limit_next}
 use Rattle.std.specs.Prelude.{not, ◌||◌, nat_eq}
 use Rattle.std.proofs.lemmas.Bool.{lt-ltb, le-ltb}
 use Rattle.std.proofs.lemmas.Bool.Decides.{nat_tests}
 use Rattle.dap_msg.specs.declared.message.Attributes.{Attributes}
-use Rattle.dap_msg.specs.BothEnds.{limit_of, greatest_message}
+use Rattle.dap_msg.specs.BothEnds.{message_limit, greatest_message}
 use Rattle.rec_file.specs.declared.shapes.Shape.{Shape}
 use Rattle.rec_file.specs.Limits.{greatest_number, longest_record}
 use Rattle.rec_file.specs.Shapes.{is_shape, is_seq, has_length}
@@ -56,7 +56,7 @@ use Rattle.dap_accessed.specs.Accesses.{make_file, refuse_access, rights_to_crea
 use Rattle.dap_msg.specs.BothEnds.{no_attributes}
 use Rattle.dap_accessed.specs.Past.{asked_shape, kept_attributes}
 use Rattle.dap_accessed.specs.Replies.{reason_of, refused_access, opened_with, org_number, format_number}
-use Rattle.dap_accessed.proofs.ForCallers.{AllFiles, file-there, one_more}
+use Rattle.dap_accessed.proofs.ForCallers.{AllFiles, file-there, after_item}
 use Rattle.dap_accessed.proofs.ForCallers.{good-shape, place-within}
 use Rattle.dap_accessing.specs.Told.{hear_attributes}
 use Rattle.dap_accessing.proofs.ForCallers.{behind-more, records-more}
@@ -66,7 +66,7 @@ use Rattle.dap_end.specs.Agreement.{AgreeAt, AreLimits}
 -- the cut after more items
 abbrev pub more_items : (own : ServerSetup) → Grouped → List Item → Grouped
 more_items own c [] = c
-more_items own c (item ∷ items) = more_items own (one_more own c item) items
+more_items own c (item ∷ items) = more_items own (after_item own c item) items
 
 -- The messages of a request go to answers that come to a report, and the two ends agree again.
 pub record Goes (own_a : Configuration) (own_b : ServerSetup) (request : Request) (phase : Phase) (s : Standing) (limit_a : ℕ) : Type 0 where
@@ -119,17 +119,17 @@ records_fetched (r ∷ records) status =
     records-more (four_bytes r.0) r.1 (map Whole (map filedata_of records ++ Status status ∷ []))
     ∙ ap (λ l. (number_of (four_bytes r.0), r.1) ∷ l) (records_fetched records status)
 
-behind_fetched : (records : List (ℕ × List ℕ)) (status : StatusFields) → behind is_record (map Whole (map filedata_of records ++ Status status ∷ [])) ≡ Whole (Status status) ∷ []
+behind_fetched : (records : List (ℕ × List ℕ)) (status : StatusFields) → after_those is_record (map Whole (map filedata_of records ++ Status status ∷ [])) ≡ Whole (Status status) ∷ []
 behind_fetched [] status = refl
 behind_fetched (r ∷ records) status =
     behind-more is_record (Whole (filedata_of r)) (map Whole (map filedata_of records ++ Status status ∷ [])) refl ∙ behind_fetched records status
 
 hear_fetched : (records : List (ℕ × List ℕ)) (status : StatusFields) → is_success status.code ≡ false
-    → hear_batch (map Whole (map filedata_of records ++ Status status ∷ [])) ≡ Reports (report.Batch (numbered records) (ending_of status)) []
+    → hear_batch (map Whole (map filedata_of records ++ Status status ∷ [])) ≡ Reports (report.Batch (numbered records) (batch_ending status)) []
 hear_fetched records status e =
-    ap (λ l. hear_batch_end l (behind is_record (map Whole (map filedata_of records ++ Status status ∷ [])))) (records_fetched records status)
+    ap (λ l. hear_batch_end l (after_those is_record (map Whole (map filedata_of records ++ Status status ∷ [])))) (records_fetched records status)
     ∙ ap (hear_batch_end (numbered records)) (behind_fetched records status)
-    ∙ ap (λ b. if b then Unexpected else Reports (report.Batch (numbered records) (ending_of status)) []) e
+    ∙ ap (λ b. if b then Unexpected else Reports (report.Batch (numbered records) (batch_ending status)) []) e
 
 abbrev end_status : StatusFields
 end_status = record { code = 0x5027; rfa = []; recnum = []; stv = [] }
@@ -166,7 +166,7 @@ control_of func rac key = record { func = func; rac = Some rac; key = key; krf =
 is-large : (n : ℕ) → IsBufsiz n → (nat_lt 0 n && nat_lt n 64) ≡ false
 is-large n b = let e = le-ltb n 64 b.least in let f = lt-ltb 0 n (omega (arith, b.least)) in rw (f, e) refl
 
-pub limit-own : (n : ℕ) → IsBufsiz n → limit_of n ≡ n
+pub limit-own : (n : ℕ) → IsBufsiz n → message_limit n ≡ n
 limit-own n b = let e = le-ltb greatest_message n b.most in let least = b.least in grind (arith, nat_tests)
 
 -- two groups, of which the first has no answers
@@ -252,7 +252,7 @@ module _ (own_a : Configuration) (own_b : ServerSetup) (scene : Scene) (limit_a 
         let due = records_from (the_file scene.files o).records s.next in
         ends_batches phase s (take_while (fits_limit scene.limit) due) (drop (prefix_len (fits_limit scene.limit) due) due)
 
-    pub fetches_if : (permitted : Bool) (s : StreamVal) → Comes Connected hear_batch (if permitted then fetch scene o s else refused scene o s NotPermitted)
+    pub fetches_if : (permitted : Bool) (s : StreamVal) → Comes Connected hear_batch (if permitted then fetch scene o s else refused_effect scene o s NotPermitted)
     fetches_if true s = fetches Connected s
     fetches_if false s = (report.Batch [] (ending.Refused 0x5000 2), refl, h)
 
@@ -346,7 +346,7 @@ module _ (own_a : Configuration) (own_b : ServerSetup) (files : Files) (limit : 
   pub open_goes : (name : List ℕ) (fac : ℕ) → AreLimits own_a own_b limit limit_a → AllFiles files → Goes own_a own_b (request.OpenFile name fac) Ready (standing_at at.Ready files limit past) limit_a
   open_goes name fac h all =
       let scene : Scene = record { limit = limit; files = files } in
-      let r = opens own_a own_b scene limit_a h fac (place_by own_b.names name files) (shape-there files (place_by own_b.names name files) all (place-within own_b.names name files)) in
+      let r = opens own_a own_b scene limit_a h fac (index_by own_b.names name files) (shape-there files (index_by own_b.names name files) all (place-within own_b.names name files)) in
       record { answers = _; done = r.0; new = _; cut_is = refl; adds = adds-two past _; heard = r.1; agree = r.2 }
 
   pub create_goes : (name : List ℕ) (org rfm mrs mrn fac : ℕ) → AreLimits own_a own_b limit limit_a → Goes own_a own_b (request.Create name org rfm mrs mrn fac) Ready (standing_at at.Ready files limit past) limit_a
@@ -354,11 +354,11 @@ module _ (own_a : Configuration) (own_b : ServerSetup) (files : Files) (limit : 
       let scene : Scene = record { limit = limit; files = files } in
       let a : Attributes = record no_attributes { org = Some org; rfm = Some rfm; mrs = Some mrs; mrn = Some (four_bytes mrn) } in
       let kept : Attributes = kept_attributes (record { place = at.Ready; first = Whole (Attrib a); answers = [] } ∷ past) in
-      let r = creates own_a own_b scene limit_a h name fac (place_by own_b.names name files) (asked_shape kept) (good-shape kept) in
+      let r = creates own_a own_b scene limit_a h name fac (index_by own_b.names name files) (asked_shape kept) (good-shape kept) in
       record { answers = _; done = r.0; new = _; cut_is = refl; adds = adds-two past _; heard = r.1; agree = r.2 }
 
   abbrev configured : Scene → (bufsiz : ℕ) → Effect
-  configured scene bufsiz = enters (record scene { limit = limit_of bufsiz }) at.Ready (Config own_b.identity ∷ [])
+  configured scene bufsiz = enters (record scene { limit = message_limit bufsiz }) at.Ready (Config own_b.identity ∷ [])
 
   -- the ends' own BUFSIZ is at least 64
   pub hello_goes : IsBufsiz own_a.bufsiz → IsBufsiz own_b.identity.bufsiz → Goes own_a own_b request.Hello Fresh (standing_at at.Fresh files limit past) limit_a

@@ -9,7 +9,7 @@ use Rattle.dap_msg.specs.declared.items.Item.{Item}
 use Rattle.dap_msg.specs.declared.items.Item.TheVariants.{Whole, Malformed}
 use Rattle.dap_msg.specs.Items.{IsPlace, ItemAt, Items, ItemsFrom}
 use Rattle.dap_msg.proofs.ForCallers.{stands_some}
-use Rattle.dap_end.specs.Going.{oldest}
+use Rattle.dap_end.specs.Going.{oldest_message}
 use Rattle.dap_end.specs.Going.{AreItemsOf}
 use Rattle.dap_end.specs.Going.{StandFrom, GoneThrough}
 
@@ -33,11 +33,11 @@ pub stand_none : (items : List Item) (bytes : List ℕ) (at to : ℕ) → StandF
 stand_none [] bytes at to h = h
 stand_none (item ∷ items) bytes at to h = absurd (omega (arith, h.1))
 
-front_stays : (inbox more : List (List ℕ)) (begun : List Item) (place : ℕ) → StandFrom (oldest inbox) 0 begun place → StandFrom (oldest (inbox ++ more)) 0 begun place
-front_stays [] more begun place h = stand_none begun (oldest more) 0 place h
+front_stays : (inbox more : List (List ℕ)) (begun : List Item) (place : ℕ) → StandFrom (oldest_message inbox) 0 begun place → StandFrom (oldest_message (inbox ++ more)) 0 begun place
+front_stays [] more begun place h = stand_none begun (oldest_message more) 0 place h
 front_stays (m ∷ inbox) more begun place h = h
 
-front_bytes : (inbox more : List (List ℕ)) (begun : List Item) (place : ℕ) → StandFrom (oldest inbox) 0 begun place → (0 < length begun → AreBytes (oldest inbox)) → 0 < length begun → AreBytes (oldest (inbox ++ more))
+front_bytes : (inbox more : List (List ℕ)) (begun : List Item) (place : ℕ) → StandFrom (oldest_message inbox) 0 begun place → (0 < length begun → AreBytes (oldest_message inbox)) → 0 < length begun → AreBytes (oldest_message (inbox ++ more))
 front_bytes [] more [] place h fits some = absurd (omega arith)
 front_bytes [] more (item ∷ begun) place h fits some = absurd (omega (arith, h.1))
 front_bytes (m ∷ inbox) more begun place h fits some = fits some
@@ -82,7 +82,7 @@ stand_rest bytes (first ∷ second ∷ begun) rest at place h r = (h.0, h.1, h.2
 
 pub next_items : (given inbox later : List (List ℕ)) (bytes : List ℕ) (place : ℕ) (items rest : List Item) → inbox ≡ bytes ∷ later → GoneThrough given inbox place items → ItemsFrom bytes place rest → AreItemsOf (given ++ bytes ∷ []) (items ++ rest)
 next_items given inbox later bytes place items rest came g r =
-    let front : StandFrom bytes 0 g.begun place = subst (λ (l : List (List ℕ)). StandFrom (oldest l) 0 g.begun place) came g.front in
+    let front : StandFrom bytes 0 g.begun place = subst (λ (l : List (List ℕ)). StandFrom (oldest_message l) 0 g.begun place) came g.front in
     let there : Items bytes (g.begun ++ rest) = stand_rest bytes g.begun rest 0 place front r in
     subst (AreItemsOf (given ++ bytes ∷ [])) (sym (append_assoc g.done g.begun rest) ∙ ap (λ (l : List Item). l ++ rest) (sym g.all)) (items_more given bytes g.done (g.begun ++ rest) g.whole there)
 

@@ -11,12 +11,12 @@ use Rattle.dap_end.specs.Going.{AreFrontOf}
 use Rattle.dap_end.specs.Writing.{WroteMore}
 use Rattle.dap_end.specs.Moved.{sent_more}
 use Rattle.dap_end.specs.Asking.{HasAsked, AskedOne}
-use Rattle.dap_end.specs.Done.{AskingValue, AskingPast, nothing_asked}
+use Rattle.dap_end.specs.Done.{AskingValue, ClientHistory, nothing_asked}
 use Rattle.dap_end.specs.Runs.{RunsBy}
 use Rattle.dap_end.specs.Headline.{Written, AreWrittenOf, IsFromPeer}
-use Rattle.dap_end.specs.Calls.{numbered, WroteOne, EndEvent, Came, GoesOn, Repeats}
+use Rattle.dap_end.specs.Calls.{numbered_packets, WroteOne, EndEvent, Came, GoesOn, Repeats}
 use Rattle.dap_end.specs.Calls.{AskingEvent, Asks, By, HeardMore, AskingStepped, AskingEventRuns, requests_in}
-use Rattle.dap_end.specs.Pasts.{asked_one}
+use Rattle.dap_end.specs.Histories.{asked_one}
 use Rattle.dap_end.proofs.Taking.{grown}
 use Rattle.dap_end.proofs.Asked.{ReadMore, asked_past, handed_is, handed_past, still_received, still_sent, read_grows}
 use Rattle.dap_end.proofs.Packets.{all_written, still_written, written_on, numbered_written, one_written}
@@ -25,7 +25,7 @@ use Rattle.dap_end.proofs.Fronts.{served_front}
 
 -- what the end did: these requests were asked, these reports told, and these packets written
 pub record Asked_So (requests : List Request) (reports : List Report) (wrote : List Written) (v : AskingValue) : Type 0 where
-  pub past : AskingPast
+  pub past : ClientHistory
   pub is : HasAsked past v
   pub asked : past.requests ≡ requests
   pub told : reports ≡ Told past.requests past.answers
@@ -66,7 +66,7 @@ heard_so requests reports more wrote old new m t =
       packets = subst (λ (l : LinkValue). AreWrittenOf l g.0.handed wrote) (sym m.link) (subst (λ (h : List (List ℕ)). AreWrittenOf old.port.link h wrote) (sym g.1.handed) t.packets);
     }
 
--- all that waited was handed over, or none
+-- all that waited was passed on, or none
 abbrev pub HandedOver : AskingValue → AskingValue → Type 0
 HandedOver old new = (new ≡ old) ⊎ ((n : ℕ) × HandsOver old new n)
 
@@ -84,7 +84,7 @@ handed_so requests reports wrote old new (inr h) t =
     }
 
 sent_so : (requests : List Request) (reports : List Report) (wrote ws : List Written) (old new : AskingValue) (packets : List (List ℕ)) → WroteMore old.port new.port packets → new ≡ record old { port = new.port }
-    → ws ≡ numbered (old.port.link.sent + 1) old.port.link.coming.received packets → Asked_So requests reports wrote old → Asked_So requests reports (wrote ++ ws) new
+    → ws ≡ numbered_packets (old.port.link.sent + 1) old.port.link.coming.received packets → Asked_So requests reports wrote old → Asked_So requests reports (wrote ++ ws) new
 sent_so requests reports wrote ws old new packets w e is t =
     let after : AreWrittenOf old.port.link t.past.handed ws =
     subst (AreWrittenOf old.port.link t.past.handed) (sym is) (numbered_written old.port.link t.past.handed (old.port.link.sent + 1) packets t.is.sends w.writes) in
@@ -140,7 +140,7 @@ pub asked_nothing : (v : AskingValue) → HasAsked nothing_asked v → Asked_So 
 asked_nothing v h = record { past = nothing_asked; is = h; asked = refl; told = refl; packets = tt }
 
 pub run_promises : (comes : LinkValue → List ℕ → Type 0) (events : List AskingEvent) (old new : AskingValue) (reports : List Report) (wrote : List Written) → HasAsked nothing_asked old → AskingEventRuns comes old events new reports wrote
-    → (past : AskingPast) × HasAsked past new × (past.requests ≡ requests_in events) × (reports ≡ Told past.requests past.answers) × AreWrittenOf new.port.link past.handed wrote
+    → (past : ClientHistory) × HasAsked past new × (past.requests ≡ requests_in events) × (reports ≡ Told past.requests past.answers) × AreWrittenOf new.port.link past.handed wrote
 run_promises comes events old new reports wrote h r =
     let t = run_so comes events [] (old, [], []) (new, reports, wrote) r (asked_nothing old h) in
     (t.past, t.is, t.asked, t.told, t.packets)
@@ -148,7 +148,7 @@ run_promises comes events old new reports wrote h r =
 -- ---- From a peer.
 
 record Listens (size : ℕ) (messages : List (List ℕ)) (v : AskingValue) : Type 0 where
-  past : AskingPast
+  past : ClientHistory
   is : HasAsked past v
   stands : StandsThen v.port.link size messages past.given
 
@@ -199,7 +199,7 @@ run_listens size messages [] old new r h = subst (λ (x : SoFar). Listens size m
 run_listens size messages (event ∷ events) old new r h = run_listens size messages events r.0 new r.3 (step_listens size messages old r.0 event r.1 r.2 h)
 
 pub run_hears : (size : ℕ) (messages : List (List ℕ)) (events : List AskingEvent) (old new : AskingValue) (reports : List Report) (wrote : List Written) → 0 < size → HasAsked nothing_asked old → Stands old.port.link size messages [] → old.port.link.failed ≡ false
-    → AskingEventRuns (IsFromPeer size messages) old events new reports wrote → (past : AskingPast) × HasAsked past new × AreFrontOf messages past.answers
+    → AskingEventRuns (IsFromPeer size messages) old events new reports wrote → (past : ClientHistory) × HasAsked past new × AreFrontOf messages past.answers
 run_hears size messages events old new reports wrote pos h stands works r =
     let t = run_listens size messages events (old, [], []) (new, reports, wrote) r (record { past = nothing_asked; is = h; stands = (stands, works) }) in
     (t.past, t.is, served_front new.port.link size messages t.past.given new.port.place t.past.answers pos t.stands.0 t.is.gone)

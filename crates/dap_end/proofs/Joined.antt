@@ -6,7 +6,7 @@ use Rattle.dap_accessed.specs.declared.setup.ServerSetup.{ServerSetup}
 use Rattle.dap_msg.specs.declared.message.Message.{Message}
 use Rattle.dap_msg.specs.declared.items.Item.{Item}
 use Rattle.dap_msg.specs.declared.items.Item.TheVariants.{Whole}
-use Rattle.dap_msg.specs.Blocked.{NspMessage, joined, Blocked, all_joined, messages_in, AllFit}
+use Rattle.dap_msg.specs.Blocked.{NspMessage, blocked_bytes, Blocked, all_joined, messages_in, AllFit}
 use Rattle.dap_msg.proofs.ForCallers.{are_items}
 use Rattle.nsp_link.specs.declared.link.LinkSetup.{LinkSetup}
 use Rattle.dap_accessed.specs.Standing.{Files}
@@ -15,14 +15,14 @@ use Rattle.dap_accessed.specs.Groups.{Answers, After, added, limit_for}
 use Rattle.dap_accessing.specs.Request.{Request}
 use Rattle.dap_accessing.specs.Asked.{Asked}
 use Rattle.dap_accessing.specs.Told.{Told}
-use Rattle.dap_end.specs.Pasts.{AreFull}
+use Rattle.dap_end.specs.Histories.{AreFull}
 use Rattle.dap_end.specs.Ports.{PortValue}
 use Rattle.nsp_link.specs.Receiving.{Receives}
 use Rattle.dap_end.specs.Going.{AreItemsOf, AreFrontOf}
 use Rattle.dap_end.specs.Serving.{IsAfter}
-use Rattle.dap_end.specs.Done.{ServingValue, Past, answers_to, nothing_yet}
+use Rattle.dap_end.specs.Done.{ServingValue, ServerHistory, answers_to, nothing_yet}
 use Rattle.dap_end.specs.Asking.{HasAsked}
-use Rattle.dap_end.specs.Done.{AskingPast}
+use Rattle.dap_end.specs.Done.{ClientHistory}
 use Rattle.dap_end.specs.Runs.{RunsBy}
 use Rattle.dap_end.specs.Headline.{Written}
 use Rattle.dap_end.specs.Calls.{WroteOne, EndEvent, Came, GoesOn, Repeats}
@@ -70,12 +70,12 @@ front_of [] waiting packets e = record { front = []; rest = packets; split = ref
 front_of (m ∷ handed) waiting [] e = let none : ⊥ = cc in absurd none
 front_of (m ∷ handed) waiting (p ∷ packets) e =
     let later = front_of handed waiting packets (let tails : handed ++ waiting ≡ all_joined packets = cc in tails) in
-    let first : m ≡ joined p = cc in
+    let first : m ≡ blocked_bytes p = cc in
     record {
       front = p ∷ later.front;
       rest = later.rest;
       split = ap (λ (l : List NspMessage). p ∷ l) later.split;
-      is = ap (λ (b : List ℕ). b ∷ handed) first ∙ ap (λ (l : List (List ℕ)). joined p ∷ l) later.is;
+      is = ap (λ (b : List ℕ). b ∷ handed) first ∙ ap (λ (l : List (List ℕ)). blocked_bytes p ∷ l) later.is;
     }
 
 pub front_full : (xs ys : List NspMessage) → AreFull (xs ++ ys) → AreFull xs
@@ -126,9 +126,9 @@ answers_full own first before (item ∷ items) =
 -- ---- What is true of both ends after any events.
 
 pub record IsLinked (first : Files) (p : Pair) : Type 0 where
-  pub asked : AskingPast
+  pub asked : ClientHistory
   pub asking : HasAsked asked p.a
-  pub served : Past
+  pub served : ServerHistory
   pub serving : IsAfter served p.b
   pub had : served.first ≡ first
   pub requests : asked.requests ≡ p.requests

@@ -6,14 +6,14 @@ use Rattle.nsp_seg.specs.declared.packet.Packet.TheVariants.{Segment, DataAck}
 use Rattle.nsp_link.specs.declared.link.Got.{Got}
 use Rattle.nsp_link.specs.declared.fault.LinkFault.{LinkFault}
 use Rattle.nsp_link.specs.Cutting.{Piece}
-use Rattle.nsp_link.specs.Coming.{Coming, taken_all}
+use Rattle.nsp_link.specs.Coming.{Coming, with_all_taken}
 use Rattle.nsp_link.specs.Holding.{following}
 use Rattle.nsp_link.proofs.ForCallers.{inserted}
 use Rattle.std.specs.declared.cmp.Ordering.TheVariants.{Less, Equal, Greater}
 use Rattle.std.specs.Ordering.{match_ordering}
 use Rattle.nsp_link.specs.Link.{LinkValue, piece_of, failed_link}
-use Rattle.nsp_link.specs.Receiving.{Received, run, segment_of, taking_in, is_end, Bounded, BoundedBytes, LetsGo, Receives}
-use Rattle.dap_end.specs.Pasts.{served}
+use Rattle.nsp_link.specs.Receiving.{Received, run, segment_number, taking_in, ends_link, Bounded, BoundedBytes, LetsGo, Receives}
+use Rattle.dap_end.specs.Histories.{served}
 use Rattle.dap_end.specs.declared.fault.EndFault.{EndFault}
 use Rattle.dap_end.specs.declared.fault.EndFault.TheVariants as end_fault
 use Rattle.dap_end.specs.declared.fault.TakeFault.{TakeFault}
@@ -23,9 +23,9 @@ use Rattle.dap_end.specs.Moved.{with_link}
 use Rattle.dap_end.specs.Moved.{sent_more}
 use Rattle.dap_end.specs.Serving.{IsAfter, ServedOne}
 use Rattle.dap_end.specs.Taking.{ServedInTurn, begins, goes}
-use Rattle.dap_end.specs.Done.{ServingValue, Past, nothing_yet}
-use Rattle.dap_end.specs.Turns.{DidAll, WroteThen, TookIn, Takes, WentOn}
-use Rattle.dap_end.specs.Pasts.{Still}
+use Rattle.dap_end.specs.Done.{ServingValue, ServerHistory, nothing_yet}
+use Rattle.dap_end.specs.Turns.{DidAll, WroteThen, TookIn, TakesPacket, WentOn}
+use Rattle.dap_end.specs.Histories.{Still}
 use Rattle.dap_end.specs.Taking.{serves}
 use Rattle.dap_end.proofs.Taking.{grown}
 use Rattle.dap_end.proofs.Afterwards.{after_received, posted_is, posted_past}
@@ -56,7 +56,7 @@ inserted_some : (k : ℕ) (p : Piece) (held : List (ℕ × Piece)) → 0 < lengt
 inserted_some k p [] = omega arith
 inserted_some k p (h ∷ held) = some_by (nat_lt k h.0) (k == h.0) (k, p) h held (inserted k p held)
 
-in_by : (v : LinkValue) (k : ℕ) (p : Piece) (next near : Bool) → let c : Coming = if next then taken_all v.coming (run v p) else v.coming in
+in_by : (v : LinkValue) (k : ℕ) (p : Piece) (next near : Bool) → let c : Coming = if next then with_all_taken v.coming (run v p) else v.coming in
     Comes v (record v { coming = c; held = if next then drop (length (following k v.held)) v.held else (if near then inserted k p v.held else v.held) })
 in_by v k p true near = inl (inl (omega (arith, taken_count v.coming (run v p))))
 in_by v k p false true = inl (inr (inserted_some k p v.held))
@@ -70,13 +70,13 @@ stopped_comes v true = inr (refl, refl, refl)
 stopped_comes v false = stays v
 
 received_comes : (old new : LinkValue) (p : Packet) (r : Result Got LinkFault) → Received old p r new → Comes old new
-received_comes old new (Segment s) (Ok got) (_, (_, _, acks)) = along old new _ acks.2 (in_comes old (segment_of old s.number) (piece_of s))
+received_comes old new (Segment s) (Ok got) (_, (_, _, acks)) = along old new _ acks.2 (in_comes old (segment_number old s.number) (piece_of s))
 received_comes old new (DataAck s) (Ok got) (_, (_, acks)) = along old new _ acks.2 (inr (refl, refl, refl))
-received_comes old new p (Err e) (_, left) = along old new _ left (stopped_comes old (is_end e))
+received_comes old new p (Err e) (_, left) = along old new _ left (stopped_comes old (ends_link e))
 
 let_go_comes : (old new : LinkValue) (p : Packet) (r : Result Got LinkFault) → LetsGo old p r new → Comes old new
 let_go_comes old new (Segment s) (Ok got) (_, _, acks) = along old new _ acks.2 (inr (refl, refl, refl))
-let_go_comes old new (Segment s) (Err e) (_, left) = along old new _ left (stopped_comes old (is_end e))
+let_go_comes old new (Segment s) (Err e) (_, left) = along old new _ left (stopped_comes old (ends_link e))
 let_go_comes old new (DataAck s) r h = absurd h
 
 bounded_comes : (old new : LinkValue) (p : Packet) (r : Result Got LinkFault) → Bounded old p r new → Comes old new
@@ -95,7 +95,7 @@ comes_by false old new bytes r e h = bytes_come old new bytes r (h.any e)
 
 -- the end is as after some past, in which it did nothing before a segment came
 abbrev pub IsKnown : ServingValue → Type 0
-IsKnown v = (past : Past) × IsAfter past v × (HasCome v.port ⊎ ((past ≡ nothing_yet past.first) × (v.port.link.coming.inbox ≡ [])))
+IsKnown v = (past : ServerHistory) × IsAfter past v × (HasCome v.port ⊎ ((past ≡ nothing_yet past.first) × (v.port.link.coming.inbox ≡ [])))
 
 known_by : (old : ServingValue) (link : LinkValue) → Comes old.port.link link → Still IsAfter old (with_port old (with_link old.port link)) → IsKnown old → IsKnown (with_port old (with_link old.port link))
 known_by old link (inl came) still (past, h, c) = (past, still past h, inl came)
@@ -111,7 +111,7 @@ posted_known v new n p (past, h, inl came) =
     (record past { handed = past.handed ++ v.port.outbox }, posted_past v new n p past h, inl (subst (λ (w : ServingValue). HasCome w.port) (sym (posted_is v new n p)) came))
 posted_known v new n p (past, h, inr none) =
     let first = nothing_yet past.first in
-    let there : IsAfter first v = subst (λ (q : Past). IsAfter q v) none.0 h in
+    let there : IsAfter first v = subst (λ (q : ServerHistory). IsAfter q v) none.0 h in
     let outbox : v.port.outbox ≡ [] = there.answers in
     let after : IsAfter first new = subst (λ (l : List (List ℕ)). IsAfter (record first { handed = l }) new) outbox (posted_past v new n p first there) in
     (first, after, inr (refl, ap (λ (w : ServingValue). w.port.link.coming.inbox) (posted_is v new n p) ∙ none.1))
@@ -152,7 +152,7 @@ in_known old new bytes r t k =
     let still : Still IsAfter old (with_port old (with_link old.port new.port.link)) = λ past h. after_received past old new.port.link (grown old.port.link new.port.link bytes r t.receives) t.receives.sends h in
     subst IsKnown (sym t.rest) (known_in old new.port.link bytes r t.receives still k)
 
-pub taking_known : (most : ℕ) (old new : ServingValue) (bytes : List ℕ) (out all : List (List ℕ)) (r : Result Got TakeFault) → Takes (serves most) old new bytes out all r → IsKnown old → IsKnown new
+pub taking_known : (most : ℕ) (old new : ServingValue) (bytes : List ℕ) (out all : List (List ℕ)) (r : Result Got TakeFault) → TakesPacket (serves most) old new bytes out all r → IsKnown old → IsKnown new
 taking_known most old new bytes out all (Ok got) t k = wrote_known most t.0 new out all _ t.2 _ t.2.wrote.2.1.sent (in_known old t.0 bytes (Ok got) t.1 k)
 taking_known most old new bytes out all (Err (take_fault.Refused f)) t k = in_known old new bytes (Err f) t.0 k
 taking_known most old new bytes out all (Err (take_fault.Unfinished got f)) (mid, t, inl h) k = all_known most mid new (Err f) h.0 (in_known old mid bytes (Ok got) t k)

@@ -6,7 +6,7 @@ use Rattle.nsp_link.specs.Link.{LinkValue, Stands, Sends, with_inbox, AreShort}
 use Rattle.dap_end.specs.Ports.{PortValue}
 use Rattle.dap_end.specs.Writing.{AreSegments, WroteMore}
 use Rattle.dap_end.specs.Headline.{Written, AreWrittenOf}
-use Rattle.dap_end.specs.Calls.{numbered, WroteOne}
+use Rattle.dap_end.specs.Calls.{numbered_packets, WroteOne}
 use Rattle.dap_end.proofs.Packets.{all_written, numbered_written, one_written}
 use Rattle.dap_end.proofs.Proceeding.{none_short}
 use Rattle.dap_end.proofs.Running.{went_written}
@@ -38,13 +38,13 @@ within_by v link sent (suc n) e is within before =
     let window : link.setup.window ≡ v.setup.window = ap (λ (l : LinkValue). l.setup.window) e in
     record { more = omega (arith, is, same); within = omega (arith, within (omega arith), acked, window) }
 
--- an end goes on: this is its link in between, and then so many segments were written
+-- an end goes on: this is its link in between, and then this many segments were written
 pub goes : (a b link : LinkValue) (new : PortValue) (port : PortValue) (from_a from_b to_a to_b more given now : List (List ℕ)) (wire_a wire_b : List Written) (packets : List (List ℕ)) → AreJoined a b from_a from_b to_a to_b wire_a wire_b → port.link ≡ link
     → link ≡ record (with_inbox a link.coming.inbox) { queue = link.queue } → WroteMore port new packets → now ≡ from_a ++ more → AreShort a more → Stands link b.setup.seg_size from_b given → Sends link now
-    → AreJoined new.link b now from_b given to_b (wire_a ++ numbered (link.sent + 1) link.coming.received packets) wire_b
+    → AreJoined new.link b now from_b given to_b (wire_a ++ numbered_packets (link.sent + 1) link.coming.received packets) wire_b
 goes a b link new port from_a from_b to_a to_b more given now wire_a wire_b packets j at counts w is short stands sends =
     let n = length packets in
-    let ws = numbered (link.sent + 1) link.coming.received packets in
+    let ws = numbered_packets (link.sent + 1) link.coming.received packets in
     let sent : ℕ = link.sent + n in
     let new_is : new.link ≡ record link { sent = sent } = ap (λ (p : PortValue). p.link) w.sent ∙ ap (λ (l : LinkValue). record l { sent = l.sent + n }) at in
     let to : new.link ≡ moved a link.coming.inbox link.queue sent = new_is ∙ same_front a link sent counts in

@@ -1,4 +1,4 @@
--- Runs of each of two ends are runs of both.
+-- ServerRuns of each of two ends are runs of both.
 use Rattle.std.proofs.Common.{refl, sym, ◌∙◌, subst, ap, append_assoc, List, [], ◌∷◌, ◌++◌, map}
 use Rattle.std.specs.List.{AllByRecursion}
 use Rattle.std.proofs.lemmas.List.{append-nil}
@@ -8,7 +8,7 @@ use Rattle.dap_end.specs.Done.{ServingValue, AskingValue}
 use Rattle.dap_end.specs.Runs.{RunsBy}
 use Rattle.dap_end.specs.Headline.{Arrival, Written}
 use Rattle.dap_end.specs.Joined.{Pair, IsBrought}
-use Rattle.dap_end.specs.Calls.{EndEvent, Stepped, Runs, AskingEvent, AskingStepped, AskingRuns, requests_in, AtA, AtB, PairStepped, PairRuns}
+use Rattle.dap_end.specs.Calls.{EndEvent, Stepped, ServerRuns, AskingEvent, AskingStepped, AskingRuns, requests_in, AtA, AtB, PairStepped, PairRuns}
 use Rattle.dap_end.proofs.Stepping.{runs_then}
 use Rattle.dap_end.proofs.Running as serving
 use Rattle.dap_end.proofs.Hearing.{requests_of}
@@ -41,7 +41,7 @@ serving_events p [] now r = ap (λ (x : Wrote). record p { b = x.0; from_b = x.1
 serving_events p (event ∷ events) now r =
     let q : Pair = record p { b = r.0.0; from_b = r.0.1 } in (q, r.1, (r.2, refl), serving_events q events now r.3)
 
-pub serving_pair : (old : Pair) (b : ServingValue) (came : List Arrival) (wrote : List Written) → AllByRecursion (λ c. IsBrought old.from_a c.0 c.1) came → Runs came old.b b wrote → PairRuns old (record old { b = b; from_b = old.from_b ++ wrote })
+pub serving_pair : (old : Pair) (b : ServingValue) (came : List Arrival) (wrote : List Written) → AllByRecursion (λ c. IsBrought old.from_a c.0 c.1) came → ServerRuns came old.b b wrote → PairRuns old (record old { b = b; from_b = old.from_b ++ wrote })
 serving_pair old b came wrote brought run =
     let r = served_as (IsBrought old.from_a) came old.b b wrote brought run in
     let behind = subst (λ (l : List Written). RunsBy (Stepped (IsBrought old.from_a)) (old.b, l) r.0 (b, old.from_b ++ wrote)) (append-nil old.from_b)

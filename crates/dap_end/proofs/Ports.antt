@@ -1,6 +1,7 @@
 -- The ports of a node.
 use Rattle.std.proofs.Common.{◌≡◌, ℕ, zero, suc, List, [], ◌∷◌, length, Option, Some, None, refl, ap, sym, subst, ◌∙◌, inr, arith}
-use Rattle.std.specs.Prelude.{set, slice_get, replicate}
+use Rattle.std.specs.Prelude.{set, slice_get, slice_index_or, replicate}
+use Rattle.std.proofs.lemmas.Option.{slice_get_read, slice_get_within}
 use Rattle.std.proofs.lemmas.List.{length-set}
 use Rattle.dap_shared.specs.Noted.{NotedValue}
 use Rattle.nsp_link.specs.declared.link.LinkSetup.{LinkSetup}
@@ -49,13 +50,28 @@ node-set before after v link noted o h many new right =
 pub node-same : (table : List (Option ℕ)) (v : NodeValue) (noted : NotedValue) → IsNode table v → length noted.shared.sessions ≡ length v.noted.shared.sessions → IsNode table (record { noted = noted; ports = v.ports })
 node-same table v noted h many = record { links = h.links ∙ sym many; ports = h.ports; table = h.table }
 
--- a port was taken out, and another put back
-pub node-again : (table : List (Option ℕ)) (v : NodeValue) (link : ℕ) (noted : NotedValue) (p : PortValue) → IsNode table v → length noted.shared.sessions ≡ length v.noted.shared.sessions → IsPort p
-    → IsTable table (set v.ports link (Some p)) → IsNode table (record { noted = noted; ports = set (set v.ports link None) link (Some p) })
-node-again table v link noted p h many new right =
-    subst (λ (l : List (Option PortValue)). IsNode table (record { noted = noted; ports = l })) (sym (set-again v.ports link None (Some p)))
-    (node-set table table v link noted (Some p) h many (λ q is. subst IsPort (let same : p ≡ q = cc in same) new) right)
+-- a port moved
+pub node-moved : (table : List (Option ℕ)) (v : NodeValue) (link : ℕ) (noted : NotedValue) (p : PortValue) → IsNode table v → length noted.shared.sessions ≡ length v.noted.shared.sessions → IsPort p
+    → IsTable table (set v.ports link (Some p)) → IsNode table (record { noted = noted; ports = set v.ports link (Some p) })
+node-moved table v link noted p h many new right =
+    node-set table table v link noted (Some p) h many (λ q is. subst IsPort (let same : p ≡ q = cc in same) new) right
 
 -- a new port
 pub port-new : (setup : LinkSetup) (p : PortValue) → p ≡ new_port setup → IsPort p
 port-new setup p is = subst IsPort (sym is) (record { place = inr (refl, refl); short = λ k d lt. absurd (let none : ⊥ = omega (arith, lt) in none) })
+
+-- ---- A port that is where it was.
+
+some-apart : (p : PortValue) (o : Option (Option PortValue)) → o ≡ Some (Some p) → o ≡ Some None → ⊥
+some-apart p o one other = cc
+
+read-there : (xs : List (Option PortValue)) (i : ℕ) (p : PortValue) (o : Option PortValue) → slice_get xs i ≡ Some (Some p) → o ≡ slice_index_or xs i o → slice_get xs i ≡ Some o
+read-there xs i p o there value = slice_get_read xs (length xs) i o refl (slice_get_within xs i _ there) value
+
+-- the port that was read where one is
+pub port-there : (xs : List (Option PortValue)) (i : ℕ) (p q : PortValue) (o : Option PortValue) → slice_get xs i ≡ Some (Some p) → o ≡ slice_index_or xs i o → o ≡ Some q → slice_get xs i ≡ Some (Some q)
+port-there xs i p q o there value is = read-there xs i p o there value ∙ ap (λ (x : Option PortValue). Some x) is
+
+-- there is one
+pub never-none : (xs : List (Option PortValue)) (i : ℕ) (p : PortValue) (o : Option PortValue) → slice_get xs i ≡ Some (Some p) → o ≡ slice_index_or xs i o → o ≡ None → ⊥
+never-none xs i p o there value is = some-apart p (slice_get xs i) there (read-there xs i p o there value ∙ ap (λ (x : Option PortValue). Some x) is)

@@ -11,14 +11,14 @@ use Rattle.nsp_link.specs.declared.fault.LinkFault.TheVariants as fault
 use Rattle.nsp_link.specs.declared.link.LinkSetup.{LinkSetup}
 use Rattle.nsp_link.specs.Link.{LinkValue, IsLink, Stands, may_send, waiting_bytes, with_inbox, AreShort}
 use Rattle.dap_accessed.specs.Standing.{Files}
-use Rattle.dap_end.specs.Pasts.{served}
+use Rattle.dap_end.specs.Histories.{served}
 use Rattle.dap_end.specs.declared.fault.EndFault.{EndFault}
 use Rattle.dap_end.specs.declared.fault.EndFault.TheVariants as end_fault
 use Rattle.dap_end.specs.Ports.{HandsOver, PortValue, bytes_waiting}
-use Rattle.dap_end.specs.Moved.{posted}
+use Rattle.dap_end.specs.Moved.{with_outbox_sent}
 use Rattle.dap_end.specs.Serving.{IsAfter, ServedOne, MayServe}
 use Rattle.dap_end.specs.Taking.{ServedInTurn, begins, goes}
-use Rattle.dap_end.specs.Done.{ServingValue, Past}
+use Rattle.dap_end.specs.Done.{ServingValue, ServerHistory}
 use Rattle.dap_end.specs.Writing.{Behind, WroteMore}
 use Rattle.dap_end.specs.Moved.{sent_more}
 use Rattle.dap_end.specs.Taking.{HasRoom, serves}
@@ -31,7 +31,7 @@ use Rattle.dap_end.proofs.Going.{item_ends}
 use Rattle.dap_end.specs.Going.{NextItem}
 use Rattle.dap_end.specs.Turns.{DidAll, WentOn}
 use Rattle.std.specs.Result.{result_map_both}
-use Rattle.dap_end.specs.Pasts.{Still}
+use Rattle.dap_end.specs.Histories.{Still}
 use Rattle.dap_end.specs.Inner.ServingView.{with_port}
 use Rattle.nsp_link.proofs.ForCallers.{bytes_queued, may_queue_parts}
 
@@ -56,7 +56,7 @@ SameCounts old new = new ≡ record (with_inbox old new.coming.inbox) { queue = 
 counts_trans : (a b c : LinkValue) → SameCounts a b → SameCounts b c → SameCounts a c
 counts_trans a b c ab bc = bc ∙ ap (λ (l : LinkValue). record (with_inbox l c.coming.inbox) { queue = c.queue }) ab
 
-grew_trans : (p q r : Past) (a b c : ServingValue) → SameCounts a.port.link b.port.link → Grew p q a b → Grew q r b c → Grew p r a c
+grew_trans : (p q r : ServerHistory) (a b c : ServingValue) → SameCounts a.port.link b.port.link → Grew p q a b → Grew q r b c → Grew p r a c
 grew_trans p q r a b c counts g h =
     let limit : b.port.link.setup.max_message ≡ a.port.link.setup.max_message = ap (λ (l : LinkValue). l.setup.max_message) counts in
     record {
@@ -81,8 +81,8 @@ more_trans a b c ab bc =
       past = λ past h. (let one = ab.past past h in let two = bc.past one.0 one.1.is in (two.0, grew_trans past one.0 two.0 a b c ab.link one.1 two.1));
     }
 
-posted_grew : (past : Past) (v : ServingValue) → AreShort v.port.link v.port.outbox → IsAfter (record past { handed = past.handed ++ v.port.outbox }) (record v { port = posted v.port })
-    → Grew past (record past { handed = past.handed ++ v.port.outbox }) v (record v { port = posted v.port })
+posted_grew : (past : ServerHistory) (v : ServingValue) → AreShort v.port.link v.port.outbox → IsAfter (record past { handed = past.handed ++ v.port.outbox }) (record v { port = with_outbox_sent v.port })
+    → Grew past (record past { handed = past.handed ++ v.port.outbox }) v (record v { port = with_outbox_sent v.port })
 posted_grew past v short h =
     record { is = h; first = refl; items = ([], sym (append-nil past.items)); handed = (v.port.outbox, refl, short); given = refl; stands = λ size messages s. record { taken = s.taken; held = s.held } }
 
@@ -143,7 +143,7 @@ all_grew most a b (Err (end_fault.Link f)) (mid, on, inl (is, h)) = subst (Serve
 all_grew most a b (Err (end_fault.Link f)) (mid, on, inr (want, room, p, may)) = more_trans a mid b (turn_grew most a mid on) (more_posted mid b p.0 p.1)
 all_grew most a b (Err (end_fault.Read f)) d = absurd d.2
 
--- ---- Served and handed over, in any order.
+-- ---- Served and passed on, in any order.
 
 pub worked_grew : (a b : ServingValue) → WorkedOn a b → ServedMore a b
 worked_grew a b rests = more_none a
@@ -166,8 +166,8 @@ all_worked most a b (Err (end_fault.Link f)) (mid, on, inl (is, h)) = subst (Wor
 all_worked most a b (Err (end_fault.Link f)) (mid, on, inr (want, room, p, may)) = turn_worked most a mid b on (one_posted mid b p.0 p.1)
 all_worked most a b (Err (end_fault.Read f)) d = absurd d.2
 
--- what was served on counts behind what the end did
-pub counted : (past : Past) (old new : ServingValue) → IsAfter past old → ServedMore old new → (given handed : List (List ℕ)) × (items : List Item)
+-- what was served on counts after what the end did
+pub counted : (past : ServerHistory) (old new : ServingValue) → IsAfter past old → ServedMore old new → (given handed : List (List ℕ)) × (items : List Item)
     × IsAfter (record past { given = given; items = past.items ++ items; handed = past.handed ++ handed }) new × (given ++ new.port.link.coming.inbox ≡ past.given ++ old.port.link.coming.inbox)
 counted past old new h m =
     let (now, g) = m.past past h in
@@ -245,7 +245,7 @@ gone_by most old served port out all (Err f) d w full why = went_by (serves most
 
 -- ---- How much waits.
 
--- what is handed over waits still
+-- what is passed on waits still
 pub bytes_posted : (old new : ServingValue) (n : ℕ) → HandsOver old new n → 0 < old.port.link.setup.seg_size → bytes_waiting new.port ≡ bytes_waiting old.port
 bytes_posted old new n p pos =
     let same = ap (λ (v : ServingValue). bytes_waiting v.port) (posted_is old new n p) in

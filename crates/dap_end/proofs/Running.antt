@@ -25,13 +25,13 @@ use Rattle.dap_end.specs.Going.{AreFrontOf}
 use Rattle.dap_end.specs.Writing.{WroteMore}
 use Rattle.dap_end.specs.Moved.{sent_more}
 use Rattle.dap_end.specs.Serving.{IsAfter, ServedOne}
-use Rattle.dap_end.specs.Done.{ServingValue, Past, answers_to, nothing_yet}
-use Rattle.dap_end.specs.Turns.{DidAll, WentOn, TookIn, Takes}
+use Rattle.dap_end.specs.Done.{ServingValue, ServerHistory, answers_to, nothing_yet}
+use Rattle.dap_end.specs.Turns.{DidAll, WentOn, TookIn, TakesPacket}
 use Rattle.dap_end.specs.Taking.{serves}
 use Rattle.dap_end.specs.Calls.{WorkedOn, rests}
 use Rattle.dap_end.specs.Runs.{RunsBy}
-use Rattle.dap_end.specs.Headline.{Written, bytes_of, AreWrittenOf, IsFromPeer}
-use Rattle.dap_end.specs.Calls.{numbered, WroteOne, EndEvent, Came, GoesOn, Repeats, EndStepped, Stepped, EventRuns, RunsAs}
+use Rattle.dap_end.specs.Headline.{Written, written_bytes, AreWrittenOf, IsFromPeer}
+use Rattle.dap_end.specs.Calls.{numbered_packets, WroteOne, EndEvent, Came, GoesOn, Repeats, EndStepped, Stepped, EventRuns, RunsAs}
 use Rattle.dap_end.proofs.Taking.{grown}
 use Rattle.dap_end.proofs.Afterwards.{after_received}
 use Rattle.dap_end.proofs.Fronts.{served_front}
@@ -61,7 +61,7 @@ answers_from own first before (item ∷ items) =
 
 -- what the end did, with the files that it had at first, and the packets that it wrote
 pub record Did (first : Files) (v : ServingValue) (wrote : List Written) : Type 0 where
-  pub past : Past
+  pub past : ServerHistory
   pub is : IsAfter past v
   pub had : past.first ≡ first
   pub packets : AreWrittenOf v.port.link past.handed wrote
@@ -92,7 +92,7 @@ pub sent_link : (p new : PortValue) (n : ℕ) → new ≡ sent_more p n → new.
 sent_link p new n e = subst (λ (q : PortValue). q.link ≡ record p.link { sent = q.link.sent }) (sym e) refl
 
 went : (old served new : ServingValue) (packets : List (List ℕ)) (first : Files) (wrote ws : List Written) → WorkedOn old served → WroteMore served.port new.port packets → new ≡ with_port served new.port
-    → ws ≡ numbered (served.port.link.sent + 1) served.port.link.coming.received packets → Did first old wrote → Did first new (wrote ++ ws)
+    → ws ≡ numbered_packets (served.port.link.sent + 1) served.port.link.coming.received packets → Did first old wrote → Did first new (wrote ++ ws)
 went old served new packets first wrote ws on w e is d =
     let m = worked_grew old served on in
     let more = m.past d.past d.is in
@@ -137,7 +137,7 @@ did_nothing first v h = record { past = nothing_yet first; is = h; had = refl; p
 
 -- and its link runs, and has the front of what the peer sends
 record Hears (size : ℕ) (messages : List (List ℕ)) (first : Files) (v : ServingValue) : Type 0 where
-  past : Past
+  past : ServerHistory
   is : IsAfter past v
   had : past.first ≡ first
   stands : Stands v.port.link size messages past.given
@@ -205,14 +205,14 @@ run_hears : (events : List EndEvent) (old new : Wrote) (size : ℕ) (messages : 
 run_hears [] old new size messages first r h = subst (λ (x : Wrote). Hears size messages first x.0) (sym r) h
 run_hears (event ∷ events) old new size messages first r h = run_hears events r.0 new size messages first r.3 (step_hears old.0 r.0.0 event r.1 size messages first r.2.0 h)
 
-pub run_from : (events : List EndEvent) (old new : ServingValue) (wrote : List Written) (size : ℕ) (messages : List (List ℕ)) (past : Past) → 0 < size → IsAfter past old → Stands old.port.link size messages past.given → old.port.link.failed ≡ false
-    → EventRuns (IsFromPeer size messages) old events new wrote → (now : Past) × IsAfter now new × (now.first ≡ past.first) × AreFrontOf messages now.items
+pub run_from : (events : List EndEvent) (old new : ServingValue) (wrote : List Written) (size : ℕ) (messages : List (List ℕ)) (past : ServerHistory) → 0 < size → IsAfter past old → Stands old.port.link size messages past.given → old.port.link.failed ≡ false
+    → EventRuns (IsFromPeer size messages) old events new wrote → (now : ServerHistory) × IsAfter now new × (now.first ≡ past.first) × AreFrontOf messages now.items
 run_from events old new wrote size messages past pos is stands works r =
     let h = run_hears events (old, []) (new, wrote) size messages past.first r (record { past = past; is = is; had = refl; stands = stands; works = works }) in
     (h.past, h.is, h.had, served_front new.port.link size messages h.past.given new.port.place h.past.items pos h.stands h.is.gone)
 
 -- so the link stands where it should
-pub run_stands : (events : List EndEvent) (old new : ServingValue) (wrote : List Written) (size : ℕ) (messages : List (List ℕ)) (past : Past) → IsAfter past old → StandsThen old.port.link size messages past.given
+pub run_stands : (events : List EndEvent) (old new : ServingValue) (wrote : List Written) (size : ℕ) (messages : List (List ℕ)) (past : ServerHistory) → IsAfter past old → StandsThen old.port.link size messages past.given
     → EventRuns (IsFromPeer size messages) old events new wrote → (given : List (List ℕ)) × StandsThen new.port.link size messages given
 run_stands events old new wrote size messages past is s r =
     let h = run_hears events (old, []) (new, wrote) size messages past.first r (record { past = past; is = is; had = refl; stands = s.0; works = s.1 }) in (h.past.given, (h.stands, h.works))
@@ -268,12 +268,12 @@ module _ (comes : LinkValue → List ℕ → Type 0) where
   pub receiving_is : (old new : ServingValue) (bytes : List ℕ) (r : Result Got LinkFault) → comes old.port.link bytes → TookIn old new bytes r → RunsAs comes old new []
   receiving_is old new bytes r h t = stepping.receiving_is WorkedOn none comes old new bytes r h t
 
-  -- a run whose packets stand behind those that were there
+  -- a run whose packets stand after those that were there
   abbrev pub AreCalls : ServingValue → ServingValue → (out all : List (List ℕ)) → Type 0
-  AreCalls old new out all = (wrote : List Written) × RunsAs comes old new wrote × (all ≡ out ++ bytes_of wrote)
+  AreCalls old new out all = (wrote : List Written) × RunsAs comes old new wrote × (all ≡ out ++ written_bytes wrote)
 
   pub going_on_is : (most : ℕ) (old new : ServingValue) (out all : List (List ℕ)) (r : Result (Unit {0}) EndFault) → WentOn (serves most) old new out all r → AreCalls old new out all
   going_on_is most old new out all r w = stepping.going_on_is WorkedOn none comes (serves most) (all_worked most) old new out all r w
 
-  pub taken_is : (most : ℕ) (old new : ServingValue) (bytes : List ℕ) (out all : List (List ℕ)) (r : Result Got TakeFault) → comes old.port.link bytes → Takes (serves most) old new bytes out all r → AreCalls old new out all
+  pub taken_is : (most : ℕ) (old new : ServingValue) (bytes : List ℕ) (out all : List (List ℕ)) (r : Result Got TakeFault) → comes old.port.link bytes → TakesPacket (serves most) old new bytes out all r → AreCalls old new out all
   taken_is most old new bytes out all r h t = stepping.taken_is WorkedOn none comes (serves most) (all_worked most) old new bytes out all r h t

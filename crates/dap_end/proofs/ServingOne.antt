@@ -8,7 +8,7 @@ use Rattle.dap_accessed.specs.declared.setup.ServerSetup.{ServerSetup}
 use Rattle.dap_fields.specs.Spelling.{AreBytes}
 use Rattle.dap_msg.specs.declared.items.Item.{Item}
 use Rattle.dap_msg.specs.Items.{ItemAt, IsPlace}
-use Rattle.dap_msg.specs.Blocked.{NspMessage, Blocked, all_joined, bodies, joined, AllFit}
+use Rattle.dap_msg.specs.Blocked.{NspMessage, Blocked, all_joined, bodies, blocked_bytes, AllFit}
 use Rattle.dap_msg.specs.declared.message.Message.{Message}
 use Rattle.nsp_link.specs.Link.{Stands, with_inbox}
 use Rattle.nsp_link.proofs.ForCallers.{stands_given}
@@ -17,14 +17,14 @@ use Rattle.dap_accessed.proofs.ForCallers.{Answers-more}
 use Rattle.dap_accessed.specs.Present.{Present}
 use Rattle.dap_accessed.specs.Served.{Serves, AllAtMost}
 use Rattle.dap_accessed.specs.declared.served.Served.{Served}
-use Rattle.dap_end.specs.Pasts.{served}
+use Rattle.dap_end.specs.Histories.{served}
 use Rattle.dap_end.specs.Ports.{PortValue, gone_on}
-use Rattle.dap_end.specs.Going.{oldest}
+use Rattle.dap_end.specs.Going.{oldest_message}
 use Rattle.dap_end.specs.Going.{given_then}
 use Rattle.dap_end.specs.Going.{GoneThrough}
 use Rattle.dap_end.specs.Serving.{IsAfter, ServedOne}
-use Rattle.dap_end.specs.Done.{ServingValue, Past, answers_to}
-use Rattle.dap_end.specs.Inner.Kept.{IsPort, AreShort}
+use Rattle.dap_end.specs.Done.{ServingValue, ServerHistory, answers_to}
+use Rattle.dap_end.specs.Inner.Kept.{IsPort, AreMessages}
 use Rattle.dap_end.specs.Inner.ServingView.{serving_of}
 use Rattle.dap_end.proofs.Going.{gone_one}
 use Rattle.dap_end.proofs.Answering.{answer_to, answers-more}
@@ -42,7 +42,7 @@ pub no_length : (l : List (List ℕ)) → length l ≡ 0 → l ≡ []
 no_length [] e = refl
 no_length (x ∷ l) e = absurd (omega arith)
 
--- what `go_on` does, by whether the message was the last one
+-- what `advance` does, by whether the message was the last one
 abbrev pub GoesOn : PortValue → PortValue → Bool → ℕ → Type 0
 GoesOn p new last next =
     (last ≡ false → new ≡ record p { place = next })
@@ -66,7 +66,7 @@ port_given p bytes later next size messages given inbox h =
       | inr inside ↦ rw (ne_eqb next (length bytes) inside) h
     ]
 
--- and what was gone through
+-- and what was processed
 pub port_gone : (p : PortValue) (bytes : List ℕ) (later : List (List ℕ)) (next : ℕ) (given : List (List ℕ)) (items : List Item) (item : Item) → AreBytes bytes → p.link.coming.inbox ≡ bytes ∷ later → GoneThrough given p.link.coming.inbox p.place items
     → ItemAt bytes p.place item next → next ≤ length bytes → GoneThrough (given_then given bytes next) (gone_on p bytes later next).link.coming.inbox (gone_on p bytes later next).place (items ++ item ∷ [])
 port_gone p bytes later next given items item fits inbox h reads within =
@@ -79,7 +79,7 @@ fit-both (m ∷ one) two h k = (h.0, fit-both one two h.1 k)
 
 module _ (old : ServingValue) (bytes : List ℕ) (later : List (List ℕ)) (inbox : old.port.link.coming.inbox ≡ bytes ∷ later) (fits : AreBytes bytes) where
   past_one : (after : Present) (s : Served) (serves : Serves bytes old.port.place old.present after s) → old.port.outbox ≡ [] → s.next ≤ length bytes
-      → (past : Past) → IsAfter past old
+      → (past : ServerHistory) → IsAfter past old
       → IsAfter (served past bytes serves.item s.next) (serving_of (record (gone_on old.port bytes later s.next) { outbox = bodies s.answers.items }) after)
   past_one after s serves idle within past h =
       let limit : serves.limit ≡ limit_for old.present.setup past.first past.items = serves.is_limit past.first past.items h.serving in
@@ -92,7 +92,7 @@ module _ (old : ServingValue) (bytes : List ℕ) (later : List (List ℕ)) (inbo
             ap (λ (l : List (List ℕ)). past.handed ++ l)
             (serves.answers past.first past.items h.serving ∙ ap (λ (n : ℕ). all_joined (Blocked n (added old.present.setup past.first past.items serves.item))) limit)
             ∙ ap (λ (l : List (List ℕ)). l ++ all_joined block) (sym (append-nil past.handed) ∙ ap (λ (l : List (List ℕ)). past.handed ++ l) (sym idle) ∙ h.answers)
-            ∙ sym (map-append joined (answers_to old.present.setup past.first [] past.items) block)
+            ∙ sym (map-append blocked_bytes (answers_to old.present.setup past.first [] past.items) block)
             ∙ ap all_joined (sym (answers-more old.present.setup past.first past.items serves.item))
             ∙ ap (λ (n : ServerSetup). all_joined (answers_to n past.first [] (past.items ++ serves.item ∷ []))) (sym serves.same_setup);
         fit =
@@ -120,11 +120,11 @@ module _ (old : ServingValue) (bytes : List ℕ) (later : List (List ℕ)) (inbo
       }
 
 pub place_there : (p : PortValue) (bytes : List ℕ) (later : List (List ℕ)) → p.link.coming.inbox ≡ bytes ∷ later → IsPort p → IsPlace p.place bytes
-place_there p bytes later inbox h = subst (λ (l : List (List ℕ)). IsPlace p.place (oldest l)) inbox h.place
+place_there p bytes later inbox h = subst (λ (l : List (List ℕ)). IsPlace p.place (oldest_message l)) inbox h.place
 
 -- ---- The port stays one.
 
-pub all_short : (limit : ℕ) (list : List (List ℕ)) → limit ≤ 65535 → AllAtMost limit list → AreShort list
+pub all_short : (limit : ℕ) (list : List (List ℕ)) → limit ≤ 65535 → AllAtMost limit list → AreMessages list
 all_short limit [] le h = λ k d lt. absurd (omega arith)
 all_short limit (x ∷ list) le h = All-cons (λ m. length m ≤ 65535) x list (omega (arith, le, h.0)) (all_short limit list le h.1)
 
@@ -134,7 +134,7 @@ port_goes p bytes later outbox next limit inbox h within le short =
     record {
       place =
           elim (cases_eq next (length bytes)) [
-            | inl end ↦ rw (eq-eqb next (length bytes) end) (first_place (oldest later))
+            | inl end ↦ rw (eq-eqb next (length bytes) end) (first_place (oldest_message later))
             | inr inside ↦ rw (ne_eqb next (length bytes) inside, inbox) (inl (omega (arith, within, inside)))
           ];
       short = all_short limit outbox le short;

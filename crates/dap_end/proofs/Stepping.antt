@@ -12,28 +12,28 @@ use Rattle.dap_end.specs.declared.fault.TakeFault.{TakeFault}
 use Rattle.dap_end.specs.declared.fault.TakeFault.TheVariants as take_fault
 use Rattle.dap_end.specs.Ports.{EndValue}
 use Rattle.dap_end.specs.Writing.{Acknowledged, wants_ack, WroteAnswer, WroteMore}
-use Rattle.dap_end.specs.Turns.{Answered, DidAll, EndOf, WroteThen, WentOn, TookIn, TookThen, Takes}
+use Rattle.dap_end.specs.Turns.{WritesReplies, DidAll, EndOf, WroteThen, WentOn, TookIn, TookThen, TakesPacket}
 use Rattle.dap_end.specs.Runs.{RunsBy}
-use Rattle.dap_end.specs.Headline.{Written, bytes_of}
-use Rattle.dap_end.specs.Calls.{numbered, EndEvent, Came, GoesOn, Repeats, EndStepped}
+use Rattle.dap_end.specs.Headline.{Written, written_bytes}
+use Rattle.dap_end.specs.Calls.{numbered_packets, EndEvent, Came, GoesOn, Repeats, EndStepped}
 use Rattle.dap_end.proofs.Packets.{ack_written}
 use Rattle.dap_end.proofs.Emitting.{wrote_nothing}
 
--- one run behind another
+-- one run after another
 pub runs_then : {S E A : Type 0} (Goes : S → E → A → S → Type 0) (xs ys : List E) (a b c : S) → RunsBy Goes a xs b → RunsBy Goes b ys c → RunsBy Goes a (xs ++ ys) c
 runs_then Goes [] ys a b c r q = subst (λ s. RunsBy Goes s ys c) r q
 runs_then Goes (x ∷ xs) ys a b c r q = (r.0, r.1, r.2, runs_then Goes xs ys r.0 b c r.3 q)
 
 -- the bytes of some packets, numbered
-pub numbered_bytes : (k a : ℕ) (packets : List (List ℕ)) → bytes_of (numbered k a packets) ≡ packets
+pub numbered_bytes : (k a : ℕ) (packets : List (List ℕ)) → written_bytes (numbered_packets k a packets) ≡ packets
 numbered_bytes k a [] = refl
 numbered_bytes k a (p ∷ packets) = ap (λ (l : List (List ℕ)). p ∷ l) (numbered_bytes (k + 1) a packets)
 
--- several packets behind those that were there
-behind : (out all packets : List (List ℕ)) (k a : ℕ) → all ≡ out ++ packets → all ≡ out ++ bytes_of (numbered k a packets)
+-- several packets after those that were there
+behind : (out all packets : List (List ℕ)) (k a : ℕ) → all ≡ out ++ packets → all ≡ out ++ written_bytes (numbered_packets k a packets)
 behind out all packets k a e = e ∙ ap (λ (l : List (List ℕ)). out ++ l) (sym (numbered_bytes k a packets))
 
-bytes_append : (xs ys : List Written) → bytes_of (xs ++ ys) ≡ bytes_of xs ++ bytes_of ys
+bytes_append : (xs ys : List Written) → written_bytes (xs ++ ys) ≡ written_bytes xs ++ written_bytes ys
 bytes_append xs ys = map-append (λ (w : Written). w.bytes) xs ys
 
 module _ {P : Type 0} (Does : EndValue P → EndValue P → Type 0) (none : (v : EndValue P) → Does v v) (comes : LinkValue → List ℕ → Type 0) where
@@ -97,9 +97,9 @@ module _ {P : Type 0} (Does : EndValue P → EndValue P → Type 0) (none : (v :
   pub receiving_is : (old new : EndValue P) (bytes : List ℕ) (r : Result Got LinkFault) → comes old.port.link bytes → TookIn old new bytes r → RunsIn old new []
   receiving_is old new bytes r h t = one_event old new (Came bytes) [] (came old new bytes r h t)
 
-  -- a run whose packets stand behind those that were there
+  -- a run whose packets stand after those that were there
   abbrev pub AreCalls : (old new : EndValue P) → (out all : List (List ℕ)) → Type 0
-  AreCalls old new out all = (wrote : List Written) × RunsIn old new wrote × (all ≡ out ++ bytes_of wrote)
+  AreCalls old new out all = (wrote : List Written) × RunsIn old new wrote × (all ≡ out ++ written_bytes wrote)
 
   took_by : (old mid new : EndValue P) (bytes : List ℕ) (out all : List (List ℕ)) → StepsBy old (Came bytes) mid [] → AreCalls mid new out all → AreCalls old new out all
   took_by old mid new bytes out all s c = (c.0, (Came bytes ∷ c.1.0, ((mid, []), [], (s, refl), c.1.1)), c.2)
@@ -110,7 +110,7 @@ module _ {P : Type 0} (Does : EndValue P → EndValue P → Type 0) (none : (v :
   answered_is old served new out all packets written false m rest w is ack =
       (_, one_event old new GoesOn _ (served, written, m, w, rest, refl), behind out all written _ _ (is ∙ ap (λ (l : List (List ℕ)). out ++ l) ack))
   answered_is old served new out all packets written true m rest w is ack =
-      let first = numbered (served.port.link.sent + 1) served.port.link.coming.received written in
+      let first = numbered_packets (served.port.link.sent + 1) served.port.link.coming.received written in
       let last : Written = record { bytes = ack.0; segment = None; acks = new.port.link.coming.received } in (
         first ++ last ∷ [],
         more_calls old new new first (last ∷ []) (one_event old new GoesOn first (served, written, m, w, rest, refl)) (ack_is new ack.0 ack.2),
@@ -125,7 +125,7 @@ module _ {P : Type 0} (Does : EndValue P → EndValue P → Type 0) (none : (v :
     whole_is old new got out all w =
         let (packets, is, a) = w.wrote in answered_is old w.mid new out all packets a.0 (wants_ack got (length a.0)) (did old w.mid (Ok tt) w.done) w.rest a.1 is a.3
 
-    answer_is : (old new : EndValue P) (got : Got) (out all : List (List ℕ)) (r : Result (Unit {0}) EndFault) → Answered end old new got out all r → AreCalls old new out all
+    answer_is : (old new : EndValue P) (got : Got) (out all : List (List ℕ)) (r : Result (Unit {0}) EndFault) → WritesReplies end old new got out all r → AreCalls old new out all
     answer_is old new got out all (Ok done) w = whole_is old new got out all w
     answer_is old new got out all (Err f) (inl h) =
         ([], one_event old new GoesOn [] (done_only old new (did old new (Err f) h.0)), h.1 ∙ sym (append-nil out))
@@ -139,7 +139,7 @@ module _ {P : Type 0} (Does : EndValue P → EndValue P → Type 0) (none : (v :
     then_is : (old new : EndValue P) (bytes : List ℕ) (got : Got) (out all : List (List ℕ)) (r : Result (Unit {0}) EndFault) → comes old.port.link bytes → TookThen end old new bytes got out all r → AreCalls old new out all
     then_is old new bytes got out all r h (mid, t, a) = took_by old mid new bytes out all (came old mid bytes (Ok got) h t) (answer_is mid new got out all r a)
 
-    pub taken_is : (old new : EndValue P) (bytes : List ℕ) (out all : List (List ℕ)) (r : Result Got TakeFault) → comes old.port.link bytes → Takes end old new bytes out all r → AreCalls old new out all
+    pub taken_is : (old new : EndValue P) (bytes : List ℕ) (out all : List (List ℕ)) (r : Result Got TakeFault) → comes old.port.link bytes → TakesPacket end old new bytes out all r → AreCalls old new out all
     taken_is old new bytes out all (Ok got) h t = then_is old new bytes got out all (Ok tt) h t
     taken_is old new bytes out all (Err (take_fault.Refused f)) h t = ([], receiving_is old new bytes (Err f) h t.0, t.1 ∙ sym (append-nil out))
     taken_is old new bytes out all (Err (take_fault.Unfinished got f)) h t = then_is old new bytes got out all (Err f) h t

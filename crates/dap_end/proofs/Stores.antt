@@ -24,7 +24,7 @@ use Rattle.dap_accessing.specs.declared.request.Request.TheVariants as request
 use Rattle.dap_accessing.specs.declared.report.Report.TheVariants as report
 use Rattle.dap_accessing.specs.declared.phase.Phase.TheVariants.{Opened, Connected}
 use Rattle.dap_accessing.specs.Asked.{control}
-use Rattle.dap_accessing.specs.Told.{Reports, Unexpected, behind, has_success, first_told, hear_stored}
+use Rattle.dap_accessing.specs.Told.{Reports, Unexpected, after_those, has_success, first_told, hear_stored}
 use Rattle.dap_accessing.specs.Parts.{is_status, statuses_in_front, hear_store_end}
 use Rattle.dap_accessing.proofs.ForCallers.{behind-more, statuses-more}
 use Rattle.dap_end.specs.Agreement.{AgreeAt, AreLimits}
@@ -33,7 +33,7 @@ use Rattle.dap_end.proofs.Goes.{Goes, more_items, standing_at}
 -- these answers are Statuses, none of which is a success
 abbrev AreRefusals : List Message → Type 0
 AreRefusals answers =
-    (rest : List Item) → (has_success (statuses_in_front (map Whole answers ++ rest)) ≡ has_success (statuses_in_front rest)) × (behind is_status (map Whole answers ++ rest) ≡ behind is_status rest)
+    (rest : List Item) → (has_success (statuses_in_front (map Whole answers ++ rest)) ≡ has_success (statuses_in_front rest)) × (after_those is_status (map Whole answers ++ rest) ≡ after_those is_status rest)
 
 one_refusal : (status : StatusFields) → is_success status.code ≡ false → AreRefusals (Status status ∷ [])
 one_refusal status e = λ rest. (
@@ -80,7 +80,7 @@ record Stores (own : ServerSetup) (bodies : List (List ℕ)) (s : Standing) (o :
   cut_is : more_items own (record { standing = s; begun = None }) (to_come bodies) ≡ record { standing = new; begun = None }
   adds : answers_in new.past ≡ answers_in s.past ++ answers
   refused : has_success (statuses_in_front (map Whole answers)) ≡ false
-  completed : behind is_status (map Whole answers) ≡ Whole (complete_with 2) ∷ []
+  completed : after_those is_status (map Whole answers) ≡ Whole (complete_with 2) ∷ []
   place : new.place ≡ at.Opened o
   same : new.scene.limit ≡ s.scene.limit
 
@@ -102,16 +102,16 @@ stores own (body ∷ bodies) files limit past o s =
       cut_is = rest.cut_is;
       adds = rest.adds ∙ append_assoc (answers_in past) e.answers rest.answers;
       refused = ap (λ l. has_success (statuses_in_front l)) all ∙ refusals.0 ∙ rest.refused;
-      completed = ap (behind is_status) all ∙ refusals.1 ∙ rest.completed;
+      completed = ap (after_those is_status) all ∙ refusals.1 ∙ rest.completed;
       place = rest.place;
       same = rest.same ∙ one.same;
     }
 
 -- the report of refusals and then the completion
-hear_stores : (answers : List Item) → has_success (statuses_in_front answers) ≡ false → behind is_status answers ≡ Whole (complete_with 2) ∷ []
+hear_stores : (answers : List Item) → has_success (statuses_in_front answers) ≡ false → after_those is_status answers ≡ Whole (complete_with 2) ∷ []
     → hear_stored answers ≡ Reports (report.Stored (first_told (statuses_in_front answers))) []
 hear_stores answers refused completed =
-    ap (λ b. if b then Unexpected else hear_store_end (first_told (statuses_in_front answers)) (behind is_status answers)) refused
+    ap (λ b. if b then Unexpected else hear_store_end (first_told (statuses_in_front answers)) (after_those is_status answers)) refused
     ∙ ap (hear_store_end (first_told (statuses_in_front answers))) completed
 
 pub store_goes : (own_a : Configuration) (own_b : ServerSetup) (files : Files) (limit : ℕ) (past : List Group) (limit_a : ℕ) → AreLimits own_a own_b limit limit_a → (o : OpenFile) (s : StreamVal) (bodies : List (List ℕ))

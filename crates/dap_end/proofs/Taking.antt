@@ -7,13 +7,13 @@ use Rattle.nsp_seg.specs.declared.packet.Packet.TheVariants.{Segment, DataAck}
 use Rattle.nsp_link.specs.declared.link.Got.{Got}
 use Rattle.nsp_link.specs.declared.fault.LinkFault.{LinkFault}
 use Rattle.nsp_link.specs.Cutting.{Piece}
-use Rattle.nsp_link.specs.Coming.{Coming, taken, taken_all, body_with}
-use Rattle.nsp_link.specs.Link.{LinkValue, piece_of, failed_link, forgotten}
-use Rattle.nsp_link.specs.Receiving.{Received, run, segment_of, taking_in, is_end, Bounded, BoundedBytes, LetsGo, Receives}
+use Rattle.nsp_link.specs.Coming.{Coming, with_taken, with_all_taken, body_with}
+use Rattle.nsp_link.specs.Link.{LinkValue, piece_of, failed_link, with_acked}
+use Rattle.nsp_link.specs.Receiving.{Received, run, segment_number, taking_in, ends_link, Bounded, BoundedBytes, LetsGo, Receives}
 use Rattle.dap_msg.specs.Items.{IsPlace}
 use Rattle.dap_end.specs.Ports.{PortValue}
 use Rattle.dap_end.specs.Moved.{with_link}
-use Rattle.dap_end.specs.Going.{oldest}
+use Rattle.dap_end.specs.Going.{oldest_message}
 use Rattle.dap_end.specs.Inner.Kept.{IsPort}
 
 -- more messages may wait, and the link is the same
@@ -28,19 +28,19 @@ same v = record { more = []; inbox = sym (append-nil v.coming.inbox); setup = re
 along : (old new other : LinkValue) → new ≡ other → Grown old other → Grown old new
 along old new other e g = subst (Grown old) (sym e) g
 
-taken_one : (c : Coming) (p : Piece) (last : Bool) → p.last ≡ last → (more : List (List ℕ)) × ((taken c p).inbox ≡ c.inbox ++ more)
+taken_one : (c : Coming) (p : Piece) (last : Bool) → p.last ≡ last → (more : List (List ℕ)) × ((with_taken c p).inbox ≡ c.inbox ++ more)
 taken_one c p true e = (body_with c p.payload ∷ [], ap (λ (b : Bool). if b then c.inbox ++ body_with c p.payload ∷ [] else c.inbox) e)
 taken_one c p false e = ([], ap (λ (b : Bool). if b then c.inbox ++ body_with c p.payload ∷ [] else c.inbox) e ∙ sym (append-nil c.inbox))
 
-taken_more : (c : Coming) (ps : List Piece) → (more : List (List ℕ)) × ((taken_all c ps).inbox ≡ c.inbox ++ more)
-unfolding taken_all
+taken_more : (c : Coming) (ps : List Piece) → (more : List (List ℕ)) × ((with_all_taken c ps).inbox ≡ c.inbox ++ more)
+unfolding with_all_taken
 taken_more c [] = ([], sym (append-nil c.inbox))
 taken_more c (p ∷ ps) =
     let one = taken_one c p p.last refl in
-    let rest = taken_more (taken c p) ps in
+    let rest = taken_more (with_taken c p) ps in
     (one.0 ++ rest.0, rest.1 ∙ ap (λ (l : List (List ℕ)). l ++ rest.0) one.1 ∙ append_assoc c.inbox one.0 rest.0)
 
-taken_by : (v : LinkValue) (p : Piece) (next : Bool) → (more : List (List ℕ)) × ((if next then taken_all v.coming (run v p) else v.coming).inbox ≡ v.coming.inbox ++ more)
+taken_by : (v : LinkValue) (p : Piece) (next : Bool) → (more : List (List ℕ)) × ((if next then with_all_taken v.coming (run v p) else v.coming).inbox ≡ v.coming.inbox ++ more)
 taken_by v p true = taken_more v.coming (run v p)
 taken_by v p false = ([], sym (append-nil v.coming.inbox))
 
@@ -51,19 +51,19 @@ stopped_by : (v : LinkValue) (ends : Bool) → Grown v (if ends then failed_link
 stopped_by v true = record { more = []; inbox = sym (append-nil v.coming.inbox); setup = refl }
 stopped_by v false = same v
 
-forgotten_grown : (old mid : LinkValue) (count : ℕ) → Grown old mid → Grown old (forgotten mid count)
+forgotten_grown : (old mid : LinkValue) (count : ℕ) → Grown old mid → Grown old (with_acked mid count)
 forgotten_grown old mid count g = record { more = g.more; inbox = g.inbox; setup = g.setup }
 
 received : (old new : LinkValue) (p : Packet) (r : Result Got LinkFault) → Received old p r new → Grown old new
 received old new (Segment s) (Ok got) (_, (_, _, acks)) =
-    let mid = taking_in old (segment_of old s.number) (piece_of s) in
-    along old new _ acks.2 (forgotten_grown old mid acks.0 (in_grown old (segment_of old s.number) (piece_of s)))
+    let mid = taking_in old (segment_number old s.number) (piece_of s) in
+    along old new _ acks.2 (forgotten_grown old mid acks.0 (in_grown old (segment_number old s.number) (piece_of s)))
 received old new (DataAck s) (Ok got) (_, (_, acks)) = along old new _ acks.2 (forgotten_grown old old acks.0 (same old))
-received old new p (Err e) (_, left) = along old new _ left (stopped_by old (is_end e))
+received old new p (Err e) (_, left) = along old new _ left (stopped_by old (ends_link e))
 
 let_go : (old new : LinkValue) (p : Packet) (r : Result Got LinkFault) → LetsGo old p r new → Grown old new
 let_go old new (Segment s) (Ok got) (_, _, acks) = along old new _ acks.2 (forgotten_grown old old acks.0 (same old))
-let_go old new (Segment s) (Err e) (_, left) = along old new _ left (stopped_by old (is_end e))
+let_go old new (Segment s) (Err e) (_, left) = along old new _ left (stopped_by old (ends_link e))
 let_go old new (DataAck s) r h = absurd h
 
 bounded : (old new : LinkValue) (p : Packet) (r : Result Got LinkFault) → Bounded old p r new → Grown old new
@@ -87,15 +87,15 @@ pub first_place : (bytes : List ℕ) → IsPlace 0 bytes
 first_place [] = inr (refl, refl)
 first_place (b ∷ bytes) = inl (omega arith)
 
-pub place_stays : (place : ℕ) (inbox more : List (List ℕ)) → IsPlace place (oldest inbox) → IsPlace place (oldest (inbox ++ more))
+pub place_stays : (place : ℕ) (inbox more : List (List ℕ)) → IsPlace place (oldest_message inbox) → IsPlace place (oldest_message (inbox ++ more))
 place_stays place [] more (inl h) = absurd (omega arith)
-place_stays place [] more (inr h) = subst (λ (n : ℕ). IsPlace n (oldest more)) (sym h.0) (first_place (oldest more))
+place_stays place [] more (inr h) = subst (λ (n : ℕ). IsPlace n (oldest_message more)) (sym h.0) (first_place (oldest_message more))
 place_stays place (m ∷ inbox) more h = h
 
 pub port_stays : (p : PortValue) (link : LinkValue) → Grown p.link link → IsPort p → IsPort (with_link p link)
 port_stays p link g h =
     record {
-      place = subst (λ (l : List (List ℕ)). IsPlace p.place (oldest l)) (sym g.inbox) (place_stays p.place p.link.coming.inbox g.more h.place);
+      place = subst (λ (l : List (List ℕ)). IsPlace p.place (oldest_message l)) (sym g.inbox) (place_stays p.place p.link.coming.inbox g.more h.place);
       short = h.short;
     }
 

@@ -1,4 +1,4 @@
--- What both ends do alike: how it comes about, and that it follows from what the end did and what came, want of memory aside.
+-- What both ends do alike: how it comes about, and that it follows from what the end did and what came, out of memory aside.
 use Rattle.std.proofs.Common.{◌≡◌, ◌≢◌, ℕ, refl, sym, ◌∙◌, subst, ap, false, true≢false, List, ◌++◌, inl, inr, IsTrue}
 use Rattle.std.specs.Prelude.{Result, Ok, Err, OnOk, IfErr}
 use Rattle.dap_fields.specs.Spelling.{AreBytes}
@@ -16,7 +16,7 @@ use Rattle.dap_end.specs.Ports.{EndValue, PortValue}
 use Rattle.dap_end.specs.Moved.{with_link}
 use Rattle.dap_end.specs.Writing.{Behind, WroteMore, WroteAnswer, WrotePart}
 use Rattle.dap_end.specs.Moved.{sent_more}
-use Rattle.dap_end.specs.Turns.{EndOf, DidAll, WentOn, Answered, TookIn, TookThen, Takes}
+use Rattle.dap_end.specs.Turns.{EndOf, DidAll, WentOn, WritesReplies, TookIn, TookThen, TakesPacket}
 use Rattle.dap_end.specs.Wanting.{is_want, why}
 use Rattle.dap_end.specs.Inner.Wanting.{went_wanting, took_wanting}
 use Rattle.dap_end.specs.Inner.Answered.{ended_by}
@@ -29,7 +29,7 @@ abbrev linked : LinkFault → EndFault
 linked f = end_fault.Link f
 
 pub answered_by : {P : Type 0} (end : EndOf P) (old mid new : EndValue P) (got : Got) (out all : List (List ℕ)) (r : Result (Unit {0}) LinkFault) → DidAll end old mid (Ok tt) → new ≡ record mid { port = new.port }
-    → OnOk r (Behind out all (WroteAnswer mid.port new.port got)) → IfErr r (λ f. (f ≡ fault.NoMemory) × Behind out all (WrotePart mid.port new.port got)) → Answered end old new got out all (ended_by r)
+    → OnOk r (Behind out all (WroteAnswer mid.port new.port got)) → IfErr r (λ f. (f ≡ fault.NoMemory) × Behind out all (WrotePart mid.port new.port got)) → WritesReplies end old new got out all (ended_by r)
 answered_by end old mid new got out all (Ok u) done rest w why = record { mid = mid; done = done; rest = rest; wrote = w }
 answered_by end old mid new got out all (Err f) done rest w why = inr (ap linked why.0, record { mid = mid; done = done; rest = rest; wrote = why.1 })
 
@@ -110,7 +110,7 @@ module _ {P : Type 0} (e d : EndOf P) (alike : EndValue P → EndValue P → Typ
       subst (λ (v : EndValue P). alike v two) (sym ra) (subst (λ (v : EndValue P). alike (record a { port = p }) v) (sym rb) (by.moved a b p q like same))
 
   pub answered_same : (old other one two : EndValue P) (got : Got) (out xs ys : List (List ℕ)) (r s : Result (Unit {0}) EndFault) → known old → alike old other → went_wanting r ≡ false → went_wanting s ≡ false
-      → Answered e old one got out xs r → Answered d other two got out ys s → alike one two × (r ≡ s) × (xs ≡ ys) × told × known one
+      → WritesReplies e old one got out xs r → WritesReplies d other two got out ys s → alike one two × (r ≡ s) × (xs ≡ ys) × told × known one
   answered_same old other one two got out xs ys (Ok u) (Ok w) k like nr ns a b =
       let t = by.all old other a.mid b.mid (Ok tt) (Ok tt) k like refl refl a.done b.done in
       let sent = by.sends a.mid t.3 in
@@ -149,7 +149,7 @@ module _ {P : Type 0} (e d : EndOf P) (alike : EndValue P → EndValue P → Typ
   then_same old other one two bytes g h out xs ys r s fits k like nr ns a b =
       let i = in_same old other a.0 b.0 bytes (Ok g) (Ok h) fits k like (ok_apart g fault.NoMemory) (ok_apart h fault.NoMemory) a.1 b.1 in
       let gots = ok_same g h i.0 in
-      let t = answered_same a.0 b.0 one two g out xs ys r s i.2 i.1 nr ns a.2 (subst (λ (x : Got). Answered d b.0 two x out ys s) (sym gots) b.2) in
+      let t = answered_same a.0 b.0 one two g out xs ys r s i.2 i.1 nr ns a.2 (subst (λ (x : Got). WritesReplies d b.0 two x out ys s) (sym gots) b.2) in
       (t.0, (gots, t.1), t.2, t.3, t.4)
 
   in_apart : (old other one two : EndValue P) (bytes : List ℕ) (g : Got) (f : LinkFault) → AreBytes bytes → known old → alike old other → is_want (end_fault.Link f) ≡ false → TookIn old one bytes (Ok g) → TookIn other two bytes (Err f) → ⊥
@@ -161,7 +161,7 @@ module _ {P : Type 0} (e d : EndOf P) (alike : EndValue P → EndValue P → Typ
       ok_apart g f (sym (in_same old other one two bytes (Err f) (Ok g) fits k like (λ e. no_want f n (err_same f fault.NoMemory e)) (ok_apart g fault.NoMemory) a b).0)
 
   pub took_same : (old other one two : EndValue P) (bytes : List ℕ) (out xs ys : List (List ℕ)) (r s : Result Got TakeFault) → AreBytes bytes → known old → alike old other → took_wanting r ≡ false → took_wanting s ≡ false
-      → Takes e old one bytes out xs r → Takes d other two bytes out ys s → alike one two × (r ≡ s) × (xs ≡ ys) × told × known one
+      → TakesPacket e old one bytes out xs r → TakesPacket d other two bytes out ys s → alike one two × (r ≡ s) × (xs ≡ ys) × told × known one
   took_same old other one two bytes out xs ys (Ok g) (Ok h) fits k like nr ns a b =
       let t = then_same old other one two bytes g h out xs ys (Ok tt) (Ok tt) fits k like refl refl a b in (t.0, ap took t.1.0, t.2, t.3, t.4)
   took_same old other one two bytes out xs ys (Ok g) (Err (take_fault.Refused f)) fits k like nr ns a b = absurd (in_apart old other a.0 two bytes g f fits k like ns a.1 b.0)

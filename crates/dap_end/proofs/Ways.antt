@@ -19,7 +19,7 @@ use Rattle.nsp_link.specs.Due.{IsDue, Delivered, taken_after}
 use Rattle.nsp_link.proofs.ForCallers.{inserted, written_spells, stands_more, came_due}
 use Rattle.nsp_link.specs.Receiving.{Receives}
 use Rattle.dap_end.specs.Headline.{Written, AreWrittenOf}
-use Rattle.dap_end.specs.Calls.{numbered}
+use Rattle.dap_end.specs.Calls.{numbered_packets}
 
 -- ---- What holds of one way.
 
@@ -65,7 +65,7 @@ true_all : (sent received : ℕ) (xs ys : List Written) → AreTrue sent receive
 true_all sent received [] ys h k = k
 true_all sent received (x ∷ xs) ys h k = (h.0, true_all sent received xs ys h.1 k)
 
-true_numbered : (k sent received : ℕ) (packets : List (List ℕ)) → k + length packets ≤ sent + 1 → AreTrue sent received (numbered k received packets)
+true_numbered : (k sent received : ℕ) (packets : List (List ℕ)) → k + length packets ≤ sent + 1 → AreTrue sent received (numbered_packets k received packets)
 true_numbered k sent received [] le = tt
 true_numbered k sent received (p ∷ packets) le = (record { segment = omega arith; acks = omega arith }, true_numbered (k + 1) sent received packets (omega arith))
 
@@ -290,5 +290,5 @@ works a b from_a from_b to_a to_b more given wire_a wire_b ws inbox queue sent j
       works_b = j.works_b;
     }
 
-pub counts_numbered : (v : LinkValue) (packets : List (List ℕ)) → AreTrue (v.sent + length packets) v.coming.received (numbered (v.sent + 1) v.coming.received packets)
+pub counts_numbered : (v : LinkValue) (packets : List (List ℕ)) → AreTrue (v.sent + length packets) v.coming.received (numbered_packets (v.sent + 1) v.coming.received packets)
 counts_numbered v packets = true_numbered (v.sent + 1) (v.sent + length packets) v.coming.received packets (omega arith)

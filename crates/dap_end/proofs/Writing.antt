@@ -1,4 +1,4 @@
--- The packets that are written follow from what was handed over.
+-- The packets that are written follow from what was passed on.
 use Rattle.std.proofs.Common.{◌≡◌, ℕ, ◌+◌, ◌<◌, ◌≤◌, arith, refl, sym, ◌∙◌, subst, ap, true, false, List, [], ◌∷◌, ◌++◌, length, inl, inr, true≢false}
 use Rattle.std.specs.Prelude.{Bool, Some}
 use Rattle.std.proofs.lemmas.Bool.{cases_lt}

@@ -3,7 +3,7 @@ use Rattle.std.specs.Prelude.{◌≡◌, ◌≢◌, ◌⊎◌, ℕ, List, [], �
 use Rattle.std.specs.List.{AllByRecursion}
 use Rattle.dap_msg.specs.Blocked.{AllFit, all_joined, messages_in}
 use Rattle.nsp_link.specs.Link.{Sends}
-use Rattle.dap_accessing.specs.Present.{StandsAfter}
+use Rattle.dap_accessing.specs.Present.{ClientAfter}
 use Rattle.dap_accessing.specs.Asked.{Asked}
 use Rattle.dap_accessing.specs.Request.{Request}
 use Rattle.dap_accessing.specs.declared.report.Report.{Report}
@@ -13,26 +13,26 @@ use Rattle.dap_accessing.specs.Calls.{Asks, ReadRefused}
 use Rattle.dap_end.specs.Ports.{gone_on}
 use Rattle.dap_end.specs.Going.{given_then, NextItem, GoneThrough}
 use Rattle.dap_accessing.specs.Each.{IsBatch, reported_behind}
-use Rattle.dap_end.specs.Done.{AskingValue, AskingPast}
+use Rattle.dap_end.specs.Done.{AskingValue, ClientHistory}
 use Rattle.dap_end.specs.Each.{with_told}
 
 -- The client is as after this history: it waits for what is due after these requests and answers. The answers are
 -- those of the NSP messages that it read, and of a prefix of the next one. What it passed to its link, and what
 -- waits, are the messages of the requests. The law `asking_ends_stand` says what follows.
-pub record HasAsked (past : AskingPast) (v : AskingValue) : Type 0 where
-  pub asking : StandsAfter past.requests past.answers v.present
-  pub gone : GoneThrough past.given v.port.link.coming.inbox v.port.place past.answers
-  pub sends : Sends v.port.link past.handed
-  pub messages : messages_in past.asked ≡ Asked v.present.identity past.requests
-  pub waiting : past.handed ++ v.port.outbox ≡ all_joined past.asked
+pub record HasAsked (history : ClientHistory) (v : AskingValue) : Type 0 where
+  pub asking : ClientAfter history.requests history.answers v.present
+  pub gone : GoneThrough history.given v.port.link.coming.inbox v.port.place history.answers
+  pub sends : Sends v.port.link history.handed
+  pub messages : messages_in history.asked ≡ Asked v.present.identity history.requests
+  pub waiting : history.handed ++ v.port.outbox ≡ all_joined history.asked
   -- each message has a spelling, and no NSP message is without one
-  pub fit : AllFit (messages_in past.asked)
-  pub full : AllByRecursion (λ packet. packet ≢ []) past.asked
+  pub fit : AllFit (messages_in history.asked)
+  pub full : AllByRecursion (λ packet. packet ≢ []) history.asked
 
 -- the client is as after some history, or an unexpected answer failed it after one
 abbrev pub HasDone : AskingValue → Type 0
 HasDone v =
-    ((past : AskingPast) × HasAsked past v)
+    ((history : ClientHistory) × HasAsked history v)
     ⊎ ((v.present.failed ≡ true) × ((handed : List (List ℕ)) × Sends v.port.link handed))
 
 -- ---- Asking.
@@ -56,12 +56,12 @@ pub record ReadOne (old new : AskingValue) (report : Option Report) : Type 0 whe
   pub port : new.port ≡ gone_on old.port one.bytes one.later one.next
   pub own : new.present.own ≡ old.present.own
   pub identity : new.present.identity ≡ old.present.identity
-  pub expected : (past : AskingPast) → HasAsked past old → is_unexpected past.requests past.answers one.item ≡ false
-  pub past : (past : AskingPast) → HasAsked past old → HasAsked (record past { given = given_then past.given one.bytes one.next; answers = past.answers ++ one.item ∷ [] }) new
-  pub told : (past : AskingPast) → HasAsked past old → Told past.requests (past.answers ++ one.item ∷ []) ≡ Told past.requests past.answers ++ option_to_list report
+  pub expected : (history : ClientHistory) → HasAsked history old → is_unexpected history.requests history.answers one.item ≡ false
+  pub past : (history : ClientHistory) → HasAsked history old → HasAsked (record history { given = given_then history.given one.bytes one.next; answers = history.answers ++ one.item ∷ [] }) new
+  pub told : (history : ClientHistory) → HasAsked history old → Told history.requests (history.answers ++ one.item ∷ []) ≡ Told history.requests history.answers ++ option_to_list report
   -- The same while a batch is under way of which records were taken out: they count, but the report comes without them.
-  pub past_on : (told : List (ℕ × List ℕ)) (past : AskingPast) → IsBatch old.present → HasAsked past (with_told told old) → HasAsked (record past { given = given_then past.given one.bytes one.next; answers = past.answers ++ one.item ∷ [] }) (with_told told new)
-  pub told_on : (told : List (ℕ × List ℕ)) (past : AskingPast) → IsBatch old.present → HasAsked past (with_told told old) → Told past.requests (past.answers ++ one.item ∷ []) ≡ Told past.requests past.answers ++ option_to_list (option_map (reported_behind told) report)
+  pub past_on : (told : List (ℕ × List ℕ)) (history : ClientHistory) → IsBatch old.present → HasAsked history (with_told told old) → HasAsked (record history { given = given_then history.given one.bytes one.next; answers = history.answers ++ one.item ∷ [] }) (with_told told new)
+  pub told_on : (told : List (ℕ × List ℕ)) (history : ClientHistory) → IsBatch old.present → HasAsked history (with_told told old) → Told history.requests (history.answers ++ one.item ∷ []) ≡ Told history.requests history.answers ++ option_to_list (option_map (reported_behind told) report)
 
 -- why nothing was read, and the client then: after an unexpected answer it has failed
 pub record ReadNone (old new : AskingValue) (f : ReadFault) : Type 0 where

@@ -21,9 +21,9 @@ use Rattle.dap_end.specs.Headline.{Arrival, Written}
 use Rattle.dap_end.specs.Joined.{Pair, IsBrought}
 
 -- these packets, of the segments from this number on
-abbrev pub numbered : (k acks : ℕ) → List (List ℕ) → List Written
-numbered k acks [] = []
-numbered k acks (bytes ∷ packets) = record { bytes = bytes; segment = Some k; acks = acks } ∷ numbered (k + 1) acks packets
+abbrev pub numbered_packets : (k acks : ℕ) → List (List ℕ) → List Written
+numbered_packets k acks [] = []
+numbered_packets k acks (bytes ∷ packets) = record { bytes = bytes; segment = Some k; acks = acks } ∷ numbered_packets (k + 1) acks packets
 
 -- the packet has that segment of whatever was passed to the link, or none, and acknowledges all that the link has
 -- taken
@@ -46,7 +46,7 @@ EndStepped quiet does comes old (Came bytes) new wrote =
     × (new ≡ record old { port = with_link old.port link }) × (wrote ≡ []) × quiet × comes old.port.link bytes
 EndStepped {P} quiet does comes old GoesOn new wrote =
     (mid : EndValue P) × (packets : List (List ℕ)) × does old mid × WroteMore mid.port new.port packets × (new ≡ record mid { port = new.port })
-    × (wrote ≡ numbered (mid.port.link.sent + 1) mid.port.link.coming.received packets)
+    × (wrote ≡ numbered_packets (mid.port.link.sent + 1) mid.port.link.coming.received packets)
 EndStepped quiet does comes old (Repeats k) new wrote =
     let v = old.port.link in
     (w : Written) × IfSome k (λ i. i < v.sent - v.acked) × WroteOne v (option_map (λ i. v.acked + 1 + i) k) w
@@ -78,8 +78,8 @@ abbrev pub RunsAs : (comes : LinkValue → List ℕ → Type 0) → (old new : S
 RunsAs comes old new wrote = (events : List EndEvent) × EventRuns comes old events new wrote
 
 -- Calls of a server. What comes is one of these packets.
-abbrev pub Runs : List Arrival → (old new : ServingValue) → List Written → Type 0
-Runs came old new wrote = RunsAs (IsOneOf came) old new wrote
+abbrev pub ServerRuns : List Arrival → (old new : ServingValue) → List Written → Type 0
+ServerRuns came old new wrote = RunsAs (IsOneOf came) old new wrote
 
 -- ---- The end that asks.
 

@@ -17,14 +17,14 @@ abbrev pub ServingValue : Type 0
 ServingValue = EndValue accessed.Present
 
 -- the history of a server
-pub record Past : Type 0 where
+pub record ServerHistory : Type 0 where
   pub first : Files  -- the files that it had at first
   pub given : List (List ℕ)  -- the NSP messages that it served whole
   pub items : List Item  -- what it served: messages, or the rest of an NSP message of which none can be read
   pub handed : List (List ℕ)  -- the NSP messages with its answers that were handed to its link
 
 -- the history of a new server with these files
-abbrev pub nothing_yet : Files → Past
+abbrev pub nothing_yet : Files → ServerHistory
 nothing_yet first = record { first = first; given = []; items = []; handed = [] }
 
 -- the answers to each item, joined within the peer's limit
@@ -37,10 +37,10 @@ answers_to own first before (item ∷ items) =
 
 -- a client with its link
 abbrev pub AskingValue : Type 0
-AskingValue = EndValue accessing.Present
+AskingValue = EndValue accessing.ClientState
 
 -- the history of a client
-pub record AskingPast : Type 0 where
+pub record ClientHistory : Type 0 where
   pub requests : List Request  -- what was asked
   pub asked : List NspMessage  -- the NSP messages of the requests
   pub handed : List (List ℕ)  -- those that were handed to its link
@@ -48,5 +48,5 @@ pub record AskingPast : Type 0 where
   pub answers : List Item  -- what it read
 
 -- the history of a new client
-abbrev pub nothing_asked : AskingPast
+abbrev pub nothing_asked : ClientHistory
 nothing_asked = record { requests = []; asked = []; handed = []; given = []; answers = [] }

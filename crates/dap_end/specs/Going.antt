@@ -1,4 +1,4 @@
--- The items of NSP messages, gone through one after another.
+-- The items of NSP messages, processed one after another.
 use Rattle.std.specs.Prelude.{◌≡◌, ℕ, ◌<◌, ◌==◌, if◌then◌else◌, List, [], ◌∷◌, ◌++◌, length, slice_index_or}
 use Rattle.std.specs.List.{AllByRecursion}
 use Rattle.dap_fields.specs.Spelling.{AreBytes}
@@ -16,7 +16,7 @@ AreItemsOf (bytes ∷ messages) items =
 abbrev pub AreFrontOf : List (List ℕ) → List Item → Type 0
 AreFrontOf messages items = (all : List Item) → AreItemsOf messages all → (rest : List Item) × (all ≡ items ++ rest)
 
--- the NSP messages that are gone through, after an item that ends at this offset
+-- the NSP messages that are processed, after an item that ends at this offset
 abbrev pub given_then : List (List ℕ) → (bytes : List ℕ) → (next : ℕ) → List (List ℕ)
 given_then given bytes next = if next == length bytes then given ++ bytes ∷ [] else given
 
@@ -31,11 +31,11 @@ pub record NextItem (p : PortValue) : Type 0 where
   pub reads : ItemAt bytes p.place item next
   pub place : IsPlace p.place bytes
 
--- ---- What was gone through so far.
+-- ---- What was processed so far.
 
--- the oldest NSP message that came and isn't gone through, empty if there is none
-abbrev pub oldest : List (List ℕ) → List ℕ
-oldest inbox = slice_index_or inbox 0 []
+-- the oldest NSP message that came and isn't processed, empty if there is none
+abbrev pub oldest_message : List (List ℕ) → List ℕ
+oldest_message inbox = slice_index_or inbox 0 []
 
 -- the items are those from one offset of the bytes to another, and none of them ends with the bytes
 abbrev pub StandFrom : List ℕ → ℕ → List Item → ℕ → Type 0
@@ -43,13 +43,13 @@ StandFrom bytes at [] to = at ≡ to
 StandFrom bytes at (item ∷ items) to =
     (next : ℕ) × (next < length bytes) × ItemAt bytes at item next × StandFrom bytes next items to
 
--- The items are those of the NSP messages that were gone through, and those before the offset in the oldest one that
+-- The items are those of the NSP messages that were processed, and those before the offset in the oldest one that
 -- is left.
 pub record GoneThrough (given inbox : List (List ℕ)) (place : ℕ) (items : List Item) : Type 0 where
   pub done : List Item
   pub begun : List Item
   pub all : items ≡ done ++ begun
   pub whole : AreItemsOf given done
-  pub front : StandFrom (oldest inbox) 0 begun place
+  pub front : StandFrom (oldest_message inbox) 0 begun place
   pub bytes : AllByRecursion AreBytes given
-  pub front_bytes : 0 < length begun → AreBytes (oldest inbox)
+  pub front_bytes : 0 < length begun → AreBytes (oldest_message inbox)

@@ -19,8 +19,8 @@ pub record Written : Type 0 where
   pub acks : ℕ
 
 -- the bytes alone
-abbrev pub bytes_of : List Written → List (List ℕ)
-bytes_of wrote = map (λ w. w.bytes) wrote
+abbrev pub written_bytes : List Written → List (List ℕ)
+written_bytes wrote = map (λ w. w.bytes) wrote
 
 -- each packet has its segment of what was passed to the link, and its acknowledgement
 abbrev pub AreWrittenOf : LinkValue → (handed : List (List ℕ)) → List Written → Type 0

@@ -7,7 +7,7 @@ use Rattle.dap_end.specs.declared.fault.EndFault.{EndFault}
 use Rattle.dap_end.specs.declared.fault.EndFault.TheVariants as end_fault
 use Rattle.dap_end.specs.Writing.{Behind}
 use Rattle.dap_end.specs.Turns.{DidAll, EndOf}
-use Rattle.dap_accessing.specs.Present.{Present}
+use Rattle.dap_accessing.specs.Present.{ClientState}
 use Rattle.dap_end.specs.Asking.{ReadOne, ReadNone}
 use Rattle.dap_end.specs.Done.{AskingValue}
 
@@ -24,8 +24,8 @@ HearFault old new (end_fault.Link f) =
 HearFault old new (end_fault.Read f) = ReadNone old new f
 
 -- the client as one of the two ends: its reports follow those before
-abbrev pub asks : (before reports : List Report) → EndOf Present
-asks before reports =
+abbrev pub hears : (before reports : List Report) → EndOf ClientState
+hears before reports =
     record {
       on = λ old new. Behind before reports (ReadOn old new);
       rests = λ v. v.port.link.coming.inbox ≡ [];
@@ -36,4 +36,4 @@ asks before reports =
 -- all that came was read, or this is why not
 abbrev pub ReadsAll : (old new : AskingValue) → (before reports : List Report) → Result (Unit {0}) ReadFault → Type 0
 ReadsAll old new before reports (Ok done) = Behind before reports (ReadOn old new) × (new.port.link.coming.inbox ≡ [])
-ReadsAll old new before reports (Err f) = DidAll (asks before reports) old new (Err (end_fault.Read f))
+ReadsAll old new before reports (Err f) = DidAll (hears before reports) old new (Err (end_fault.Read f))

@@ -16,6 +16,6 @@ pub mod Headline
 pub mod Calls
 pub mod Joined
 pub mod Moved
-pub mod Pasts
+pub mod Histories
 pub mod Agreement
 pub mod Inner

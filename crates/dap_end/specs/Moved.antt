@@ -10,8 +10,8 @@ abbrev pub with_link : PortValue → LinkValue → PortValue
 with_link p link = record p { link = link }
 
 -- all that waits is passed to the link
-abbrev pub posted : PortValue → PortValue
-posted p = record p { link = queued_link p.link (cut p.link.setup.seg_size p.outbox); outbox = [] }
+abbrev pub with_outbox_sent : PortValue → PortValue
+with_outbox_sent p = record p { link = queued_link p.link (cut p.link.setup.seg_size p.outbox); outbox = [] }
 
 -- n segments more are sent
 abbrev pub sent_more : PortValue → ℕ → PortValue

@@ -20,8 +20,8 @@ pub record NodeValue : Type 0 where
   pub ports : List (Option PortValue)
 
 -- a link of a node: its port, before all exchanges
-abbrev pub LinkValue : Type 0
-LinkValue = EndValue NotedValue
+abbrev pub NodeLinkValue : Type 0
+NodeLinkValue = EndValue NotedValue
 
 -- what serves a link, as one of the two ends: while fewer bytes of its answers wait than this
 abbrev pub serves_on : (link : ℕ) → (most : ℕ) → EndOf NotedValue
@@ -52,22 +52,22 @@ abbrev pub IsTaken : (link local : ℕ) → NodeValue → Type 0
 IsTaken link local v = (other : ℕ) × (p : PortValue) × HasPort other v p × (p.link.setup.local ≡ local) × (other ≢ link)
 
 -- the link isn't there
-abbrev pub is_free : Option PortValue → Bool
-is_free None = true
-is_free (Some p) = false
+abbrev pub is_free_link : Option PortValue → Bool
+is_free_link None = true
+is_free_link (Some p) = false
 
 -- ---- What becomes of it.
 
 -- what was noted is forgotten
-abbrev pub forgotten : NotedValue → NotedValue
-forgotten v = record v { locked = [] }
+abbrev pub without_notes : NotedValue → NotedValue
+without_notes v = record v { locked = [] }
 
 -- Older notes were forgotten, the link moved so, and every other port stayed.
-pub record OnLink (link : ℕ) (Does : LinkValue → LinkValue → Type 0) (old new : NodeValue) : Type 0 where
+pub record OnLink (link : ℕ) (Does : NodeLinkValue → NodeLinkValue → Type 0) (old new : NodeValue) : Type 0 where
   pub before : PortValue
   pub after : PortValue
   pub there : HasPort link old before
-  pub does : Does (record { port = before; present = forgotten old.noted }) (record { port = after; present = new.noted })
+  pub does : Does (record { port = before; present = without_notes old.noted }) (record { port = after; present = new.noted })
   pub ports : new.ports ≡ set old.ports link (Some after)
 
 -- The link has this address, and nothing else changed of the addresses and the notes.

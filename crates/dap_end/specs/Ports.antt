@@ -1,4 +1,4 @@
--- One end of a link, the NSP messages that wait for it, and how far the oldest one that came is gone through.
+-- One end of a link, the NSP messages that wait for it, and how far the oldest one that came is processed.
 use Rattle.std.specs.Prelude.{◌≡◌, ◌⊎◌, ℕ, ◌<◌, ◌+◌, ◌==◌, if◌then◌else◌, List, [], length, IsTrue}
 use Rattle.nsp_link.specs.Cutting.{cut, total_length}
 use Rattle.nsp_link.specs.declared.link.LinkSetup.{LinkSetup}

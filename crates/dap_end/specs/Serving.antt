@@ -8,18 +8,18 @@ use Rattle.dap_accessed.specs.declared.fault.AddFault.{AddFault}
 use Rattle.dap_accessed.specs.declared.fault.AddFault.TheVariants as fault
 use Rattle.dap_end.specs.Ports.{gone_on, HasCome}
 use Rattle.dap_end.specs.Going.{given_then, NextItem, GoneThrough}
-use Rattle.dap_end.specs.Done.{ServingValue, Past, answers_to}
+use Rattle.dap_end.specs.Done.{ServingValue, ServerHistory, answers_to}
 
 -- The server is as after this history. The items are those of the NSP messages that it served, and of a prefix of the
 -- next one. What it passed to its link, and what waits, are the answers to them. The law `serving_ends_stand` says
 -- what follows.
-pub record IsAfter (past : Past) (v : ServingValue) : Type 0 where
-  pub serving : StandsAfter past.first past.items v.present
-  pub gone : GoneThrough past.given v.port.link.coming.inbox v.port.place past.items
-  pub sends : Sends v.port.link past.handed
-  pub answers : past.handed ++ v.port.outbox ≡ all_joined (answers_to v.present.setup past.first [] past.items)
+pub record IsAfter (history : ServerHistory) (v : ServingValue) : Type 0 where
+  pub serving : StandsAfter history.first history.items v.present
+  pub gone : GoneThrough history.given v.port.link.coming.inbox v.port.place history.items
+  pub sends : Sends v.port.link history.handed
+  pub answers : history.handed ++ v.port.outbox ≡ all_joined (answers_to v.present.setup history.first [] history.items)
   -- each answer has a spelling
-  pub fit : AllFit (Answers v.present.setup past.first past.items)
+  pub fit : AllFit (Answers v.present.setup history.first history.items)
 
 -- ---- Files that the end is given.
 
@@ -42,4 +42,4 @@ pub record ServedOne (old new : ServingValue) (n : ℕ) : Type 0 where
   pub own : new.present.own ≡ old.present.own
   pub setup : new.present.setup ≡ old.present.setup
   pub count : n ≡ length new.port.outbox
-  pub past : (past : Past) → IsAfter past old → IsAfter (record past { given = given_then past.given one.bytes one.next; items = past.items ++ one.item ∷ [] }) new
+  pub past : (history : ServerHistory) → IsAfter history old → IsAfter (record history { given = given_then history.given one.bytes one.next; items = history.items ++ one.item ∷ [] }) new

@@ -1,7 +1,7 @@
 //! The end that asks.
 
 ghost use Rattle.std.specs.Prelude.{◌≡◌, ◌≢◌, ◌≤◌, ◌<◌, ◌+◌, ◌-◌, ℕ, List, [], ◌∷◌, Ok, Err, Some, None, true, false, length, IfOk, IfErr, IfSome, OnOk, OnErr, IsErrOf, IsTrue, ◌++◌, option_to_list, vec_len, vec_capacity};
-ghost use Rattle.dap_msg.specs.BothEnds.{four_bytes, least_buffer, plain_identity};
+ghost use Rattle.dap_msg.specs.BothEnds.{least_buffer, plain_identity};
 ghost use Rattle.dap_msg.specs.Fitting.{FieldsFit};
 ghost use Rattle.dap_msg.specs.declared.message.Configuration.{Configuration as Own};
 ghost use Rattle.dap_msg.specs.declared.message.Message.TheVariants.{Config};
@@ -14,23 +14,22 @@ ghost use Rattle.nsp_link.specs.declared.fault.LinkFault.TheVariants as fault;
 ghost use Rattle.dap_accessing.specs.Asked.{messages_of};
 ghost use Rattle.dap_accessing.specs.Each.{none_kept, records_kept};
 ghost use Rattle.dap_accessing.specs.Calls.{AskRefused, IsAdmittedBy};
-ghost use Rattle.dap_accessing.specs.Outgoing.{number_carried};
 ghost use Rattle.dap_accessing.specs.Prepared.{IsPrepared};
 ghost use Rattle.dap_accessing.specs.declared.fault.AskFault.TheVariants as ask_fault;
 ghost use Rattle.dap_accessing.specs.declared.fault.ReadFault.TheVariants as read_fault;
 ghost use Rattle.dap_end.specs.declared.fault.EndFault.TheVariants as end_fault;
 ghost use Rattle.dap_fields.specs.Spelling.{AreBytes};
 ghost use Rattle.dap_end.specs.Ports.{HandsOver, new_port};
-ghost use Rattle.dap_end.specs.Going.{oldest};
+ghost use Rattle.dap_end.specs.Going.{oldest_message};
 ghost use Rattle.nsp_link.specs.Receiving.{Receives};
 ghost use Rattle.dap_end.specs.Writing.{Behind, WroteMore};
 ghost use Rattle.dap_end.specs.Asking.{HasAsked, AskedOne, ReadOne, ReadNone};
 ghost use Rattle.dap_end.specs.Each.{with_told};
-ghost use Rattle.dap_end.specs.Hearing.{ReadOn, ReadsAll, asks};
+ghost use Rattle.dap_end.specs.Hearing.{ReadOn, ReadsAll, hears};
 ghost use Rattle.dap_end.specs.declared.asking.Heard.TheVariants.{Nothing, Part, Report as Completed};
 ghost use Rattle.dap_accessing.specs.declared.report.Report.{Report as TheReport};
-ghost use Rattle.dap_end.specs.Done.{AskingPast, nothing_asked};
-ghost use Rattle.dap_end.specs.Turns.{Answered, DidAll, WentOn, Takes};
+ghost use Rattle.dap_end.specs.Done.{ClientHistory, nothing_asked};
+ghost use Rattle.dap_end.specs.Turns.{WritesReplies, DidAll, WentOn, TakesPacket};
 ghost use Rattle.dap_end.specs.Inner.Answered.{ended_by};
 ghost use Rattle.dap_end.specs.Inner.Kept.{IsPort};
 ghost use Rattle.dap_end.specs.Inner.AskingView.{asking_of};
@@ -66,11 +65,11 @@ impl Model for AskingEnd {
 
     ghost Value = { AskingValue };
 
-    ghost use Rattle.dap_end.specs.Inner.AskingInside.{asking_view, IsSound};
+    ghost use Rattle.dap_end.specs.Inner.AskingInside.{asking_view, IsSoundAsking};
 
     ghost view = { asking_view };
 
-    ghost invariant = { IsSound };
+    ghost invariant = { IsSoundAsking };
 }
 
 impl AskingEnd {
@@ -135,8 +134,7 @@ impl AskingEnd {
         ensures err { IfErr result (λ f. (self.new ≡ self.old)
             × AskRefused request.now self.old.present f) }
     {
-        let number = request.number();
-        let prepared = self.prepare(request, &number)?;
+        let prepared = self.prepare(request)?;
         self.ask_prepared(request, prepared)
     }
 
@@ -150,36 +148,34 @@ impl AskingEnd {
         self.accessing.check(request)
     }
 
-    /// The messages of a request that `ask` would take, memory aside, for `ask_prepared`, as
-    /// [`dap_accessing::Accessing::prepare`] makes them; refused as `ask` is. `number` has the bytes of the
-    /// request's `number`. It takes no memory.
-    pub fn prepare<'a>(
-        &self,
-        request: &'a Request,
-        number: &'a [u8],
-    ) -> Result<Prepared<'a>, AskFault>
-        requires { number.now ≡ four_bytes (number_carried request.now) }
+    /// What `ask_prepared` needs of a request that `ask` would take, memory aside, as
+    /// [`dap_accessing::Accessing::prepare`] makes it; refused as `ask` is. It takes no memory.
+    pub fn prepare(&self, request: &Request) -> Result<Prepared, AskFault>
         ensures works { OnOk result (self.now.present.failed ≡ false) }
         ensures admissible { OnOk result (IsAdmittedBy self.now.present request.now) }
         ensures prepared { IfOk result (IsPrepared self.now.present request.now) }
         ensures refused { IfErr result (λ f. (f ≢ ask_fault.NoMemory)
             × AskRefused request.now self.now.present f) }
     {
-        self.accessing.prepare(request, number)
+        self.accessing.prepare(request)
     }
 
-    /// Asks a request by the messages that `prepare` made of it, as `ask` does. They aren't looked at again, and it
-    /// fails only if memory is refused, with nothing changed.
-    pub fn ask_prepared(
-        &mut self,
-        request: &Request,
-        prepared: Prepared<'_>,
-    ) -> Result<usize, AskFault>
+    /// Asks a request that `prepare` looked at, as `ask` does. It isn't looked at again, and this fails only if memory is
+    /// refused, with nothing changed.
+    pub fn ask_prepared(&mut self, request: &Request, prepared: Prepared) -> Result<usize, AskFault>
         requires { IsPrepared self.old.present request.now prepared }
         ensures ok { IfOk result (λ n. AskedOne request.now self.old self.new n) }
         ensures err { IfErr result (λ f. (self.new ≡ self.old) × (f ≡ ask_fault.NoMemory)) }
     {
         ask_next(&mut self.port, &mut self.accessing, request, prepared)
+    }
+
+    /// Whether an unexpected answer failed this end, so that every request is refused as `Failed` until `renew`. It
+    /// takes no memory.
+    pub fn has_failed(&self) -> bool
+        ensures { result ≡ self.now.present.failed }
+    {
+        self.accessing.has_failed()
     }
 
     /// Takes a packet in, as [`nsp_link::LinkEnd::receive_bounded`] does; nothing is read by that.
@@ -188,7 +184,8 @@ impl AskingEnd {
           port = record self.old.port { link = self.new.port.link };
         } }
         ensures receives { Receives self.old.port.link self.new.port.link packet.now result }
-        ensures still { (past : AskingPast) → HasAsked past self.old → HasAsked past self.new }
+        ensures still { (history : ClientHistory) → HasAsked history self.old
+            → HasAsked history self.new }
     {
         self.port.receive(packet)
     }
@@ -197,7 +194,7 @@ impl AskingEnd {
     pub fn may_read(&self) -> bool
         ensures yes { result ≡ true → 0 < length self.now.port.link.coming.inbox }
         ensures no { result ≡ false → self.now.port.link.coming.inbox ≡ [] }
-        ensures bytes { AreBytes (oldest self.now.port.link.coming.inbox) }
+        ensures bytes { AreBytes (oldest_message self.now.port.link.coming.inbox) }
     {
         match self.port.link.peek_message() {
             Some(message) => is_left(message),
@@ -284,9 +281,9 @@ impl AskingEnd {
         }
     }
 
-    /// Reads all that came, and hands over what waits.
+    /// Reads all that came, and passes on what waits.
     fn hear_all(&mut self, reports: &mut Vec<Report>) -> Result<(), EndFault>
-        ensures all { DidAll (asks reports.old.items reports.new.items) self.old self.new result }
+        ensures all { DidAll (hears reports.old.items reports.new.items) self.old self.new result }
         ensures works { OnOk result (self.new.port.link.failed ≡ false) }
         ensures failed { IsTrue self.old.present.failed → (self.new ≡ self.old)
             × (reports.new.items ≡ reports.old.items)
@@ -301,7 +298,7 @@ impl AskingEnd {
         }
     }
 
-    /// Reads all that came, hands over what waits, and writes all segments that were never sent, as far as the
+    /// Reads all that came, passes on what waits, and writes all segments that were never sent, as far as the
     /// window allows. The packets follow those in `out`, the reports those in `reports`. Refused as `read` and
     /// `post` are, or if memory is refused. What was done before that stays done, and the same call goes on.
     pub fn go_on(
@@ -309,7 +306,7 @@ impl AskingEnd {
         out: &mut Vec<Vec<u8>>,
         reports: &mut Vec<Report>,
     ) -> Result<(), EndFault>
-        ensures went { WentOn (asks reports.old.items reports.new.items) self.old self.new
+        ensures went { WentOn (hears reports.old.items reports.new.items) self.old self.new
             (bodies out.old.items) (bodies out.new.items) result }
         ensures failed { IsTrue self.old.present.failed → (self.new ≡ self.old)
             × (reports.new.items ≡ reports.old.items)
@@ -320,7 +317,7 @@ impl AskingEnd {
         ended(self.port.emit_all(out))
     }
 
-    /// Takes a packet in, and returns what became of it; reads all that came, hands over what waits, and writes all
+    /// Takes a packet in, and returns what became of it; reads all that came, passes on what waits, and writes all
     /// segments that were never sent, as far as the window allows; or where a segment came and none is written, one
     /// acknowledgement. The packets follow those in `out`, the reports those in `reports`.
     ///
@@ -332,7 +329,8 @@ impl AskingEnd {
         out: &mut Vec<Vec<u8>>,
         reports: &mut Vec<Report>,
     ) -> Result<Got, TakeFault>
-        ensures { Takes (asks reports.old.items reports.new.items) self.old self.new packet.now
+        ensures { TakesPacket (hears reports.old.items reports.new.items)
+            self.old self.new packet.now
             (bodies out.old.items) (bodies out.new.items) result }
     {
         match self.receive(packet) {
@@ -351,7 +349,7 @@ impl AskingEnd {
         out: &mut Vec<Vec<u8>>,
         reports: &mut Vec<Report>,
     ) -> Result<(), EndFault>
-        ensures { Answered (asks reports.old.items reports.new.items) self.old self.new got
+        ensures { WritesReplies (hears reports.old.items reports.new.items) self.old self.new got
             (bodies out.old.items) (bodies out.new.items) result }
     {
         self.hear_all(reports)?;
@@ -391,7 +389,8 @@ impl AskingEnd {
             (λ o. IfSome o (λ v. WroteMore self.old.port self.new.port (v.items ∷ []))) }
         ensures err { IfErr result (λ f. (self.new ≡ self.old) × NextFault self.old.port.link f) }
         ensures failed { IsTrue self.old.port.link.failed → IsErrOf result Failed }
-        ensures still { (past : AskingPast) → HasAsked past self.old → HasAsked past self.new }
+        ensures still { (history : ClientHistory) → HasAsked history self.old
+            → HasAsked history self.new }
     {
         self.port.emit()
     }
@@ -404,7 +403,8 @@ impl AskingEnd {
         ensures rest { self.new ≡ record self.old { port = self.new.port } }
         ensures wrote { IfOk result (λ v. WroteMore self.old.port self.new.port (v.items ∷ [])) }
         ensures err { IfErr result (λ f. (self.new ≡ self.old) × (f ≡ fault.NoMemory)) }
-        ensures still { (past : AskingPast) → HasAsked past self.old → HasAsked past self.new }
+        ensures still { (history : ClientHistory) → HasAsked history self.old
+            → HasAsked history self.new }
     {
         self.port.write_next()
     }
@@ -490,12 +490,12 @@ fn most_messages(request: &Request) -> usize
     }
 }
 
-/// Asks a request by its messages, which wait then.
+/// Asks a request that was looked at; its messages wait then.
 fn ask_next(
     port: &mut Port,
     accessing: &mut Accessing,
     request: &Request,
-    prepared: Prepared<'_>,
+    prepared: Prepared,
 ) -> Result<usize, AskFault>
     requires kept { IsPort port.old }
     requires prepared { IsPrepared accessing.old request.now prepared }
@@ -542,7 +542,7 @@ fn read_next(port: &mut Port, accessing: &mut Accessing) -> Result<Option<Report
     match accessing.read(message, place) {
         Ok(step) => {
             let at_end = is_end(message, step.next);
-            port.go_on(at_end, step.next);
+            port.advance(at_end, step.next);
             Ok(step.report)
         }
         Err(fault) => Err(fault),

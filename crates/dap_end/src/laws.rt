@@ -18,7 +18,7 @@ ghost use Rattle.dap_accessed.specs.declared.setup.ServerSetup.{ServerSetup};
 ghost use Rattle.dap_accessed.specs.Standing.{Files};
 ghost use Rattle.dap_accessed.specs.Groups.{After, Answers};
 ghost use Rattle.dap_accessed.specs.Present.{StandsAfter};
-ghost use Rattle.dap_accessing.specs.Present.{StandsAfter as WaitsAfter};
+ghost use Rattle.dap_accessing.specs.Present.{ClientAfter as WaitsAfter};
 ghost use Rattle.dap_accessing.specs.Asked.{Asked, messages_of};
 ghost use Rattle.dap_accessing.specs.Each.{IsBatch, none_kept, records_kept, reported_behind};
 ghost use Rattle.dap_accessing.specs.Phase.{limit_after};
@@ -33,46 +33,50 @@ ghost use Rattle.dap_end.specs.declared.fault.TakeFault.{TakeFault as TheTakeFau
 ghost use Rattle.dap_end.specs.Ports.{HandsOver, PortValue, new_port};
 ghost use Rattle.dap_end.specs.Going.{AreFrontOf, AreItemsOf};
 ghost use Rattle.dap_end.specs.Serving.{IsAfter, ServedOne};
-ghost use Rattle.dap_end.specs.Done.{ServingValue, Past, answers_to, nothing_yet};
+ghost use Rattle.dap_end.specs.Done.{ServingValue, ServerHistory, answers_to, nothing_yet};
 ghost use Rattle.dap_end.specs.Writing.{WroteMore};
-ghost use Rattle.dap_end.specs.Turns.{DidAll, WentOn, TookIn, Takes};
+ghost use Rattle.dap_end.specs.Turns.{DidAll, WentOn, TookIn, TakesPacket};
 ghost use Rattle.dap_end.specs.Taking.{IsBounded, ServedInTurn, serves};
 ghost use Rattle.dap_end.specs.Wanting.{is_want, why};
-ghost use Rattle.dap_end.specs.Hearing.{ReadOn, ReadsAll, asks};
+ghost use Rattle.dap_end.specs.Hearing.{ReadOn, ReadsAll, hears};
 ghost use Rattle.dap_end.specs.Asking.{HasAsked, HasDone, AskedOne, ReadNone, ReadOne};
 ghost use Rattle.dap_end.specs.Each.{with_told};
 ghost use Rattle.dap_end.specs.Agreement.{IsBufsiz};
 ghost use Rattle.dap_accessed.specs.Sound.{AreFiles};
-ghost use Rattle.dap_end.specs.Done.{AskingValue, AskingPast, nothing_asked};
-ghost use Rattle.dap_end.specs.Headline.{AreWrittenOf, Arrival, IsFromPeer, Written, bytes_of};
+ghost use Rattle.dap_end.specs.Done.{AskingValue, ClientHistory, nothing_asked};
+ghost use Rattle.dap_end.specs.Headline.{AreWrittenOf, Arrival, IsFromPeer, Written, written_bytes};
 ghost use Rattle.dap_end.specs.Joined.{IsBrought, Pair};
-ghost use Rattle.dap_end.specs.Calls.{AskingRuns, PairRuns, Runs};
+ghost use Rattle.dap_end.specs.Calls.{AskingRuns, PairRuns, ServerRuns};
 
 /// What follows for a server that is as after something: its files are those after the items that it served; these are a
 /// prefix of the items in the NSP messages that came, and the next one is at the port's place; what waited counts as handed
 /// over once it was; and what was served on comes after what was served before.
 pub fn serving_ends_stand()
-    ensures files { (past : Past) (v : ServingValue) → IsAfter past v
-        → v.present.files ≡ After v.present.setup past.first past.items }
-    ensures front { (past : Past) (v : ServingValue) → IsAfter past v
-        → AreFrontOf (past.given ++ v.port.link.coming.inbox) past.items }
+    ensures files { (history : ServerHistory) (v : ServingValue) → IsAfter history v
+        → v.present.files ≡ After v.present.setup history.first history.items }
+    ensures front { (history : ServerHistory) (v : ServingValue) → IsAfter history v
+        → AreFrontOf (history.given ++ v.port.link.coming.inbox) history.items }
     // The next item is the one at the port's place.
-    ensures next { (past : Past) (v : ServingValue) (bytes : List ℕ) (later : List (List ℕ))
-        (rest : List Item) → IsAfter past v → v.port.link.coming.inbox ≡ bytes ∷ later
+    ensures next { (history : ServerHistory) (v : ServingValue) (bytes : List ℕ)
+        (later : List (List ℕ))
+        (rest : List Item) → IsAfter history v → v.port.link.coming.inbox ≡ bytes ∷ later
         → ItemsFrom bytes v.port.place rest
-        → AreItemsOf (past.given ++ bytes ∷ []) (past.items ++ rest) }
-    ensures posted { (past : Past) (old new : ServingValue) (n : ℕ) → IsAfter past old
+        → AreItemsOf (history.given ++ bytes ∷ []) (history.items ++ rest) }
+    ensures posted { (history : ServerHistory) (old new : ServingValue) (n : ℕ)
+        → IsAfter history old
         → HandsOver old new n
-        → IsAfter (record past { handed = past.handed ++ old.port.outbox }) new }
-    // What was served on counts behind that, and so does what was handed over. Of the link only what came and what is queued
+        → IsAfter (record history { handed = history.handed ++ old.port.outbox }) new }
+    // What was served on counts after that, and so does what was passed on. Of the link only what came and what is queued
     // moved.
-    ensures served_on { (most : ℕ) (past : Past) (old new : ServingValue) → IsAfter past old
+    ensures served_on { (most : ℕ) (history : ServerHistory) (old new : ServingValue)
+        → IsAfter history old
         → ServedInTurn most old new → (given handed : List (List ℕ)) × (items : List Item)
-        × IsAfter (record past {
+        × IsAfter (record history {
           given = given;
-          items = past.items ++ items;
-          handed = past.handed ++ handed;
-        }) new × (given ++ new.port.link.coming.inbox ≡ past.given ++ old.port.link.coming.inbox) }
+          items = history.items ++ items;
+          handed = history.handed ++ handed;
+        }) new × (given ++ new.port.link.coming.inbox
+        ≡ history.given ++ old.port.link.coming.inbox) }
     ensures rest { (most : ℕ) (old new : ServingValue) → ServedInTurn most old new
         → (new.present.own ≡ old.present.own)
         × (new.port.link ≡ record (with_inbox old.port.link new.port.link.coming.inbox) {
@@ -84,34 +88,35 @@ pub fn serving_ends_stand()
 {}
 
 /// What follows for a client that has asked something: what it read is a prefix of the items in the NSP messages that came,
-/// and the next one is at the port's place; one request more that was asked, and what waited once it was handed over, count
+/// and the next one is at the port's place; one request more that was asked, and what waited once it was passed on, count
 /// too; and what was read on comes after what was read before, with the reports that it adds.
 pub fn asking_ends_stand()
-    ensures front { (past : AskingPast) (v : AskingValue) → HasAsked past v
-        → AreFrontOf (past.given ++ v.port.link.coming.inbox) past.answers }
+    ensures front { (history : ClientHistory) (v : AskingValue) → HasAsked history v
+        → AreFrontOf (history.given ++ v.port.link.coming.inbox) history.answers }
     // The next answer is the one at the port's place.
-    ensures next { (past : AskingPast) (v : AskingValue) (bytes : List ℕ)
-        (later : List (List ℕ)) (rest : List Item) → HasAsked past v
+    ensures next { (history : ClientHistory) (v : AskingValue) (bytes : List ℕ)
+        (later : List (List ℕ)) (rest : List Item) → HasAsked history v
         → v.port.link.coming.inbox ≡ bytes ∷ later → ItemsFrom bytes v.port.place rest
-        → AreItemsOf (past.given ++ bytes ∷ []) (past.answers ++ rest) }
-    ensures asked { (past : AskingPast) (request : TheRequest) (old new : AskingValue) (n : ℕ)
-        → HasAsked past old → AskedOne request old new n → HasAsked (record past {
-          requests = past.requests ++ request ∷ [];
-          asked = past.asked ++ Blocked (limit_after (Told past.requests past.answers))
+        → AreItemsOf (history.given ++ bytes ∷ []) (history.answers ++ rest) }
+    ensures asked { (history : ClientHistory) (request : TheRequest) (old new : AskingValue) (n : ℕ)
+        → HasAsked history old → AskedOne request old new n → HasAsked (record history {
+          requests = history.requests ++ request ∷ [];
+          asked = history.asked ++ Blocked (limit_after (Told history.requests history.answers))
               (messages_of old.present.identity request);
         }) new }
-    ensures posted { (past : AskingPast) (old new : AskingValue) (n : ℕ) → HasAsked past old
+    ensures posted { (history : ClientHistory) (old new : AskingValue) (n : ℕ)
+        → HasAsked history old
         → HandsOver old new n
-        → HasAsked (record past { handed = past.handed ++ old.port.outbox }) new }
-    // What was read on counts behind that, and the reports are those that it adds. Of the link only what came moved.
-    ensures read_on { (past : AskingPast) (old new : AskingValue) (reports : List TheReport)
-        → HasAsked past old → ReadOn old new reports → (given : List (List ℕ))
-        × (answers : List Item) × HasAsked (record past {
+        → HasAsked (record history { handed = history.handed ++ old.port.outbox }) new }
+    // What was read on counts after that, and the reports are those that it adds. Of the link only what came moved.
+    ensures read_on { (history : ClientHistory) (old new : AskingValue) (reports : List TheReport)
+        → HasAsked history old → ReadOn old new reports → (given : List (List ℕ))
+        × (answers : List Item) × HasAsked (record history {
           given = given;
-          answers = past.answers ++ answers;
-        }) new × (given ++ new.port.link.coming.inbox ≡ past.given ++ old.port.link.coming.inbox)
-        × (Told past.requests (past.answers ++ answers)
-        ≡ Told past.requests past.answers ++ reports) }
+          answers = history.answers ++ answers;
+        }) new × (given ++ new.port.link.coming.inbox ≡ history.given ++ old.port.link.coming.inbox)
+        × (Told history.requests (history.answers ++ answers)
+        ≡ Told history.requests history.answers ++ reports) }
     ensures rest { (old new : AskingValue) (reports : List TheReport) → ReadOn old new reports
         → (new.present.own ≡ old.present.own) × (new.port.outbox ≡ old.port.outbox)
         × (new.port.link ≡ with_inbox old.port.link new.port.link.coming.inbox) }
@@ -120,47 +125,51 @@ pub fn asking_ends_stand()
 /// Records of a batch under way may be taken out as they come. With all that were taken put back, a client stands as one that
 /// keeps them, whatever it does on its link and whatever it reads; but the report of the batch has the others alone.
 pub fn taken_records_count()
-    ensures taken { (told : List (ℕ × List ℕ)) (past : AskingPast) (v : AskingValue)
-        → HasAsked past (with_told told v)
-        → HasAsked past (with_told (told ++ records_kept v.present.pending)
+    ensures taken { (told : List (ℕ × List ℕ)) (history : ClientHistory) (v : AskingValue)
+        → HasAsked history (with_told told v)
+        → HasAsked history (with_told (told ++ records_kept v.present.pending)
         (record v { present = record v.present { pending = none_kept v.present.pending } })) }
-    ensures read { (told : List (ℕ × List ℕ)) (past : AskingPast) (old new : AskingValue)
-        (report : Option TheReport) → IsBatch old.present → HasAsked past (with_told told old)
+    ensures read { (told : List (ℕ × List ℕ)) (history : ClientHistory) (old new : AskingValue)
+        (report : Option TheReport) → IsBatch old.present → HasAsked history (with_told told old)
         → ReadOne old new report → (given : List (List ℕ)) × (answer : Item)
-        × HasAsked (record past {
+        × HasAsked (record history {
           given = given;
-          answers = past.answers ++ answer ∷ [];
+          answers = history.answers ++ answer ∷ [];
         }) (with_told told new)
-        × (Told past.requests (past.answers ++ answer ∷ []) ≡ Told past.requests past.answers
+        × (Told history.requests (history.answers ++ answer ∷ [])
+        ≡ Told history.requests history.answers
         ++ option_to_list (option_map (reported_behind told) report)) }
-    ensures received { (told : List (ℕ × List ℕ)) (past : AskingPast) (old new : AskingValue)
-        (packet : List ℕ) (r : Result TheGot TheFault) → HasAsked past (with_told told old)
-        → TookIn old new packet r → HasAsked past (with_told told new) }
-    ensures posted { (told : List (ℕ × List ℕ)) (past : AskingPast) (old new : AskingValue) (n : ℕ)
-        → HasAsked past (with_told told old) → HandsOver old new n
-        → HasAsked (record past { handed = past.handed ++ old.port.outbox })
+    ensures received { (told : List (ℕ × List ℕ)) (history : ClientHistory) (old new : AskingValue)
+        (packet : List ℕ) (r : Result TheGot TheFault) → HasAsked history (with_told told old)
+        → TookIn old new packet r → HasAsked history (with_told told new) }
+    ensures posted { (told : List (ℕ × List ℕ)) (history : ClientHistory) (old new : AskingValue)
+        (n : ℕ)
+        → HasAsked history (with_told told old) → HandsOver old new n
+        → HasAsked (record history { handed = history.handed ++ old.port.outbox })
         (with_told told new) }
-    ensures wrote { (told : List (ℕ × List ℕ)) (past : AskingPast) (old new : AskingValue)
-        (packets : List (List ℕ)) → HasAsked past (with_told told old)
+    ensures wrote { (told : List (ℕ × List ℕ)) (history : ClientHistory) (old new : AskingValue)
+        (packets : List (List ℕ)) → HasAsked history (with_told told old)
         → new ≡ record old { port = new.port } → WroteMore old.port new.port packets
-        → HasAsked past (with_told told new) }
+        → HasAsked history (with_told told new) }
 {}
 
 /// Each call of a server, refused or not, is a run, with the packet that came in it. No call is one, and two are
 /// one where the second begins as the first ends.
 pub fn calls_are_runs()
-    ensures none { (v : ServingValue) → Runs [] v v [] }
+    ensures none { (v : ServingValue) → ServerRuns [] v v [] }
     ensures more { (came later : List Arrival) (old mid new : ServingValue)
-        (ws more : List Written) → Runs came old mid ws → Runs later mid new more
-        → Runs (came ++ later) old new (ws ++ more) }
+        (ws more : List Written) → ServerRuns came old mid ws → ServerRuns later mid new more
+        → ServerRuns (came ++ later) old new (ws ++ more) }
     ensures receive { (old new : ServingValue) (bytes : List ℕ) (r : Result TheGot TheFault)
-        → TookIn old new bytes r → Runs ((old.port.link, bytes) ∷ []) old new [] }
-    ensures serve { (old new : ServingValue) (n : ℕ) → ServedOne old new n → Runs [] old new [] }
+        → TookIn old new bytes r → ServerRuns ((old.port.link, bytes) ∷ []) old new [] }
+    ensures serve { (old new : ServingValue) (n : ℕ) → ServedOne old new n
+        → ServerRuns [] old new [] }
     ensures serve_all { (most : ℕ) (old new : ServingValue) (r : Result (Unit {0}) TheEndFault)
-        → DidAll (serves most) old new r → Runs [] old new [] }
-    ensures post { (old new : ServingValue) (n : ℕ) → HandsOver old new n → Runs [] old new [] }
+        → DidAll (serves most) old new r → ServerRuns [] old new [] }
+    ensures post { (old new : ServingValue) (n : ℕ) → HandsOver old new n
+        → ServerRuns [] old new [] }
     ensures emit { (old new : ServingValue) (bytes : List ℕ) → new ≡ record old { port = new.port }
-        → WroteMore old.port new.port (bytes ∷ []) → Runs [] old new (record {
+        → WroteMore old.port new.port (bytes ∷ []) → ServerRuns [] old new (record {
           bytes = bytes;
           segment = Some (old.port.link.sent + 1);
           acks = old.port.link.coming.received;
@@ -168,27 +177,28 @@ pub fn calls_are_runs()
     ensures resend { (v : ServingValue) (i : ℕ) (bytes : List ℕ)
         → i < v.port.link.sent - v.port.link.acked
         → WritesSent v.port.link (Some (v.port.link.acked + 1 + i)) bytes
-        → Runs [] v v (record {
+        → ServerRuns [] v v (record {
           bytes = bytes;
           segment = Some (v.port.link.acked + 1 + i);
           acks = v.port.link.coming.received;
         } ∷ []) }
     ensures ack { (v : ServingValue) (bytes : List ℕ)
-        → IsSpelling (ack_packet_of v.port.link) bytes → Runs [] v v (record {
+        → IsSpelling (ack_packet_of v.port.link) bytes → ServerRuns [] v v (record {
           bytes = bytes;
           segment = None;
           acks = v.port.link.coming.received;
         } ∷ []) }
     ensures go_on { (most : ℕ) (old new : ServingValue) (out all : List (List ℕ))
         (r : Result (Unit {0}) TheEndFault) → WentOn (serves most) old new out all r
-        → (wrote : List Written) × Runs [] old new wrote × (all ≡ out ++ bytes_of wrote) }
+        → (wrote : List Written) × ServerRuns [] old new wrote
+        × (all ≡ out ++ written_bytes wrote) }
     ensures take { (most : ℕ) (old new : ServingValue) (bytes : List ℕ) (out all : List (List ℕ))
-        (r : Result TheGot TheTakeFault) → Takes (serves most) old new bytes out all r
-        → (wrote : List Written) × Runs ((old.port.link, bytes) ∷ []) old new wrote
-        × (all ≡ out ++ bytes_of wrote) }
+        (r : Result TheGot TheTakeFault) → TakesPacket (serves most) old new bytes out all r
+        → (wrote : List Written) × ServerRuns ((old.port.link, bytes) ∷ []) old new wrote
+        × (all ≡ out ++ written_bytes wrote) }
 {}
 
-/// Each call of a client is a run, refused or not, but one in which an answer has no place. No call is one, and two
+/// Each call of a client is a run, refused or not, but one in which an answer is out of sequence. No call is one, and two
 /// are one where the second begins as the first ends.
 pub fn asking_calls_are_runs()
     ensures none { (v : AskingValue) → AskingRuns [] [] v v [] [] }
@@ -206,7 +216,8 @@ pub fn asking_calls_are_runs()
         (r : Result (Unit {0}) TheReadFault) → IfErr r (λ f. f ≢ read_fault.Unexpected)
         → ReadsAll old new before all r → (reports : List TheReport)
         × AskingRuns [] [] old new reports [] × (all ≡ before ++ reports) }
-    ensures post { (old new : AskingValue) (n : ℕ) → HandsOver old new n → AskingRuns [] [] old new [] [] }
+    ensures post { (old new : AskingValue) (n : ℕ) → HandsOver old new n
+        → AskingRuns [] [] old new [] [] }
     ensures emit { (old new : AskingValue) (bytes : List ℕ) → new ≡ record old { port = new.port }
         → WroteMore old.port new.port (bytes ∷ []) → AskingRuns [] [] old new [] (record {
           bytes = bytes;
@@ -230,17 +241,17 @@ pub fn asking_calls_are_runs()
     ensures go_on { (old new : AskingValue) (out all : List (List ℕ))
         (before after : List TheReport) (r : Result (Unit {0}) TheEndFault)
         → IfErr r (λ f. f ≢ end_fault.Read read_fault.Unexpected)
-        → WentOn (asks before after) old new out all r
+        → WentOn (hears before after) old new out all r
         → (reports : List TheReport) × (wrote : List Written)
         × AskingRuns [] [] old new reports wrote
-        × (all ≡ out ++ bytes_of wrote) × (after ≡ before ++ reports) }
+        × (all ≡ out ++ written_bytes wrote) × (after ≡ before ++ reports) }
     ensures take { (old new : AskingValue) (bytes : List ℕ) (out all : List (List ℕ))
         (before after : List TheReport) (r : Result TheGot TheTakeFault)
         → IfErr r (λ f. why f ≢ end_fault.Read read_fault.Unexpected)
-        → Takes (asks before after) old new bytes out all r
+        → TakesPacket (hears before after) old new bytes out all r
         → (reports : List TheReport) × (wrote : List Written)
         × AskingRuns ((old.port.link, bytes) ∷ []) [] old new reports wrote
-        × (all ≡ out ++ bytes_of wrote) × (after ≡ before ++ reports) }
+        × (all ≡ out ++ written_bytes wrote) × (after ≡ before ++ reports) }
 {}
 
 /// Whatever bytes come to an end that served nothing yet, and whatever it was called to do, there is a list of
@@ -248,10 +259,10 @@ pub fn asking_calls_are_runs()
 /// them, and each packet that it wrote carries its segment of that.
 pub fn every_run_is_served()
     ensures { (came : List Arrival) (first : Files) (old new : ServingValue)
-        (wrote : List Written) → IsAfter (nothing_yet first) old → Runs came old new wrote
-        → (past : Past) × IsAfter past new × (past.first ≡ first)
-        × (new.present.files ≡ After new.present.setup past.first past.items)
-        × AreWrittenOf new.port.link past.handed wrote }
+        (wrote : List Written) → IsAfter (nothing_yet first) old → ServerRuns came old new wrote
+        → (history : ServerHistory) × IsAfter history new × (history.first ≡ first)
+        × (new.present.files ≡ After new.present.setup history.first history.items)
+        × AreWrittenOf new.port.link history.handed wrote }
 {}
 
 /// Where the packets are those of a peer that sends some NSP messages, lost, repeated and reordered as they may be,
@@ -260,23 +271,27 @@ pub fn a_peer_is_served_in_order()
     ensures { (setup : TheSetup) (first : Files) (size : ℕ) (messages : List (List ℕ))
         (came : List Arrival) (old new : ServingValue) (wrote : List Written)
         → AllByRecursion (λ c. IsFromPeer size messages c.0 c.1) came
-        → old.port ≡ new_port setup → IsAfter (nothing_yet first) old → Runs came old new wrote
-        → (past : Past) × IsAfter past new × (past.first ≡ first)
-        × AreFrontOf messages past.items }
+        → old.port ≡ new_port setup → IsAfter (nothing_yet first) old
+        → ServerRuns came old new wrote
+        → (history : ServerHistory) × IsAfter history new × (history.first ≡ first)
+        × AreFrontOf messages history.items }
 {}
 
 /// Whatever a server is called to do by itself leaves one end, and writes one list of packets, by what the end did
 /// before: also where it is refused half-way, unless memory is refused.
 pub fn serving_is_determined()
-    ensures serve { (past : Past) (old one two : ServingValue) (n m : ℕ) → IsAfter past old
+    ensures serve { (history : ServerHistory) (old one two : ServingValue) (n m : ℕ)
+        → IsAfter history old
         → ServedOne old one n → ServedOne old two m → (one ≡ two) × (n ≡ m) }
-    ensures serve_all { (most : ℕ) (past : Past) (old one two : ServingValue)
-        (r s : Result (Unit {0}) TheEndFault) → IsAfter past old
+    ensures serve_all { (most : ℕ) (history : ServerHistory) (old one two : ServingValue)
+        (r s : Result (Unit {0}) TheEndFault) → IsAfter history old
         → IfErr r (λ f. is_want f ≡ false) → IfErr s (λ f. is_want f ≡ false)
         → DidAll (serves most) old one r → DidAll (serves most) old two s
         → (one ≡ two) × (r ≡ s) }
-    ensures go_on { (most : ℕ) (past : Past) (old one two : ServingValue) (out xs ys : List (List ℕ))
-        (r s : Result (Unit {0}) TheEndFault) → IsAfter past old → IfErr r (λ f. is_want f ≡ false)
+    ensures go_on { (most : ℕ) (history : ServerHistory) (old one two : ServingValue)
+        (out xs ys : List (List ℕ))
+        (r s : Result (Unit {0}) TheEndFault) → IsAfter history old → IfErr r (λ f. is_want f
+        ≡ false)
         → IfErr s (λ f. is_want f ≡ false) → WentOn (serves most) old one out xs r
         → WentOn (serves most) old two out ys s → (one ≡ two) × (r ≡ s) × (xs ≡ ys) }
 {}
@@ -290,12 +305,13 @@ pub fn answers_are_bounded()
         → WentOn (serves most) old new out all r → IsBounded most old old new }
     ensures take { (most : ℕ) (old new : ServingValue) (bytes : List ℕ) (out all : List (List ℕ))
         (r : Result TheGot TheTakeFault) → 0 < old.port.link.setup.seg_size
-        → Takes (serves most) old new bytes out all r
+        → TakesPacket (serves most) old new bytes out all r
         → (first : ServingValue) × (q : Result TheGot TheFault) × TookIn old first bytes q
         × IsBounded most old first new }
-    ensures nothing_left { (most : ℕ) (past : Past) (old new : ServingValue) (out all : List (List ℕ))
+    ensures nothing_left { (most : ℕ) (history : ServerHistory) (old new : ServingValue)
+        (out all : List (List ℕ))
         → 0 < most → 0 < old.port.link.setup.seg_size → 0 < new.port.link.setup.window
-        → IsAfter past new → WentOn (serves most) old new out all (Ok tt)
+        → IsAfter history new → WentOn (serves most) old new out all (Ok tt)
         → new.port.link.sent ≡ new.port.link.acked → new.port.link.coming.inbox ≡ [] }
 {}
 
@@ -303,11 +319,12 @@ pub fn answers_are_bounded()
 /// reports and one of packets, by what the end did before: also where it is refused half-way, unless memory is
 /// refused.
 pub fn asking_is_determined()
-    ensures ask { (past : AskingPast) (request : TheRequest) (old one two : AskingValue) (n m : ℕ)
-        → HasAsked past old → AskedOne request old one n → AskedOne request old two m
+    ensures ask { (history : ClientHistory) (request : TheRequest) (old one two : AskingValue)
+        (n m : ℕ)
+        → HasAsked history old → AskedOne request old one n → AskedOne request old two m
         → (one ≡ two) × (n ≡ m) }
-    ensures read { (past : AskingPast) (old one two : AskingValue) (r s : Option TheReport)
-        → HasAsked past old → ReadOne old one r → ReadOne old two s → (one ≡ two) × (r ≡ s) }
+    ensures read { (history : ClientHistory) (old one two : AskingValue) (r s : Option TheReport)
+        → HasAsked history old → ReadOne old one r → ReadOne old two s → (one ≡ two) × (r ≡ s) }
     ensures read_all { (old one two : AskingValue) (before rs ss : List TheReport)
         (r s : Result (Unit {0}) TheReadFault) → HasDone old
         → r ≢ Err read_fault.NoMemory → s ≢ Err read_fault.NoMemory
@@ -316,29 +333,31 @@ pub fn asking_is_determined()
     ensures go_on { (old one two : AskingValue) (out xs ys : List (List ℕ))
         (before rs ss : List TheReport) (r s : Result (Unit {0}) TheEndFault) → HasDone old
         → IfErr r (λ f. is_want f ≡ false) → IfErr s (λ f. is_want f ≡ false)
-        → WentOn (asks before rs) old one out xs r → WentOn (asks before ss) old two out ys s
+        → WentOn (hears before rs) old one out xs r → WentOn (hears before ss) old two out ys s
         → (one ≡ two) × (r ≡ s) × (xs ≡ ys) × (rs ≡ ss) × HasDone one }
 {}
 
 /// A packet that is taken in leaves one end, and is answered by one list of packets, and of reports, by what the
 /// end did before; so is one that is refused, or of which not all is done, unless memory is refused.
 pub fn taking_is_determined()
-    ensures serving { (most : ℕ) (past : Past) (old one two : ServingValue) (bytes : List ℕ)
+    ensures serving { (most : ℕ) (history : ServerHistory) (old one two : ServingValue)
+        (bytes : List ℕ)
         (out xs ys : List (List ℕ)) (r s : Result TheGot TheTakeFault) → AreBytes bytes
-        → IsAfter past old → IfErr r (λ f. is_want (why f) ≡ false)
+        → IsAfter history old → IfErr r (λ f. is_want (why f) ≡ false)
         → IfErr s (λ f. is_want (why f) ≡ false)
-        → Takes (serves most) old one bytes out xs r → Takes (serves most) old two bytes out ys s
+        → TakesPacket (serves most) old one bytes out xs r
+        → TakesPacket (serves most) old two bytes out ys s
         → (one ≡ two) × (r ≡ s) × (xs ≡ ys) }
     ensures asking { (old one two : AskingValue) (bytes : List ℕ)
         (out xs ys : List (List ℕ)) (before rs ss : List TheReport)
         (r s : Result TheGot TheTakeFault) → AreBytes bytes → HasDone old
         → IfErr r (λ f. is_want (why f) ≡ false) → IfErr s (λ f. is_want (why f) ≡ false)
-        → Takes (asks before rs) old one bytes out xs r
-        → Takes (asks before ss) old two bytes out ys s
+        → TakesPacket (hears before rs) old one bytes out xs r
+        → TakesPacket (hears before ss) old two bytes out ys s
         → (one ≡ two) × (r ≡ s) × (xs ≡ ys) × (rs ≡ ss) × HasDone one }
 {}
 
-/// What is handed over is handed over or refused by what waits, unless memory is refused.
+/// What is passed on is passed on or refused by what waits, unless memory is refused.
 pub fn posting_is_determined()
     ensures one { (old one two : ServingValue) (n m : ℕ) → HandsOver old one n → HandsOver old two m
         → (one ≡ two) × (n ≡ m) }
@@ -351,16 +370,16 @@ pub fn posting_is_determined()
 {}
 
 /// Whatever bytes come to an end of which nothing was asked, and whatever is asked of it, up to the first answer
-/// that has no place: its reports are those of the definition for the requests and of the answers that it
+/// that is out of sequence: its reports are those of the definition for the requests and of the answers that it
 /// read, what it handed to its link is a prefix of the requests' messages, and each packet that it wrote carries
 /// its segment of that.
 pub fn every_run_is_told()
     ensures { (came : List Arrival) (requests : List TheRequest) (old new : AskingValue)
         (reports : List TheReport) (wrote : List Written)
         → HasAsked nothing_asked old → AskingRuns came requests old new reports wrote
-        → (past : AskingPast) × HasAsked past new × (past.requests ≡ requests)
-        × (reports ≡ Told past.requests past.answers)
-        × AreWrittenOf new.port.link past.handed wrote }
+        → (history : ClientHistory) × HasAsked history new × (history.requests ≡ requests)
+        × (reports ≡ Told history.requests history.answers)
+        × AreWrittenOf new.port.link history.handed wrote }
 {}
 
 /// Where the packets are those of a peer that sends some NSP messages, lost, repeated and reordered as they may be,
@@ -372,16 +391,17 @@ pub fn a_peer_is_heard_in_order()
         → AllByRecursion (λ c. IsFromPeer size messages c.0 c.1) came
         → old.port ≡ new_port setup → HasAsked nothing_asked old
         → AskingRuns came requests old new reports wrote
-        → (past : AskingPast) × HasAsked past new × AreFrontOf messages past.answers }
+        → (history : ClientHistory) × HasAsked history new × AreFrontOf messages history.answers }
 {}
 
 /// What an end holds follows from what it did, from its port, and from its setup or its Configuration. So whatever a call leaves by which an
 /// end is as after something known, as those do that make it, renew it or give it files, is determined.
 pub fn ends_are_one()
-    ensures serving { (past : Past) (one two : ServingValue) → IsAfter past one → IsAfter past two
+    ensures serving { (history : ServerHistory) (one two : ServingValue) → IsAfter history one
+        → IsAfter history two
         → one.port ≡ two.port → one.present.setup ≡ two.present.setup → one ≡ two }
-    ensures asking { (past : AskingPast) (one two : AskingValue) → HasAsked past one
-        → HasAsked past two → one.port ≡ two.port → one.present.identity ≡ two.present.identity
+    ensures asking { (history : ClientHistory) (one two : AskingValue) → HasAsked history one
+        → HasAsked history two → one.port ≡ two.port → one.present.identity ≡ two.present.identity
         → one ≡ two }
 {}
 
@@ -408,7 +428,8 @@ pub fn peers_are_taken_in()
         (came : List Arrival) (old mid new : ServingValue) (wrote : List Written)
         (bytes : List ℕ) (f : TheFault)
         → AllByRecursion (λ c. IsFromPeer size messages c.0 c.1) came
-        → old.port ≡ new_port setup → IsAfter (nothing_yet first) old → Runs came old mid wrote
+        → old.port ≡ new_port setup → IsAfter (nothing_yet first) old
+        → ServerRuns came old mid wrote
         → IsFromPeer size messages mid.port.link bytes → TookIn mid new bytes (Err f)
         → ((f ≡ fault.NoMemory) ⊎ (f ≡ fault.Exhausted)) × (new ≡ mid) }
     ensures asking { (setup : TheSetup) (size : ℕ) (messages : List (List ℕ))
@@ -436,7 +457,7 @@ pub fn runs_of_two_ends()
         }) }
     ensures serving { (old : Pair) (b : ServingValue) (came : List Arrival)
         (wrote : List Written) → AllByRecursion (λ c. IsBrought old.from_a c.0 c.1) came
-        → Runs came old.b b wrote
+        → ServerRuns came old.b b wrote
         → PairRuns old (record old { b = b; from_b = old.from_b ++ wrote }) }
     ensures more { (old mid new : Pair) → PairRuns old mid → PairRuns mid new → PairRuns old new }
 {}

@@ -12,12 +12,12 @@ ghost use Rattle.dap_accessed.specs.Adding.{MayStore, with_new_file};
 ghost use Rattle.dap_accessed.specs.Setup.{IsServerSetup, plain_setup};
 ghost use Rattle.dap_shared.specs.Nodes.{Event, Gives, GivesRecord, exchange_at, node_after, with_record_at};
 ghost use Rattle.dap_shared.specs.Shared.{AtFile, NotAdded, NotRemoved, RecordNotAdded, SharedAfter, SharedDrops, SharedGiven, rights_on};
-ghost use Rattle.dap_accessed.specs.Standing.{Files, file_at, place_by};
+ghost use Rattle.dap_accessed.specs.Standing.{Files, file_at, index_by};
 ghost use Rattle.dap_end.specs.Ports.{PortValue};
 ghost use Rattle.std.specs.List.{list_any, position};
 ghost use Rattle.dap_end.specs.Inner.Come.{come_on};
-ghost use Rattle.dap_end.specs.Node.{AtPort, BeganOn, EndedOn, HasPort, IsTaken, NodeNotGiven, NoneHasCome, NotBegun, OnLink, SomeHasCome, has_local, is_between, is_free, serves_on};
-ghost use Rattle.dap_end.specs.Turns.{Takes, WentOn};
+ghost use Rattle.dap_end.specs.Node.{AtPort, BeganOn, EndedOn, HasPort, IsTaken, NodeNotGiven, NoneHasCome, NotBegun, OnLink, SomeHasCome, has_local, is_between, is_free_link, serves_on};
+ghost use Rattle.dap_end.specs.Turns.{TakesPacket, WentOn};
 ghost use Rattle.dap_end.specs.declared.fault.EndFault.TheVariants as end_fault;
 ghost use Rattle.std.specs.Result.{result_map_both};
 
@@ -58,7 +58,7 @@ impl Model for ServingNode {
 /// The address of a link that isn't there.
 const NO_ADDRESS: u16 = 0;
 
-/// So many links that aren't there.
+/// This many links that aren't there.
 fn no_ports(alloc: Global, links: usize) -> Result<Vec<Option<Port>>, NoMemory>
     ensures { IfOk result (λ ports. ports.items ≡ replicate links None) }
 {
@@ -67,18 +67,6 @@ fn no_ports(alloc: Global, links: usize) -> Result<Vec<Option<Port>>, NoMemory>
         ports.push(None)?;
     }
     Ok(ports)
-}
-
-/// Takes the port of a link out.
-fn take_port(ports: &mut Vec<Option<Port>>, link: usize) -> Port
-    requires { (p : PortValue) × (slice_get ports.old.items link ≡ Some (Some p)) }
-    ensures port { slice_get ports.old.items link ≡ Some (Some result) }
-    ensures rest { ports.new.items ≡ set ports.old.items link None }
-{
-    match ports[link].take() {
-        Some(port) => port,
-        None => unreachable!(),
-    }
 }
 
 /// The port of a link.
@@ -110,7 +98,7 @@ fn has_come(ports: &[Option<Port>]) -> bool
 }
 
 impl ServingNode {
-    /// A node with no files, with a buffer of this many bytes, at least 64, and room for so many links, of which none
+    /// A node with no files, with a buffer of this many bytes, at least 64, and room for this many links, of which none
     /// is there. However many it is, the table by which they are found has a place for each of the 65,536 addresses.
     pub fn new(alloc: Global, bufsiz: u16, links: usize) -> Result<ServingNode, NoMemory>
         requires { least_buffer ≤ bufsiz }
@@ -202,7 +190,7 @@ impl ServingNode {
 
     /// The first link that isn't there; none where all are.
     pub fn find_free(&self) -> Option<usize>
-        ensures { result ≡ position is_free self.now.ports }
+        ensures { result ≡ position is_free_link self.now.ports }
     {
         places::find_free(&self.ports)
     }
@@ -266,16 +254,16 @@ impl ServingNode {
         out: &mut Vec<Vec<u8>>,
     ) -> Result<Got, TakeFault>
         requires { (p : PortValue) × HasPort link self.old p }
-        ensures takes { OnLink link (λ before after. Takes (serves_on link most_waiting)
+        ensures takes { OnLink link (λ before after. TakesPacket (serves_on link most_waiting)
             before after packet.now (bodies out.old.items) (bodies out.new.items) result)
             self.old self.new }
         ensures addresses { self.new.noted.addresses ≡ self.old.noted.addresses }
     {
-        let mut port = take_port(&mut self.ports, link);
         self.noted.forget();
-        let result = turns::take(&mut port, &mut self.noted, link, packet, most_waiting, out);
-        self.ports[link] = Some(port);
-        result
+        match &mut self.ports[link] {
+            Some(port) => turns::take(port, &mut self.noted, link, packet, most_waiting, out),
+            None => unreachable!(),
+        }
     }
 
     /// What [`crate::ServingEnd::go_on`] does, on one of the links: no other link moves. What was noted before is
@@ -292,11 +280,11 @@ impl ServingNode {
             (result_map_both (λ done. done) end_fault.Link result)) self.old self.new }
         ensures addresses { self.new.noted.addresses ≡ self.old.noted.addresses }
     {
-        let mut port = take_port(&mut self.ports, link);
         self.noted.forget();
-        let result = turns::go_on(&mut port, &mut self.noted, link, most_waiting, out);
-        self.ports[link] = Some(port);
-        result
+        match &mut self.ports[link] {
+            Some(port) => turns::go_on(port, &mut self.noted, link, most_waiting, out),
+            None => unreachable!(),
+        }
     }
 
     /// What [`crate::ServingEnd::resend`] writes, on one of the links: the packet of a segment that was sent and isn't
@@ -347,7 +335,7 @@ impl ServingNode {
     pub fn add(&mut self, name: &[u8], shape: Shape) -> Result<(), AddFault>
         requires { IsTrue (is_shape shape) }
         ensures idle { OnOk result (NoneHasCome self.old.ports) }
-        ensures may { OnOk result (place_by self.old.noted.shared.setup.names name.now
+        ensures may { OnOk result (index_by self.old.noted.shared.setup.names name.now
             self.old.noted.shared.files ≡ None) }
         ensures given { OnOk result
             (SharedGiven (Gives name.now shape) self.old.noted.shared self.new.noted.shared) }
@@ -356,7 +344,8 @@ impl ServingNode {
         ensures ports { self.new.ports ≡ self.old.ports }
         ensures notes { self.new.noted ≡ record self.old.noted { shared = self.new.noted.shared } }
         ensures refused { IfErr result
-            (NodeNotGiven self.old (NotAdded self.old.noted.shared.setup.names self.old.noted.shared.files name.now)) }
+            (NodeNotGiven self.old
+            (NotAdded self.old.noted.shared.setup.names self.old.noted.shared.files name.now)) }
         ensures unchanged { OnErr result (self.new ≡ self.old) }
     {
         if has_come(&self.ports) {
@@ -383,7 +372,8 @@ impl ServingNode {
         ensures ports { self.new.ports ≡ self.old.ports }
         ensures notes { self.new.noted ≡ record self.old.noted { shared = self.new.noted.shared } }
         ensures refused { IfErr result
-            (NodeNotGiven self.old (RecordNotAdded self.old.noted.shared name.now number body.now)) }
+            (NodeNotGiven self.old (RecordNotAdded self.old.noted.shared name.now
+            number body.now)) }
         ensures unchanged { OnErr result (self.new ≡ self.old) }
     {
         if has_come(&self.ports) {

@@ -2,7 +2,7 @@
 
 ghost use Rattle.std.specs.Prelude.{◌≡◌, ◌≢◌, ℕ, IfOk, None, Some, false, length, replicate, set, slice_get, true};
 ghost use Rattle.std.specs.List.{position};
-ghost use Rattle.dap_end.specs.Node.{has_local, is_between, is_free};
+ghost use Rattle.dap_end.specs.Node.{has_local, is_between, is_free_link};
 ghost use Rattle.dap_end.specs.Inner.NodeInside.{IsTable, unlisted};
 
 use crate::port::Port;
@@ -100,14 +100,14 @@ pub(crate) fn find_between(
 
 /// Whether a link isn't there.
 fn is_empty(port: &Option<Port>) -> bool
-    ensures { result ≡ is_free port.now }
+    ensures { result ≡ is_free_link port.now }
 {
     port.is_none()
 }
 
 /// The first link that isn't there.
 pub(crate) fn find_free(ports: &[Option<Port>]) -> Option<usize>
-    ensures { result ≡ position is_free ports.now }
+    ensures { result ≡ position is_free_link ports.now }
 {
     ports.iter().position(is_empty)
 }

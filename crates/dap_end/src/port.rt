@@ -12,7 +12,7 @@ ghost use Rattle.dap_end.specs.Writing.{Acknowledged, WroteMore, Behind, WroteAn
 ghost use Rattle.dap_end.specs.Moved.{sent_more};
 ghost use Rattle.nsp_link.specs.Receiving.{Receives};
 ghost use Rattle.dap_end.specs.Ports.{new_port, gone_on, HasCome};
-ghost use Rattle.dap_end.specs.Moved.{with_link, posted};
+ghost use Rattle.dap_end.specs.Moved.{with_link, with_outbox_sent};
 ghost use Rattle.dap_end.specs.Inner.Kept.{IsPort};
 
 use nsp_link::{Got, LinkEnd, LinkFault, LinkSetup};
@@ -80,7 +80,7 @@ impl Port {
     }
 
     /// The next DAP message of the oldest NSP message was handled; it was the last one where so said.
-    pub(crate) fn go_on(&mut self, last: bool, next: usize)
+    pub(crate) fn advance(&mut self, last: bool, next: usize)
         ensures going { last ≡ false → self.new ≡ record self.old { place = next } }
         ensures ends { last ≡ true → (bytes : List ℕ) (later : List (List ℕ))
             → self.old.link.coming.inbox ≡ bytes ∷ later
@@ -196,10 +196,10 @@ impl Port {
         }
     }
 
-    /// Hands over all that waits.
+    /// Passes on all that waits.
     pub(crate) fn post(&mut self) -> Result<usize, LinkFault>
         requires { IsPort self.old }
-        ensures ok { IfOk result (λ n. (self.new ≡ posted self.old)
+        ensures ok { IfOk result (λ n. (self.new ≡ with_outbox_sent self.old)
             × (n ≡ length self.old.outbox)) }
         ensures may { OnOk result (IsTrue (may_queue self.old.link self.old.outbox)) }
         ensures kept { IsPort self.new }
@@ -212,11 +212,11 @@ impl Port {
         self.post_checked()
     }
 
-    /// Hands over all that waits, which the link takes.
+    /// Passes on all that waits, which the link takes.
     pub(crate) fn post_checked(&mut self) -> Result<usize, LinkFault>
         requires kept { IsPort self.old }
         requires may { IsTrue (may_queue self.old.link self.old.outbox) }
-        ensures ok { IfOk result (λ n. (self.new ≡ posted self.old)
+        ensures ok { IfOk result (λ n. (self.new ≡ with_outbox_sent self.old)
             × (n ≡ length self.old.outbox)) }
         ensures may { OnOk result (IsTrue (may_queue self.old.link self.old.outbox)) }
         ensures kept { IsPort self.new }

@@ -18,9 +18,9 @@ ghost use Rattle.dap_end.specs.Ports.{HandsOver, HasCome, new_port};
 ghost use Rattle.nsp_link.specs.Receiving.{Receives};
 ghost use Rattle.dap_end.specs.Writing.{WroteMore};
 ghost use Rattle.dap_end.specs.Serving.{IsAfter, NotGiven, MayServe, ServedOne};
-ghost use Rattle.dap_end.specs.Done.{Past, nothing_yet};
+ghost use Rattle.dap_end.specs.Done.{ServerHistory, nothing_yet};
 ghost use Rattle.dap_end.specs.Taking.{RestsAt, serves};
-ghost use Rattle.dap_end.specs.Turns.{Answered, DidAll, Takes, WentOn};
+ghost use Rattle.dap_end.specs.Turns.{WritesReplies, DidAll, TakesPacket, WentOn};
 ghost use Rattle.dap_end.specs.Inner.Answered.{ended_by};
 ghost use Rattle.dap_end.specs.declared.fault.EndFault.TheVariants as end_fault;
 ghost use Rattle.dap_end.specs.Inner.Kept.{IsPort};
@@ -51,11 +51,11 @@ impl Model for ServingEnd {
 
     ghost coded = { serving_code };
 
-    ghost use Rattle.dap_end.specs.Inner.ServingInside.{serving_view, IsSound};
+    ghost use Rattle.dap_end.specs.Inner.ServingInside.{serving_view, IsSoundServing};
 
     ghost view = { serving_view };
 
-    ghost invariant = { IsSound };
+    ghost invariant = { IsSoundServing };
 }
 
 /// The one link of an end.
@@ -103,8 +103,8 @@ impl ServingEnd {
     /// The files, in the order in which they were made: what all groups of messages so far have made of them.
     pub fn files(&self) -> &FileTable
         ensures held { result.now ≡ self.now.present.files }
-        ensures after { (past : Past) → IsAfter past self.now
-            → result.now ≡ After self.now.present.setup past.first past.items }
+        ensures after { (history : ServerHistory) → IsAfter history self.now
+            → result.now ≡ After self.now.present.setup history.first history.items }
     {
         self.accessed.files()
     }
@@ -156,8 +156,8 @@ impl ServingEnd {
         ensures may { OnOk result (MayAdd self.old.present name.now) }
         ensures files { OnOk result (self.new.present.files
             ≡ with_new_file name.now shape self.old.present.files) }
-        ensures given { OnOk result ((past : Past) → IsAfter past self.old
-            → IsAfter (record past { first = self.new.present.files }) self.new) }
+        ensures given { OnOk result ((history : ServerHistory) → IsAfter history self.old
+            → IsAfter (record history { first = self.new.present.files }) self.new) }
         ensures port { self.new.port ≡ self.old.port }
         ensures own { self.new.present.own ≡ self.old.present.own }
         ensures setup { self.new.present.setup ≡ self.old.present.setup }
@@ -180,8 +180,8 @@ impl ServingEnd {
         ensures may { OnOk result (MayAddRecord self.old.present number body.now) }
         ensures files { OnOk result (self.new.present.files
             ≡ with_record number body.now self.old.present.files) }
-        ensures given { OnOk result ((past : Past) → IsAfter past self.old
-            → IsAfter (record past { first = self.new.present.files }) self.new) }
+        ensures given { OnOk result ((history : ServerHistory) → IsAfter history self.old
+            → IsAfter (record history { first = self.new.present.files }) self.new) }
         ensures port { self.new.port ≡ self.old.port }
         ensures own { self.new.present.own ≡ self.old.present.own }
         ensures setup { self.new.present.setup ≡ self.old.present.setup }
@@ -201,7 +201,8 @@ impl ServingEnd {
           port = record self.old.port { link = self.new.port.link };
         } }
         ensures receives { Receives self.old.port.link self.new.port.link packet.now result }
-        ensures still { (past : Past) → IsAfter past self.old → IsAfter past self.new }
+        ensures still { (history : ServerHistory) → IsAfter history self.old
+            → IsAfter history self.new }
     {
         self.port.receive(packet)
     }
@@ -251,7 +252,8 @@ impl ServingEnd {
             (λ o. IfSome o (λ v. WroteMore self.old.port self.new.port (v.items ∷ []))) }
         ensures err { IfErr result (λ f. (self.new ≡ self.old) × NextFault self.old.port.link f) }
         ensures failed { IsTrue self.old.port.link.failed → IsErrOf result Failed }
-        ensures still { (past : Past) → IsAfter past self.old → IsAfter past self.new }
+        ensures still { (history : ServerHistory) → IsAfter history self.old
+            → IsAfter history self.new }
     {
         self.port.emit()
     }
@@ -264,15 +266,16 @@ impl ServingEnd {
         ensures rest { self.new ≡ record self.old { port = self.new.port } }
         ensures wrote { IfOk result (λ v. WroteMore self.old.port self.new.port (v.items ∷ [])) }
         ensures err { IfErr result (λ f. (self.new ≡ self.old) × (f ≡ fault.NoMemory)) }
-        ensures still { (past : Past) → IsAfter past self.old → IsAfter past self.new }
+        ensures still { (history : ServerHistory) → IsAfter history self.old
+            → IsAfter history self.new }
     {
         self.port.write_next()
     }
 
     /// Serves what came, message by message, while fewer than `most_waiting` bytes wait, and hands each group of
-    /// answers to the link. The bytes that wait are those of the NSP messages that were not handed over and of
+    /// answers to the link. The bytes that wait are those of the NSP messages that were not passed on and of
     /// those that the link has, the whole message until its last segment is acknowledged. Refused as `post` and
-    /// `serve` are. What was served and handed over before that stays so, and the same call goes on.
+    /// `serve` are. What was served and passed on before that stays so, and the same call goes on.
     pub fn serve_all(&mut self, most_waiting: u64) -> Result<(), LinkFault>
         ensures ok { OnOk result (DidAll (serves most_waiting) self.old self.new (Ok tt)) }
         // What follows from it, for callers.
@@ -311,7 +314,8 @@ impl ServingEnd {
         most_waiting: u64,
         out: &mut Vec<Vec<u8>>,
     ) -> Result<Got, TakeFault>
-        ensures { Takes (serves most_waiting) self.old self.new packet.now (bodies out.old.items)
+        ensures { TakesPacket (serves most_waiting) self.old self.new packet.now
+            (bodies out.old.items)
             (bodies out.new.items) result }
     {
         turns::take(

@@ -1,9 +1,9 @@
-//! What a port and whatever serves do: items that came are served, answers are handed over, and packets are written.
+//! What a port and whatever serves do: items that came are served, answers are passed on, and packets are written.
 
 ghost use Rattle.std.specs.Prelude.{◌≡◌, ◌<◌, [], Ok, Err, false, length, IfOk, OnOk, OnErr, MatchOption};
 ghost use Rattle.dap_msg.specs.Blocked.{bodies};
 ghost use Rattle.dap_end.specs.By.{MayServeAt, PortRests, ServedBy, end_with, serves_by};
-ghost use Rattle.dap_end.specs.Turns.{Answered, DidAll, Takes, WentOn};
+ghost use Rattle.dap_end.specs.Turns.{WritesReplies, DidAll, TakesPacket, WentOn};
 ghost use Rattle.dap_end.specs.declared.fault.EndFault.TheVariants as end_fault;
 ghost use Rattle.std.specs.Result.{result_map_both};
 ghost use Rattle.dap_end.specs.Inner.Answered.{ended_by};
@@ -49,11 +49,11 @@ pub(crate) fn serve_next<S: Serving>(
     };
     let answered = served.answers.len();
     port.outbox = served.answers;
-    port.go_on(at_end, next);
+    port.advance(at_end, next);
     Ok(Some(answered))
 }
 
-/// Hands over what waits, and serves the next item that came, unless as many bytes wait as this; whether it served
+/// Passes on what waits, and serves the next item that came, unless as many bytes wait as this; whether it served
 /// one.
 fn turn<S: Serving>(
     port: &mut Port,
@@ -132,7 +132,7 @@ pub(crate) fn answer<S: Serving>(
 ) -> Result<(), LinkFault>
     requires kept { IsPort port.old }
     requires link { S.has_link server.old link }
-    ensures answered { Answered (serves_by (S.serves link) most_waiting)
+    ensures answered { WritesReplies (serves_by (S.serves link) most_waiting)
         (end_with port.old server.old) (end_with port.new server.new) got (bodies out.old.items)
         (bodies out.new.items) (ended_by result) }
     ensures kept { IsPort port.new }
@@ -153,7 +153,8 @@ pub(crate) fn take<S: Serving>(
 ) -> Result<Got, TakeFault>
     requires kept { IsPort port.old }
     requires link { S.has_link server.old link }
-    ensures takes { Takes (serves_by (S.serves link) most_waiting) (end_with port.old server.old)
+    ensures takes { TakesPacket (serves_by (S.serves link) most_waiting)
+        (end_with port.old server.old)
         (end_with port.new server.new) packet.now (bodies out.old.items) (bodies out.new.items)
         result }
     ensures kept { IsPort port.new }

@@ -40,7 +40,7 @@ pub enum Event {
 pub enum Step {
     /// This number of NSP messages was added to those that wait.
     Asked(usize),
-    /// This number of NSP messages was handed over.
+    /// This number of NSP messages was passed to the link.
     Posted(usize),
     /// The packet is at this index of the wire, from 0.
     Packet(usize),

@@ -10,9 +10,9 @@ use Rattle.std.proofs.lemmas.Bool.Decides.{nat_tests}
 use Rattle.std.proofs.lemmas.Map.Keys.{sorted_from_strictly_increasing}
 use Rattle.nsp_link.specs.Cutting as cutting
 use Rattle.dap_follow.specs.Inner.Listing.{segments}
-use Rattle.dap_follow.specs.Inner.Keeping.{Came, put_at}
+use Rattle.dap_follow.specs.Segments.{NumberedSegment, placed_at}
 use Rattle.dap_follow.specs.Streams.{ArePlaced, Placed, at, no_more, one_more}
-use Rattle.dap_follow.specs.Joined.{Message, Piece, is_message, joins, message_of, messages, payload, pieces, with_segment}
+use Rattle.dap_follow.specs.Joined.{Message, Fragment, is_message, joins, fragment_message, messages, payload, fragments_of, with_segment}
 use Rattle.std.specs.List.{filter, flat_map, range_with_len}
 use Rattle.std.specs.Int.{div_ceil}
 use Rattle.std.proofs.Math.Nat.{mul-le-mul_right}
@@ -72,28 +72,28 @@ pub record IsFound (i j p : ℕ) (s : Placed) (ys : List Placed) : Type 0 where
   pub stands : at place ys ≡ Some found
   pub like : IsLike s found
 
-pub found_in : (i j h k : ℕ) (came : List Came) (xs ys : List Placed) → h + 4096 * i ≡ k + 4096 * j → ArePlaced h came xs → ArePlaced k came ys
+pub found_in : (i j h k : ℕ) (came : List NumberedSegment) (xs ys : List Placed) → h + 4096 * i ≡ k + 4096 * j → ArePlaced h came xs → ArePlaced k came ys
     → (p : ℕ) (s : Placed) → at p xs ≡ Some s → IsFound i j p s ys
 found_in i j h k [] xs ys start no_more no_more p s is = absurd (none_is s is)
 found_in i j h k (c ∷ came) xs ys start (one_more x lx hx nx xs_more) (one_more y ly hy ny ys_more) p s is =
     let same = same_place i j h k x y start lx hx ly hy (nx ∙ sym ny) in
     ⊎_elim
     (λ (here : x ≡ p).
-    let one : put_at x c ≡ s = some_is (put_at x c) s (sym (at-here p (put_at x c) _ here) ∙ is) in
+    let one : placed_at x c ≡ s = some_is (placed_at x c) s (sym (at-here p (placed_at x c) _ here) ∙ is) in
     record {
       place = y;
       same = omega (arith, same, here);
-      found = put_at y c;
-      stands = at-here y (put_at y c) _ refl;
+      found = placed_at y c;
+      stands = at-here y (placed_at y c) _ refl;
       like = record { first = ap (λ (t : Placed). t.first) one; last = ap (λ (t : Placed). t.last) one; payload = ap (λ (t : Placed). t.payload) one };
     })
     (λ (apart : x ≡ p → ⊥).
-    let rest = found_in i j (max h x) (max k y) came _ _ (omega (arith, start, same)) xs_more ys_more p s (sym (at-other p (put_at x c) _ apart) ∙ is) in
+    let rest = found_in i j (max h x) (max k y) came _ _ (omega (arith, start, same)) xs_more ys_more p s (sym (at-other p (placed_at x c) _ apart) ∙ is) in
     record {
       place = rest.place;
       same = rest.same;
       found = rest.found;
-      stands = at-other rest.place (put_at y c) _ (λ e. apart (omega (arith, e, same, rest.same))) ∙ rest.stands;
+      stands = at-other rest.place (placed_at y c) _ (λ e. apart (omega (arith, e, same, rest.same))) ∙ rest.stands;
       like = rest.like;
     })
     (cases_eq x p)
@@ -309,7 +309,7 @@ whole q first (c ∷ d ∷ cut) (s ∷ t ∷ run) marked runs =
       ends = ap (λ (u : Placed). (end_of u run).last) same ∙ ap (λ (l : List Placed). (end_of rest.s l).last) more ∙ rest.ends;
     }
 
--- ---- and stays one behind others
+-- ---- and stays one after others
 
 after_last : (a b : Placed) → a.last ≡ true → joins a b ≡ false
 after_last a b last = ⊎_elim
@@ -331,12 +331,12 @@ unfolding Ends
 ends_there a [] last = tt
 ends_there a (b ∷ back) last = after_last a b last
 
-record IsAmong (p : Piece) (all : List Piece) : Type 0 where
-  pub front : List Piece
-  pub back : List Piece
+record IsAmong (p : Fragment) (all : List Fragment) : Type 0 where
+  pub front : List Fragment
+  pub back : List Fragment
   pub parts : all ≡ front ++ p ∷ back
 
-one_before : (b : Placed) (p : Piece) (front back : List Piece) → p.head.first ≡ true → IsAmong p (with_segment b (front ++ p ∷ back))
+one_before : (b : Placed) (p : Fragment) (front back : List Fragment) → p.head.first ≡ true → IsAmong p (with_segment b (front ++ p ∷ back))
 one_before b p [] back first =
     let apart : joins b p.head ≡ false = before_first b p.head first in
     record { front = record { head = b; others = [] } ∷ []; back = back; parts = rw apart refl }
@@ -346,36 +346,36 @@ one_before b p (f ∷ front) back first = ⊎_elim
     (cases_Bool (joins b f.head))
 
 among : (front back : List Placed) (s : Placed) (others : List Placed) → s.first ≡ true → Chain s others → (end_of s others).last ≡ true
-    → IsAmong (record { head = s; others = others }) (pieces (front ++ (s ∷ others) ++ back))
+    → IsAmong (record { head = s; others = others }) (fragments_of (front ++ (s ∷ others) ++ back))
 among [] back s others first chain last =
-    record { front = []; back = pieces back; parts = chain_cut s others back chain (ends_there (end_of s others) back last) }
+    record { front = []; back = fragments_of back; parts = chain_cut s others back chain (ends_there (end_of s others) back last) }
 among (b ∷ front) back s others first chain last =
     let rest = among front back s others first chain last in
-    subst (λ (ps : List Piece). IsAmong (record { head = s; others = others }) (with_segment b ps)) (sym rest.parts) (one_before b (record { head = s; others = others }) rest.front rest.back first)
+    subst (λ (ps : List Fragment). IsAmong (record { head = s; others = others }) (with_segment b ps)) (sym rest.parts) (one_before b (record { head = s; others = others }) rest.front rest.back first)
 
 -- one of the messages carries these bytes
 abbrev pub IsListed : List ℕ → List Message → Type 0
 IsListed message all = Contains (map (λ m. payload m.piece) all) message
 
-pub listed : (ordered : List Placed) (p : Piece) (front back : List Piece) → is_message p ≡ true → pieces ordered ≡ front ++ p ∷ back → IsListed (payload p) (messages ordered)
+pub listed : (ordered : List Placed) (p : Fragment) (front back : List Fragment) → is_message p ≡ true → fragments_of ordered ≡ front ++ p ∷ back → IsListed (payload p) (messages ordered)
 listed ordered p front back message parts =
     let kept : filter is_message (p ∷ back) ≡ p ∷ filter is_message back = rw message refl in
     let bytes = λ (m : Message). payload m.piece in
-    let before = map message_of (filter is_message front) in
-    let among : messages ordered ≡ before ++ message_of p ∷ map message_of (filter is_message back) =
-    ap (λ (ps : List Piece). map message_of (filter is_message ps)) parts
-    ∙ ap (map message_of) (filter-append is_message front (p ∷ back) ∙ ap (λ (ps : List Piece). filter is_message front ++ ps) kept)
-    ∙ map-append message_of (filter is_message front) (p ∷ filter is_message back) in
-    let carried = ap (map bytes) among ∙ map-append bytes before (message_of p ∷ map message_of (filter is_message back)) in
+    let before = map fragment_message (filter is_message front) in
+    let among : messages ordered ≡ before ++ fragment_message p ∷ map fragment_message (filter is_message back) =
+    ap (λ (ps : List Fragment). map fragment_message (filter is_message ps)) parts
+    ∙ ap (map fragment_message) (filter-append is_message front (p ∷ back) ∙ ap (λ (ps : List Fragment). filter is_message front ++ ps) kept)
+    ∙ map-append fragment_message (filter is_message front) (p ∷ filter is_message back) in
+    let carried = ap (map bytes) among ∙ map-append bytes before (fragment_message p ∷ map fragment_message (filter is_message back)) in
     subst (λ (all : List (List ℕ)). Contains all (payload p)) (sym carried) (Contains-append_right (map bytes before) _ (payload p) (0, omega arith, refl))
 
 pub run_listed : (q : ℕ) (cut : List cutting.Piece) (ordered : List Placed) → Marked true cut → HasRun q cut ordered → IsListed (flat_map (λ (c : cutting.Piece). c.payload) cut) (messages ordered)
 run_listed q cut ordered marked has =
     let w = whole q true cut has.run marked has.runs in
-    let p : Piece = record { head = w.s; others = w.others } in
+    let p : Fragment = record { head = w.s; others = w.others } in
     let parts : ordered ≡ has.front ++ (w.s ∷ w.others) ++ has.back = has.parts ∙ ap (λ (l : List Placed). has.front ++ l ++ has.back) w.is in
     let some = among has.front has.back w.s w.others w.begins w.chain w.ends in
-    let one = listed ordered p some.front some.back (marks p true true w.begins w.ends) (ap pieces parts ∙ some.parts) in
+    let one = listed ordered p some.front some.back (marks p true true w.begins w.ends) (ap fragments_of parts ∙ some.parts) in
     let bytes : payload p ≡ flat_map (λ (c : cutting.Piece). c.payload) cut = ap (flat_map (λ (s : Placed). s.payload)) (sym w.is) ∙ run_bytes q cut has.run has.runs in
     subst (λ (bs : List ℕ). IsListed bs (messages ordered)) bytes one
 
@@ -390,7 +390,7 @@ cut_at_start i j sent placed ordered found rises same (c ∷ cut) start marked s
 
 -- ---- all of it
 
-pub cut_listed : (size start highest first : ℕ) (message : List ℕ) (came : List Came) (sent placed ordered : List Placed) → 0 < size
+pub cut_listed : (size start highest first : ℕ) (message : List ℕ) (came : List NumberedSegment) (sent placed ordered : List Placed) → 0 < size
     → highest % 4096 ≡ first % 4096 → ArePlaced first came placed → IsStrictlyIncreasing (map (λ s. s.place) ordered) → ((place : ℕ) → at place ordered ≡ at place placed)
     → ArePlaced highest came sent → StandFrom start (cutting.cut_message size message) sent → IsListed message (messages ordered)
 cut_listed size start highest first message came sent placed ordered some rounds are_placed increasing same sent_so stand =

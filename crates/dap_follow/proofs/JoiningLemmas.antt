@@ -9,13 +9,13 @@ use Rattle.std.proofs.lemmas.List.Elements.{filter-append}
 use Rattle.std.proofs.lemmas.Bool.{cases_Bool}
 use Rattle.std.proofs.lemmas.List.{append-nil, append_assoc, map-append, take-append-drop}
 use Rattle.dap_text.specs.Adding.{Adds, AddsSome}
-use Rattle.dap_listing.specs.Captured.{Spell, bytes_of}
+use Rattle.dap_listing.specs.Captured.{Spell, digit_bytes}
 use Rattle.dap_listing.proofs.ForCallers.{bytes-append, count_of, spell-append}
 use Rattle.dap_follow.specs.Streams.{Placed}
 use Rattle.dap_listing.specs.Messages.{IsMessagesText}
 use Rattle.dap_follow.specs.Following.{IsMessageText, gap_line, part_line, range_text, stream_text}
-use Rattle.dap_follow.specs.Joined.{Message, Piece, is_message, joins, payload, pieces, tail, with_segment}
-use Rattle.dap_follow.specs.Inner.Listing.{AreSpelled, IsCutOff, IsPiece, ListsPiece, UnderAll, digits_of, message_at, values, message_heading, part_text, AreMessageLines, no_more, one_more, segments}
+use Rattle.dap_follow.specs.Joined.{Message, Fragment, is_message, joins, payload, fragments_of, tail, with_segment}
+use Rattle.dap_follow.specs.Inner.Listing.{AreSpelled, IsCutOff, IsPiece, ListsPiece, UnderAll, payload_digits, piece_message, values, message_heading, part_text, AreMessageLines, no_more, one_more, segments}
 use Rattle.dap_follow.specs.Inner.Placing.{counted_value}
 use Rattle.dap_follow.specs.declared.places.Counted.{Counted}
 use Rattle.dap_follow.specs.declared.streams.Stream.{Stream}
@@ -35,7 +35,7 @@ last_is : (c : Counted) (cs : List Counted) (d : Counted) → counted_value (get
 last_is c [] d = refl
 last_is c (e ∷ cs) d = last_is e cs d
 
-pub last_of : (cs : List Counted) (d : Counted) (p : Piece) → 0 < length cs → IsPiece p cs → counted_value (get_or cs (length cs - 1) d) ≡ tail p
+pub last_of : (cs : List Counted) (d : Counted) (p : Fragment) → 0 < length cs → IsPiece p cs → counted_value (get_or cs (length cs - 1) d) ≡ tail p
 last_of [] d p some is = absurd (omega arith)
 last_of (c ∷ cs) d p some is =
     let at : length (c ∷ cs) - 1 ≡ length cs = omega arith in
@@ -55,24 +55,24 @@ unfoldable pub Ends : Placed → List Placed → Type 0
 Ends s [] = Unit {0}
 Ends s (t ∷ others) = joins s t ≡ false
 
-pieces_begin : (b : Placed) (bs : List Piece) → (p : Piece) × (rest : List Piece) × (with_segment b bs ≡ p ∷ rest) × (p.head ≡ b)
+pieces_begin : (b : Placed) (bs : List Fragment) → (p : Fragment) × (rest : List Fragment) × (with_segment b bs ≡ p ∷ rest) × (p.head ≡ b)
 pieces_begin b [] = (record { head = b; others = [] }, [], refl, refl)
 pieces_begin b (p ∷ ps) = ⊎_elim
     (λ (yes : joins b p.head ≡ true). (record { head = b; others = segments p }, ps, rw yes refl, refl))
     (λ (other : joins b p.head ≡ false). (record { head = b; others = [] }, p ∷ ps, rw other refl, refl))
     (cases_Bool (joins b p.head))
 
-alone : (s b : Placed) (ps : List Piece) (p : Piece) (rest : List Piece) → ps ≡ p ∷ rest → p.head ≡ b → joins s b ≡ false → with_segment s ps ≡ record { head = s; others = [] } ∷ ps
+alone : (s b : Placed) (ps : List Fragment) (p : Fragment) (rest : List Fragment) → ps ≡ p ∷ rest → p.head ≡ b → joins s b ≡ false → with_segment s ps ≡ record { head = s; others = [] } ∷ ps
 alone s b ps p rest is head other =
     let test : joins s p.head ≡ false = rw head other in
     rw is (rw test refl)
 
-pub chain_cut : (s : Placed) (front back : List Placed) → Chain s front → Ends (end_of s front) back → pieces (s ∷ front ++ back) ≡ record { head = s; others = front } ∷ pieces back
+pub chain_cut : (s : Placed) (front back : List Placed) → Chain s front → Ends (end_of s front) back → fragments_of (s ∷ front ++ back) ≡ record { head = s; others = front } ∷ fragments_of back
 unfolding Chain Ends
 chain_cut s [] [] chain end = refl
 chain_cut s [] (b ∷ back) chain end =
-    let begin = pieces_begin b (pieces back) in
-    alone s b (pieces (b ∷ back)) begin.0 begin.1 begin.2 begin.3 end
+    let begin = pieces_begin b (fragments_of back) in
+    alone s b (fragments_of (b ∷ back)) begin.0 begin.1 begin.2 begin.3 end
 chain_cut s (f ∷ front) back chain end = rw (chain_cut f front back chain.1 end, chain.0) refl
 
 chain_of : (c : Counted) (cs : List Counted) (n : ℕ) → n ≤ length cs
@@ -101,7 +101,7 @@ cut_off c cs n d within all other =
       first = record { head = counted_value c; others = values (take n cs) };
       is = refl;
       joined = ap (λ (l : List Counted). c ∷ l) split;
-      cut = ap (λ (l : List Placed). pieces (counted_value c ∷ l)) both ∙ chain_cut (counted_value c) (values (take n cs)) (values (drop n cs)) (chain_of c cs n within all) (ends_of c cs n d within other);
+      cut = ap (λ (l : List Placed). fragments_of (counted_value c ∷ l)) both ∙ chain_cut (counted_value c) (values (take n cs)) (values (drop n cs)) (chain_of c cs n within all) (ends_of c cs n d within other);
     }
 
 pub cut_at : (cs : List Counted) (end : ℕ) (d : Counted) → 1 ≤ end → end ≤ length cs
@@ -123,29 +123,29 @@ empty_of (x ∷ xs) none = absurd (omega arith)
 no_digits : Spell [] 0
 no_digits = ((λ k d below. absurd (omega arith)), refl)
 
-pub spelled_all : (cs : List Counted) → AreSpelled cs → (n : ℕ) × Spell (digits_of cs) n × (bytes_of (digits_of cs) ≡ flat_map (λ (s : Placed). s.payload) (values cs))
-spelled_all [] spelled = (0, no_digits, empty_of (bytes_of []) (count_of [] 0 no_digits))
+pub spelled_all : (cs : List Counted) → AreSpelled cs → (n : ℕ) × Spell (payload_digits cs) n × (digit_bytes (payload_digits cs) ≡ flat_map (λ (s : Placed). s.payload) (values cs))
+spelled_all [] spelled = (0, no_digits, empty_of (digit_bytes []) (count_of [] 0 no_digits))
 spelled_all (c ∷ cs) spelled =
     let rest = spelled_all cs spelled.1 in
     let payload = c.payload.now in
     let n : ℕ = length payload / 2 in (
       n + rest.0,
-      spell-append payload (digits_of cs) n rest.0 spelled.0 rest.1,
-      bytes-append payload (digits_of cs) n rest.0 spelled.0 rest.1 ∙ ap (λ (l : List ℕ). bytes_of payload ++ l) rest.2,
+      spell-append payload (payload_digits cs) n rest.0 spelled.0 rest.1,
+      bytes-append payload (payload_digits cs) n rest.0 spelled.0 rest.1 ∙ ap (λ (l : List ℕ). digit_bytes payload ++ l) rest.2,
     )
 
-pub spelled_half : (cs : List Counted) → AreSpelled cs → Spell (digits_of cs) (length (digits_of cs) / 2)
+pub spelled_half : (cs : List Counted) → AreSpelled cs → Spell (payload_digits cs) (length (payload_digits cs) / 2)
 spelled_half cs spelled =
     let all = spelled_all cs spelled in
-    let half : all.0 ≡ length (digits_of cs) / 2 = omega (arith, all.1.1) in subst (Spell (digits_of cs)) half all.1
+    let half : all.0 ≡ length (payload_digits cs) / 2 = omega (arith, all.1.1) in subst (Spell (payload_digits cs)) half all.1
 
-pub payload_is : (cs : List Counted) (p : Piece) → AreSpelled cs → IsPiece p cs → (bytes_of (digits_of cs) ≡ payload p) × Spell (digits_of cs) (length (digits_of cs) / 2)
-    × (length (payload p) ≡ length (digits_of cs) / 2)
+pub payload_is : (cs : List Counted) (p : Fragment) → AreSpelled cs → IsPiece p cs → (digit_bytes (payload_digits cs) ≡ payload p) × Spell (payload_digits cs) (length (payload_digits cs) / 2)
+    × (length (payload p) ≡ length (payload_digits cs) / 2)
 payload_is cs p spelled is =
     let all = spelled_all cs spelled in
-    let half : all.0 ≡ length (digits_of cs) / 2 = omega (arith, all.1.1) in
-    let bytes : bytes_of (digits_of cs) ≡ payload p = all.2 ∙ ap (flat_map (λ (s : Placed). s.payload)) (sym is) in
-    (bytes, subst (Spell (digits_of cs)) half all.1, ap length (sym bytes) ∙ count_of (digits_of cs) all.0 all.1 ∙ half)
+    let half : all.0 ≡ length (payload_digits cs) / 2 = omega (arith, all.1.1) in
+    let bytes : digit_bytes (payload_digits cs) ≡ payload p = all.2 ∙ ap (flat_map (λ (s : Placed). s.payload)) (sym is) in
+    (bytes, subst (Spell (payload_digits cs)) half all.1, ap length (sym bytes) ∙ count_of (payload_digits cs) all.0 all.1 ∙ half)
 
 -- ---- text that is appended piece by piece
 
@@ -209,14 +209,14 @@ under_one in_words m n (suc i) (v ∷ vs) new d lines at within is added =
 
 -- ---- what is listed of a piece
 
-pub marks : (p : Piece) (first last : Bool) → p.head.first ≡ first → (tail p).last ≡ last → is_message p ≡ (first && last)
+pub marks : (p : Fragment) (first last : Bool) → p.head.first ≡ first → (tail p).last ≡ last → is_message p ≡ (first && last)
 marks p first last one two = ap (λ (b : Bool). b && (tail p).last) one ∙ ap (λ (b : Bool). first && b) two
 
-pub lists_message : (in_words : Bool) → (stream : Stream) (packet : ℕ) (p : Piece) (lines : List (Vec ℕ)) (rest new d : Vec ℕ) → is_message p ≡ true → 0 < packet → packet ≤ length lines
+pub lists_message : (in_words : Bool) → (stream : Stream) (packet : ℕ) (p : Fragment) (lines : List (Vec ℕ)) (rest new d : Vec ℕ) → is_message p ≡ true → 0 < packet → packet ≤ length lines
     → AddsSome (get_or lines (packet - 1) d) new (IsMessageText in_words p) → ListsPiece in_words stream packet p lines (slice_set lines (packet - 1) new) rest rest
 lists_message in_words stream packet p lines rest new d message some within added =
     let m : Message = record { packet = packet; piece = p } in
-    let one : message_at packet p ≡ m ∷ [] = rw message refl in
+    let one : piece_message packet p ≡ m ∷ [] = rw message refl in
     let none : part_line stream p ≡ [] = rw message refl in
     let text = added.1 in
     let items : new.items ≡ (get_or lines (packet - 1) d).items ++ (message_heading p ++ text.0) = added.2 ∙ ap (λ (l : List ℕ). (get_or lines (packet - 1) d).items ++ l) text.2 in
@@ -226,10 +226,10 @@ lists_message in_words stream packet p lines rest new d message some within adde
       rest = sym (append-nil rest.items) ∙ ap (λ (l : List ℕ). rest.items ++ l) (sym none);
     }
 
-pub lists_part : (in_words : Bool) → (stream : Stream) (packet : ℕ) (p : Piece) (lines : List (Vec ℕ)) (rest new : Vec ℕ) → is_message p ≡ false
+pub lists_part : (in_words : Bool) → (stream : Stream) (packet : ℕ) (p : Fragment) (lines : List (Vec ℕ)) (rest new : Vec ℕ) → is_message p ≡ false
     → Adds rest new (part_text stream p) → ListsPiece in_words stream packet p lines lines rest new
 lists_part in_words stream packet p lines rest new other added =
-    let none : message_at packet p ≡ [] = rw other refl in
+    let none : piece_message packet p ≡ [] = rw other refl in
     let part : part_line stream p ≡ part_text stream p = rw other refl in
     record {
       under = subst (λ (ms : List Message). UnderAll in_words ms 1 lines lines) (sym none) (under_none in_words 1 lines);
@@ -242,7 +242,7 @@ pub cut_at_end : (cs : List Counted) (end : ℕ) → 1 ≤ end → end ≤ lengt
 cut_at_end [] end some within all last = absurd (omega arith)
 cut_at_end (c ∷ cs) end some within all last = cut_at (c ∷ cs) end c some within all (λ below. absurd (omega arith))
 
--- ---- a gap behind a piece
+-- ---- a gap after a piece
 
 gap_text : Stream → ℕ → ℕ → List ℕ
 gap_text stream last next =
@@ -254,15 +254,15 @@ some_one a b e = cc
 no_one : (a : Counted) → Some a ≡ None → ⊥
 no_one a e = cc
 
-gap_behind : (stream : Stream) (p : Piece) (b : Placed) (bs : List Piece) → gap_line stream p (with_segment b bs) ≡ gap_text stream (tail p).place b.place
+gap_behind : (stream : Stream) (p : Fragment) (b : Placed) (bs : List Fragment) → gap_line stream p (with_segment b bs) ≡ gap_text stream (tail p).place b.place
 unfolding gap_text
 gap_behind stream p b bs =
     let begin = pieces_begin b bs in
     ap (gap_line stream p) begin.2 ∙ ap (λ (q : Placed). gap_text stream (tail p).place q.place) begin.3
 
-gap_is : (stream : Stream) (p : Piece) (others : List Counted) (next : Counted) → Some next ≡ slice_get others 0 → gap_line stream p (pieces (values others)) ≡ gap_text stream (tail p).place next.place
+gap_is : (stream : Stream) (p : Fragment) (others : List Counted) (next : Counted) → Some next ≡ slice_get others 0 → gap_line stream p (fragments_of (values others)) ≡ gap_text stream (tail p).place next.place
 gap_is stream p [] next is = absurd (no_one next is)
-gap_is stream p (o ∷ others) next is = gap_behind stream p (counted_value o) (pieces (values others)) ∙ ap (λ (c : Counted). gap_text stream (tail p).place c.place) (sym (some_one next o is))
+gap_is stream p (o ∷ others) next is = gap_behind stream p (counted_value o) (fragments_of (values others)) ∙ ap (λ (c : Counted). gap_text stream (tail p).place c.place) (sym (some_one next o is))
 
 not_beyond : (a b : ℕ) → b ≤ a + 1 → nat_lt (a + 1) b ≡ false
 not_beyond a b near = grind (arith, nat_tests)
@@ -270,12 +270,12 @@ not_beyond a b near = grind (arith, nat_tests)
 is_beyond : (a b : ℕ) → a + 1 < b → nat_lt (a + 1) b ≡ true
 is_beyond a b far = grind (arith, nat_tests)
 
-pub no_gap : (stream : Stream) (p : Piece) (others : List Counted) (next : Counted) → Some next ≡ slice_get others 0 → next.place ≤ (tail p).place + 1
-    → gap_line stream p (pieces (values others)) ≡ []
+pub no_gap : (stream : Stream) (p : Fragment) (others : List Counted) (next : Counted) → Some next ≡ slice_get others 0 → next.place ≤ (tail p).place + 1
+    → gap_line stream p (fragments_of (values others)) ≡ []
 unfolding gap_text
 no_gap stream p others next is near = gap_is stream p others next is ∙ rw (not_beyond (tail p).place next.place near) refl
 
-pub a_gap : (stream : Stream) (p : Piece) (others : List Counted) (next : Counted) → Some next ≡ slice_get others 0 → (tail p).place + 1 < next.place
-    → gap_line stream p (pieces (values others)) ≡ codes "gap" ++ (stream_text stream ++ (range_text ((tail p).place + 1) (next.place - 1) ++ line_feed))
+pub a_gap : (stream : Stream) (p : Fragment) (others : List Counted) (next : Counted) → Some next ≡ slice_get others 0 → (tail p).place + 1 < next.place
+    → gap_line stream p (fragments_of (values others)) ≡ codes "gap" ++ (stream_text stream ++ (range_text ((tail p).place + 1) (next.place - 1) ++ line_feed))
 unfolding gap_text
 a_gap stream p others next is far = gap_is stream p others next is ∙ rw (is_beyond (tail p).place next.place far) refl

@@ -9,8 +9,9 @@ use Rattle.dap_listing.specs.Captured.{Spell}
 use Rattle.dap_listing.specs.declared.lines.Direction.{Direction}
 use Rattle.dap_listing.specs.declared.captured.CapturedSegment.{CapturedSegment}
 use Rattle.dap_follow.specs.Streams.{Captured, Placed, at, came_as, came_in, is_same, no_more, streams}
-use Rattle.dap_follow.specs.Inner.Placing.{Rises, counted_value}
-use Rattle.dap_follow.specs.Inner.Keeping.{Came, stream_of, HasAt, IsAdded, IsGood, IsIndexed, Keeps, KeepsAll, KeepsEach, KeepsStream, came, segment_packet, top, put_at}
+use Rattle.dap_follow.specs.Inner.Placing.{RisesCounted, counted_value}
+use Rattle.dap_follow.specs.Inner.Keeping.{stream_of, IsAdded, IsCounted, IsIndexed, KeepsSegments, KeepsAll, KeepsEach, KeepsStream}
+use Rattle.dap_follow.specs.Segments.{NumberedSegment, HasStreamAt, numbered_segment, captured_segment, highest_in, placed_at}
 use Rattle.dap_follow.specs.declared.places.Counted.{Counted}
 use Rattle.dap_follow.specs.declared.places.Places.{Places}
 use Rattle.dap_follow.specs.declared.streams.Stream.{Stream}
@@ -20,26 +21,26 @@ use Rattle.dap_follow.proofs.NameLemmas.{came_in-more, came_in-none, is_same_sel
 
 -- ---- one segment more
 
-pub keeps_more : (start packet : ℕ) (c : CapturedSegment) (before : List Came) (old new : Places) → Keeps start before old → IsAdded packet c old new
-    → Keeps start (before ++ came packet c ∷ []) new
+pub keeps_more : (start packet : ℕ) (c : CapturedSegment) (before : List NumberedSegment) (old new : Places) → KeepsSegments start before old → IsAdded packet c old new
+    → KeepsSegments start (before ++ numbered_segment packet c ∷ []) new
 keeps_more start packet c before old new k a =
     let place = a.counted.place in
-    let near_low : top start k.placed ≤ place + 2047 = rw k.highest at a.low in
-    let near_high : place ≤ top start k.placed + 2048 = rw k.highest at a.high in
+    let near_low : highest_in start k.placed ≤ place + 2047 = rw k.highest at a.low in
+    let near_high : place ≤ highest_in start k.placed + 2048 = rw k.highest at a.high in
     record {
-      placed = k.placed ++ put_at place (came packet c) ∷ [];
-      are_placed = placed_more (came packet c) place k.are_placed near_low near_high a.number;
-      highest = a.highest ∙ ap (λ (h : ℕ). max h place) k.highest ∙ sym (top-snoc start k.placed (put_at place (came packet c)));
+      placed = k.placed ++ placed_at place (numbered_segment packet c) ∷ [];
+      are_placed = placed_more (numbered_segment packet c) place k.are_placed near_low near_high a.number;
+      highest = a.highest ∙ ap (λ (h : ℕ). max h place) k.highest ∙ sym (top-snoc start k.placed (placed_at place (numbered_segment packet c)));
       rises = rises_put old.ordered.items a.counted new.ordered.items a.put k.rises;
       same = λ p. at_put p old.ordered.items a.counted new.ordered.items a.put
           ∙ ap (λ (o : Option Placed). or_else o (at p (counted_value a.counted ∷ []))) (k.same p)
           ∙ ap (λ (s : Placed). or_else (at p k.placed) (at p (s ∷ []))) a.value
-          ∙ sym (at-append p k.placed (put_at place (came packet c) ∷ []));
+          ∙ sym (at-append p k.placed (placed_at place (numbered_segment packet c) ∷ []));
     }
 
 -- ---- packets of others
 
-good_more : (n m : ℕ) (cs : List Counted) → n ≤ m → AllByRecursion (IsGood n) cs → AllByRecursion (IsGood m) cs
+good_more : (n m : ℕ) (cs : List Counted) → n ≤ m → AllByRecursion (IsCounted n) cs → AllByRecursion (IsCounted m) cs
 good_more n m [] less good = tt
 good_more n m (c ∷ cs) less good = ((good.0.0, omega (arith, good.0.1, less), good.0.2), good_more n m cs less good.1)
 
@@ -76,18 +77,18 @@ keeps_aside packets x s of_none none k =
 abbrev pub stream_is : Direction → CapturedSegment → Stream
 stream_is way c = record { way = way; dst = c.dst; src = c.src }
 
-apart : (s : Stream) (way : Direction) (c : CapturedSegment) (n : ℕ) → is_same s (stream_is way c) ≡ false → came_as s n (segment_packet way c) ≡ None
+apart : (s : Stream) (way : Direction) (c : CapturedSegment) (n : ℕ) → is_same s (stream_is way c) ≡ false → came_as s n (captured_segment way c) ≡ None
 apart s way c n other = rw other refl
 
-of_it : (s : Stream) (way : Direction) (c : CapturedSegment) (n : ℕ) → is_same s (stream_is way c) ≡ true → came_as s n (segment_packet way c) ≡ Some (came n c)
+of_it : (s : Stream) (way : Direction) (c : CapturedSegment) (n : ℕ) → is_same s (stream_is way c) ≡ true → came_as s n (captured_segment way c) ≡ Some (numbered_segment n c)
 of_it s way c n same = rw same refl
 
 -- the segments of the stream before the packet
 pub record Ready (packets : List Captured) (c : CapturedSegment) (s : Stream) (p : Places) : Type 0 where
-  pub before : List Came
+  pub before : List NumberedSegment
   pub are : came_in s packets ≡ before
-  pub begins : (first : Came) × (others : List Came) × (before ++ came (1 + length packets) c ∷ [] ≡ first ∷ others) × Keeps (first.1.number + 4096) before p
-  pub good : AllByRecursion (IsGood (length packets)) p.ordered.items
+  pub begins : (first : NumberedSegment) × (others : List NumberedSegment) × (before ++ numbered_segment (1 + length packets) c ∷ [] ≡ first ∷ others) × KeepsSegments (first.1.number + 4096) before p
+  pub good : AllByRecursion (IsCounted (length packets)) p.ordered.items
   pub low : 4096 ≤ p.highest
   pub high : p.highest ≤ 8192 + 2048 * length packets
 
@@ -95,7 +96,7 @@ pub ready_known : (packets : List Captured) (c : CapturedSegment) (s : Stream) (
 ready_known packets c s p k = record {
   before = k.first ∷ k.others;
   are = k.are;
-  begins = (k.first, k.others ++ came (1 + length packets) c ∷ [], refl, k.keeps);
+  begins = (k.first, k.others ++ numbered_segment (1 + length packets) c ∷ [], refl, k.keeps);
   good = k.good;
   low = k.low;
   high = k.high;
@@ -105,30 +106,30 @@ pub ready_new : (packets : List Captured) (c : CapturedSegment) (s : Stream) (p 
 ready_new packets c s p none highest small empty = record {
   before = [];
   are = none;
-  begins = (came (1 + length packets) c, [], refl, record { placed = []; are_placed = no_more; highest = highest; rises = subst Rises (sym empty) tt; same = λ place. ap (λ (cs : List Counted). at place (map counted_value cs)) empty });
-  good = subst (AllByRecursion (IsGood (length packets))) (sym empty) tt;
+  begins = (numbered_segment (1 + length packets) c, [], refl, record { placed = []; are_placed = no_more; highest = highest; rises = subst RisesCounted (sym empty) tt; same = λ place. ap (λ (cs : List Counted). at place (map counted_value cs)) empty });
+  good = subst (AllByRecursion (IsCounted (length packets))) (sym empty) tt;
   low = omega (arith, highest);
   high = omega (arith, highest, small);
 }
 
 pub ready_done : (packets : List Captured) (way : Direction) (c : CapturedSegment) (s : Stream) (old new : Places) → is_same s (stream_is way c) ≡ true → Spell c.digits.now (length c.digits.now / 2)
-    → Ready packets c s old → IsAdded (1 + length packets) c old new → KeepsStream (packets ++ segment_packet way c ∷ []) s new
+    → Ready packets c s old → IsAdded (1 + length packets) c old new → KeepsStream (packets ++ captured_segment way c ∷ []) s new
 ready_done packets way c s old new same spell r a =
-    let x = segment_packet way c in
+    let x = captured_segment way c in
     let longer = one_longer packets x in
-    let one : IsGood (length (packets ++ x ∷ [])) a.counted =
+    let one : IsCounted (length (packets ++ x ∷ [])) a.counted =
     (omega (arith, a.packet_is), omega (arith, a.packet_is, longer), subst (λ (l : List ℕ). Spell l (length l / 2)) (sym a.digits) spell) in
     record {
       first = r.begins.0;
       others = r.begins.1;
-      are = came_in-more s packets x (came (1 + length packets) c) (of_it s way c (1 + length packets) same) ∙ ap (λ (l : List Came). l ++ came (1 + length packets) c ∷ []) r.are ∙ r.begins.2;
-      keeps = subst (λ (l : List Came). Keeps (r.begins.0.1.number + 4096) l new) r.begins.2 (keeps_more (r.begins.0.1.number + 4096) (1 + length packets) c r.before old new r.begins.3 a);
-      good = all_put (IsGood (length (packets ++ x ∷ []))) old.ordered.items a.counted new.ordered.items a.put (good_more (length packets) (length (packets ++ x ∷ [])) old.ordered.items (omega (arith, longer)) r.good) one;
+      are = came_in-more s packets x (numbered_segment (1 + length packets) c) (of_it s way c (1 + length packets) same) ∙ ap (λ (l : List NumberedSegment). l ++ numbered_segment (1 + length packets) c ∷ []) r.are ∙ r.begins.2;
+      keeps = subst (λ (l : List NumberedSegment). KeepsSegments (r.begins.0.1.number + 4096) l new) r.begins.2 (keeps_more (r.begins.0.1.number + 4096) (1 + length packets) c r.before old new r.begins.3 a);
+      good = all_put (IsCounted (length (packets ++ x ∷ []))) old.ordered.items a.counted new.ordered.items a.put (good_more (length packets) (length (packets ++ x ∷ [])) old.ordered.items (omega (arith, longer)) r.good) one;
       low = omega (arith, a.highest, r.low);
       high = omega (arith, a.highest, a.high, r.high, longer);
     }
 
-pub ready_rises : (packets : List Captured) (c : CapturedSegment) (s : Stream) (p : Places) → Ready packets c s p → Rises p.ordered.items
+pub ready_rises : (packets : List Captured) (c : CapturedSegment) (s : Stream) (p : Places) → Ready packets c s p → RisesCounted p.ordered.items
 ready_rises packets c s p r = r.begins.3.rises
 
 -- the streams before the packet was put into its own
@@ -137,7 +138,7 @@ MidEach packets way c [] [] = Unit {0}
 MidEach packets way c [] (p ∷ places) = ⊥
 MidEach packets way c (s ∷ keys) [] = ⊥
 MidEach packets way c (s ∷ keys) (p ∷ places) =
-    (((is_same s (stream_is way c) ≡ true) × Ready packets c s p) ⊎ ((is_same s (stream_is way c) ≡ false) × KeepsStream (packets ++ segment_packet way c ∷ []) s p))
+    (((is_same s (stream_is way c) ≡ true) × Ready packets c s p) ⊎ ((is_same s (stream_is way c) ≡ false) × KeepsStream (packets ++ captured_segment way c ∷ []) s p))
     × MidEach packets way c keys places
 
 mid_known : (packets : List Captured) (way : Direction) (c : CapturedSegment) (keys : List Stream) (places : List Places) → KeepsEach packets keys places → MidEach packets way c keys places
@@ -147,7 +148,7 @@ mid_known packets way c [] (p ∷ places) each = each
 mid_known packets way c (s ∷ keys) [] each = each
 mid_known packets way c (s ∷ keys) (p ∷ places) each = (
   ⊎_elim (λ (same : is_same s (stream_is way c) ≡ true). inl (same, ready_known packets c s p each.0))
-      (λ (other : is_same s (stream_is way c) ≡ false). inr (other, keeps_stream packets (segment_packet way c) s p (apart s way c (1 + length packets) other) each.0))
+      (λ (other : is_same s (stream_is way c) ≡ false). inr (other, keeps_stream packets (captured_segment way c) s p (apart s way c (1 + length packets) other) each.0))
       (cases_Bool (is_same s (stream_is way c))),
   mid_known packets way c keys places each.1,
 )
@@ -168,7 +169,7 @@ no_other a e = cc
 
 -- where the packet's stream stands
 pub mid_at : (packets : List Captured) (way : Direction) (c : CapturedSegment) (index : ℕ) (keys : List Stream) (places : List Places) → MidEach packets way c keys places
-    → HasAt (stream_is way c) index keys → (index < length places) × ((d : Places) → Ready packets c (stream_is way c) (get_or places index d))
+    → HasStreamAt (stream_is way c) index keys → (index < length places) × ((d : Places) → Ready packets c (stream_is way c) (get_or places index d))
 unfolding MidEach
 mid_at packets way c index [] [] mid at = absurd (no_other at.0 at.1)
 mid_at packets way c index [] (p ∷ places) mid at = absurd mid
@@ -182,13 +183,13 @@ mid_at packets way c zero (s ∷ keys) (p ∷ places) mid at =
 mid_at packets way c (suc index) (s ∷ keys) (p ∷ places) mid at =
     let rest = mid_at packets way c index keys places mid.1 at in (omega (arith, rest.0), rest.1)
 
-other_at : (s k : Stream) (index : ℕ) (keys : List Stream) → AllByRecursion (λ y. is_same s y ≡ false) keys → HasAt k index keys → is_same s k ≡ false
+other_at : (s k : Stream) (index : ℕ) (keys : List Stream) → AllByRecursion (λ y. is_same s y ≡ false) keys → HasStreamAt k index keys → is_same s k ≡ false
 other_at s k index [] all at = absurd (no_other at.0 at.1)
 other_at s k zero (y ∷ keys) all at = subst (λ (t : Stream). is_same s t ≡ false) (some_is y at.0 at.1 ∙ sym (same_is k at.0 at.2)) all.0
 other_at s k (suc index) (y ∷ keys) all at = other_at s k index keys all.1 at
 
 mid_rest : (packets : List Captured) (way : Direction) (c : CapturedSegment) (keys : List Stream) (places : List Places) → AllByRecursion (λ y. is_same (stream_is way c) y ≡ false) keys
-    → MidEach packets way c keys places → KeepsEach (packets ++ segment_packet way c ∷ []) keys places
+    → MidEach packets way c keys places → KeepsEach (packets ++ captured_segment way c ∷ []) keys places
 unfolding MidEach
 mid_rest packets way c [] [] all mid = tt
 mid_rest packets way c [] (p ∷ places) all mid = mid
@@ -197,8 +198,8 @@ mid_rest packets way c (s ∷ keys) (p ∷ places) all mid =
     (⊎_elim (λ both. absurd (false≢true (sym (same_sym (stream_is way c) s all.0) ∙ both.0))) (λ both. both.1) mid.0, mid_rest packets way c keys places all.1 mid.1)
 
 pub mid_done : (packets : List Captured) (way : Direction) (c : CapturedSegment) (new d : Places) → Spell c.digits.now (length c.digits.now / 2)
-    → (index : ℕ) (keys : List Stream) (places : List Places) → MidEach packets way c keys places → IsDistinct is_same keys → HasAt (stream_is way c) index keys
-    → IsAdded (1 + length packets) c (get_or places index d) new → KeepsEach (packets ++ segment_packet way c ∷ []) keys (slice_set places index new)
+    → (index : ℕ) (keys : List Stream) (places : List Places) → MidEach packets way c keys places → IsDistinct is_same keys → HasStreamAt (stream_is way c) index keys
+    → IsAdded (1 + length packets) c (get_or places index d) new → KeepsEach (packets ++ captured_segment way c ∷ []) keys (slice_set places index new)
 unfolding MidEach
 mid_done packets way c new d spell index [] [] mid distinct at added = absurd (no_other at.0 at.1)
 mid_done packets way c new d spell index [] (p ∷ places) mid distinct at added = absurd mid
@@ -217,10 +218,10 @@ mid_done packets way c new d spell (suc index) (s ∷ keys) (p ∷ places) mid d
 -- ---- all streams
 
 pub mid_all : (packets : List Captured) (way : Direction) (c : CapturedSegment) (old new : Streams) (index : ℕ) → KeepsAll packets old → IsIndexed (stream_is way c) c.number old new index
-    → MidEach packets way c new.names.keys new.places.items × (new.names.keys ≡ streams (packets ++ segment_packet way c ∷ []))
+    → MidEach packets way c new.names.keys new.places.items × (new.names.keys ≡ streams (packets ++ captured_segment way c ∷ []))
 mid_all packets way c old new index k i =
     let stream = stream_is way c in
-    let more : streams (packets ++ segment_packet way c ∷ []) ≡ insert_key is_same (streams packets) stream = streams-more packets (segment_packet way c) stream refl in
+    let more : streams (packets ++ captured_segment way c ∷ []) ≡ insert_key is_same (streams packets) stream = streams-more packets (captured_segment way c) stream refl in
     ⊎_elim
     (λ known.
     let there : list_any (is_same stream) (streams packets) ≡ true = rw k.names at known.0 in
@@ -237,7 +238,7 @@ pub keeps_streams : (packets : List Captured) (way : Direction) (c : CapturedSeg
     → IsIndexed (stream_is way c) c.number old mid index → Spell c.digits.now (length c.digits.now / 2)
     → packet ≡ length packets + 1 → IsAdded packet c d added → d ≡ get_or mid.places.items index d
     → new.names.keys ≡ mid.names.keys → new.places.items ≡ slice_set mid.places.items index added
-    → KeepsAll (packets ++ segment_packet way c ∷ []) new
+    → KeepsAll (packets ++ captured_segment way c ∷ []) new
 keeps_streams packets way c old mid new index packet d added k i spell number puts is keys items =
     let all = mid_all packets way c old mid index k i in
     let count : packet ≡ 1 + length packets = omega (arith, number) in

@@ -15,7 +15,8 @@ use Rattle.dap_listing.specs.declared.lines.Direction.TheVariants.{Right, Left}
 use Rattle.dap_listing.specs.Listing.{arrow_text}
 use Rattle.dap_follow.specs.Streams.{Captured, came_as, came_in, is_same, streams}
 use Rattle.dap_follow.specs.declared.streams.Stream.{Stream}
-use Rattle.dap_follow.specs.Inner.Keeping.{Came, stream_of, HasAt}
+use Rattle.dap_follow.specs.Inner.Keeping.{stream_of}
+use Rattle.dap_follow.specs.Segments.{NumberedSegment, HasStreamAt}
 use Rattle.std.specs.Prelude.{slice_get}
 use Rattle.dap_follow.specs.contracts.streams.StreamPartialEq.TheImpl as impl
 
@@ -74,7 +75,7 @@ enumerate_from-snoc n (y ∷ xs) x =
     let same : n + 1 + length xs ≡ n + length (y ∷ xs) = omega arith in
     ap (λ l. (n, y) ∷ l) (enumerate_from-snoc (n + 1) xs x ∙ ap (λ (k : ℕ). enumerate_from (n + 1) xs ++ (k, x) ∷ []) same)
 
-abbrev came_at : Stream → ℕ × Captured → Option Came
+abbrev came_at : Stream → ℕ × Captured → Option NumberedSegment
 came_at stream = λ (number, packet). came_as stream number packet
 
 came_in-both : (stream : Stream) (packets : List Captured) (x : Captured)
@@ -82,13 +83,13 @@ came_in-both : (stream : Stream) (packets : List Captured) (x : Captured)
 came_in-both stream packets x =
     ap (filter_map (came_at stream)) (enumerate_from-snoc 1 packets x) ∙ filter_map-append (came_at stream) (enumerate_from 1 packets) ((1 + length packets, x) ∷ [])
 
-pub came_in-more : (stream : Stream) (packets : List Captured) (x : Captured) (c : Came) → came_as stream (1 + length packets) x ≡ Some c
+pub came_in-more : (stream : Stream) (packets : List Captured) (x : Captured) (c : NumberedSegment) → came_as stream (1 + length packets) x ≡ Some c
     → came_in stream (packets ++ x ∷ []) ≡ came_in stream packets ++ c ∷ []
-came_in-more stream packets x c is = came_in-both stream packets x ∙ ap (λ (o : Option Came). came_in stream packets ++ cons_option o []) is
+came_in-more stream packets x c is = came_in-both stream packets x ∙ ap (λ (o : Option NumberedSegment). came_in stream packets ++ cons_option o []) is
 
 pub came_in-none : (stream : Stream) (packets : List Captured) (x : Captured) → came_as stream (1 + length packets) x ≡ None
     → came_in stream (packets ++ x ∷ []) ≡ came_in stream packets
-came_in-none stream packets x is = came_in-both stream packets x ∙ ap (λ (o : Option Came). came_in stream packets ++ cons_option o []) is ∙ append-nil (came_in stream packets)
+came_in-none stream packets x is = came_in-both stream packets x ∙ ap (λ (o : Option NumberedSegment). came_in stream packets ++ cons_option o []) is ∙ append-nil (came_in stream packets)
 
 pub streams-more : (packets : List Captured) (x : Captured) (stream : Stream) → stream_of x ≡ Some stream
     → streams (packets ++ x ∷ []) ≡ insert_key is_same (streams packets) stream
@@ -144,5 +145,5 @@ pub not_true : (b : Bool) → not b ≡ true → b ≡ false
 not_true true h = absurd cc
 not_true false h = refl
 
-pub same_at : (stream : Stream) (index : ℕ) (keys : List Stream) → (other : Stream) × (slice_get keys index ≡ Some other) × (program_eq stream other ≡ true) → HasAt stream index keys
+pub same_at : (stream : Stream) (index : ℕ) (keys : List Stream) → (other : Stream) × (slice_get keys index ≡ Some other) × (program_eq stream other ≡ true) → HasStreamAt stream index keys
 same_at stream index keys at = (at.0, at.1, subst (λ (e : Stream → Stream → Bool). e stream at.0 ≡ true) eq_is at.2)

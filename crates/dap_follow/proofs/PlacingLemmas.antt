@@ -10,20 +10,20 @@ use Rattle.std.proofs.lemmas.Bool.{cases_eq}
 use Rattle.std.proofs.lemmas.Bool.Decides.{nat_tests}
 use Rattle.std.proofs.lemmas.List.{map-append, take-append-drop}
 use Rattle.dap_follow.specs.Streams.{ArePlaced, Placed, at, no_more, one_more}
-use Rattle.dap_follow.specs.Inner.Placing.{IsPutIn, Rises, counted_value}
-use Rattle.dap_follow.specs.Inner.Keeping.{Came, top, put_at}
+use Rattle.dap_follow.specs.Inner.Placing.{IsPutIn, RisesCounted, counted_value}
+use Rattle.dap_follow.specs.Segments.{NumberedSegment, highest_in, placed_at}
 use Rattle.dap_follow.specs.declared.places.Counted.{Counted}
 
 -- ---- places
 
 -- one segment more, near the highest before it
-pub placed_more : {highest : ℕ} {before : List Came} {placed : List Placed} (c : Came) (place : ℕ) → ArePlaced highest before placed
-    → top highest placed ≤ place + 2047 → place ≤ top highest placed + 2048 → place % 4096 ≡ c.1.number
-    → ArePlaced highest (before ++ c ∷ []) (placed ++ put_at place c ∷ [])
+pub placed_more : {highest : ℕ} {before : List NumberedSegment} {placed : List Placed} (c : NumberedSegment) (place : ℕ) → ArePlaced highest before placed
+    → highest_in highest placed ≤ place + 2047 → place ≤ highest_in highest placed + 2048 → place % 4096 ≡ c.1.number
+    → ArePlaced highest (before ++ c ∷ []) (placed ++ placed_at place c ∷ [])
 placed_more c place no_more low high number = one_more place low high number no_more
 placed_more c place (one_more first l h n others) low high number = one_more first l h n (placed_more c place others low high number)
 
-pub top-snoc : (highest : ℕ) (placed : List Placed) (s : Placed) → top highest (placed ++ s ∷ []) ≡ max (top highest placed) s.place
+pub top-snoc : (highest : ℕ) (placed : List Placed) (s : Placed) → highest_in highest (placed ++ s ∷ []) ≡ max (highest_in highest placed) s.place
 top-snoc highest [] s = refl
 top-snoc highest (t ∷ placed) s = top-snoc (max highest t.place) placed s
 
@@ -75,7 +75,7 @@ kept : (o : Option Placed) (s t : Placed) → or_else (or_else o (Some s)) (Some
 kept None s t = refl
 kept (Some u) s t = refl
 
--- what stands at a place behind one that stands there already stays
+-- what stands at a place after one that stands there already stays
 stays : (p : ℕ) (front back : List Counted) (other c : Counted) → other.place ≡ c.place → (p ≡ c.place)
     → or_else (at p (map counted_value (front ++ other ∷ back))) (Some (counted_value c)) ≡ at p (map counted_value (front ++ other ∷ back))
 stays p front back other c same here =
@@ -122,15 +122,15 @@ rises_all : (c : Counted) (front back : List Counted) → AllByRecursion (λ oth
 rises_all c [] back all d below = (below, all)
 rises_all c (f ∷ front) back all d below = (all.0, rises_all c front back (all.1) d below)
 
-rises_between : (front back : List Counted) (c : Counted) → Rises (front ++ back) → AllByRecursion (λ other. other.place < c.place) front
-    → AllByRecursion (λ other. c.place < other.place) back → Rises (front ++ c ∷ back)
+rises_between : (front back : List Counted) (c : Counted) → RisesCounted (front ++ back) → AllByRecursion (λ other. other.place < c.place) front
+    → AllByRecursion (λ other. c.place < other.place) back → RisesCounted (front ++ c ∷ back)
 rises_between [] back c rises below above = (above, rises)
 rises_between (f ∷ front) back c rises below above = (rises_all f front back (rises.0) c (below.0), rises_between front back c (rises.1) (below.1) above)
 
-pub rises_put : (old : List Counted) (c : Counted) (new : List Counted) → IsPutIn old c new → Rises old → Rises new
-rises_put old c new (inl there) rises = subst Rises (sym there.0) rises
+pub rises_put : (old : List Counted) (c : Counted) (new : List Counted) → IsPutIn old c new → RisesCounted old → RisesCounted new
+rises_put old c new (inl there) rises = subst RisesCounted (sym there.0) rises
 rises_put old c new (inr between) rises =
-    subst Rises (sym between.3) (rises_between between.0 between.1 c (subst Rises between.2 rises) between.4 between.5)
+    subst RisesCounted (sym between.3) (rises_between between.0 between.1 c (subst RisesCounted between.2 rises) between.4 between.5)
 
 -- what holds of the old ones and of the new one holds of all
 all_between : (P : Counted → Type 0) (front back : List Counted) (c : Counted) → AllByRecursion P (front ++ back) → P c → AllByRecursion P (front ++ c ∷ back)
@@ -144,7 +144,7 @@ all_put P old c new (inr between) all one =
 
 -- ---- a place that was looked for
 
-rises_at : (cs : List Counted) → Rises cs → (k : ℕ) (d : Counted) → k + 1 < length cs → (get_or cs k d).place < (get_or cs (k + 1) d).place
+rises_at : (cs : List Counted) → RisesCounted cs → (k : ℕ) (d : Counted) → k + 1 < length cs → (get_or cs k d).place < (get_or cs (k + 1) d).place
 rises_at [] rises k d below = absurd (omega arith)
 rises_at (c ∷ []) rises k d below = absurd (omega arith)
 rises_at (c ∷ e ∷ cs) rises zero d below = rises.0.0
@@ -183,7 +183,7 @@ at_index (c ∷ cs) (suc i) d below = ap (λ l. c ∷ l) (at_index cs i d (omega
 pub found : (cs : List Counted) (c : Counted) (i : ℕ) → i < length cs → ((d : Counted) → nat_cmp (get_or cs i d).place c.place ≡ Equal) → IsPutIn cs c cs
 found cs c i below is = inl (refl, take i cs, drop (suc i) cs, get_or cs i c, at_index cs i c below, equal (get_or cs i c).place c.place (is c))
 
-pub not_found : (cs : List Counted) (c : Counted) (i : ℕ) → Rises cs → i ≤ length cs
+pub not_found : (cs : List Counted) (c : Counted) (i : ℕ) → RisesCounted cs → i ≤ length cs
     → (IsNonDecreasingBy (λ o. ordering_index (nat_cmp o.place c.place)) cs → IsPartitionPoint (λ o. nat_cmp o.place c.place ≡ Less) (λ o. nat_cmp o.place c.place ≡ Greater) cs i)
     → IsPutIn cs c (insert cs i c)
 not_found cs c i rises within parts =

@@ -5,16 +5,16 @@ use Rattle.std.specs.Global.{Vec}
 use Rattle.std.specs.List.{AllZip}
 use Rattle.std.proofs.lemmas.List.{map-append, length-map, get_or-append_right}
 use Rattle.hex.specs.Hex.{decode_of}
-use Rattle.dap_listing.specs.declared.fault.CaptureFault.{CaptureFault}
-use Rattle.dap_listing.specs.declared.fault.CaptureFault.TheVariants.{BadLine, TooLarge, ReadFailed, WriteFailed, NoMemory}
-use Rattle.dap_listing.specs.Firsts.{IsFirst}
+use Rattle.linewise.specs.declared.fault.CaptureFault.{CaptureFault}
+use Rattle.linewise.specs.declared.fault.CaptureFault.TheVariants.{BadLine, TooLarge, ReadFailed, WriteFailed, NoMemory}
+use Rattle.linewise.specs.Firsts.{IsFirst}
 use Rattle.dap_listing.specs.Lines.{Capture}
 use Rattle.dap_listing.specs.Packets.{IsSeen, Seen}
 use Rattle.dap_listing.specs.declared.lines.Direction.{Direction}
 use Rattle.dap_follow.specs.Streams.{Captured, came_as}
 use Rattle.dap_follow.specs.Following.{IsCaptured, frame_of, packet_line}
 use Rattle.dap_follow.specs.Inner.Keeping.{stream_of, KeepsAll}
-use Rattle.dap_follow.specs.Inner.Reading.{Reads, line_texts}
+use Rattle.dap_follow.specs.Inner.Reading.{ReadsPackets, line_texts}
 use Rattle.dap_follow.specs.declared.reading.Reading.{Reading}
 use Rattle.dap_follow.proofs.KeepingLemmas.{keeps_aside}
 
@@ -30,13 +30,13 @@ length-line_texts : (in_words : Bool) (told : List (List (List ℕ))) (n : ℕ) 
 length-line_texts in_words told n [] = refl
 length-line_texts in_words told n (p ∷ packets) = ap suc (length-line_texts in_words told (n + 1) packets)
 
-pub count_is : (in_words : Bool) (told : List (List (List ℕ))) (packets : List Captured) (r : Reading) → Reads in_words told packets r → length r.lines.items ≡ length packets
+pub count_is : (in_words : Bool) (told : List (List (List ℕ))) (packets : List Captured) (r : Reading) → ReadsPackets in_words told packets r → length r.lines.items ≡ length packets
 count_is in_words told packets r reads = sym (length-map r.lines.items (λ (line : Vec ℕ). line.items)) ∙ ap length reads.lines ∙ length-line_texts in_words told 1 packets
 
 pub reads_more : (in_words : Bool) (told : List (List (List ℕ))) (frame : List (List ℕ)) (packets : List Captured) (way : Direction) (seen : Seen) (old new : Reading) (line : Vec ℕ) (number : ℕ)
-    → frame_of told (length packets + 1) ≡ frame → Reads in_words told packets old
+    → frame_of told (length packets + 1) ≡ frame → ReadsPackets in_words told packets old
     → KeepsAll (packets ++ (way, seen) ∷ []) new.streams → new.lines.items ≡ old.lines.items ++ line ∷ [] → line.items ≡ packet_line in_words frame number (way, seen)
-    → number ≡ length old.lines.items + 1 → Reads in_words told (packets ++ (way, seen) ∷ []) new
+    → number ≡ length old.lines.items + 1 → ReadsPackets in_words told (packets ++ (way, seen) ∷ []) new
 reads_more in_words told frame packets way seen old new line number framed reads streams pushed is at =
     let count : number ≡ 1 + length packets = omega (arith, at, count_is in_words told packets old reads) in
     let here : length packets + 1 ≡ 1 + length packets = omega arith in

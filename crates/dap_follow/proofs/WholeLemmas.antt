@@ -13,13 +13,14 @@ use Rattle.std.proofs.lemmas.Grind.{flat_map-append}
 use Rattle.std.proofs.lemmas.List.{append_assoc, append-nil, map-append, take_all}
 use Rattle.std.proofs.lemmas.Map.Keys.{IsStrictlyIncreasing-from_sorted}
 use Rattle.dap_follow.specs.Streams.{ArePlaced, IsOrdered, Captured, came_in, first_place}
-use Rattle.dap_follow.specs.Joined.{Message, messages, pieces}
-use Rattle.dap_follow.specs.Following.{IsMessageText, IsPacketText, frame_of, packet_line, rest_lines}
-use Rattle.dap_follow.specs.Inner.Keeping.{Came, KeepsEach, KeepsStream}
+use Rattle.dap_follow.specs.Joined.{Message, messages, fragments_of}
+use Rattle.dap_follow.specs.Following.{IsMessageText, IsFollowedPacketText, frame_of, packet_line, rest_lines}
+use Rattle.dap_follow.specs.Inner.Keeping.{KeepsEach, KeepsStream}
+use Rattle.dap_follow.specs.Segments.{NumberedSegment}
 use Rattle.dap_follow.specs.Inner.Listing.{AreMessageLines, UnderAll, all_rest_lines, message_heading, no_more, one_more, values}
-use Rattle.dap_follow.specs.Inner.Placing.{Rises}
+use Rattle.dap_follow.specs.Inner.Placing.{RisesCounted}
 use Rattle.dap_follow.specs.Inner.Reading.{line_texts}
-use Rattle.dap_follow.specs.Inner.Whole.{ordered_of, texts_of}
+use Rattle.dap_follow.specs.Inner.Whole.{ordered_of, joined_texts}
 use Rattle.dap_follow.specs.declared.places.Counted.{Counted}
 use Rattle.dap_follow.specs.declared.places.Places.{Places}
 use Rattle.dap_follow.specs.declared.streams.Stream.{Stream}
@@ -58,11 +59,11 @@ under_more in_words places i d olds mids news below before one =
     subst (λ (ms : List Message). UnderAll in_words ms 1 olds news) (sym all) (under_both in_words _ _ 1 olds mids news before one)
 
 pub left_more : (keys : List Stream) (places : List Places) (i : ℕ) (d : Places) (s : Stream) (old new whole : List ℕ) → i < length places → slice_get keys i ≡ Some s
-    → new ≡ old ++ rest_lines s (pieces (values (get_or places i d).ordered.items))
+    → new ≡ old ++ rest_lines s (fragments_of (values (get_or places i d).ordered.items))
     → old ++ all_rest_lines (drop i keys) (ordered_of (drop i places)) ≡ whole → new ++ all_rest_lines (drop (i + 1) keys) (ordered_of (drop (i + 1) places)) ≡ whole
 left_more keys places i d s old new whole below is added before =
     let p = get_or places i d in
-    let line = rest_lines s (pieces (values p.ordered.items)) in
+    let line = rest_lines s (fragments_of (values p.ordered.items)) in
     let others = all_rest_lines (drop (i + 1) keys) (ordered_of (drop (i + 1) places)) in
     let place : drop i places ≡ p ∷ drop (i + 1) places = rw add-one (drop-cons places i d below) in
     let both : all_rest_lines (drop i keys) (ordered_of (drop i places)) ≡ line ++ others =
@@ -78,7 +79,7 @@ sorted_each : (n : ℕ) (cs : List Counted) → AllByRecursion (λ c. n < c.plac
 sorted_each n [] above = tt
 sorted_each n (c ∷ cs) above = (less_is n c.place above.0, sorted_each n cs above.1)
 
-sorted_places : (cs : List Counted) → Rises cs → IsStrictlySortedBy nat_cmp (map (λ s. s.place) (values cs))
+sorted_places : (cs : List Counted) → RisesCounted cs → IsStrictlySortedBy nat_cmp (map (λ s. s.place) (values cs))
 unfolding IsStrictlySortedBy
 sorted_places [] rises = tt
 sorted_places (c ∷ cs) rises = (sorted_each c.place cs rises.0, sorted_places cs rises.1)
@@ -86,7 +87,7 @@ sorted_places (c ∷ cs) rises = (sorted_each c.place cs rises.0, sorted_places 
 is_ordered : (packets : List Captured) (s : Stream) (p : Places) → KeepsStream packets s p → IsOrdered (came_in s packets) (values p.ordered.items)
 is_ordered packets s p k = record {
   placed = k.keeps.placed;
-  are_placed = subst (λ (l : List Came). ArePlaced (first_place l) l k.keeps.placed) (sym k.are) k.keeps.are_placed;
+  are_placed = subst (λ (l : List NumberedSegment). ArePlaced (first_place l) l k.keeps.placed) (sym k.are) k.keeps.are_placed;
   ascending = IsStrictlyIncreasing-from_sorted (map (λ s. s.place) (values p.ordered.items)) (sorted_places p.ordered.items k.keeps.rises);
   same = k.keeps.same;
 }
@@ -118,7 +119,7 @@ message_texts in_words (m ∷ ms) _ (one_more lines rest is others) =
 
 pub packet_texts : (in_words : Bool) (told : List (List (List ℕ))) (all : List Message) (n : ℕ) (packets : List Captured) (olds news : List (Vec ℕ))
     → map (λ (v : Vec ℕ). v.items) olds ≡ line_texts in_words told n packets → UnderAll in_words all n olds news
-    → AllZip (IsPacketText in_words told all) (enumerate_from n packets) (map (λ (v : Vec ℕ). v.items) news)
+    → AllZip (IsFollowedPacketText in_words told all) (enumerate_from n packets) (map (λ (v : Vec ℕ). v.items) news)
 packet_texts in_words told all n [] [] [] are under = tt
 packet_texts in_words told all n [] [] (v ∷ news) are under = absurd under
 packet_texts in_words told all n [] (o ∷ olds) news are under = absurd (cons_nil _ _ are)
@@ -132,7 +133,7 @@ packet_texts in_words told all n (p ∷ packets) (o ∷ olds) (v ∷ news) are u
     let text : v.items ≡ line ++ here.0 = here.2 ∙ ap (λ (l : List ℕ). l ++ here.0) parts.0 in
     ((each.0, each.1, text ∙ ap (λ (l : List ℕ). line ++ l) each.2), packet_texts in_words told all (n + 1) packets olds news parts.1 under.1)
 
-pub texts_joined : (vs : List (Vec ℕ)) → texts_of vs ≡ concat (map (λ (v : Vec ℕ). v.items) vs)
+pub texts_joined : (vs : List (Vec ℕ)) → joined_texts vs ≡ concat (map (λ (v : Vec ℕ). v.items) vs)
 texts_joined [] = refl
 texts_joined (v ∷ vs) = ap (λ (l : List ℕ). v.items ++ l) (texts_joined vs)
 

@@ -5,16 +5,16 @@ use Rattle.std.specs.Fmt.{decimal}
 use Rattle.hex.specs.Hex.{decode_of}
 use Rattle.dap_text.specs.Text.{line_feed, word_text}
 use Rattle.dap_meanings.specs.Meanings.{packet_words, with_words}
-use Rattle.dap_listing.specs.Gives.{Gives}
+use Rattle.linewise.specs.Gives.{Gives}
 use Rattle.dap_listing.specs.Listing.{arrow_text, captures, frames, heading, packet_limit, faults_from}
 use Rattle.dap_listing.specs.Lines.{Capture}
 use Rattle.dap_listing.specs.Messages.{IsMessagesText}
 use Rattle.dap_listing.specs.Packets.{IsSeen, seen_line}
-use Rattle.dap_listing.specs.declared.fault.CaptureFault.{CaptureFault}
-use Rattle.dap_listing.specs.declared.fault.Outcome.{Outcome}
-use Rattle.dap_listing.specs.declared.fault.Outcome.TheVariants.{Good}
+use Rattle.linewise.specs.declared.fault.CaptureFault.{CaptureFault}
+use Rattle.linewise.specs.declared.fault.Outcome.{Outcome}
+use Rattle.linewise.specs.declared.fault.Outcome.TheVariants.{Good}
 use Rattle.dap_follow.specs.Streams.{IsOrdered, Captured, Placed, came_in, streams}
-use Rattle.dap_follow.specs.Joined.{Message, Piece, is_message, messages, payload, pieces, tail}
+use Rattle.dap_follow.specs.Joined.{Message, Fragment, is_message, messages, payload, fragments_of, tail}
 use Rattle.dap_follow.specs.declared.streams.Stream.{Stream}
 
 -- the captured bytes are this packet or have this fault
@@ -31,11 +31,11 @@ abbrev pub length_text : List ℕ → List ℕ
 length_text bytes = concat (codes " len=" ∷ decimal (length bytes) ∷ line_feed ∷ [])
 
 -- after a word, the numbers of the first and last segment, and how many bytes they have
-abbrev pub piece_text : List ℕ → Piece → List ℕ
+abbrev pub piece_text : List ℕ → Fragment → List ℕ
 piece_text word p = word ++ (range_text p.head.place (tail p).place ++ length_text (payload p))
 
 -- the lines of a message: its heading, and those of the DAP messages in it
-abbrev pub IsMessageText : (in_words : Bool) → Piece → List ℕ → Type 0
+abbrev pub IsMessageText : (in_words : Bool) → Fragment → List ℕ → Type 0
 IsMessageText in_words p text = (lines : List ℕ) × IsMessagesText in_words (payload p) lines × (text ≡ piece_text (codes "  message") p ++ lines)
 
 -- the line of a packet without words
@@ -52,8 +52,8 @@ abbrev pub frame_of : List (List (List ℕ)) → ℕ → List (List ℕ)
 frame_of frames number = get_or frames (number - 1) []
 
 -- the lines of a packet: its own, and those of the messages that it completes
-abbrev pub IsPacketText : (in_words : Bool) → (frames : List (List (List ℕ))) → (all : List Message) → ℕ × Captured → List ℕ → Type 0
-IsPacketText in_words frames all (number, packet) text =
+abbrev pub IsFollowedPacketText : (in_words : Bool) → (frames : List (List (List ℕ))) → (all : List Message) → ℕ × Captured → List ℕ → Type 0
+IsFollowedPacketText in_words frames all (number, packet) text =
     (texts : List (List ℕ)) × AllZip (λ m. IsMessageText in_words m.piece) (filter (λ m. m.packet == number) all) texts
     × (text ≡ packet_line in_words (frame_of frames number) number packet ++ concat texts)
 
@@ -62,18 +62,18 @@ abbrev pub stream_text : Stream → List ℕ
 stream_text s = concat (codes " " ∷ arrow_text s.way ∷ codes " dst=" ∷ word_text s.dst ∷ codes " src=" ∷ word_text s.src ∷ [])
 
 -- segments that are no whole message
-abbrev pub part_line : Stream → Piece → List ℕ
+abbrev pub part_line : Stream → Fragment → List ℕ
 part_line stream p = if is_message p then [] else codes "part" ++ piece_text (stream_text stream) p
 
 -- the segments that are missing before the next ones
-abbrev pub gap_line : Stream → Piece → List Piece → List ℕ
+abbrev pub gap_line : Stream → Fragment → List Fragment → List ℕ
 gap_line stream p [] = []
 gap_line stream p (next ∷ others) =
     if nat_lt ((tail p).place + 1) next.head.place
     then codes "gap" ++ (stream_text stream ++ (range_text ((tail p).place + 1) (next.head.place - 1) ++ line_feed)) else []
 
 -- the parts and gaps of a stream, in order
-abbrev pub rest_lines : Stream → List Piece → List ℕ
+abbrev pub rest_lines : Stream → List Fragment → List ℕ
 rest_lines stream [] = []
 rest_lines stream (p ∷ others) = part_line stream p ++ gap_line stream p others ++ rest_lines stream others
 
@@ -84,8 +84,8 @@ pub record IsFollowed (in_words : Bool) (captured : List Capture) (frames : List
   pub texts : List (List ℕ)
   pub are_seen : AllZip IsCaptured captured packets
   pub are_ordered : AllZip (λ stream. IsOrdered (came_in stream packets)) (streams packets) ordered
-  pub are_texts : AllZip (IsPacketText in_words frames (flat_map messages ordered)) (enumerate_from 1 packets) texts
-  pub joined : text ≡ concat texts ++ flat_map (λ (stream, segments). rest_lines stream (pieces segments)) (zip (streams packets) ordered)
+  pub are_texts : AllZip (IsFollowedPacketText in_words frames (flat_map messages ordered)) (enumerate_from 1 packets) texts
+  pub joined : text ≡ concat texts ++ flat_map (λ (stream, segments). rest_lines stream (fragments_of segments)) (zip (streams packets) ordered)
 
 -- what `follow` does with an input
 abbrev pub FollowGives : (in_words : Bool) → List ℕ → Option (List ℕ) → Option (List ℕ) → Result Outcome CaptureFault → Type 0

@@ -9,37 +9,37 @@ abbrev pub joins : Placed → Placed → Bool
 joins a b = (b.place == a.place + 1) && not a.last && not b.first
 
 -- segments in a row: the first one and the others
-pub record Piece : Type 0 where
+pub record Fragment : Type 0 where
   pub head : Placed
   pub others : List Placed
 
 -- a segment before pieces: it joins the first of them, or is a piece itself
-abbrev pub with_segment : Placed → List Piece → List Piece
+abbrev pub with_segment : Placed → List Fragment → List Fragment
 with_segment s [] = record { head = s; others = [] } ∷ []
 with_segment s (p ∷ pieces) =
     if joins s p.head then record { head = s; others = p.head ∷ p.others } ∷ pieces else record { head = s; others = [] } ∷ p ∷ pieces
 
 -- segments in order, cut at each hole, before each first segment of a message and after each last one
-abbrev pub pieces : List Placed → List Piece
-pieces [] = []
-pieces (s ∷ others) = with_segment s (pieces others)
+abbrev pub fragments_of : List Placed → List Fragment
+fragments_of [] = []
+fragments_of (s ∷ others) = with_segment s (fragments_of others)
 
 -- the last segment
-abbrev pub tail : Piece → Placed
+abbrev pub tail : Fragment → Placed
 tail p = fold (λ one next. next) p.head p.others
 
 -- a piece that begins with the first segment of a message and ends with the last one
-abbrev pub is_message : Piece → Bool
+abbrev pub is_message : Fragment → Bool
 is_message p = p.head.first && (tail p).last
 
 -- the bytes of all its segments
-abbrev pub payload : Piece → List ℕ
+abbrev pub payload : Fragment → List ℕ
 payload p = flat_map (λ s. s.payload) (p.head ∷ p.others)
 
 -- a message, and the packet under which it is listed
 pub record Message : Type 0 where
   pub packet : ℕ
-  pub piece : Piece
+  pub piece : Fragment
 
 -- the latest packet of segments
 abbrev pub latest : List Placed → ℕ
@@ -47,9 +47,9 @@ latest [] = 0
 latest (s ∷ others) = max s.packet (latest others)
 
 -- A message is listed under the packet with which it is whole: the latest of those of its own segments.
-abbrev pub message_of : Piece → Message
-message_of p = record { packet = latest (p.head ∷ p.others); piece = p }
+abbrev pub fragment_message : Fragment → Message
+fragment_message p = record { packet = latest (p.head ∷ p.others); piece = p }
 
 -- the messages of a stream
 abbrev pub messages : List Placed → List Message
-messages ordered = map message_of (filter is_message (pieces ordered))
+messages ordered = map fragment_message (filter is_message (fragments_of ordered))

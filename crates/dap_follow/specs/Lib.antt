@@ -1,4 +1,5 @@
 pub mod Inner
 pub mod Streams
+pub mod Segments
 pub mod Joined
 pub mod Following

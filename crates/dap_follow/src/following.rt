@@ -1,18 +1,19 @@
 //! The listing of a capture with its messages joined.
 
 ghost use Rattle.std.specs.Prelude.{◌≡◌, ◌≤◌, ◌++◌, [], IfErr, IfOk, IfSome, OnOk, length, IsErrOf};
-ghost use Rattle.dap_listing.specs.declared.fault.CaptureFault.TheVariants.{TooLarge};
-ghost use Rattle.dap_listing.specs.Gives.{KeepsUnwritten, TakesAnInput, TakesWithinLimit};
-ghost use Rattle.dap_listing.specs.Firsts.{IsFirst};
+ghost use Rattle.linewise.specs.declared.fault.CaptureFault.TheVariants.{TooLarge};
+ghost use Rattle.linewise.specs.Gives.{KeepsUnwritten, TakesAnInput, TakesWithinLimit};
+ghost use Rattle.linewise.specs.Firsts.{IsFirst};
 ghost use Rattle.dap_listing.specs.Listing.{captures, frames, packet_limit, faults_from};
 ghost use Rattle.dap_follow.specs.Following.{FollowGives, IsFollowed};
 ghost use Rattle.dap_follow.specs.Inner.Reading.{FirstThenWants, WantsOrFirst};
-ghost use Rattle.dap_follow.specs.Inner.Whole.{KeepsFew, ListsAll, texts_of};
+ghost use Rattle.dap_follow.specs.Inner.Whole.{KeepsFew, ListsAll, joined_texts};
 
 use crate::joining::{Room, list_stream};
 use crate::reading::{Reading, read_packets};
 use crate::streams::Streams;
-use dap_listing::{CaptureFault, INPUT_LIMIT, Outcome, next_packet, read_input, write_text};
+use dap_listing::next_packet;
+use linewise::{CaptureFault, INPUT_LIMIT, Outcome, read_input, write_text};
 use std::alloc::{AllocError, Global};
 use std::io::{Read, Write};
 
@@ -48,7 +49,7 @@ fn list_streams(
 
 /// All lines, and the text after them.
 fn join(alloc: Global, lines: &[Vec<u8>], rest: &[u8]) -> Result<Vec<u8>, AllocError>
-    ensures { IfOk result (λ text. text.items ≡ texts_of lines.now ++ rest.now) }
+    ensures { IfOk result (λ text. text.items ≡ joined_texts lines.now ++ rest.now) }
 {
     let mut text = Vec::new(alloc);
     for line in lines {

@@ -3,10 +3,10 @@
 ghost use Rattle.std.specs.Prelude.{◌≡◌, ◌≤◌, ◌<◌, ℕ, List, OnOk, drop, length, take};
 ghost use Rattle.std.specs.List.{AllByRecursion};
 ghost use Rattle.dap_text.specs.Adding.{Adds, AddsSome};
-ghost use Rattle.dap_follow.specs.Joined.{Piece, joins as do_join, latest, pieces, tail};
+ghost use Rattle.dap_follow.specs.Joined.{Fragment, joins as do_join, latest, fragments_of, tail};
 ghost use Rattle.dap_follow.specs.Following.{IsMessageText, gap_line, length_text, range_text, stream_text};
-ghost use Rattle.dap_follow.specs.Inner.Keeping.{IsGood};
-ghost use Rattle.dap_follow.specs.Inner.Listing.{AreSpelled, IsCutOff, IsPiece, ListsPiece, ListsStream, digits_of, part_text, values};
+ghost use Rattle.dap_follow.specs.Inner.Keeping.{IsCounted};
+ghost use Rattle.dap_follow.specs.Inner.Listing.{AreSpelled, IsCutOff, IsPiece, ListsPiece, ListsStream, payload_digits, part_text, values};
 ghost use Rattle.dap_follow.specs.Inner.Placing.{counted_value};
 
 use crate::places::{Counted, ROUND};
@@ -39,8 +39,8 @@ fn piece_len(segments: &[Counted<'_>]) -> usize
 /// The first and the last segment of a piece.
 fn ends<'a, 'b>(piece: &'b [Counted<'a>]) -> (&'b Counted<'a>, &'b Counted<'a>)
     requires { 0 < length piece.now }
-    ensures first { (p : Piece) → IsPiece p piece.now → counted_value result.0.now ≡ p.head }
-    ensures last { (p : Piece) → IsPiece p piece.now → counted_value result.1.now ≡ tail p }
+    ensures first { (p : Fragment) → IsPiece p piece.now → counted_value result.0.now ≡ p.head }
+    ensures last { (p : Fragment) → IsPiece p piece.now → counted_value result.1.now ≡ tail p }
 {
     (&piece[0], &piece[piece.len() - 1])
 }
@@ -75,7 +75,7 @@ impl Room {
 
 /// The digits of a piece, one segment after the other.
 fn gather(piece: &[Counted<'_>], digits: &mut Vec<u8>) -> Result<(), AllocError>
-    ensures { OnOk result (digits.new.items ≡ digits_of piece.now) }
+    ensures { OnOk result (digits.new.items ≡ payload_digits piece.now) }
 {
     digits.clear();
     for segment in piece {
@@ -120,7 +120,7 @@ fn push_message(
 ) -> Result<(), AllocError>
     requires some { 0 < length piece.now }
     requires spelled { AreSpelled piece.now }
-    ensures { OnOk result ((p : Piece) → IsPiece p piece.now
+    ensures { OnOk result ((p : Fragment) → IsPiece p piece.now
         → AddsSome text.old text.new (IsMessageText in_words p)) }
 {
     gather(piece, &mut room.digits)?;
@@ -142,7 +142,7 @@ fn push_part(
 ) -> Result<(), AllocError>
     requires some { 0 < length piece.now }
     requires spelled { AreSpelled piece.now }
-    ensures { OnOk result ((p : Piece) → IsPiece p piece.now
+    ensures { OnOk result ((p : Fragment) → IsPiece p piece.now
         → Adds text.old text.new (part_text stream.now p)) }
 {
     gather(piece, &mut room.digits)?;
@@ -168,7 +168,7 @@ fn list_piece(
     requires spelled { AreSpelled piece.now }
     requires first { 0 < packet }
     requires last { packet ≤ length lines.old }
-    ensures { OnOk result ((p : Piece) → IsPiece p piece.now
+    ensures { OnOk result ((p : Fragment) → IsPiece p piece.now
         → ListsPiece in_words stream.now packet p lines.old lines.new rest.old rest.new) }
 {
     let (first, last) = ends(piece);
@@ -187,8 +187,8 @@ fn push_gap(
     others: &[Counted<'_>],
 ) -> Result<(), AllocError>
     requires { 0 < length piece.now }
-    ensures { OnOk result ((p : Piece) → IsPiece p piece.now
-        → Adds text.old text.new (gap_line stream.now p (pieces (values others.now)))) }
+    ensures { OnOk result ((p : Fragment) → IsPiece p piece.now
+        → Adds text.old text.new (gap_line stream.now p (fragments_of (values others.now)))) }
 {
     let Some(next) = others.first() else {
         return Ok(());
@@ -212,7 +212,7 @@ pub(crate) fn list_stream(
     room: &mut Room,
     in_words: bool,
 ) -> Result<(), AllocError>
-    requires { AllByRecursion (IsGood (length lines.old)) ordered.now }
+    requires { AllByRecursion (IsCounted (length lines.old)) ordered.now }
     ensures { OnOk result
         (ListsStream in_words stream.now (values ordered.now) lines.old lines.new
         rest.old rest.new) }

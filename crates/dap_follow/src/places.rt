@@ -1,18 +1,19 @@
 //! The segments of a stream that count, in the order of their places.
 
 ghost use Rattle.std.specs.Prelude.{◌≡◌, ◌≤◌, ◌<◌, ◌+◌, ◌%◌, ◌^◌, [], OnOk};
-ghost use Rattle.dap_follow.specs.Inner.Placing.{IsPutIn, Rises};
+ghost use Rattle.dap_follow.specs.Inner.Placing.{IsPutIn, RisesCounted};
 ghost use Rattle.dap_follow.specs.Inner.Keeping.{IsAdded};
 
 use dap_listing::CapturedSegment;
-use nsp_seg::Seq12;
+use nsp_link::GREATEST_AGE;
+use nsp_seg::{MODULUS, Seq12};
 use std::alloc::{AllocError, Global};
 
-/// So many numbers of segments there are (NSP 4.0.0, segment numbers).
-pub(crate) const ROUND: u64 = 4096;
+/// This many numbers of segments there are.
+pub(crate) const ROUND: u64 = MODULUS as u64;
 
-/// How far below the highest place before it a segment may lie.
-const BELOW: u64 = 2047;
+/// How far below the highest place before it a segment may lie: as far as its number identifies it.
+const BELOW: u64 = GREATEST_AGE;
 
 /// A segment that counts: its place, the number of its packet, its marks, and the hex digits of its payload.
 #[derive(Clone, Copy)]
@@ -38,7 +39,7 @@ fn place_near(highest: u64, number: Seq12) -> u64
 
 /// Puts a segment in its place, unless another is there.
 fn put_in<'a>(ordered: &mut Vec<Counted<'a>>, counted: Counted<'a>) -> Result<(), AllocError>
-    requires { Rises ordered.old.items }
+    requires { RisesCounted ordered.old.items }
     ensures { OnOk result (IsPutIn ordered.old.items counted.entry ordered.new.items) }
 {
     match ordered.binary_search_by_key(&counted.place, |other| other.place) {
@@ -77,7 +78,7 @@ impl<'a> Places<'a> {
     ) -> Result<(), AllocError>
         requires low { 4096 ≤ self.old.highest }
         requires high { self.old.highest < 2 ^ 62 }
-        requires rises { Rises self.old.ordered.items }
+        requires rises { RisesCounted self.old.ordered.items }
         ensures added { OnOk result (IsAdded packet segment.now self.old self.new) }
     {
         let place = place_near(self.highest, segment.number);

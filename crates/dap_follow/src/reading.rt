@@ -5,14 +5,15 @@ ghost use Rattle.dap_listing.specs.Captured.{HasDigits, Spell, seen_value};
 ghost use Rattle.dap_meanings.specs.Frames.{frame_words};
 ghost use Rattle.dap_meanings.specs.Meanings.{fault_words, if_there, packet_words};
 ghost use Rattle.dap_follow.specs.Following.{packet_line};
-ghost use Rattle.dap_follow.specs.Inner.Reading.{Reads, ReadsAll, ReadsFew, ReadsMore, WantsOrFirst};
+ghost use Rattle.dap_follow.specs.Inner.Reading.{ReadsPackets, ReadsInput, ReadsFew, ReadsMore, WantsOrFirst};
 
 use crate::streams::Streams;
 use dap_listing::{
-    CaptureFault, CapturedPacket, Direction, Found, INPUT_LIMIT, PACKET_LIMIT, next_packet,
-    push_heading, push_seen, read_packet,
+    CapturedPacket, Direction, Found, PACKET_LIMIT, next_packet, push_heading, push_seen,
+    read_packet,
 };
 use dap_meanings::add_packet_words;
+use linewise::{CaptureFault, INPUT_LIMIT};
 use nsp_seg::SegFault;
 use std::alloc::{AllocError, Global};
 
@@ -59,7 +60,7 @@ pub fn push_packet_line(
 impl<'a> Reading<'a> {
     /// Nothing was read yet. It takes no memory.
     fn new(alloc: Global) -> Self
-        ensures { (in_words : Bool) (told : List (List (List ℕ))) → Reads in_words told [] result }
+        ensures { (in_words : Bool) (told : List (List (List ℕ))) → ReadsPackets in_words told [] result }
     {
         Reading {
             lines: Vec::new(alloc),
@@ -108,7 +109,7 @@ pub(crate) fn read_packets<'a>(
     in_words: bool,
 ) -> Result<Reading<'a>, CaptureFault>
     requires { length input.now ≤ INPUT_LIMIT }
-    ensures all { IfOk result (ReadsAll in_words input.now) }
+    ensures all { IfOk result (ReadsInput in_words input.now) }
     ensures fault { IfErr result (WantsOrFirst input.now) }
 {
     let mut room = vec![in alloc; 0; PACKET_LIMIT]?;

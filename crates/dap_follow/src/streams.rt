@@ -3,7 +3,8 @@
 ghost use Rattle.std.specs.Prelude.{◌≡◌, ◌<◌, ◌+◌, ◌/◌, ◌^◌, ◌++◌, ◌∷◌, [], List, IfOk, OnOk, length};
 ghost use Rattle.dap_listing.specs.Captured.{Spell};
 ghost use Rattle.dap_follow.specs.Streams.{Captured};
-ghost use Rattle.dap_follow.specs.Inner.Keeping.{IsIndexed, KeepsAll, KeepsSome, segment_packet};
+ghost use Rattle.dap_follow.specs.Inner.Keeping.{IsIndexed, KeepsAll, KeepsSome};
+ghost use Rattle.dap_follow.specs.Segments.{captured_segment};
 
 use crate::places::Places;
 use dap_listing::{CapturedSegment, Direction};
@@ -62,7 +63,7 @@ impl<'a> Streams<'a> {
         ensures { OnOk result ((packets : List Captured)
             → KeepsAll packets self.old → packet ≡ length packets + 1
             → Spell segment.now.digits.now (length segment.now.digits.now / 2)
-            → KeepsAll (packets ++ segment_packet way segment.now ∷ []) self.new) }
+            → KeepsAll (packets ++ captured_segment way segment.now ∷ []) self.new) }
     {
         let stream = Stream {
             way,

@@ -11,7 +11,7 @@ use Rattle.hex.specs.Hex.{decode_of, decode_pairs, digit_or_error, encode_lower,
 use Rattle.hex.proofs.HexLemmas.{decode_of-even, decode_of-ok}
 use Rattle.hex.proofs.Pairs.{cons_byte, decode_pairs-ok_pair}
 use Rattle.dap_text.specs.Text.{image_text}
-use Rattle.dap_listing.specs.Captured.{Spell, bytes_of}
+use Rattle.dap_listing.specs.Captured.{Spell, digit_bytes}
 
 abbrev IsDigit : ℕ → Type 0
 IsDigit c = is_hex_digit c ≡ true
@@ -48,16 +48,16 @@ by_pairs digits count spell =
     let even : length digits % 2 ≡ 0 = omega (arith, spell.1) in
     decode_of-even digits even ∙ decodes 0 digits even spell.0
 
-of_pairs : (digits : List ℕ) (count : ℕ) → Spell digits count → bytes_of digits ≡ pair_bytes digits
+of_pairs : (digits : List ℕ) (count : ℕ) → Spell digits count → digit_bytes digits ≡ pair_bytes digits
 of_pairs digits count spell = rw (by_pairs digits count spell) refl
 
 -- digits decode
-pub decoded : (digits : List ℕ) (count : ℕ) → Spell digits count → decode_of digits ≡ Ok (bytes_of digits)
+pub decoded : (digits : List ℕ) (count : ℕ) → Spell digits count → decode_of digits ≡ Ok (digit_bytes digits)
 decoded digits count spell = by_pairs digits count spell ∙ ap Ok (sym (of_pairs digits count spell))
 
-pub count_of : (digits : List ℕ) (count : ℕ) → Spell digits count → length (bytes_of digits) ≡ count
+pub count_of : (digits : List ℕ) (count : ℕ) → Spell digits count → length (digit_bytes digits) ≡ count
 count_of digits count spell =
-    let says = decode_of-ok digits (bytes_of digits) (decoded digits count spell) in
+    let says = decode_of-ok digits (digit_bytes digits) (decoded digits count spell) in
     omega (arith, says.2, spell.1)
 
 -- ---- Parts of digits.
@@ -83,7 +83,7 @@ all_of_part n m s all k d below =
 
 -- the digits of some of the bytes
 pub part : (digits : List ℕ) (count from size low wide : ℕ) → Spell digits count → from + size ≤ count → low ≡ 2 * from → wide ≡ 2 * size
-    → Spell (take wide (drop low digits)) size × (bytes_of (take wide (drop low digits)) ≡ take size (drop from (bytes_of digits)))
+    → Spell (take wide (drop low digits)) size × (digit_bytes (take wide (drop low digits)) ≡ take size (drop from (digit_bytes digits)))
 part digits count from size low wide spell within at width =
     let these : List ℕ = take wide (drop low digits) in
     let spelled : Spell these size = (all_of_part wide low digits spell.0, omega (arith, length-take wide (drop low digits), length-drop low digits, spell.1, within, at, width)) in
@@ -148,19 +148,19 @@ some_image [] some = absurd (omega arith)
 some_image (b ∷ bytes) some = refl
 
 -- the image of the bytes is their digits in lower case
-pub image_is : (digits : List ℕ) (count : ℕ) → Spell digits count → 0 < count → image_text (bytes_of digits) ≡ map to_ascii_lowercase digits
+pub image_is : (digits : List ℕ) (count : ℕ) → Spell digits count → 0 < count → image_text (digit_bytes digits) ≡ map to_ascii_lowercase digits
 image_is digits count spell some =
-    some_image (bytes_of digits) (omega (arith, count_of digits count spell, some))
+    some_image (digit_bytes digits) (omega (arith, count_of digits count spell, some))
     ∙ ap encode_lower (of_pairs digits count spell) ∙ lower_pairs digits (omega (arith, spell.1)) spell.0
 
 no_image : (bytes : List ℕ) → length bytes ≡ 0 → image_text bytes ≡ codes "-"
 no_image [] none = refl
 no_image (b ∷ bytes) none = absurd (omega arith)
 
-pub none_is : (digits : List ℕ) (count : ℕ) → Spell digits count → length digits ≡ 0 → image_text (bytes_of digits) ≡ codes "-"
-none_is digits count spell none = no_image (bytes_of digits) (omega (arith, count_of digits count spell, spell.1, none))
+pub none_is : (digits : List ℕ) (count : ℕ) → Spell digits count → length digits ≡ 0 → image_text (digit_bytes digits) ≡ codes "-"
+none_is digits count spell none = no_image (digit_bytes digits) (omega (arith, count_of digits count spell, spell.1, none))
 
--- ---- digits one behind the other
+-- ---- digits one after the other
 
 pairs-append : (a b : List ℕ) → length a % 2 ≡ 0 → pair_bytes (a ++ b) ≡ pair_bytes a ++ pair_bytes b
 pairs-append [] b even = refl
@@ -170,8 +170,8 @@ pairs-append (x ∷ y ∷ a) b even = ap (λ (l : List ℕ). (value x * 16 + val
 pub spell-append : (a b : List ℕ) (n m : ℕ) → Spell a n → Spell b m → Spell (a ++ b) (n + m)
 spell-append a b n m one other = (All-append IsDigit a b one.0 other.0, omega (arith, length-append a b, one.1, other.1))
 
-pub bytes-append : (a b : List ℕ) (n m : ℕ) → Spell a n → Spell b m → bytes_of (a ++ b) ≡ bytes_of a ++ bytes_of b
+pub bytes-append : (a b : List ℕ) (n m : ℕ) → Spell a n → Spell b m → digit_bytes (a ++ b) ≡ digit_bytes a ++ digit_bytes b
 bytes-append a b n m one other =
     let even : length a % 2 ≡ 0 = omega (arith, one.1) in
     of_pairs (a ++ b) (n + m) (spell-append a b n m one other) ∙ pairs-append a b even
-    ∙ ap (λ (l : List ℕ). l ++ pair_bytes b) (sym (of_pairs a n one)) ∙ ap (λ (l : List ℕ). bytes_of a ++ l) (sym (of_pairs b m other))
+    ∙ ap (λ (l : List ℕ). l ++ pair_bytes b) (sym (of_pairs a n one)) ∙ ap (λ (l : List ℕ). digit_bytes a ++ l) (sym (of_pairs b m other))

@@ -1,4 +1,4 @@
--- What is read of bytes that are decoded only in front of a record.
+-- What is read of bytes that are decoded only before a record.
 use Rattle.std.proofs.Common.{◌≡◌, ◌<◌, ◌≤◌, ◌+◌, ◌-◌, ◌*◌, ℕ, List, length, take, drop, get_or, refl, ap, sym, subst, ◌∙◌, arith}
 use Rattle.std.proofs.lemmas.List.{drop-drop, drop-take, ext_get_or, length-drop, length-take, get_or-take, get_or-drop, take_all}
 use Rattle.dap_msg.specs.Decoding.{SpellsMessage, StandsInFront}
@@ -8,8 +8,8 @@ use Rattle.dap_msg.specs.Items.{ItemAt}
 use Rattle.dap_msg.specs.declared.message.Message.{Message}
 use Rattle.dap_msg.specs.declared.message.Message.TheVariants.{Config, Attrib, Access, Control, Contran, Ack, Accomp, Filedata, Status, Other}
 use Rattle.dap_msg.proofs.ForCallers.{other_record}
-use Rattle.dap_listing.specs.Captured.{AreDecoded, Spell, bytes_of}
-use Rattle.dap_listing.specs.Inner.Decoding.{item_with_record, message_record_size, record_size, with_record}
+use Rattle.dap_listing.specs.Captured.{AreDecoded, Spell, digit_bytes}
+use Rattle.dap_listing.specs.Inner.Decoding.{item_with_record, message_record_size, record_size, with_other_record}
 use Rattle.dap_listing.proofs.DigitLemmas.{count_of, part}
 
 -- bytes that are the same from a place on
@@ -50,7 +50,7 @@ same_message m n one two h long same =
 
 seen_whole : (m : Message) (n : ℕ) (one two : List ℕ) → StandsInFront m n one → length two ≡ length one
     → take (n - message_record_size m) two ≡ take (n - message_record_size m) one
-    → StandsInFront (with_record m (drop (n - message_record_size m) (take n two))) n two
+    → StandsInFront (with_other_record m (drop (n - message_record_size m) (take n two))) n two
 seen_whole (Filedata recnum payload) n one two h long same =
     let o = other_record recnum payload one n h in
     let at : o.0 ≡ n - length payload = omega (arith, o.1) in
@@ -80,9 +80,9 @@ same_record bytes at n z next within end =
 
 seen_item_is : (item : Item) (digits room : List ℕ) (at next known : ℕ) → Spell digits (length room) → next ≤ length room
     → ItemAt room at item next → next - record_size item ≤ known → AreDecoded digits at known room
-    → ItemAt (bytes_of digits) at (item_with_record item (take (record_size item) (drop (next - record_size item) (bytes_of digits)))) next
+    → ItemAt (digit_bytes digits) at (item_with_record item (take (record_size item) (drop (next - record_size item) (digit_bytes digits)))) next
 seen_item_is (Whole m) digits room at next known spell within h reached decoded =
-    let bytes : List ℕ = bytes_of digits in
+    let bytes : List ℕ = digit_bytes digits in
     let n : ℕ = h.0 in
     let z : ℕ = message_record_size m in
     let long : length bytes ≡ length room = count_of digits (length room) spell in
@@ -92,7 +92,7 @@ seen_item_is (Whole m) digits room at next known spell within h reached decoded 
     let stands = seen_whole m n (drop at room) (drop at bytes) h.1 longs same in
     (n, rw (same_record bytes at n z next some h.2) at stands, h.2)
 seen_item_is (Malformed fault) digits room at next known spell within h reached decoded =
-    let bytes : List ℕ = bytes_of digits in
+    let bytes : List ℕ = digit_bytes digits in
     let long : length bytes ≡ length room = count_of digits (length room) spell in
     let rest : ℕ = length room - at in
     let same = same_part room bytes at rest (sym long) (λ i low high. decoded i low (omega (arith, low, high, reached, h.4))) in
@@ -105,7 +105,7 @@ seen_item_is (Malformed fault) digits room at next known spell within h reached 
 pub read_is : (item : Item) (digits room : List ℕ) (at next known start : ℕ) → Spell digits (length room) → next ≤ length room
     → ItemAt room at item next → start ≡ next - record_size item → start ≤ known → AreDecoded digits at known room
     → Spell (take (2 * next - 2 * start) (drop (2 * start) digits)) (next - start)
-    × ItemAt (bytes_of digits) at (item_with_record item (bytes_of (take (2 * next - 2 * start) (drop (2 * start) digits)))) next
+    × ItemAt (digit_bytes digits) at (item_with_record item (digit_bytes (take (2 * next - 2 * start) (drop (2 * start) digits)))) next
 read_is item digits room at next known start spell within h starts reached decoded =
     let low : ℕ = 2 * start in
     let wide : ℕ = 2 * next - 2 * start in
@@ -113,17 +113,17 @@ read_is item digits room at next known start spell within h starts reached decod
     let size : next - start ≡ record_size item = omega (arith, starts, some) in
     let p = part digits (length room) start (next - start) low wide spell (omega (arith, starts, within)) refl (omega (arith, starts)) in
     let is = seen_item_is item digits room at next known spell within h (rw starts at reached) decoded in
-    let body : take (record_size item) (drop (next - record_size item) (bytes_of digits)) ≡ bytes_of (take wide (drop low digits)) =
-    ap (λ (k : ℕ). take k (drop (next - record_size item) (bytes_of digits))) (sym size)
-    ∙ ap (λ (k : ℕ). take (next - start) (drop k (bytes_of digits))) (sym starts) ∙ sym p.1 in
+    let body : take (record_size item) (drop (next - record_size item) (digit_bytes digits)) ≡ digit_bytes (take wide (drop low digits)) =
+    ap (λ (k : ℕ). take k (drop (next - record_size item) (digit_bytes digits))) (sym size)
+    ∙ ap (λ (k : ℕ). take (next - start) (drop k (digit_bytes digits))) (sym starts) ∙ sym p.1 in
     (p.0, rw body at is)
 
 -- ---- Bytes that are decoded to their end.
 
 pub all_decoded : (digits room : List ℕ) (at known : ℕ) → Spell digits (length room) → known ≡ length room → AreDecoded digits at known room
-    → drop at (bytes_of digits) ≡ drop at room
+    → drop at (digit_bytes digits) ≡ drop at room
 all_decoded digits room at known spell all decoded =
-    let bytes : List ℕ = bytes_of digits in
+    let bytes : List ℕ = digit_bytes digits in
     let long : length bytes ≡ length room = count_of digits (length room) spell in
     let rest : ℕ = length room - at in
     let same = same_part bytes room at rest long (λ i low high. sym (decoded i low (omega (arith, low, high, all)))) in

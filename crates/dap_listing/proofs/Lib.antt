@@ -1,14 +1,11 @@
 pub mod ForCallers
 pub mod FrameLemmas
-pub mod InputLemmas
 pub mod ProgressLemmas
 pub mod DecodeLemmas
 pub mod DigitLemmas
 pub mod HexTextLemmas
 pub mod ItemLemmas
-pub mod LineLemmas
 pub mod ListingLemmas
 pub mod MessageLemmas
 pub mod OneListing
-pub mod OutputLemmas
 pub mod PacketLemmas

@@ -10,7 +10,7 @@ use Rattle.dap_listing.specs.Inner.Lines.{fault_of_line}
 use Rattle.std.specs.Result.{result_unwrap_or}
 use Rattle.dap_listing.specs.declared.lines.Direction.{Direction}
 use Rattle.dap_listing.specs.declared.listing.Listed.{Listed}
-use Rattle.dap_listing.specs.declared.fault.CaptureFault.{CaptureFault}
+use Rattle.linewise.specs.declared.fault.CaptureFault.{CaptureFault}
 
 faults_of : ℕ → ℕ → List (List ℕ) → List CaptureFault
 faults_of limit number parts = filter_map (λ (place, line). fault_of_line place (line_of limit line)) (enumerate_from number parts)

@@ -7,7 +7,7 @@ use Rattle.dap_msg.specs.declared.items.Item.{Item}
 use Rattle.dap_msg.specs.Items.{ItemAt, ItemsFrom, Items}
 use Rattle.dap_listing.specs.Messages.{IsMessagesText, item_line, item_line_in}
 use Rattle.dap_text.specs.Text.{line_feed}
-use Rattle.dap_meanings.specs.Meanings.{item_words, told, with_words}
+use Rattle.dap_meanings.specs.Meanings.{item_words, words_text, with_words}
 use Rattle.dap_msg.specs.declared.items.Item.TheVariants.{Whole, Malformed}
 use Rattle.dap_msg.specs.declared.message.Message.TheVariants.{Config, Attrib, Access, Control, Contran, Ack, Accomp, Filedata, Status, Other}
 
@@ -54,9 +54,9 @@ some_in_line (Malformed fault) = omega arith
 pub words_appended : (words : List (List ℕ)) (old line : List ℕ) → 0 < length line → with_words words (old ++ line) ≡ old ++ with_words words line
 words_appended words old line some =
     let count : length (old ++ line) - 1 ≡ length old + (length line - 1) = omega (arith, length-append old line, some) in
-    ap (λ (n : ℕ). take n (old ++ line) ++ (told words ++ line_feed)) count
-    ∙ ap (λ (t : List ℕ). t ++ (told words ++ line_feed)) (take-append-add old line (length line - 1))
-    ∙ append_assoc old (take (length line - 1) line) (told words ++ line_feed)
+    ap (λ (n : ℕ). take n (old ++ line) ++ (words_text words ++ line_feed)) count
+    ∙ ap (λ (t : List ℕ). t ++ (words_text words ++ line_feed)) (take-append-add old line (length line - 1))
+    ∙ append_assoc old (take (length line - 1) line) (words_text words ++ line_feed)
 
 -- the line of an item, with its words
 pub line_in_words : (item : Item) (old text new : List ℕ) → text ≡ old ++ item_line item → new ≡ with_words (item_words item) text → new ≡ old ++ item_line_in true item

@@ -12,7 +12,7 @@ use Rattle.nsp_seg.proofs.ForCallers.{spells-one, spells-apart, fault-one}
 use Rattle.dap_listing.specs.Messages.{IsMessagesText, item_line_in}
 use Rattle.dap_listing.specs.Packets.{IsPacketText, IsSeen, Seen, SeenMessages, seen_line}
 use Rattle.dap_listing.specs.Inner.Messages.{SegmentMessages}
-use Rattle.dap_listing.specs.Listing.{CaptureLines, IsCapturedText, no_more, one_more as one_capture_more, captures, heading, limit_of}
+use Rattle.dap_listing.specs.Listing.{CaptureLines, IsCapturedText, no_more, one_more as one_capture_more, captures, heading, line_limit}
 use Rattle.dap_listing.specs.Lines.{Capture}
 use Rattle.dap_listing.specs.declared.listing.Listed.{Listed}
 use Rattle.dap_listing.specs.declared.listing.Listed.TheVariants.{Packets, Messages}
@@ -76,6 +76,6 @@ one_list listed number captured a b (one_capture_more {direction = direction} {d
     let rests = one_list listed (number + 1) others rest rest' lines lines' in
     ap (λ t. (heading number direction ++ t) ++ rest) firsts ∙ ap (λ t. (heading number direction ++ first') ++ t) rests
 
-pub one_listing : (listed : Listed) (input a b : List ℕ) → CaptureLines listed 1 (captures (limit_of listed) input) a
-    → CaptureLines listed 1 (captures (limit_of listed) input) b → a ≡ b
-one_listing listed input a b text text' = one_list listed 1 (captures (limit_of listed) input) a b text text'
+pub one_listing : (listed : Listed) (input a b : List ℕ) → CaptureLines listed 1 (captures (line_limit listed) input) a
+    → CaptureLines listed 1 (captures (line_limit listed) input) b → a ≡ b
+one_listing listed input a b text text' = one_list listed 1 (captures (line_limit listed) input) a b text text'

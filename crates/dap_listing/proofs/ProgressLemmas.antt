@@ -5,12 +5,12 @@ use Rattle.std.specs.Io.KnownBytes.{Consumes, IsAtEnd}
 use Rattle.std.proofs.lemmas.Bool.{eqb-true}
 use Rattle.std.proofs.lemmas.Grind.{common_steps}
 use Rattle.std.proofs.lemmas.List.{append-nil}
-use Rattle.dap_listing.specs.Listing.{captures, limit_of, no_more}
-use Rattle.dap_listing.specs.Firsts.{IsOfLine}
-use Rattle.dap_listing.specs.Inner.Progress.{IsInputFault, IsUnderWay, IsWhole, StandsAt}
+use Rattle.dap_listing.specs.Listing.{captures, line_limit, no_more}
+use Rattle.linewise.specs.Firsts.{IsOfLine}
+use Rattle.dap_listing.specs.Inner.Progress.{IsInputFault, IsUnderWay, IsAllListed, StandsAt}
 use Rattle.dap_listing.specs.Inner.Cutting.{FaultsGoOn, IsFirstFault, ListingGoesOn}
-use Rattle.dap_listing.specs.declared.fault.CaptureFault.{CaptureFault}
-use Rattle.dap_listing.specs.declared.fault.CaptureFault.TheVariants.{BadLine, TooLarge, ReadFailed, WriteFailed, NoMemory}
+use Rattle.linewise.specs.declared.fault.CaptureFault.{CaptureFault}
+use Rattle.linewise.specs.declared.fault.CaptureFault.TheVariants.{BadLine, TooLarge, ReadFailed, WriteFailed, NoMemory}
 use Rattle.dap_listing.specs.declared.listing.Progress.{Progress}
 use Rattle.dap_listing.specs.declared.listing.Listed.{Listed}
 
@@ -28,7 +28,7 @@ stands_read listed count (Some input) (Some rest) (Some others) bytes came progr
 -- lines were listed, or only checked
 pub stands_taken : (listed : Listed) (count : ℕ) (known unread : Option (List ℕ)) (is_last : Bool) (bytes left : List ℕ) (progress now : Progress)
     → StandsAt listed count known unread bytes progress → (is_last ≡ true → IsAtEnd unread)
-    → FaultsGoOn (limit_of listed) is_last progress.at bytes now.at left
+    → FaultsGoOn (line_limit listed) is_last progress.at bytes now.at left
     → (now.wants ≡ false → progress.wants ≡ false)
     → (now.wants ≡ false → ListingGoesOn listed is_last progress.number bytes progress.text.items now.number left now.text.items)
     → StandsAt listed count known unread left now
@@ -38,14 +38,14 @@ stands_taken listed count (Some input) (Some rest) is_last bytes left progress n
   stands.0,
   record {
     faults = stands.1.faults ∙ clean rest end;
-    listing = λ wants. goes_on wants 1 (captures (limit_of listed) input) rest end (stands.1.listing (wanted wants));
+    listing = λ wants. goes_on wants 1 (captures (line_limit listed) input) rest end (stands.1.listing (wanted wants));
   },
 )
 
 -- the first line at fault
 pub first_fault : (listed : Listed) (count : ℕ) (known unread : Option (List ℕ)) (is_last : Bool) (bytes : List ℕ) (progress : Progress) (fault : CaptureFault)
     → StandsAt listed count known unread bytes progress → (is_last ≡ true → IsAtEnd unread)
-    → IsFirstFault (limit_of listed) is_last progress.at bytes fault → IfSome unread (λ rest. count + length rest ≤ 16777216)
+    → IsFirstFault (line_limit listed) is_last progress.at bytes fault → IfSome unread (λ rest. count + length rest ≤ 16777216)
     → IfSome known (λ input. IsInputFault listed input fault)
 first_fault listed count None unread is_last bytes progress fault stands end first small = tt
 first_fault listed count (Some input) None is_last bytes progress fault stands end first small = absurd stands
@@ -60,7 +60,7 @@ first_fault listed count (Some input) (Some rest) is_last bytes progress WriteFa
 -- all was listed
 pub stands_whole : (listed : Listed) (count : ℕ) (known unread : Option (List ℕ)) (bytes : List ℕ) (progress : Progress)
     → StandsAt listed count known unread bytes progress → IsAtEnd unread → bytes ≡ [] → count ≤ 16777216
-    → IfSome known (λ input. IsWhole listed input progress)
+    → IfSome known (λ input. IsAllListed listed input progress)
 stands_whole listed count None unread bytes progress stands end none small = tt
 stands_whole listed count (Some input) None bytes progress stands end none small = absurd stands
 stands_whole listed count (Some input) (Some rest) bytes progress stands end none small =
@@ -73,7 +73,7 @@ stands_whole listed count (Some input) (Some rest) bytes progress stands end non
 pub at_end : (came : ℕ) (unread : Option (List ℕ)) → (came ≡ 0 → IsAtEnd unread) → (came == 0) ≡ true → IsAtEnd unread
 at_end came unread end none = end (eqb-true came 0 none)
 
--- so many bytes stand at the end
+-- this many bytes stand at the end
 pub length_end : (bytes : List ℕ) (left : ℕ) → left ≤ length bytes → length (drop (length bytes - left) bytes) ≡ left
 length_end bytes left within = omega (arith, within, length-drop (length bytes - left) bytes)
 

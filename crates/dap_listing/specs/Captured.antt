@@ -16,17 +16,17 @@ abbrev pub Spell : List ℕ → ℕ → Type 0
 Spell digits count = AllPass is_hex_digit digits × (length digits ≡ 2 * count)
 
 -- the bytes that digits spell
-abbrev pub bytes_of : List ℕ → List ℕ
-bytes_of digits = result_unwrap_or (decode_of digits) []
+abbrev pub digit_bytes : List ℕ → List ℕ
+digit_bytes digits = result_unwrap_or (decode_of digits) []
 
 -- from one offset to another are the bytes of the digits
 abbrev pub AreDecoded : List ℕ → ℕ → ℕ → List ℕ → Type 0
 AreDecoded digits from to bytes =
-    (i : ℕ) → from ≤ i → i < to → get_or bytes i 0 ≡ get_or (bytes_of digits) i 0
+    (i : ℕ) → from ≤ i → i < to → get_or bytes i 0 ≡ get_or (digit_bytes digits) i 0
 
 -- a captured segment, with the bytes that its payload's digits spell
-abbrev pub segment_of : CapturedSegment → SegmentFields
-segment_of c = record {
+abbrev pub segment_fields : CapturedSegment → SegmentFields
+segment_fields c = record {
   first = c.first;
   last = c.last;
   dst = c.dst;
@@ -34,12 +34,12 @@ segment_of c = record {
   ack1 = c.ack1;
   ack2 = c.ack2;
   number = c.number;
-  payload = bytes_of c.digits.now;
+  payload = digit_bytes c.digits.now;
 }
 
 -- the same of what was read
 abbrev pub seen_value : Result CapturedPacket SegFault → Seen
-seen_value (Ok (captured.Segment c)) = Ok (Segment (segment_of c))
+seen_value (Ok (captured.Segment c)) = Ok (Segment (segment_fields c))
 seen_value (Ok (captured.DataAck ack)) = Ok (DataAck ack)
 seen_value (Err fault) = Err fault
 

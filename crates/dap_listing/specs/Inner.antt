@@ -2,7 +2,6 @@
 pub mod Adding
 pub mod Progress
 pub mod Cutting
-pub mod Input
 pub mod Lines
 pub mod Decoding
 pub mod Messages

@@ -1,6 +1,4 @@
-pub mod Firsts
 pub mod Inner
-pub mod Gives
 pub mod Lines
 pub mod Messages
 pub mod Packets

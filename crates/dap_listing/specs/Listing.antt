@@ -7,18 +7,19 @@ use Rattle.dap_meanings.specs.Frames.{frame_words}
 use Rattle.std.specs.Result.{result_err, result_unwrap_or}
 use Rattle.std.specs.Str.Lines.{lines}
 use Rattle.hex.specs.Hex.{decode_of}
+use Rattle.dap_msg.specs.BothEnds.{greatest_message}
 use Rattle.dap_listing.specs.Lines.{Capture, line_of}
 use Rattle.dap_listing.specs.Packets.{IsPacketText}
 use Rattle.dap_text.specs.Text.{line_feed}
 use Rattle.dap_listing.specs.Messages.{IsMessagesText}
-use Rattle.dap_listing.specs.Gives.{Gives}
+use Rattle.linewise.specs.Gives.{Gives}
 use Rattle.dap_listing.specs.declared.listing.Listed.{Listed}
 use Rattle.dap_listing.specs.declared.listing.Listed.TheVariants.{Packets, Messages}
 use Rattle.dap_listing.specs.declared.lines.Direction.{Direction}
 use Rattle.dap_listing.specs.declared.lines.Direction.TheVariants.{Right, Left}
-use Rattle.dap_listing.specs.declared.fault.Outcome.{Outcome}
-use Rattle.dap_listing.specs.declared.fault.Outcome.TheVariants.{Good}
-use Rattle.dap_listing.specs.declared.fault.CaptureFault.{CaptureFault}
+use Rattle.linewise.specs.declared.fault.Outcome.{Outcome}
+use Rattle.linewise.specs.declared.fault.Outcome.TheVariants.{Good}
+use Rattle.linewise.specs.declared.fault.CaptureFault.{CaptureFault}
 
 -- the faults of the lines, in order; the first line has this number
 abbrev pub faults_from : ℕ → ℕ → List ℕ → List CaptureFault
@@ -60,9 +61,9 @@ abbrev pub packet_limit : ℕ
 packet_limit = 4096
 
 -- how many bytes a line may have in hex
-abbrev pub limit_of : Listed → ℕ
-limit_of Packets = packet_limit
-limit_of Messages = 65535
+abbrev pub line_limit : Listed → ℕ
+line_limit Packets = packet_limit
+line_limit Messages = greatest_message
 
 -- the lines of all that was captured, numbered from this number; by the law `listings_are_one` there is one listing
 pub data CaptureLines (listed : Listed) : ℕ → List Capture → List ℕ → Type 0 where
@@ -75,5 +76,5 @@ pub data CaptureLines (listed : Listed) : ℕ → List Capture → List ℕ → 
 abbrev pub ListingGives : Listed → List ℕ → Option (List ℕ) → Option (List ℕ)
     → Result Outcome CaptureFault → Type 0
 ListingGives listed input =
-    Gives (faults_from (limit_of listed) 1 input)
-    (λ outcome text. (outcome ≡ Good) × CaptureLines listed 1 (captures (limit_of listed) input) text) input
+    Gives (faults_from (line_limit listed) 1 input)
+    (λ outcome text. (outcome ≡ Good) × CaptureLines listed 1 (captures (line_limit listed) input) text) input

@@ -4,15 +4,15 @@ ghost use Rattle.std.specs.Prelude.{◌≡◌, ◌≢◌, ◌<◌, ◌≤◌, �
 ghost use Rattle.std.specs.Result.{result_err};
 ghost use Rattle.dap_listing.specs.Lines.{line_of};
 ghost use Rattle.dap_listing.specs.Captured.{Spell};
-ghost use Rattle.dap_listing.specs.declared.fault.CaptureFault.TheVariants.{NoMemory, ReadFailed, WriteFailed};
+ghost use Rattle.linewise.specs.declared.fault.CaptureFault.TheVariants.{NoMemory, ReadFailed, WriteFailed};
 ghost use Rattle.dap_listing.specs.Listing.{arrow_text, captures, faults_from, frames, heading, packet_limit};
 ghost use Rattle.dap_text.specs.Adding.{Adds};
 ghost use Rattle.dap_meanings.specs.Frames.{frame_words};
 
-use crate::CaptureFault;
-use crate::lines::{Direction, next_line};
+use crate::lines::Direction;
 use crate::listing::{Listed, read_line};
 use dap_text::{push_decimal, push_str};
+use linewise::{CaptureFault, next_line};
 use std::alloc::AllocError;
 
 /// The most bytes of a packet in a capture.

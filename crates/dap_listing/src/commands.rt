@@ -1,12 +1,11 @@
 //! The runs over what a reader gives.
 ghost use Rattle.std.specs.Prelude.{IfSome, ◌≡◌, IsErrOf};
-ghost use Rattle.dap_listing.specs.declared.fault.CaptureFault.TheVariants.{TooLarge};
-ghost use Rattle.dap_listing.specs.Gives.{KeepsUnwritten, TakesAnInput, TakesWithinLimit};
+ghost use Rattle.linewise.specs.declared.fault.CaptureFault.TheVariants.{TooLarge};
+ghost use Rattle.linewise.specs.Gives.{KeepsUnwritten, TakesAnInput, TakesWithinLimit};
 ghost use Rattle.dap_listing.specs.Listing.{ListingGives};
 
 use crate::listing::{Listed, list_input};
-use crate::output::write_text;
-use crate::{CaptureFault, Outcome};
+use linewise::{CaptureFault, Outcome, write_text};
 use std::alloc::Global;
 use std::io::{Read, Write};
 

@@ -1,25 +1,26 @@
 //! The listing of an input: of packets, or of NSP messages.
 
 ghost use Rattle.std.specs.Prelude.{◌≡◌, ◌≢◌, ◌≤◌, ◌<◌, ◌+◌, ◌-◌, ◌⊎◌, [], drop, OnErr, IfSome, ◌*◌, ◌^◌, Some, true, false, IfErr, IfOk, None, OnOk, Ok, length, option_map, IsErrOf};
-ghost use Rattle.dap_listing.specs.Gives.{TakesAnInput, TakesWithinLimit};
+ghost use Rattle.linewise.specs.Gives.{TakesAnInput, TakesWithinLimit};
 ghost use Rattle.dap_listing.specs.Inner.Adding.{AddsCapture};
 ghost use Rattle.dap_text.specs.Adding.{AddsSome};
-ghost use Rattle.dap_listing.specs.Inner.Cutting.{FaultsGoOn, HasNoEnd, IsEnd, IsFirstFault, ListingGoesOn};
-ghost use Rattle.dap_listing.specs.Captured.{Spell, bytes_of};
-ghost use Rattle.dap_listing.specs.Inner.Progress.{IsInputFault, IsWhole, TextGives};
-ghost use Rattle.dap_listing.specs.declared.fault.CaptureFault.TheVariants.{NoMemory, TooLarge, WriteFailed};
+ghost use Rattle.linewise.specs.Cuts.{HasNoEnd, IsEnd};
+ghost use Rattle.dap_listing.specs.Inner.Cutting.{FaultsGoOn, IsFirstFault, ListingGoesOn};
+ghost use Rattle.dap_listing.specs.Captured.{Spell, digit_bytes};
+ghost use Rattle.dap_listing.specs.Inner.Progress.{IsInputFault, IsAllListed, TextGives};
+ghost use Rattle.linewise.specs.declared.fault.CaptureFault.TheVariants.{NoMemory, TooLarge, WriteFailed};
 ghost use Rattle.dap_text.specs.Words.{is_hex_text as is_spelled};
 ghost use Rattle.dap_listing.specs.Lines.{digits_line, line_of};
-ghost use Rattle.dap_listing.specs.Listing.{IsCapturedText, limit_of};
+ghost use Rattle.dap_listing.specs.Listing.{IsCapturedText, line_limit};
 ghost use Rattle.dap_listing.specs.Inner.Lines.{fault_of_line};
 
-use crate::CaptureFault;
 use crate::captures::{PACKET_LIMIT, push_heading};
-use crate::input::{CHUNK, read_some, skip_unread};
-use crate::lines::{Direction, Head, cut_line, parse_head};
+use crate::lines::{Direction, Head, parse_head};
 use crate::message::push_messages;
 use crate::packet::push_packet;
-use dap_text::{find_byte, is_hex_text, push_number, push_str};
+use dap_msg::GREATEST_MESSAGE;
+use dap_text::{is_hex_text, push_number, push_str};
+use linewise::{CHUNK, CaptureFault, cut_line, find_byte, read_some, skip_unread};
 use std::alloc::{AllocError, Global};
 use std::io::Read;
 
@@ -35,11 +36,11 @@ pub enum Listed {
 impl Listed {
     /// The most bytes of a line.
     pub(crate) fn limit(self) -> usize
-        ensures { result ≡ limit_of self }
+        ensures { result ≡ line_limit self }
     {
         match self {
             Listed::Packets => PACKET_LIMIT,
-            Listed::Messages => 65_535,
+            Listed::Messages => GREATEST_MESSAGE as usize,
         }
     }
 }
@@ -92,7 +93,7 @@ pub(crate) fn read_line(
 fn push_message(text: &mut Vec<u8>, digits: &[u8], bytes: &mut [u8]) -> Result<(), AllocError>
     requires { Spell digits.now (length bytes.old) }
     ensures { OnOk result (AddsSome text.old text.new
-        (IsCapturedText Listed.Messages (bytes_of digits.now))) }
+        (IsCapturedText Listed.Messages (digit_bytes digits.now))) }
 {
     push_number(text, "message len=", bytes.len())?;
     push_str(text, "\n")?;
@@ -108,7 +109,7 @@ fn push_captured(
 ) -> Result<(), AllocError>
     requires { Spell digits.now (length bytes.old) }
     ensures { OnOk result
-        (AddsSome text.old text.new (IsCapturedText listed (bytes_of digits.now))) }
+        (AddsSome text.old text.new (IsCapturedText listed (digit_bytes digits.now))) }
 {
     match listed {
         Listed::Packets => push_packet(text, digits, bytes),
@@ -134,7 +135,7 @@ fn push_capture(
     requires size { length digits.now < 2 ^ 32 }
     ensures room { length room.new ≡ length room.old }
     ensures added { OnOk result
-        (AddsCapture listed number direction (bytes_of digits.now) text.old text.new) }
+        (AddsCapture listed number direction (digit_bytes digits.now) text.old text.new) }
 {
     text.reserve(digits.len() + WORDS)?;
     push_heading(text, number, direction)?;
@@ -153,7 +154,7 @@ struct Progress {
     wants: bool,
 }
 
-/// Lists the lines in front of the bytes, up to the first line at fault, and answers what is left: a line
+/// Lists the first lines of the bytes, up to the first line at fault, and answers what is left: a line
 /// without its end, unless the bytes are the last. The room is for the bytes of a line.
 fn list_cut<'a>(
     listed: Listed,
@@ -164,7 +165,7 @@ fn list_cut<'a>(
 ) -> Result<&'a [u8], CaptureFault>
     requires lines { progress.old.at + length bytes.now < 2 ^ 32 }
     requires captures { progress.old.number + length bytes.now < 2 ^ 32 }
-    requires room { length room.old ≡ limit_of listed }
+    requires room { length room.old ≡ line_limit listed }
     ensures room { length room.new ≡ length room.old }
     ensures left { IfOk result (λ left. IsEnd bytes.now left.now) }
     ensures short { IfOk result (λ left. length left.now ≤ length bytes.now) }
@@ -174,13 +175,13 @@ fn list_cut<'a>(
         (λ left. progress.new.at + length left.now ≤ progress.old.at + length bytes.now) }
     ensures captures { IfOk result
         (λ left. progress.new.number + length left.now ≤ progress.old.number + length bytes.now) }
-    ensures clean { IfOk result (λ left. FaultsGoOn (limit_of listed) is_last
+    ensures clean { IfOk result (λ left. FaultsGoOn (line_limit listed) is_last
         progress.old.at bytes.now progress.new.at left.now) }
     ensures listed { IfOk result (λ left. ListingGoesOn listed is_last
         progress.old.number bytes.now progress.old.text.items
         progress.new.number left.now progress.new.text.items) }
     ensures fault { IfErr result (λ fault. (fault ≡ NoMemory)
-        ⊎ IsFirstFault (limit_of listed) is_last progress.old.at bytes.now fault) }
+        ⊎ IsFirstFault (line_limit listed) is_last progress.old.at bytes.now fault) }
     ensures at { OnErr result (progress.new.at ≡ progress.old.at) }
     ensures number { OnErr result (progress.new.number ≡ progress.old.number) }
     ensures wants { progress.new.wants ≡ progress.old.wants }
@@ -204,7 +205,7 @@ fn list_cut<'a>(
     Ok(rest)
 }
 
-/// Checks the lines in front of the bytes, of which the first has the number, up to the first line at fault, and
+/// Checks the first lines of the bytes, of which the first has the number, up to the first line at fault, and
 /// answers what is left, as [`list_cut`] does.
 fn check_cut<'a>(
     listed: Listed,
@@ -218,9 +219,9 @@ fn check_cut<'a>(
     ensures last { IfOk result (λ left. is_last ≡ true → left.now ≡ []) }
     ensures rest { IfOk result (λ left. HasNoEnd left.now) }
     ensures lines { IfOk result (λ left. at.new + length left.now ≤ at.old + length bytes.now) }
-    ensures clean { IfOk result (λ left. FaultsGoOn (limit_of listed) is_last
+    ensures clean { IfOk result (λ left. FaultsGoOn (line_limit listed) is_last
         at.old bytes.now at.new left.now) }
-    ensures fault { IfErr result (IsFirstFault (limit_of listed) is_last at.old bytes.now) }
+    ensures fault { IfErr result (IsFirstFault (line_limit listed) is_last at.old bytes.now) }
 {
     let mut rest = bytes;
     while let Some((line, after)) = cut_line(rest, is_last) {
@@ -231,7 +232,7 @@ fn check_cut<'a>(
     Ok(rest)
 }
 
-/// Lists the lines in front of the bytes, or only checks them where memory is refused for the text, and answers how
+/// Lists the first lines of the bytes, or only checks them where memory is refused for the text, and answers how
 /// many bytes are left.
 fn take_lines(
     listed: Listed,
@@ -242,7 +243,7 @@ fn take_lines(
 ) -> Result<usize, CaptureFault>
     requires lines { progress.old.at + length bytes.now < 2 ^ 32 }
     requires captures { progress.old.number + length bytes.now < 2 ^ 32 }
-    requires room { progress.old.wants ≡ false → length room.old ≡ limit_of listed }
+    requires room { progress.old.wants ≡ false → length room.old ≡ line_limit listed }
     ensures room { length room.new ≡ length room.old }
     ensures short { IfOk result (λ left. left ≤ length bytes.now) }
     ensures last { IfOk result (λ left. is_last ≡ true → left ≡ 0) }
@@ -251,14 +252,14 @@ fn take_lines(
         (λ left. progress.new.at + left ≤ progress.old.at + length bytes.now) }
     ensures captures { IfOk result
         (λ left. progress.new.number + left ≤ progress.old.number + length bytes.now) }
-    ensures clean { IfOk result (λ left. FaultsGoOn (limit_of listed) is_last
+    ensures clean { IfOk result (λ left. FaultsGoOn (line_limit listed) is_last
         progress.old.at bytes.now progress.new.at (drop (length bytes.now - left) bytes.now)) }
     ensures wanted { OnOk result (progress.new.wants ≡ false → progress.old.wants ≡ false) }
     ensures listed { IfOk result (λ left. progress.new.wants ≡ false → ListingGoesOn listed is_last
         progress.old.number bytes.now progress.old.text.items
         progress.new.number (drop (length bytes.now - left) bytes.now) progress.new.text.items) }
     ensures fault { IfErr result
-        (IsFirstFault (limit_of listed) is_last progress.old.at bytes.now) }
+        (IsFirstFault (line_limit listed) is_last progress.old.at bytes.now) }
 {
     if !progress.wants {
         match list_cut(listed, progress, bytes, is_last, room) {
@@ -290,7 +291,7 @@ fn list_as_read<R: Read>(
     reader: &mut R,
 ) -> Result<Progress, CaptureFault>
     ensures whole { IfOk result
-        (λ progress. IfSome (R.remaining reader.old) (λ input. IsWhole listed input progress)) }
+        (λ progress. IfSome (R.remaining reader.old) (λ input. IsAllListed listed input progress)) }
     ensures fault { IfErr result
         (λ fault. IfSome (R.remaining reader.old) (λ input. IsInputFault listed input fault)) }
     ensures taken { TakesWithinLimit (R.remaining reader.old) (R.remaining reader.new) }

@@ -7,8 +7,8 @@ ghost use Rattle.dap_msg.specs.declared.items.Item.TheVariants.{Malformed};
 ghost use Rattle.dap_msg.specs.declared.message.Message.TheVariants.{Access, Attrib, Config, Control, Filedata, Other, Status};
 ghost use Rattle.dap_text.specs.Adding.{Adds};
 ghost use Rattle.dap_text.specs.Adding.{AddsSome};
-ghost use Rattle.dap_listing.specs.Captured.{AreDecoded, Spell, bytes_of};
-ghost use Rattle.dap_listing.specs.Inner.Decoding.{item_with_record, record_size as size_of_record, with_record};
+ghost use Rattle.dap_listing.specs.Captured.{AreDecoded, Spell, digit_bytes};
+ghost use Rattle.dap_listing.specs.Inner.Decoding.{item_with_record, record_size as size_of_record, with_other_record};
 ghost use Rattle.dap_listing.specs.Messages.{IsMessagesText, item_line, item_line_in, kind_text, message_line, version_text, wanted_text};
 
 use crate::decode::{FRONT, decode_to};
@@ -69,7 +69,7 @@ fn push_message(
 ) -> Result<(), AllocError>
     requires { Spell digits.now (length digits.now / 2) }
     ensures { OnOk result (Adds text.old text.new
-        (message_line (with_record message.now (bytes_of digits.now)))) }
+        (message_line (with_other_record message.now (digit_bytes digits.now)))) }
 {
     match message {
         MessageValue::Config(config) => push_config(text, *config),
@@ -155,7 +155,7 @@ fn push_control(text: &mut Vec<u8>, control: &ControlFields<'_>) -> Result<(), A
 fn push_data(text: &mut Vec<u8>, recnum: &[u8], digits: &[u8]) -> Result<(), AllocError>
     requires { Spell digits.now (length digits.now / 2) }
     ensures { OnOk result (Adds text.old text.new
-        (message_line (Filedata recnum.now (bytes_of digits.now)))) }
+        (message_line (Filedata recnum.now (digit_bytes digits.now)))) }
 {
     push_image(text, "  data recnum=", recnum)?;
     push_spelled(text, " body=", digits)?;
@@ -224,7 +224,7 @@ fn record_size(item: &Item<'_>) -> usize
 fn push_item(text: &mut Vec<u8>, item: &Item<'_>, digits: &[u8]) -> Result<(), AllocError>
     requires { Spell digits.now (length digits.now / 2) }
     ensures { OnOk result (Adds text.old text.new
-        (item_line (item_with_record item.now (bytes_of digits.now)))) }
+        (item_line (item_with_record item.now (digit_bytes digits.now)))) }
 {
     match item {
         Item::Whole(message) => push_message(text, message, digits),
@@ -241,9 +241,9 @@ fn push_item_line(
     in_words: bool,
 ) -> Result<(), AllocError>
     requires spelled { Spell digits.now (length digits.now / 2) }
-    requires record { in_words ≡ true → item_with_record item.now (bytes_of digits.now) ≡ item.now }
+    requires record { in_words ≡ true → item_with_record item.now (digit_bytes digits.now) ≡ item.now }
     ensures { OnOk result (Adds text.old text.new
-        (item_line_in in_words (item_with_record item.now (bytes_of digits.now)))) }
+        (item_line_in in_words (item_with_record item.now (digit_bytes digits.now)))) }
 {
     push_item(text, item, digits)?;
     if in_words {
@@ -284,7 +284,7 @@ pub fn push_messages(
     requires within { decoded ≤ length nsp_message.old }
     requires decoded { AreDecoded digits.now 0 decoded nsp_message.old }
     ensures { OnOk result
-        (AddsSome text.old text.new (IsMessagesText in_words (bytes_of digits.now))) }
+        (AddsSome text.old text.new (IsMessagesText in_words (digit_bytes digits.now))) }
 {
     let mut at = 0;
     let mut known = decode_wanted(digits, nsp_message, decoded, in_words);

@@ -4,7 +4,7 @@ ghost use Rattle.std.specs.Prelude.{◌≡◌, ◌≤◌, ◌/◌, ◌++◌, ◌
 ghost use Rattle.std.specs.List.{concat};
 ghost use Rattle.dap_text.specs.Text.{word_text};
 ghost use Rattle.dap_text.specs.Adding.{Adds, AddsSome};
-ghost use Rattle.dap_listing.specs.Captured.{AreDecoded, HasDigits, Spell, bytes_of, seen_value, segment_of};
+ghost use Rattle.dap_listing.specs.Captured.{AreDecoded, HasDigits, Spell, digit_bytes, seen_value, segment_fields};
 ghost use Rattle.dap_listing.specs.Inner.Decoding.{IsBehind, front_of};
 ghost use Rattle.dap_listing.specs.Packets.{IsPacketText, IsSeen, ack_text, acks_text, mark_text, seen_line};
 ghost use Rattle.dap_listing.specs.Inner.Messages.{SegmentMessages};
@@ -58,8 +58,8 @@ fn push_segment(
     line: &CapturedSegment<'_>,
     count: usize,
 ) -> Result<(), AllocError>
-    requires { count ≡ length (bytes_of line.now.digits.now) }
-    ensures { OnOk result (Adds text.old text.new (seen_line (Ok (Segment (segment_of line.now))))) }
+    requires { count ≡ length (digit_bytes line.now.digits.now) }
+    ensures { OnOk result (Adds text.old text.new (seen_line (Ok (Segment (segment_fields line.now))))) }
 {
     push_str(text, "segment ")?;
     push_str(text, mark_word(line.first, line.last))?;
@@ -82,7 +82,7 @@ fn mark_word(first: bool, last: bool) -> &'static str
     }
 }
 
-/// Appends the lines of a segment's messages, where it holds a whole NSP message. So many bytes in front of the
+/// Appends the lines of a segment's messages, where it holds a whole NSP message. This many bytes before the
 /// payload are decoded.
 fn push_whole(
     text: &mut Vec<u8>,
@@ -96,7 +96,7 @@ fn push_whole(
     requires within { decoded ≤ length payload.old }
     requires decoded { AreDecoded digits.now 0 decoded payload.old }
     ensures { OnOk result (AddsSome text.old text.new
-        (SegmentMessages first last (bytes_of digits.now))) }
+        (SegmentMessages first last (digit_bytes digits.now))) }
 {
     match (first, last) {
         (true, true) => push_messages(text, digits, payload, decoded, false),
@@ -119,7 +119,7 @@ fn see<'a>(digits: &'a [u8], bytes: &mut [u8]) -> Result<CapturedPacket<'a>, Seg
     requires { Spell digits.now (length bytes.old) }
     ensures size { length bytes.new ≡ length bytes.old }
     ensures decoded { AreDecoded digits.now 0 (front_of (length bytes.new)) bytes.new }
-    ensures seen { IsSeen (seen_value result) (bytes_of digits.now) }
+    ensures seen { IsSeen (seen_value result) (digit_bytes digits.now) }
     ensures payload { HasDigits result }
     ensures behind { IsBehind digits.now (front_of (length bytes.new)) result }
 {
@@ -148,7 +148,7 @@ fn see<'a>(digits: &'a [u8], bytes: &mut [u8]) -> Result<CapturedPacket<'a>, Seg
 pub fn read_packet<'a>(digits: &'a [u8], room: &mut [u8]) -> Result<CapturedPacket<'a>, SegFault>
     requires { Spell digits.now (length room.old) }
     ensures size { length room.new ≡ length room.old }
-    ensures seen { IsSeen (seen_value result) (bytes_of digits.now) }
+    ensures seen { IsSeen (seen_value result) (digit_bytes digits.now) }
     ensures payload { HasDigits result }
 {
     see(digits, room)
@@ -186,7 +186,7 @@ pub(crate) fn push_packet(
     bytes: &mut [u8],
 ) -> Result<(), AllocError>
     requires { Spell digits.now (length bytes.old) }
-    ensures { OnOk result (AddsSome text.old text.new (IsPacketText (bytes_of digits.now))) }
+    ensures { OnOk result (AddsSome text.old text.new (IsPacketText (digit_bytes digits.now))) }
 {
     match see(digits, bytes) {
         Ok(CapturedPacket::Segment(line)) => {

@@ -4,7 +4,7 @@ ghost use Rattle.std.specs.Prelude.{◌≡◌, ◌/◌, ◌++◌, OnOk, length, 
 ghost use Rattle.std.specs.Char.{to_ascii_lowercase};
 ghost use Rattle.dap_text.specs.Adding.{Adds};
 ghost use Rattle.dap_text.specs.Text.{image_text};
-ghost use Rattle.dap_listing.specs.Captured.{Spell, bytes_of};
+ghost use Rattle.dap_listing.specs.Captured.{Spell, digit_bytes};
 
 use dap_text::push_str;
 use std::alloc::AllocError;
@@ -22,7 +22,7 @@ fn push_lower(text: &mut Vec<u8>, digits: &[u8]) -> Result<(), AllocError>
 /// Appends the image of the bytes that hex digits spell, after a word: the digits again, in lower case.
 pub(crate) fn push_spelled(text: &mut Vec<u8>, word: &str, digits: &[u8]) -> Result<(), AllocError>
     requires { Spell digits.now (length digits.now / 2) }
-    ensures { OnOk result (Adds text.old text.new (word.now ++ image_text (bytes_of digits.now))) }
+    ensures { OnOk result (Adds text.old text.new (word.now ++ image_text (digit_bytes digits.now))) }
 {
     push_str(text, word)?;
     if digits.is_empty() {

@@ -7,7 +7,7 @@ use Rattle.dap_accessing.specs.declared.report.Ending.{Ending}
 use Rattle.dap_accessing.specs.declared.report.Report.{Report}
 use Rattle.dap_accessing.specs.declared.report.Report.TheVariants.{Batch}
 use Rattle.dap_text.specs.Text.{image_text}
-use Rattle.dap_live.specs.Each.{batch_line, each_text, record_line, records_text}
+use Rattle.dap_live.specs.Each.{batch_line, each_text, record_report_line, records_text}
 
 -- one record more
 pub record_more : (records : List (ℕ × List ℕ)) (i : ℕ) (r : ℕ × List ℕ) (number : ℕ) (body now before named told new : List ℕ) → i < length records → r ≡ get_or records i r → (number, body) ≡ r
@@ -17,12 +17,12 @@ record_more records i r number body now before named told new within item is so 
     let one : List (ℕ × List ℕ) = (number, body) ∷ [] in
     let same : get_or records i r ≡ (number, body) = sym item ∙ sym is in
     let next : take (i + 1) records ≡ take i records ++ one = take_more records i r within ∙ ap (λ (p : ℕ × List ℕ). take i records ++ p ∷ []) same in
-    let line : records_text (take i records) ++ record_line (number, body) ≡ records_text (take (i + 1) records) =
-    ap (λ (l : List ℕ). records_text (take i records) ++ l) (sym (append-nil (record_line (number, body)))) ∙ sym (flat_map-append record_line (take i records) one) ∙ ap records_text (sym next) in
+    let line : records_text (take i records) ++ record_report_line (number, body) ≡ records_text (take (i + 1) records) =
+    ap (λ (l : List ℕ). records_text (take i records) ++ l) (sym (append-nil (record_report_line (number, body)))) ∙ sym (flat_map-append record_report_line (take i records) one) ∙ ap records_text (sym next) in
     end ∙ ap (λ (l : List ℕ). l ++ codes "\n") (image ∙ ap (λ (l : List ℕ). l ++ (codes " " ++ image_text body)) name)
     ∙ append_assoc (before ++ (codes "report record " ++ decimal number)) (codes " " ++ image_text body) (codes "\n")
     ∙ append_assoc before (codes "report record " ++ decimal number) ((codes " " ++ image_text body) ++ codes "\n")
-    ∙ ap (λ (l : List ℕ). l ++ record_line (number, body)) so ∙ append_assoc now (records_text (take i records)) (record_line (number, body))
+    ∙ ap (λ (l : List ℕ). l ++ record_report_line (number, body)) so ∙ append_assoc now (records_text (take i records)) (record_report_line (number, body))
     ∙ ap (λ (l : List ℕ). now ++ l) line
 
 -- the records of a batch that weren't told, and then its line

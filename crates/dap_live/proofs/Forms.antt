@@ -29,7 +29,7 @@ module _ {O : Type 0} (Fits : Option O → Type 0) (none : Fits None) where
   if_fits true o k = k
   if_fits false o k = none
 
-  -- a form of line, behind its first word
+  -- a form of line, after its first word
   pub form_fits : (name : List ℕ) (next : Words → Option O) → ((words : Words) → Fits (next words)) → (words : Words) → Fits (word name next words)
   form_fits name next h [] = none
   form_fits name next h (w ∷ words) = if_fits (bytes_eq w name) (next words) (h words)

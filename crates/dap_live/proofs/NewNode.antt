@@ -9,11 +9,11 @@ use Rattle.dap_shared.specs.Shared.{SharedAfter}
 use Rattle.dap_end.specs.Ports.{PortValue, new_port}
 use Rattle.dap_end.specs.Node.{BeganOn}
 use Rattle.dap_live.specs.declared.node.Node.{Node}
-use Rattle.dap_live.specs.Node.{IsNew}
-use Rattle.dap_live.specs.Inner.Filing.{IsEmpty}
+use Rattle.dap_live.specs.Node.{IsNewNode}
+use Rattle.dap_live.specs.Inner.Filing.{HasNoBytes}
 
 -- with room for several links, or for none, no link is there
-pub new_several : (own : ServerSetup) (links : ℕ) (usual : LinkSetup) (most : ℕ) (node : Node) → (links == 1) ≡ false → IsEmpty own links usual most node → IsNew own links usual most node
+pub new_several : (own : ServerSetup) (links : ℕ) (usual : LinkSetup) (most : ℕ) (node : Node) → (links == 1) ≡ false → HasNoBytes own links usual most node → IsNewNode own links usual most node
 new_several own links usual most node several e =
     record {
       stands = subst (λ (b : Bool). SharedAfter [] (if b then Begins 0 all_rights ∷ [] else []) node.node.noted.shared) (sym several) e.stands;
@@ -30,8 +30,8 @@ new_several own links usual most node several e =
       given = e.given;
     }
 
-only-one : (own : ServerSetup) (usual : LinkSetup) (most : ℕ) (empty node : Node) → IsEmpty own 1 usual most empty → BeganOn 0 empty.usual all_rights empty.node node.node
-    → node ≡ record empty { node = node.node; last = Some 0 } → IsNew own 1 usual most node
+only-one : (own : ServerSetup) (usual : LinkSetup) (most : ℕ) (empty node : Node) → HasNoBytes own 1 usual most empty → BeganOn 0 empty.usual all_rights empty.node node.node
+    → node ≡ record empty { node = node.node; last = Some 0 } → IsNewNode own 1 usual most node
 only-one own usual most empty node e began rest =
     record {
       stands = began.shared.stands [] [] e.stands;
@@ -49,7 +49,7 @@ only-one own usual most empty node e began rest =
     }
 
 -- with room for one, it is there
-pub new_only : (own : ServerSetup) (links : ℕ) (usual : LinkSetup) (most : ℕ) (empty node : Node) → links ≡ 1 → IsEmpty own links usual most empty → BeganOn 0 empty.usual all_rights empty.node node.node
-    → node ≡ record empty { node = node.node; last = Some 0 } → IsNew own links usual most node
+pub new_only : (own : ServerSetup) (links : ℕ) (usual : LinkSetup) (most : ℕ) (empty node : Node) → links ≡ 1 → HasNoBytes own links usual most empty → BeganOn 0 empty.usual all_rights empty.node node.node
+    → node ≡ record empty { node = node.node; last = Some 0 } → IsNewNode own links usual most node
 new_only own links usual most empty node one e began rest =
-    subst (λ (n : ℕ). IsNew own n usual most node) (sym one) (only-one own usual most empty node (subst (λ (n : ℕ). IsEmpty own n usual most empty) one e) began rest)
+    subst (λ (n : ℕ). IsNewNode own n usual most node) (sym one) (only-one own usual most empty node (subst (λ (n : ℕ). HasNoBytes own n usual most empty) one e) began rest)

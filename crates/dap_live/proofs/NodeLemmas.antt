@@ -2,7 +2,7 @@
 use Rattle.std.proofs.Common.{◌≡◌, ◌⊎◌, inl, inr, ℕ, true, false, List, Some, refl, ap, sym, subst, ◌∙◌}
 use Rattle.std.specs.Prelude.{IfErr, MatchOption, OnOk, Option, None, Ok, Err, Result}
 use Rattle.dap_accessed.specs.Adding.{MayStore}
-use Rattle.dap_accessed.specs.Standing.{file_at, place_by}
+use Rattle.dap_accessed.specs.Standing.{file_at, index_by}
 use Rattle.dap_shared.specs.Nodes.{GivesRecord, with_record_at}
 use Rattle.dap_shared.specs.Shared.{AtFile, SharedGiven}
 use Rattle.nsp_link.specs.Link.{IsSetup, LinkValue, SetupFault}
@@ -14,7 +14,7 @@ use Rattle.dap_end.specs.Node.{AtPort, HasPort, IsTaken, NodeValue, NoneHasCome,
 use Rattle.linewise.specs.declared.talking.Became.{Became}
 use Rattle.linewise.specs.declared.talking.Became.TheVariants as became_of
 use Rattle.dap_live.specs.declared.node.Node.{Node}
-use Rattle.dap_live.specs.Both.{Stays}
+use Rattle.dap_live.specs.Both.{LeavesEnd}
 use Rattle.dap_live.specs.declared.orders.Between.{Between}
 use Rattle.dap_live.specs.Orders.{setup_beside}
 use Rattle.dap_live.specs.Sending.{AllAgain, UnlessFailed}
@@ -41,7 +41,7 @@ module _ (link : ℕ) (old : Node) (l : LinkValue) (at : AtPort link old.node (�
 
   -- the link runs
   pub on-running : l.failed ≡ false → (new : Node) (text : List ℕ) (became : Became) → AtPort link old.node (λ p. ResendsOn link p old new text became)
-      → AtPort link old.node (λ p. UnlessFailed p.link text (Stays became_of.Done (about link old) new became) (ResendsOn link p old new text became))
+      → AtPort link old.node (λ p. UnlessFailed p.link text (LeavesEnd became_of.Done (about link old) new became) (ResendsOn link p old new text became))
   on-running runs new text became (p, there, this) =
       let one : at.0 ≡ p = (let same : Some (Some at.0) ≡ Some (Some p) = sym at.1 ∙ there in cc) in
       let works : p.link.failed ≡ false = ap (λ (q : PortValue). q.link.failed) (sym one) ∙ ap (λ (k : LinkValue). k.failed) (sym at.2) ∙ runs in
@@ -49,7 +49,7 @@ module _ (link : ℕ) (old : Node) (l : LinkValue) (at : AtPort link old.node (�
 
   -- it has failed
   pub on-failed : l.failed ≡ true → (text : List ℕ) → text ≡ (link_refusal Failed).0
-      → AtPort link old.node (λ p. UnlessFailed p.link text (Stays became_of.Done (about link old) (about link old) became_of.Done) (ResendsOn link p old (about link old) text became_of.Done))
+      → AtPort link old.node (λ p. UnlessFailed p.link text (LeavesEnd became_of.Done (about link old) (about link old) became_of.Done) (ResendsOn link p old (about link old) text became_of.Done))
   on-failed failed text is =
       let stands : at.0.link.failed ≡ true = ap (λ (k : LinkValue). k.failed) (sym at.2) ∙ failed in
       (at.0, at.1, unless_failed at.0.link.failed stands _ _ ((refl, refl), is))
@@ -78,7 +78,7 @@ about-none (Some l) old new e is = absurd (let none : ⊥ = cc in none)
 
 -- how far `resend` was done
 pub reaches-resend : (local : Option ℕ) (link : ℕ) (old new : Node) → Some link ≡ meant local old.node.ports
-    → ((new ≡ about link old) ⊎ Done (λ said became. AtPort link old.node (λ p. UnlessFailed p.link said (Stays became_of.Done (about link old) new became) (ResendsOn link p old new said became))))
+    → ((new ≡ about link old) ⊎ Done (λ said became. AtPort link old.node (λ p. UnlessFailed p.link said (LeavesEnd became_of.Done (about link old) new became) (ResendsOn link p old new said became))))
     → NodeReaches old (order.Resend local) new
 reaches-resend local link old new found (inl same) = inl (about-some _ link old new found same)
 reaches-resend local link old new found (inr done) = inr (done.0, done.1, on-some _ link found _ _ done.2)
@@ -130,7 +130,7 @@ pub gives-record : (name : List ℕ) (number : ℕ) (body : List ℕ) (old new :
     → AtFile name old.noted.shared (λ at. new.noted.shared.files ≡ with_record_at at number body old.noted.shared.files)
     → new.ports ≡ old.ports → new.noted ≡ record old.noted { shared = new.noted.shared } → GivesRecordTo name number body old new
 gives-record name number body old new idle (i, here, may) (j, there, given) (k, then, files) ports notes =
-    let place = place_by old.noted.shared.setup.names name old.noted.shared.files in (
+    let place = index_by old.noted.shared.setup.names name old.noted.shared.files in (
       i,
       here,
       (

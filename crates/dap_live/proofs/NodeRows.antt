@@ -3,7 +3,7 @@ use Rattle.std.proofs.Common.{◌≡◌, true, false, Some, None, [], ◌∷◌,
 use Rattle.std.specs.Prelude.{codes}
 use Rattle.hex.specs.Hex.{decode_pairs}
 use Rattle.dap_live.specs.declared.node_orders.NodeOrder.TheVariants as order
-use Rattle.dap_live.specs.Orders.{between}
+use Rattle.dap_live.specs.Orders.{between_order}
 use Rattle.dap_live.specs.NodeOrders.{node_order_of}
 use Rattle.dap_live.specs.Texts.{locked_text}
 
@@ -25,7 +25,7 @@ one-link-stays = refl
 nothing-is-asked : node_order_of true (codes "ask hello") ≡ None
 nothing-is-asked = refl
 
-rights-are-named : node_order_of false (codes "new 0202 0101 512 2") ≡ Some (order.New (between 514 257 (Some 512) (Some 2)))
+rights-are-named : node_order_of false (codes "new 0202 0101 512 2") ≡ Some (order.New (between_order 514 257 (Some 512) (Some 2)))
 unfolding decode_pairs
 rights-are-named = refl
 

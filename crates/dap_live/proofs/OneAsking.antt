@@ -1,4 +1,4 @@
--- What the end that asks does by a line, and says, follows from the end and the line, want of memory aside.
+-- What the end that asks does by a line, and says, follows from the end and the line, out of memory aside.
 use Rattle.std.proofs.Common.{◌≡◌, ◌≢◌, ℕ, refl, sym, ◌∙◌, subst, ap, true, false, true≢false, List, [], ◌++◌, drop, length, inl, inr}
 use Rattle.std.specs.Prelude.{MatchBool, ◌||◌, ◌&&◌, nat_lt, if◌then◌else◌, Bool, Option, Some, None, Result, Ok, Err}
 use Rattle.std.specs.List.{flat_map}
@@ -15,7 +15,7 @@ use Rattle.dap_accessing.specs.declared.report.Report.{Report}
 use Rattle.dap_accessing.specs.declared.fault.AskFault.{AskFault}
 use Rattle.dap_accessing.specs.declared.fault.AskFault.TheVariants as ask
 use Rattle.dap_accessing.specs.Phase.{IsAdmissible, IsRefused}
-use Rattle.dap_accessing.specs.Present.{Present}
+use Rattle.dap_accessing.specs.Present.{ClientState}
 use Rattle.dap_accessing.specs.Calls.{AskRefused}
 use Rattle.dap_accessing.specs.Each.{records_kept}
 use Rattle.dap_accessing.proofs.ForCallers.{one_present}
@@ -23,9 +23,9 @@ use Rattle.dap_end.specs.declared.fault.TakeFault.{TakeFault}
 use Rattle.dap_end.specs.declared.fault.TakeFault.TheVariants as take
 use Rattle.dap_end.specs.Ports.{PortValue}
 use Rattle.dap_end.specs.Asking.{HasAsked, AskedOne, HasDone}
-use Rattle.dap_end.specs.Hearing.{asks}
-use Rattle.dap_end.specs.Done.{AskingValue, AskingPast, nothing_asked}
-use Rattle.dap_end.specs.Turns.{Takes, WentOn}
+use Rattle.dap_end.specs.Hearing.{hears}
+use Rattle.dap_end.specs.Done.{AskingValue, ClientHistory, nothing_asked}
+use Rattle.dap_end.specs.Turns.{TakesPacket, WentOn}
 use Rattle.dap_end.proofs.ForCallers.{asked_past, has_sent, asking_one, going_alike, taking_alike}
 use Rattle.linewise.specs.declared.talking.Became.{Became}
 use Rattle.linewise.specs.declared.talking.Became.TheVariants.{Done, NoMemory}
@@ -43,8 +43,8 @@ use Rattle.dap_live.specs.Orders.{setup_anew}
 use Rattle.dap_live.specs.Sending.{AllAgain, SaysAck, waits_of}
 use Rattle.dap_live.specs.Texts.{ask_refusal, done_said, link_refusal, packets_text, reports_text, taken_said}
 use Rattle.dap_live.specs.Each.{each_after, each_text, records_text, told_after, told_text, waits_told}
-use Rattle.dap_live.specs.Asking.{GoesOn, Resends, AsksNot, Asks, IsNew, OnEnd, Does, DoesAll, DoesAskOrder, Ends, TakesPacket, TellsAlone, answered, begun, waiting, came_by, goes_on}
-use Rattle.dap_live.specs.Both.{DoneOr, Stays}
+use Rattle.dap_live.specs.Asking.{GoesOn, Resends, AsksNot, AnswersAsk, IsNewAsking, OnEnd, AskingDoes, DoesAll, DoesAskOrder, Ends, HearsPacket, TellsAlone, answered, begun, waiting, came_by, has_more}
+use Rattle.dap_live.specs.Both.{DoneOr, LeavesEnd}
 use Rattle.dap_live.specs.Inner.Saying.{front_text}
 use Rattle.dap_live.specs.Inner.OneText.{AreSameAsking}
 use Rattle.dap_live.proofs.OneLine.{Fits, line_fits, all_again, ack_one, taken_wants, setup_apart, setup_one, one_answer, stays_alike, gone_wants}
@@ -92,12 +92,12 @@ on_end old other one two same x y end reports d = (
 -- ---- A packet.
 
 packet_one : (old other one two : Asking) (bytes said more : List ℕ) (m n : Came) → AreBytes bytes → AreSameAsking old other → outcome m ≢ NoMemory → outcome n ≢ NoMemory
-    → TakesPacket old bytes one said m → TakesPacket other bytes two more n → Two one two said more m n
+    → HearsPacket old bytes one said m → HearsPacket other bytes two more n → Two one two said more m n
 packet_one old other one two bytes said more m n fits same nm nn x y =
     let wx = taken_wants x.taken (told_text one) x.packets (λ e. nm (ap outcome x.ended ∙ outcome_by x.taken _ ∙ e)) in
     let wy = taken_wants y.taken (told_text two) y.packets (λ e. nn (ap outcome y.ended ∙ outcome_by y.taken _ ∙ e)) in
-    let there : Takes (asks old.reports.items two.reports.items) other.end two.end bytes [] y.packets y.taken =
-    subst (λ (l : List Report). Takes (asks l two.reports.items) other.end two.end bytes [] y.packets y.taken) (sym same.2) y.took in
+    let there : TakesPacket (hears old.reports.items two.reports.items) other.end two.end bytes [] y.packets y.taken =
+    subst (λ (l : List Report). TakesPacket (hears l two.reports.items) other.end two.end bytes [] y.packets y.taken) (sym same.2) y.took in
     let t = taking_alike old.end other.end one.end two.end bytes x.taken y.taken [] x.packets y.packets old.reports.items one.reports.items two.reports.items fits same.5 same.0 wx wy x.took there in
     let now : AreSameAsking one two = on_end old other one two same x.rest y.rest t.0 t.3 t.4 in
     let same_said : taken_said x.taken (told_text one) x.packets ≡ taken_said y.taken (told_text two) y.packets =
@@ -115,8 +115,8 @@ going_same : (old other : Asking) (front said more : List ℕ) (one two : Asking
 going_same old other front said more one two m n same nm nn x y =
     let wx = gone_wants x.gone (told_text one) x.packets (λ e. nm (ap outcome x.ended ∙ e)) in
     let wy = gone_wants y.gone (told_text two) y.packets (λ e. nn (ap outcome y.ended ∙ e)) in
-    let there : WentOn (asks old.reports.items two.reports.items) other.end two.end [] y.packets y.gone =
-    subst (λ (l : List Report). WentOn (asks l two.reports.items) other.end two.end [] y.packets y.gone) (sym same.2) y.went in
+    let there : WentOn (hears old.reports.items two.reports.items) other.end two.end [] y.packets y.gone =
+    subst (λ (l : List Report). WentOn (hears l two.reports.items) other.end two.end [] y.packets y.gone) (sym same.2) y.went in
     let t = going_alike old.end other.end one.end two.end [] x.packets y.packets old.reports.items one.reports.items two.reports.items x.gone y.gone same.5 same.0 wx wy x.went there in
     let now : AreSameAsking one two = on_end old other one two same x.rest y.rest t.0 t.3 t.4 in
     let same_said : done_said (told_text one) x.packets x.gone ≡ done_said (told_text two) y.packets y.gone =
@@ -137,9 +137,9 @@ going_if false old other front said more one two m n same nm nn x y =
     (stay old other one two same x.0 y.0, x.1 ∙ ap (λ (l : List ℕ). front ++ l) (told_one old other same) ∙ sym y.1, x.2 ∙ sym y.2)
 
 -- what the end would do
-goes_alike : (old other : AskingValue) → (old ≡ other) → goes_on old ≡ goes_on other
+goes_alike : (old other : AskingValue) → (old ≡ other) → has_more old ≡ has_more other
 goes_alike old other like =
-    ap goes_on like
+    ap has_more like
 
 again_one : (old other one two : Asking) (said more : List ℕ) (m n : Came) → AreSameAsking old other → outcome m ≢ NoMemory → outcome n ≢ NoMemory → Resends old one said m → Resends other two more n
     → Two one two said more m n
@@ -147,14 +147,14 @@ again_one old other one two said more m n same nm nn x y =
     let sent = has_sent old.end same.5 in
     let again : AllAgain old.end.port.link y.0 = subst (λ (p : PortValue). AllAgain p.link y.0) (ap (λ (v : AskingValue). v.port) (sym same.0)) y.1 in
     let packets = all_again old.end.port.link sent.0 x.0 y.0 sent.1 x.1 again in
-    let there : GoesOnIf (goes_on old.end) other (packets_text x.0) two more n =
+    let there : GoesOnIf (has_more old.end) other (packets_text x.0) two more n =
     subst (λ (b : Bool). GoesOnIf b other (packets_text x.0) two more n) (sym (goes_alike old.end other.end same.0))
-    (subst (λ (l : List (List ℕ)). GoesOnIf (goes_on other.end) other (packets_text l) two more n) (sym packets) y.2) in
-    going_if (goes_on old.end) old other (packets_text x.0) said more one two m n same nm nn x.2 there
+    (subst (λ (l : List (List ℕ)). GoesOnIf (has_more other.end) other (packets_text l) two more n) (sym packets) y.2) in
+    going_if (has_more old.end) old other (packets_text x.0) said more one two m n same nm nn x.2 there
 
 resend_one : (failed : Bool) (old other one two : Asking) (said more : List ℕ) (m n : Came) → AreSameAsking old other → outcome m ≢ NoMemory → outcome n ≢ NoMemory
-    → MatchBool failed (Stays (Untold Done) old one m × (said ≡ (link_refusal Failed).0)) (Resends old one said m)
-    → MatchBool failed (Stays (Untold Done) other two n × (more ≡ (link_refusal Failed).0)) (Resends other two more n) → Two one two said more m n
+    → MatchBool failed (LeavesEnd (Untold Done) old one m × (said ≡ (link_refusal Failed).0)) (Resends old one said m)
+    → MatchBool failed (LeavesEnd (Untold Done) other two n × (more ≡ (link_refusal Failed).0)) (Resends other two more n) → Two one two said more m n
 resend_one true old other one two said more m n same nm nn x y = (stay old other one two same x.0.0 y.0.0, x.1 ∙ sym y.1, x.0.1 ∙ sym y.0.1)
 resend_one false old other one two said more m n same nm nn x y = again_one old other one two said more m n same nm nn x y
 
@@ -183,7 +183,7 @@ ask_why own requests answers request ask.Failed g nf ng x y = absurd x
 ask_why own requests answers request f ask.Failed nf ng x y = absurd y
 
 -- of an end that works
-refused_by : (request : Request) (v : AskingValue) (past : AskingPast) (f : AskFault) → HasAsked past v → AskRefused request v.present f → IsRefused v.present.identity past.requests past.answers request f
+refused_by : (request : Request) (v : AskingValue) (past : ClientHistory) (f : AskFault) → HasAsked past v → AskRefused request v.present f → IsRefused v.present.identity past.requests past.answers request f
 refused_by request v past ask.Failed h r = absurd (true≢false (sym r ∙ h.asking.works))
 refused_by request v past ask.Busy h r = r.1 past.requests past.answers h.asking
 refused_by request v past ask.WrongPhase h r = r.1 past.requests past.answers h.asking
@@ -223,7 +223,7 @@ AsksIt each old request new text came =
     (count : ℕ) × (mid : AskingValue) × AskedOne request old.end mid count × GoesOn (begun each request (record old { end = mid })) (front_text (front.Asked count)) new text came
 
 -- it was asked of both
-it_one : (each : Bool) (old other one two : Asking) (request : Request) (said more : List ℕ) (m n : Came) (past : AskingPast) → HasAsked past old.end → AreSameAsking old other → outcome m ≢ NoMemory → outcome n ≢ NoMemory
+it_one : (each : Bool) (old other one two : Asking) (request : Request) (said more : List ℕ) (m n : Came) (past : ClientHistory) → HasAsked past old.end → AreSameAsking old other → outcome m ≢ NoMemory → outcome n ≢ NoMemory
     → AsksIt each old request one said m → AsksIt each other request two more n → Two one two said more m n
 it_one each old other one two request said more m n past h same nm nn x y =
     let asked : AskedOne request old.end y.1 y.0 = subst (λ (v : AskingValue). AskedOne request v y.1 y.0) (sym same.0) y.2 in
@@ -235,15 +235,15 @@ it_one each old other one two request said more m n past h same nm nn x y =
     going_same (begun each request (record old { end = x.1 })) (begun each request (record other { end = y.1 })) (front_text (front.Asked x.0)) said more one two m n now nm nn x.3 there
 
 -- it was asked of one, and refused by the other
-it_apart : (each : Bool) (old other one two : Asking) (request : Request) (said more : List ℕ) (m n : Came) (past : AskingPast) (f : AskFault) → HasAsked past old.end → (old.end ≡ other.end) → outcome n ≢ NoMemory → AsksIt each old request one said m
+it_apart : (each : Bool) (old other one two : Asking) (request : Request) (said more : List ℕ) (m n : Came) (past : ClientHistory) (f : AskFault) → HasAsked past old.end → (old.end ≡ other.end) → outcome n ≢ NoMemory → AsksIt each old request one said m
     → AskRefused request other.end.present f → AsksNot other two more n f → ⊥
 it_apart each old other one two request said more m n past f h like nn x r y =
     let there : AskRefused request old.end.present f = subst (λ (v : AskingValue). AskRefused request v.present f) (sym like) r in
     ask_apart old.end.present.identity past.requests past.answers request f (not_want other request two more n f nn y) (x.2.asks.admissible past.requests past.answers h.asking)
     (refused_by request old.end past f h there)
 
-running_one : (each : Bool) (old other one two : Asking) (request : Request) (said more : List ℕ) (m n : Came) → AreSameAsking old other → HasDone old.end → outcome m ≢ NoMemory → outcome n ≢ NoMemory → Asks each old request one said m
-    → Asks each other request two more n → Two one two said more m n
+running_one : (each : Bool) (old other one two : Asking) (request : Request) (said more : List ℕ) (m n : Came) → AreSameAsking old other → HasDone old.end → outcome m ≢ NoMemory → outcome n ≢ NoMemory → AnswersAsk each old request one said m
+    → AnswersAsk each other request two more n → Two one two said more m n
 running_one each old other one two request said more m n same (inl d) nm nn (inl x) (inl y) = it_one each old other one two request said more m n d.0 d.1 same nm nn x y
 running_one each old other one two request said more m n same (inl d) nm nn (inl x) (inr y) =
     absurd (it_apart each old other one two request said more m n d.0 y.0 d.1 same.0 nn x y.1 y.2)
@@ -261,21 +261,21 @@ running_one each old other one two request said more m n same (inr d) nm nn (inr
     not_one old other one two said more m n x.0 same nm nn x.2 (subst (λ (f : AskFault). AsksNot other two more n f) (sym why) y.2)
 
 ask_one : (failed each : Bool) (old other one two : Asking) (request : Request) (said more : List ℕ) (m n : Came) → AreSameAsking old other → outcome m ≢ NoMemory → outcome n ≢ NoMemory
-    → MatchBool failed (Stays (Untold Done) old one m × (said ≡ (link_refusal Failed).0)) (Asks each old request one said m)
-    → MatchBool failed (Stays (Untold Done) other two n × (more ≡ (link_refusal Failed).0)) (Asks each other request two more n) → Two one two said more m n
+    → MatchBool failed (LeavesEnd (Untold Done) old one m × (said ≡ (link_refusal Failed).0)) (AnswersAsk each old request one said m)
+    → MatchBool failed (LeavesEnd (Untold Done) other two n × (more ≡ (link_refusal Failed).0)) (AnswersAsk each other request two more n) → Two one two said more m n
 ask_one true each old other one two request said more m n same nm nn x y = (stay old other one two same x.0.0 y.0.0, x.1 ∙ sym y.1, x.0.1 ∙ sym y.0.1)
 ask_one false each old other one two request said more m n same nm nn x y = running_one each old other one two request said more m n same same.5 nm nn x y
 
 -- ---- A new link.
 
 same_end : (one two : AskingValue) → one.port ≡ two.port → one.present ≡ two.present → one ≡ two
-same_end one two port accessing = ap (λ (p : PortValue). record one { port = p }) port ∙ ap (λ (x : Present). record two { present = x }) accessing
+same_end one two port accessing = ap (λ (p : PortValue). record one { port = p }) port ∙ ap (λ (x : ClientState). record two { present = x }) accessing
 
 abbrev NewBy : Asking → Option Between → Asking → Type 0
-NewBy old anew new = IsNew (setup_anew old.setup anew) old.end.present.identity new
+NewBy old anew new = IsNewAsking (setup_anew old.setup anew) old.end.present.identity new
 
 -- new ends that are set up alike
-pub new_asking : (setup : LinkSetup) (identity : Configuration) (one other : Asking) → IsNew setup identity one → IsNew setup identity other → AreSameAsking one other
+pub new_asking : (setup : LinkSetup) (identity : Configuration) (one other : Asking) → IsNewAsking setup identity one → IsNewAsking setup identity other → AreSameAsking one other
 new_asking setup identity one other x y =
     let accessing : one.end.present ≡ other.end.present = one_present [] [] one.end.present other.end.present x.asked.asking y.asked.asking (x.is_identity ∙ sym y.is_identity) in (
       same_end one.end other.end (x.port ∙ sym y.port) accessing,
@@ -289,7 +289,7 @@ new_asking setup identity one other x y =
 renewed_one : (old other one two : Asking) (anew : Option Between) → AreSameAsking old other → NewBy old anew one → NewBy other anew two → AreSameAsking one two
 renewed_one old other one two anew same x y =
     let there : NewBy old anew two =
-    subst (λ (s : LinkSetup). IsNew (setup_anew s anew) old.end.present.identity two) (sym same.1) (subst (λ (v : AskingValue). IsNew (setup_anew other.setup anew) v.present.identity two) (sym same.0) y) in
+    subst (λ (s : LinkSetup). IsNewAsking (setup_anew s anew) old.end.present.identity two) (sym same.1) (subst (λ (v : AskingValue). IsNewAsking (setup_anew other.setup anew) v.present.identity two) (sym same.0) y) in
     new_asking (setup_anew old.setup anew) old.end.present.identity one two x there
 
 renew_one : (old other one two : Asking) (anew : Option Between) (said more : List ℕ) (m n : Came) → AreSameAsking old other → outcome m ≢ NoMemory → outcome n ≢ NoMemory
@@ -312,12 +312,12 @@ renew_one old other one two anew said more m n same nm nn (inr x) (inr y) =
 same_failed : (old other : Asking) → AreSameAsking old other → old.end.port.link.failed ≡ other.end.port.link.failed
 same_failed old other same = ap (λ (v : AskingValue). v.port.link.failed) same.0
 
-does_one : (old other one two : Asking) (o : AskOrder) (said more : List ℕ) (m n : Came) → Fits (Some o) → AreSameAsking old other → outcome m ≢ NoMemory → outcome n ≢ NoMemory → Does old o one said m → Does other o two more n
+does_one : (old other one two : Asking) (o : AskOrder) (said more : List ℕ) (m n : Came) → Fits (Some o) → AreSameAsking old other → outcome m ≢ NoMemory → outcome n ≢ NoMemory → AskingDoes old o one said m → AskingDoes other o two more n
     → Two one two said more m n
 does_one old other one two (order.Packet bytes) said more m n fits same nm nn x y = packet_one old other one two bytes said more m n fits same nm nn x y
 does_one old other one two order.Resend said more m n fits same nm nn x y =
     resend_one old.end.port.link.failed old other one two said more m n same nm nn x
-    (subst (λ (f : Bool). MatchBool f (Stays (Untold Done) other two n × (more ≡ (link_refusal Failed).0)) (Resends other two more n)) (sym (same_failed old other same)) y)
+    (subst (λ (f : Bool). MatchBool f (LeavesEnd (Untold Done) other two n × (more ≡ (link_refusal Failed).0)) (Resends other two more n)) (sym (same_failed old other same)) y)
 does_one old other one two order.Ack said more m n fits same nm nn x y = (
   stay old other one two same x.0.0 y.0.0,
   ack_one old.end.port.link said more x.1 (subst (λ (v : AskingValue). SaysAck v.port.link more) (sym same.0) y.1),
@@ -326,17 +326,17 @@ does_one old other one two order.Ack said more m n fits same nm nn x y = (
 does_one old other one two (order.New anew) said more m n fits same nm nn x y = renew_one old other one two anew said more m n same nm nn x y
 does_one old other one two (order.Ask request) said more m n fits same nm nn x y =
     ask_one old.end.port.link.failed false old other one two request said more m n same nm nn x
-    (subst (λ (f : Bool). MatchBool f (Stays (Untold Done) other two n × (more ≡ (link_refusal Failed).0)) (Asks false other request two more n)) (sym (same_failed old other same)) y)
+    (subst (λ (f : Bool). MatchBool f (LeavesEnd (Untold Done) other two n × (more ≡ (link_refusal Failed).0)) (AnswersAsk false other request two more n)) (sym (same_failed old other same)) y)
 does_one old other one two order.FetchEach said more m n fits same nm nn x y =
     ask_one old.end.port.link.failed true old other one two Fetch said more m n same nm nn x
-    (subst (λ (f : Bool). MatchBool f (Stays (Untold Done) other two n × (more ≡ (link_refusal Failed).0)) (Asks true other Fetch two more n)) (sym (same_failed old other same)) y)
+    (subst (λ (f : Bool). MatchBool f (LeavesEnd (Untold Done) other two n × (more ≡ (link_refusal Failed).0)) (AnswersAsk true other Fetch two more n)) (sym (same_failed old other same)) y)
 
 -- what waited is dropped where the answer has it
 ends_outcome : (m : Came) (old new : Asking) (b : Became) → Ends m old new b → outcome m ≡ b
 ends_outcome (Told was) old new b h = sym h.1
 ends_outcome (Untold was) old new b h = sym h.1
 
--- so many are told then, by the parts that it is of
+-- this many are told then, by the parts that it is of
 abbrev after_by : Bool → (told : ℕ) → AskingValue → ℕ
 after_by is_each told end = if is_each then length (records_kept end.present.pending) else told
 
@@ -390,9 +390,9 @@ told_waits one two same =
 
 asking_waits : (one other : Asking) → AreSameAsking one other → waiting one ≡ waiting other
 asking_waits one other same = ap (λ (n : ℕ). Some n)
-    (ap (λ (v : AskingValue). waits_of v.port.link (goes_on one.end || waits_told one)) same.0
+    (ap (λ (v : AskingValue). waits_of v.port.link (has_more one.end || waits_told one)) same.0
     ∙ ap (λ (b : Bool). waits_of other.end.port.link (b || waits_told one)) (goes_alike one.end other.end same.0)
-    ∙ ap (λ (b : Bool). waits_of other.end.port.link (goes_on other.end || b)) (told_waits one other same))
+    ∙ ap (λ (b : Bool). waits_of other.end.port.link (has_more other.end || b)) (told_waits one other same))
 
 pub asking_text : HaveOneText answered waiting AreSameAsking
 asking_text = one_text answered waiting AreSameAsking (one_answer answered waiting AreSameAsking asking_answers (λ one other new end said more b c. stay one other new end) asking_waits)

@@ -33,7 +33,7 @@ use Rattle.dap_live.specs.declared.orders.Between.{Between}
 use Rattle.dap_live.specs.declared.ask_orders.AskOrder.{AskOrder}
 use Rattle.dap_live.specs.declared.ask_orders.AskOrder.TheVariants as order
 use Rattle.dap_live.specs.Orders.{anew_of, hex_alone}
-use Rattle.dap_live.specs.AskOrders.{ask_order_of, asked_of, each_of, names_fac, new_link}
+use Rattle.dap_live.specs.AskOrders.{ask_order_of, asked_of, each_of, names_fac, new_link_order}
 use Rattle.dap_live.specs.Sending.{AllAgain, SaysAck}
 use Rattle.dap_live.proofs.Forms.{all_fit, also, ends_fit, field_fits, form_fits, none_fit}
 use Rattle.dap_live.specs.Texts.{done_said, end_refusal, link_refusal, packet_text, taken_said}
@@ -80,7 +80,7 @@ if_new : (named : Bool) (anew : Option Between) → Fits (if named then None els
 if_new true anew = tt
 if_new false anew = tt
 
-new_fits : (o : Option (Option Between)) → Fits (option_and_then new_link o)
+new_fits : (o : Option (Option Between)) → Fits (option_and_then new_link_order o)
 new_fits None = tt
 new_fits (Some anew) = if_new (names_fac anew) anew
 
@@ -99,7 +99,7 @@ line_fits line = all_fit Fits tt _
     (also Fits tt _ _ (form_fits Fits tt (codes ">") (λ words. option_map order.Packet (hex_alone words)) (λ words. packet_fits (hex_alone words) (alone_fits words)))
     (also Fits tt _ _ (form_fits Fits tt (codes "resend") (ends order.Resend) (λ words. ends_fit Fits tt order.Resend words tt))
     (also Fits tt _ _ (form_fits Fits tt (codes "ack") (ends order.Ack) (λ words. ends_fit Fits tt order.Ack words tt))
-    (also Fits tt _ _ (form_fits Fits tt (codes "new") (λ words. option_and_then new_link (anew_of words)) (λ words. new_fits (anew_of words)))
+    (also Fits tt _ _ (form_fits Fits tt (codes "new") (λ words. option_and_then new_link_order (anew_of words)) (λ words. new_fits (anew_of words)))
     (also Fits tt _ _ (form_fits Fits tt (codes "ask") asked_of asked_fits)
     (none_fit Fits tt)))))) (words_of line)
 

@@ -1,4 +1,4 @@
--- What a node does by a line, and says, follows from the node and the line, want of memory aside.
+-- What a node does by a line, and says, follows from the node and the line, out of memory aside.
 use Rattle.std.proofs.Common.{◌≡◌, ◌≢◌, ℕ, zero, suc, ◌==◌, refl, sym, ◌∙◌, subst, ap, Bool, true, false, true≢false, List, [], ◌∷◌, ◌++◌, length, inl, inr}
 use Rattle.std.specs.Prelude.{◌⊎◌, MatchBool, MatchOption, MatchResult, Option, Some, None, Result, Ok, Err, codes, if◌then◌else◌, option_map, replicate, set, slice_get}
 use Rattle.std.specs.List.{position}
@@ -20,7 +20,7 @@ use Rattle.dap_accessed.specs.declared.fault.AddFault.{AddFault}
 use Rattle.dap_accessed.specs.declared.fault.AddFault.TheVariants as add
 use Rattle.dap_accessed.specs.declared.setup.Names.{Names}
 use Rattle.dap_accessed.specs.declared.setup.ServerSetup.{ServerSetup}
-use Rattle.dap_accessed.specs.Standing.{Files, file_at, place_by}
+use Rattle.dap_accessed.specs.Standing.{Files, file_at, index_by}
 use Rattle.dap_accessed.specs.Adding.{MayStore, with_new_file}
 use Rattle.dap_accessed.specs.Storing.{StoreRefused}
 use Rattle.dap_accessed.specs.Setup.{all_rights}
@@ -33,11 +33,11 @@ use Rattle.dap_end.specs.declared.fault.EndFault.{EndFault}
 use Rattle.dap_end.specs.declared.fault.EndFault.TheVariants as end
 use Rattle.dap_end.specs.declared.fault.TakeFault.{TakeFault}
 use Rattle.dap_end.specs.Ports.{PortValue, new_port}
-use Rattle.dap_end.specs.Node.{AtPort, HasAddress, HasPort, LinkValue, NodeNotGiven, NodeValue, NoneHasCome, OnLink, SomeHasCome, forgotten, has_local, is_between, is_free}
+use Rattle.dap_end.specs.Node.{AtPort, HasAddress, HasPort, NodeLinkValue, NodeNotGiven, NodeValue, NoneHasCome, OnLink, SomeHasCome, without_notes, has_local, is_between, is_free_link}
 use Rattle.dap_text.specs.declared.filed.RecordLine.{RecordLine}
 use Rattle.dap_text.specs.Tables.{files_lines}
 use Rattle.dap_text.specs.Words.{Words, ends, hex_of, words_of}
-use Rattle.dap_text.specs.Filed.{file_of, record_of}
+use Rattle.dap_text.specs.Filed.{file_line_of, record_line_of}
 use Rattle.linewise.specs.declared.talking.Became.{Became}
 use Rattle.linewise.specs.declared.talking.Became.TheVariants.{Done, NoMemory}
 use Rattle.linewise.specs.Talks.{HaveOneText}
@@ -49,8 +49,8 @@ use Rattle.dap_live.specs.declared.orders.Between.{Between}
 use Rattle.dap_live.specs.NodeOrders.{address_alone, filing_forms, links_order_of, node_order_of, one_order_of, text_alone}
 use Rattle.dap_live.specs.Orders.{anew_of, between_of, hex_alone, most_anew, most_beside, setup_anew, setup_beside}
 use Rattle.dap_live.specs.Texts.{LineAnswer, add_refusal, done_said, link_refusal, locked_text, packets_text, remove_refusal, taken_said}
-use Rattle.dap_live.specs.Both.{DoneOr, Stays}
-use Rattle.dap_live.specs.Node.{AddsLink, AddsRecordTo, BeginsOn, Does, DoesNodeOrder, DropsFile, Dropped, EndsOn, FileNotGiven, FindsLink, GivenTo, GivesFile, GivesNext, GivesRecordTo, GoesOnWith, HasRun, HasSent, IsNew, NoLink, RecordNotGiven, Refuses, RenewsOn, ResendsOn, Says, TakesOn, TakesPacketBy, about, answered, before_line, first_events, is_alone, is_behind_at, is_used, meant, one_link, receiver_of, sender_of, ungiven, used_by, waiting, waits_on}
+use Rattle.dap_live.specs.Both.{DoneOr, LeavesEnd}
+use Rattle.dap_live.specs.Node.{AddsLink, AddsRecordTo, BeginsOn, NodeDoes, DoesNodeOrder, DropsFile, Dropped, EndsOn, FileNotGiven, FindsLink, GivenTo, GivesFile, GivesNext, GivesRecordTo, GoesOnWith, HasRun, HasSent, IsNewNode, NoLink, RecordNotGiven, RefusesLink, RenewsOn, ResendsOn, Says, TakesOn, TakesPacketBy, about, answered, before_line, first_events, is_alone, is_behind_at, is_used, meant, one_link, receiver_of, sender_of, ungiven, used_by, waiting, waits_on}
 use Rattle.dap_live.specs.Inner.OneText.{AreSameNodes, HasCarried}
 use Rattle.dap_live.proofs.OneLine.{HexFits, ack_one, all_again, gone_wants, hex_fits, setup_apart, setup_one, taken_wants}
 use Rattle.dap_live.proofs.OneLine.{one_answer}
@@ -87,18 +87,18 @@ node-parts : (one two : NodeValue) → one.noted ≡ two.noted → one.ports ≡
 node-parts one two noted ports = ap (λ (n : NotedValue). record one { noted = n }) noted ∙ ap (λ (l : List (Option PortValue)). record two { ports = l }) ports
 
 -- one link moved
-on-link : (link : ℕ) (old one two : NodeValue) (Goes Went : LinkValue → LinkValue → Type 0) (Told : Type 0) → HasRun old
+on-link : (link : ℕ) (old one two : NodeValue) (Goes Went : NodeLinkValue → NodeLinkValue → Type 0) (Told : Type 0) → HasRun old
     → OnLink link Goes old one → OnLink link Went old two
-    → ((before a b : LinkValue) → HasCarried before → Goes before a → Went before b → (a ≡ b) × Told × HasCarried a)
+    → ((before a b : NodeLinkValue) → HasCarried before → Goes before a → Went before b → (a ≡ b) × Told × HasCarried a)
     → (one ≡ two) × Told × HasRun one
 on-link link old one two Goes Went Told h x y f =
     let before : y.before ≡ x.before = one-port old.ports link y.before x.before y.there x.there in
-    let went : Went (record { port = x.before; present = forgotten old.noted }) (record { port = y.after; present = two.noted }) =
-    subst (λ (p : PortValue). Went (record { port = p; present = forgotten old.noted }) (record { port = y.after; present = two.noted })) before y.does in
-    let t = f (record { port = x.before; present = forgotten old.noted }) (record { port = x.after; present = one.noted }) (record { port = y.after; present = two.noted })
+    let went : Went (record { port = x.before; present = without_notes old.noted }) (record { port = y.after; present = two.noted }) =
+    subst (λ (p : PortValue). Went (record { port = p; present = without_notes old.noted }) (record { port = y.after; present = two.noted })) before y.does in
+    let t = f (record { port = x.before; present = without_notes old.noted }) (record { port = x.after; present = one.noted }) (record { port = y.after; present = two.noted })
     (h.0, h.1, h.2, h.3 link x.before x.there) x.does went in
-    let noted : one.noted ≡ two.noted = ap (λ (v : LinkValue). v.present) t.0 in
-    let port : x.after ≡ y.after = ap (λ (v : LinkValue). v.port) t.0 in
+    let noted : one.noted ≡ two.noted = ap (λ (v : NodeLinkValue). v.present) t.0 in
+    let port : x.after ≡ y.after = ap (λ (v : NodeLinkValue). v.port) t.0 in
     let ports : one.ports ≡ two.ports = x.ports ∙ ap (λ (p : PortValue). set old.ports link (Some p)) port ∙ sym y.ports in (
       node-parts one two noted ports,
       t.1,
@@ -165,8 +165,8 @@ found-one ports bytes (Err f) (Err g) fits (inr x) (inl y) = absurd (spells-apar
 found-one ports bytes (Err f) (Err g) fits (inr x) (inr y) = ap missed_by (x.3 ∙ sym y.3)
 
 packet-by : (found : Result ℕ LinkFault) (old one two : Node) (bytes said more : List ℕ) (b c : Became) → AreBytes bytes → HasRun old.node → b ≢ NoMemory → c ≢ NoMemory
-    → MatchResult found (λ link. TakesOn link old bytes one said b) (λ f. Refuses f old one said b)
-    → MatchResult found (λ link. TakesOn link old bytes two more c) (λ f. Refuses f old two more c) → Same one two said more b c
+    → MatchResult found (λ link. TakesOn link old bytes one said b) (λ f. RefusesLink f old one said b)
+    → MatchResult found (λ link. TakesOn link old bytes two more c) (λ f. RefusesLink f old two more c) → Same one two said more b c
 packet-by (Ok link) old one two bytes said more b c fits h nb nc x y = take-one link old one two bytes said more b c fits h nb nc x y
 packet-by (Err f) old one two bytes said more b c fits h nb nc x y = says-one (link_refusal f) old one two said more b c h x y
 
@@ -174,7 +174,7 @@ packet-found : (old one two : Node) (bytes said more : List ℕ) (b c : Became) 
     → TakesPacketBy old bytes one said b → TakesPacketBy old bytes two more c → Same one two said more b c
 packet-found old one two bytes said more b c fits h nb nc x y =
     packet-by x.0 old one two bytes said more b c fits h nb nc x.2
-    (subst (λ (r : Result ℕ LinkFault). MatchResult r (λ link. TakesOn link old bytes two more c) (λ f. Refuses f old two more c))
+    (subst (λ (r : Result ℕ LinkFault). MatchResult r (λ link. TakesOn link old bytes two more c) (λ f. RefusesLink f old two more c))
     (found-one old.node.ports bytes y.0 x.0 fits y.1 x.1) y.2)
 
 packet-one : (o : Option ℕ) (old one two : Node) (bytes said more : List ℕ) (b c : Became) → AreBytes bytes → HasRun old.node → b ≢ NoMemory → c ≢ NoMemory
@@ -213,8 +213,8 @@ GoesOnIf link port packets old new text became =
     MatchBool (is_behind_at old.most_waiting port) (GoesOnWith link old (packets_text packets) new text became) (Says (packets_text packets, Done) (about link old) new text became)
 
 resend-by : (failed : Bool) (link : ℕ) (port : PortValue) (old one two : Node) (said more : List ℕ) (b c : Became) → HasSent port.link → HasRun old.node → b ≢ NoMemory → c ≢ NoMemory
-    → MatchBool failed (Stays Done (about link old) one b × (said ≡ (link_refusal Failed).0)) (ResendsOn link port old one said b)
-    → MatchBool failed (Stays Done (about link old) two c × (more ≡ (link_refusal Failed).0)) (ResendsOn link port old two more c) → Same one two said more b c
+    → MatchBool failed (LeavesEnd Done (about link old) one b × (said ≡ (link_refusal Failed).0)) (ResendsOn link port old one said b)
+    → MatchBool failed (LeavesEnd Done (about link old) two c × (more ≡ (link_refusal Failed).0)) (ResendsOn link port old two more c) → Same one two said more b c
 resend-by true link port old one two said more b c sent h nb nc x y =
     (x.0.0 ∙ sym y.0.0, x.1 ∙ sym y.1, x.0.1 ∙ sym y.0.1, subst (λ (n : Node). HasRun n.node) (sym x.0.0) h)
 resend-by false link port old one two said more b c sent h nb nc x y =
@@ -225,7 +225,7 @@ resend-by false link port old one two said more b c sent h nb nc x y =
 -- ---- On the link that is meant.
 
 local-by : (o : Option ℕ) (old one two : Node) (said more : List ℕ) (b c : Became) (P Q : ℕ → Type 0) → HasRun old.node
-    → MatchOption o (Refuses fault.WrongLink old one said b) P → MatchOption o (Refuses fault.WrongLink old two more c) Q
+    → MatchOption o (RefusesLink fault.WrongLink old one said b) P → MatchOption o (RefusesLink fault.WrongLink old two more c) Q
     → ((link : ℕ) → P link → Q link → Same one two said more b c) → Same one two said more b c
 local-by None old one two said more b c P Q h x y f = says-one (link_refusal fault.WrongLink) old one two said more b c h x y
 local-by (Some link) old one two said more b c P Q h x y f = f link x y
@@ -233,15 +233,15 @@ local-by (Some link) old one two said more b c P Q h x y f = f link x y
 at-one : {R : Type 0} (link : ℕ) (v : NodeValue) (P Q : PortValue → Type 0) → AtPort link v P → AtPort link v Q → ((p : PortValue) → HasPort link v p → P p → Q p → R) → R
 at-one link v P Q x y f = f x.0 x.1 x.2 (subst Q (one-port v.ports link y.0 x.0 y.1 x.1) y.2)
 
-resend-one : (local : Option ℕ) (old one two : Node) (said more : List ℕ) (b c : Became) → HasRun old.node → b ≢ NoMemory → c ≢ NoMemory → Does old (order.Resend local) one said b → Does old (order.Resend local) two more c → Same one two said more b c
+resend-one : (local : Option ℕ) (old one two : Node) (said more : List ℕ) (b c : Became) → HasRun old.node → b ≢ NoMemory → c ≢ NoMemory → NodeDoes old (order.Resend local) one said b → NodeDoes old (order.Resend local) two more c → Same one two said more b c
 resend-one local old one two said more b c h nb nc x y =
     local-by (meant local old.node.ports) old one two said more b c _ _ h x y
     (λ link u v. at-one link old.node _ _ u v (λ p there i j. resend-by p.link.failed link p old one two said more b c (h.3 link p there) h nb nc i j))
 
-stays-one : (base one two : Node) (said more : List ℕ) (b c : Became) → HasRun base.node → Stays Done base one b → Stays Done base two c → said ≡ more → Same one two said more b c
+stays-one : (base one two : Node) (said more : List ℕ) (b c : Became) → HasRun base.node → LeavesEnd Done base one b → LeavesEnd Done base two c → said ≡ more → Same one two said more b c
 stays-one base one two said more b c h x y e = (x.0 ∙ sym y.0, e, x.1 ∙ sym y.1, subst (λ (n : Node). HasRun n.node) (sym x.0) h)
 
-ack-line-one : (local : Option ℕ) (old one two : Node) (said more : List ℕ) (b c : Became) → HasRun old.node → Does old (order.Ack local) one said b → Does old (order.Ack local) two more c → Same one two said more b c
+ack-line-one : (local : Option ℕ) (old one two : Node) (said more : List ℕ) (b c : Became) → HasRun old.node → NodeDoes old (order.Ack local) one said b → NodeDoes old (order.Ack local) two more c → Same one two said more b c
 ack-line-one local old one two said more b c h x y =
     local-by (meant local old.node.ports) old one two said more b c _ _ h x y
     (λ link u v. at-one link old.node _ _ u v (λ p there i j. stays-one (about link old) one two said more b c h i.0 j.0 (ack_one p.link said more i.1 j.1)))
@@ -274,7 +274,7 @@ end-one link old one two said more b c h (x, sx, bx) (y, sy, by) =
     let t = began-one link 0 all_rights None old.node one.node two.node h none-sent x.ended.shared x.ended.address x.ended.ports y.ended.shared y.ended.address y.ended.ports in
     (moved-one old one two x.rest y.rest t.0 (x.used ∙ sym y.used), sx ∙ sym sy, bx ∙ sym by, t.1)
 
-close-one : (local : ℕ) (old one two : Node) (said more : List ℕ) (b c : Became) → HasRun old.node → Does old (order.Close local) one said b → Does old (order.Close local) two more c → Same one two said more b c
+close-one : (local : ℕ) (old one two : Node) (said more : List ℕ) (b c : Became) → HasRun old.node → NodeDoes old (order.Close local) one said b → NodeDoes old (order.Close local) two more c → Same one two said more b c
 close-one local old one two said more b c h x y =
     local-by (position (has_local local) old.node.ports) old one two said more b c _ _ h x y (λ link u v. end-one link old one two said more b c h u v)
 
@@ -287,7 +287,7 @@ begin-one link setup most old one two said more b c h nb nc (inl x) (inr y) = ab
 begin-one link setup most old one two said more b c h nb nc (inr x) (inl y) = absurd (setup_apart setup x.0 (λ e. nb (x.2.2 ∙ e)) y.0.is_setup x.1)
 begin-one link setup most old one two said more b c h nb nc (inr x) (inr y) =
     let f = setup_one setup x.0 y.0 (λ e. nb (x.2.2 ∙ e)) (λ e. nc (y.2.2 ∙ e)) x.1 y.1 in
-    says-one (link_refusal x.0) old one two said more b c h x.2 (subst (λ (k : LinkFault). Refuses k old two more c) (sym f) y.2)
+    says-one (link_refusal x.0) old one two said more b c h x.2 (subst (λ (k : LinkFault). RefusesLink k old two more c) (sym f) y.2)
 
 no-link-one : (setup : LinkSetup) (s t : LineAnswer) → NoLink setup s → NoLink setup t → s ≡ t
 no-link-one setup s t (inl x) (inl y) = x.1 ∙ sym y.1
@@ -312,7 +312,7 @@ renew-by : (o : Option ℕ) (between : Between) (old one two : Node) (said more 
     → MatchOption o (AddsLink (setup_beside old.usual between) (most_beside all_rights between) old one said b) (λ link. RenewsOn link (Some between) old one said b)
     → MatchOption o (AddsLink (setup_beside old.usual between) (most_beside all_rights between) old two more c) (λ link. RenewsOn link (Some between) old two more c) → Same one two said more b c
 renew-by None between old one two said more b c h nb nc x y =
-    added-by (position is_free old.node.ports) (setup_beside old.usual between) (most_beside all_rights between) old one two said more b c h nb nc x y
+    added-by (position is_free_link old.node.ports) (setup_beside old.usual between) (most_beside all_rights between) old one two said more b c h nb nc x y
 renew-by (Some link) between old one two said more b c h nb nc x y = renew-on-one link (Some between) old one two said more b c h nb nc x y
 
 -- ---- Files that it is given.
@@ -376,7 +376,7 @@ used-why false f g P Q same x y = same x y
 
 -- ---- A file.
 
-file-apart : (names : Names) (files : Files) (name : List ℕ) (f : AddFault) → f ≢ add.NoMemory → place_by names name files ≡ None → NotAdded names files name f → ⊥
+file-apart : (names : Names) (files : Files) (name : List ℕ) (f : AddFault) → f ≢ add.NoMemory → index_by names name files ≡ None → NotAdded names files name f → ⊥
 file-apart names files name add.FileExists want may h = h may
 file-apart names files name add.NoMemory want may h = want refl
 file-apart names files name f want may h = absurd h
@@ -397,13 +397,13 @@ module _ (old : Node) (name : List ℕ) (shape : Shape) where
 
   file-not : (one : Node) (f : AddFault) → f ≢ add.NoMemory → GivesFile name shape old one → FileNotGiven name old f → ⊥
   file-not one f want x h =
-      not-given (place_by names name files ≡ None) (NotAdded names files name) (file-apart names files name) (file-why names files name) old.node f want x.given.idle x.first
+      not-given (index_by names name files ≡ None) (NotAdded names files name) (file-apart names files name) (file-why names files name) old.node f want x.given.idle x.first
       (not-used (is_used old) _ _ x.idle h)
 
   files-why : (f g : AddFault) → f ≢ add.NoMemory → g ≢ add.NoMemory → FileNotGiven name old f → FileNotGiven name old g → f ≡ g
   files-why f g nf ng x y =
       used-why (is_used old) f g _ _
-      (λ u v. given-why (place_by names name files ≡ None) (NotAdded names files name) (file-apart names files name) (file-why names files name) old.node f g nf ng u v) x y
+      (λ u v. given-why (index_by names name files ≡ None) (NotAdded names files name) (file-apart names files name) (file-why names files name) old.node f g nf ng u v) x y
 
   give-file : (one two : Node) (said more : List ℕ) (b c : Became) → HasRun old.node → b ≢ NoMemory → c ≢ NoMemory
       → DoneOr (λ became. became) (GivesFile name shape old one) (FileNotGiven name old) add_refusal (ungiven old) one said b
@@ -450,7 +450,7 @@ one-name o x y e f = (let both : Some x ≡ Some y = sym e ∙ f in cc)
 
 module _ (v : SharedValue) (name : List ℕ) (n : ℕ) (body : List ℕ) where
   abbrev place : Option ℕ
-  place = place_by v.setup.names name v.files
+  place = index_by v.setup.names name v.files
 
   abbrev May : Type 0
   May = (at : ℕ) × (place ≡ Some at) × MayStore (file_at at v.files) n body
@@ -509,7 +509,7 @@ module _ (old : Node) (r : RecordLine) where
       let v = old.node.noted.shared in
       let name : y.0.name ≡ x.0.name = one-name old.given y.0.name x.0.name y.0.named x.0.named in
       let there : GivesRecordTo x.0.name r.number r.body old.node two.node = subst (λ (l : List ℕ). GivesRecordTo l r.number r.body old.node two.node) name y.0.given in
-      let at : there.0 ≡ x.0.given.0 = one-place (place_by v.setup.names x.0.name v.files) there.0 x.0.given.0 there.1 x.0.given.1 in
+      let at : there.0 ≡ x.0.given.0 = one-place (index_by v.setup.names x.0.name v.files) there.0 x.0.given.0 there.1 x.0.given.1 in
       let made : GivenTo (with_record_at x.0.given.0 r.number r.body v.files) (GivesRecord x.0.given.0 r.number r.body) old.node two.node =
       subst (λ (i : ℕ). GivenTo (with_record_at i r.number r.body v.files) (GivesRecord i r.number r.body) old.node two.node) at there.2.1 in
       let t = given-one (with_record_at x.0.given.0 r.number r.body v.files) (GivesRecord x.0.given.0 r.number r.body) old.node one.node two.node h x.0.given.2.1 made in
@@ -527,7 +527,7 @@ module _ (old : Node) (name : List ℕ) where
   shared = old.node.noted.shared
 
   abbrev at-name : Option ℕ
-  at-name = place_by shared.setup.names name shared.files
+  at-name = index_by shared.setup.names name shared.files
 
   drop-not : (one : Node) (f : RemoveFault) → Dropped name old one → NotRemoved shared name f → ⊥
   drop-not one removing.NoFile x h = no-place at-name x.drops.0 x.drops.1 h
@@ -584,8 +584,8 @@ packet-form words = packet-fits (hex_alone words) (alone-fits words)
 filing-fits : (line : List ℕ) → AllFit Fits tt (filing_forms line)
 filing-fits line =
     also Fits tt _ _ (form_fits Fits tt (codes "files") (ends order.Files) (λ words. ends_fit Fits tt order.Files words tt))
-    (also Fits tt _ _ (form_fits Fits tt (codes "file") (λ words. option_map order.File (file_of line)) (λ words. map-fits order.File (λ file. tt) (file_of line)))
-    (also Fits tt _ _ (form_fits Fits tt [] (λ words. option_map order.Record (record_of line)) (λ words. map-fits order.Record (λ r. tt) (record_of line)))
+    (also Fits tt _ _ (form_fits Fits tt (codes "file") (λ words. option_map order.File (file_line_of line)) (λ words. map-fits order.File (λ file. tt) (file_line_of line)))
+    (also Fits tt _ _ (form_fits Fits tt [] (λ words. option_map order.Record (record_line_of line)) (λ words. map-fits order.Record (λ r. tt) (record_line_of line)))
     (also Fits tt _ _ (form_fits Fits tt (codes "drop") (λ words. option_map order.Drop (text_alone words)) (λ words. map-fits order.Drop (λ name. tt) (text_alone words)))
     (none_fit Fits tt))))
 
@@ -612,7 +612,7 @@ line-fits false line = links-line-fits line
 
 -- ---- A line.
 
-does-one : (o : NodeOrder) (old one two : Node) (said more : List ℕ) (b c : Became) → Fits (Some o) → HasRun old.node → b ≢ NoMemory → c ≢ NoMemory → Does old o one said b → Does old o two more c → Same one two said more b c
+does-one : (o : NodeOrder) (old one two : Node) (said more : List ℕ) (b c : Became) → Fits (Some o) → HasRun old.node → b ≢ NoMemory → c ≢ NoMemory → NodeDoes old o one said b → NodeDoes old o two more c → Same one two said more b c
 does-one (order.Packet bytes) old one two said more b c fits h nb nc x y = packet-one (one_link old.node.ports) old one two bytes said more b c fits h nb nc x y
 does-one (order.Resend local) old one two said more b c fits h nb nc x y = resend-one local old one two said more b c h nb nc x y
 does-one (order.Ack local) old one two said more b c fits h nb nc x y = ack-line-one local old one two said more b c h x y
@@ -666,7 +666,7 @@ node-answers one other new end line said more b c same nb nc x y =
     let t = order-one (node_order_of (is_alone one.node) line) (before_line one) new end said more b c (line-fits (is_alone one.node) line) same.7 nb nc x there in
     (parts-of new end t.0 t.3, t.1, t.2)
 
--- and behind a line that they miss
+-- and after a line that they miss
 node-misses : (one other new end : Node) (said more : List ℕ) (b c : Became) → AreSameNodes one other → answered one None new said b → answered other None end more c → AreSameNodes new end
 node-misses one other new end said more b c same x y =
     parts-of new end (x ∙ begun-one one other same ∙ sym y) (subst (λ (n : Node). HasRun n.node) (sym x) same.7)
@@ -700,7 +700,7 @@ first-run true links usual = only-run usual
 first-run false links usual = none-run links
 
 -- new nodes that are set up alike
-pub new_node : (own : ServerSetup) (links : ℕ) (usual : LinkSetup) (most : ℕ) (one other : Node) → IsNew own links usual most one → IsNew own links usual most other → AreSameNodes one other
+pub new_node : (own : ServerSetup) (links : ℕ) (usual : LinkSetup) (most : ℕ) (one other : Node) → IsNewNode own links usual most one → IsNewNode own links usual most other → AreSameNodes one other
 new_node own links usual most one other x y =
     let shared = shared_one [] (first_events links) one.node.noted.shared other.node.noted.shared (x.setup ∙ sym y.setup) (x.sessions ∙ sym y.sessions) x.stands y.stands in
     let noted = noted_parts one.node.noted other.node.noted shared (x.addresses ∙ sym y.addresses) (x.locked ∙ sym y.locked) in (

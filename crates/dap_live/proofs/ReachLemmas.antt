@@ -2,7 +2,7 @@
 use Rattle.std.proofs.Common.{◌≡◌, ◌⊎◌, inl, inr, ℕ, Bool, true, false, List, sym, true≢false}
 use Rattle.std.specs.Prelude.{MatchBool}
 use Rattle.nsp_link.specs.Link.{LinkValue}
-use Rattle.dap_live.specs.Both.{Stays}
+use Rattle.dap_live.specs.Both.{LeavesEnd}
 use Rattle.dap_live.specs.Sending.{UnlessFailed}
 
 -- ---- What is left.
@@ -27,6 +27,6 @@ unless_failed false fails Nothing This nothing = absurd (true≢false (sym fails
 
 pub unless_reached : {E C : Type 0} (link : LinkValue) → link.failed ≡ false → (was : C) (old new : E) (This : List ℕ → C → Type 0)
     → ((new ≡ old) ⊎ ((said : List ℕ) × (came : C) × This said came))
-    → (new ≡ old) ⊎ ((said : List ℕ) × (came : C) × UnlessFailed link said (Stays was old new came) (This said came))
+    → (new ≡ old) ⊎ ((said : List ℕ) × (came : C) × UnlessFailed link said (LeavesEnd was old new came) (This said came))
 unless_reached link works was old new This (inl same) = inl same
 unless_reached link works was old new This (inr done) = inr (done.0, done.1, unless_runs link.failed works _ _ done.2)

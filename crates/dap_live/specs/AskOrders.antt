@@ -13,8 +13,8 @@ names_fac None = false
 names_fac (Some b) = is_some b.fac
 
 -- a new link: a client gives nobody rights
-abbrev pub new_link : Option Between → Option AskOrder
-new_link anew = if names_fac anew then None else Some (order.New anew)
+abbrev pub new_link_order : Option Between → Option AskOrder
+new_link_order anew = if names_fac anew then None else Some (order.New anew)
 
 -- `fetch each`
 abbrev pub each_of : Words → Option AskOrder
@@ -30,6 +30,6 @@ ask_order_of line = one_of (
     word (codes ">") (λ words. option_map order.Packet (hex_alone words))
     ∷ word (codes "resend") (ends order.Resend)
     ∷ word (codes "ack") (ends order.Ack)
-    ∷ word (codes "new") (λ words. option_and_then new_link (anew_of words))
+    ∷ word (codes "new") (λ words. option_and_then new_link_order (anew_of words))
     ∷ word (codes "ask") asked_of
     ∷ []) (words_of line)

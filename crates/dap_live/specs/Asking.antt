@@ -16,9 +16,9 @@ use Rattle.dap_end.specs.declared.fault.TakeFault.{TakeFault}
 use Rattle.dap_end.specs.declared.fault.TakeFault.TheVariants as take
 use Rattle.dap_end.specs.Ports.{new_port}
 use Rattle.dap_end.specs.Asking.{AskedOne, HasAsked}
-use Rattle.dap_end.specs.Hearing.{asks}
+use Rattle.dap_end.specs.Hearing.{hears}
 use Rattle.dap_end.specs.Done.{AskingValue, nothing_asked}
-use Rattle.dap_end.specs.Turns.{Takes, WentOn}
+use Rattle.dap_end.specs.Turns.{TakesPacket, WentOn}
 use Rattle.linewise.specs.declared.talking.Became.{Became}
 use Rattle.linewise.specs.declared.talking.Became.TheVariants.{Done, BadLine, NoMemory}
 use Rattle.dap_live.specs.declared.asking.Asking.{Asking}
@@ -32,7 +32,7 @@ use Rattle.dap_live.specs.Sending.{AllAgain, SaysAck, UnlessFailed, has_message,
 use Rattle.dap_text.specs.Text.{line_feed}
 use Rattle.dap_live.specs.Texts.{ask_refusal, done_said, link_refusal, packets_text, taken_said}
 use Rattle.dap_live.specs.Each.{each_after, told_after, told_text, waits_told}
-use Rattle.dap_live.specs.Both.{DoneOr, Stays}
+use Rattle.dap_live.specs.Both.{DoneOr, LeavesEnd}
 
 -- only the end and its reports changed
 abbrev pub OnEnd : Asking → Asking → Type 0
@@ -46,10 +46,10 @@ came_by (Err (take.Refused f)) became = Untold became
 came_by _ became = Told became
 
 -- A packet was received, and all was done that it lets the client do; or it was refused.
-pub record TakesPacket (old : Asking) (bytes : List ℕ) (new : Asking) (text : List ℕ) (came : Came) : Type 0 where
+pub record HearsPacket (old : Asking) (bytes : List ℕ) (new : Asking) (text : List ℕ) (came : Came) : Type 0 where
   pub taken : Result Got TakeFault
   pub packets : List (List ℕ)
-  pub took : Takes (asks old.reports.items new.reports.items) old.end new.end bytes [] packets taken
+  pub took : TakesPacket (hears old.reports.items new.reports.items) old.end new.end bytes [] packets taken
   pub rest : OnEnd old new
   pub says : text ≡ (taken_said taken (told_text new) packets).0
   pub ended : came ≡ came_by taken (taken_said taken (told_text new) packets).1
@@ -60,7 +60,7 @@ pub record TakesPacket (old : Asking) (bytes : List ℕ) (new : Asking) (text : 
 pub record GoesOn (old : Asking) (front : List ℕ) (new : Asking) (text : List ℕ) (came : Came) : Type 0 where
   pub gone : Result (Unit {0}) EndFault
   pub packets : List (List ℕ)
-  pub went : WentOn (asks old.reports.items new.reports.items) old.end new.end [] packets gone
+  pub went : WentOn (hears old.reports.items new.reports.items) old.end new.end [] packets gone
   pub rest : OnEnd old new
   pub says : text ≡ front ++ (done_said (told_text new) packets gone).0
   pub ended : came ≡ Told (done_said (told_text new) packets gone).1
@@ -71,13 +71,13 @@ TellsAlone old front new text came = (new ≡ old) × (text ≡ front ++ told_te
 
 -- Apart from memory, the client would do something by going on: a message that came isn't read, or something is left
 -- to send. After an unexpected answer it does nothing more.
-abbrev pub goes_on : AskingValue → Bool
-goes_on end = not end.present.failed && (has_message end.port.link || is_left end.port.link end.port.outbox false)
+abbrev pub has_more : AskingValue → Bool
+has_more end = not end.present.failed && (has_message end.port.link || is_left end.port.link end.port.outbox false)
 
 -- the packets of all segments that aren't acknowledged, then what going on does, or else what waits to be told
 abbrev pub Resends : Asking → Asking → List ℕ → Came → Type 0
 Resends old new text came = (packets : List (List ℕ)) × AllAgain old.end.port.link packets
-    × MatchBool (goes_on old.end) (GoesOn old (packets_text packets) new text came) (TellsAlone old (packets_text packets) new text came)
+    × MatchBool (has_more old.end) (GoesOn old (packets_text packets) new text came) (TellsAlone old (packets_text packets) new text came)
 
 -- ---- A request.
 
@@ -92,8 +92,8 @@ AsksNot old new text came f = (new ≡ old) × (text ≡ (ask_refusal f).0) × (
 
 -- The request is asked, the number of its messages is answered, and the client goes on; or it isn't asked. It says that each
 -- record is told by itself, or doesn't.
-abbrev pub Asks : (each : Bool) → Asking → Request → Asking → List ℕ → Came → Type 0
-Asks each old request new text came =
+abbrev pub AnswersAsk : (each : Bool) → Asking → Request → Asking → List ℕ → Came → Type 0
+AnswersAsk each old request new text came =
     ((count : ℕ) × (mid : AskingValue) × AskedOne request old.end mid count
     × GoesOn (begun each request (record old { end = mid })) (concat (codes "asked " ∷ decimal count ∷ line_feed ∷ [])) new text came)
     ⊎ ((f : AskFault) × AskRefused request old.end.present f × AsksNot old new text came f)
@@ -101,7 +101,7 @@ Asks each old request new text came =
 -- ---- A new link.
 
 -- a new client that says this of itself, on a link with this setup
-pub record IsNew (setup : LinkSetup) (identity : Configuration) (a : Asking) : Type 0 where
+pub record IsNewAsking (setup : LinkSetup) (identity : Configuration) (a : Asking) : Type 0 where
   pub asked : HasAsked nothing_asked a.end
   pub port : a.end.port ≡ new_port setup
   pub is_identity : a.end.present.identity ≡ identity
@@ -113,16 +113,16 @@ pub record IsNew (setup : LinkSetup) (identity : Configuration) (a : Asking) : T
 -- ---- A line.
 
 -- what the client does by each order, and its answer
-abbrev pub Does : Asking → AskOrder → Asking → List ℕ → Came → Type 0
-Does old (order.Packet bytes) new text came = TakesPacket old bytes new text came
-Does old order.Resend new text came = UnlessFailed old.end.port.link text (Stays (Untold Done) old new came) (Resends old new text came)
-Does old order.Ack new text came = Stays (Untold Done) old new came × SaysAck old.end.port.link text
-Does old (order.New anew) new text came =
+abbrev pub AskingDoes : Asking → AskOrder → Asking → List ℕ → Came → Type 0
+AskingDoes old (order.Packet bytes) new text came = HearsPacket old bytes new text came
+AskingDoes old order.Resend new text came = UnlessFailed old.end.port.link text (LeavesEnd (Untold Done) old new came) (Resends old new text came)
+AskingDoes old order.Ack new text came = LeavesEnd (Untold Done) old new came × SaysAck old.end.port.link text
+AskingDoes old (order.New anew) new text came =
     let setup = setup_anew old.setup anew in
-    DoneOr Untold (IsSetup setup × IsNew setup old.end.present.identity new) (SetupFault setup) link_refusal old new text came
-Does old (order.Ask request) new text came =
-    UnlessFailed old.end.port.link text (Stays (Untold Done) old new came) (Asks false old request new text came)
-Does old order.FetchEach new text came = UnlessFailed old.end.port.link text (Stays (Untold Done) old new came) (Asks true old Fetch new text came)
+    DoneOr Untold (IsSetup setup × IsNewAsking setup old.end.present.identity new) (SetupFault setup) link_refusal old new text came
+AskingDoes old (order.Ask request) new text came =
+    UnlessFailed old.end.port.link text (LeavesEnd (Untold Done) old new came) (AnswersAsk false old request new text came)
+AskingDoes old order.FetchEach new text came = UnlessFailed old.end.port.link text (LeavesEnd (Untold Done) old new came) (AnswersAsk true old Fetch new text came)
 
 -- All was told that waited: no report waits, nor a record of a batch under way where each is told by itself.
 abbrev pub WasTold : Asking → Asking → Type 0
@@ -133,9 +133,9 @@ abbrev pub Ends : Came → Asking → Asking → Became → Type 0
 Ends (Told was) old new became = WasTold old new × (became ≡ was)
 Ends (Untold was) old new became = (new ≡ old) × (became ≡ was)
 
--- the same, with what waits to be told afterwards
+-- what an order does, and what waits to be reported after its answer
 abbrev pub DoesAll : Asking → AskOrder → Asking → List ℕ → Became → Type 0
-DoesAll old o new text became = (mid : Asking) × (came : Came) × Does old o mid text came × Ends came mid new became
+DoesAll old o new text became = (mid : Asking) × (came : Came) × AskingDoes old o mid text came × Ends came mid new became
 
 -- A line that is no order changes nothing and is a bad line. Otherwise the order is done; or memory is refused to its
 -- answer, and nothing else is answered, whether it was done or not: what waits to be told still waits.
@@ -143,7 +143,7 @@ abbrev pub DoesAskOrder : Asking → Option AskOrder → Asking → List ℕ →
 DoesAskOrder old None new text became = (new ≡ old) × (text ≡ []) × (became ≡ BadLine)
 DoesAskOrder old (Some o) new text became =
     DoesAll old o new text became
-    ⊎ (((new ≡ old) ⊎ ((said : List ℕ) × (came : Came) × Does old o new said came)) × (text ≡ []) × (became ≡ NoMemory))
+    ⊎ (((new ≡ old) ⊎ ((said : List ℕ) × (came : Came) × AskingDoes old o new said came)) × (text ≡ []) × (became ≡ NoMemory))
 
 -- What a client does by a line; one that it misses changes nothing.
 abbrev pub answered : Asking → Option (List ℕ) → Asking → List ℕ → Became → Type 0
@@ -152,4 +152,4 @@ answered old (Some line) new text became = DoesAskOrder old (ask_order_of line) 
 
 -- the packets that aren't acknowledged, and one more where going on would do something, or something waits to be told
 abbrev pub waiting : Asking → Option ℕ
-waiting asking = Some (waits_of asking.end.port.link (goes_on asking.end || waits_told asking))
+waiting asking = Some (waits_of asking.end.port.link (has_more asking.end || waits_told asking))

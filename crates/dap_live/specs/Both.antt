@@ -11,5 +11,5 @@ DoneOr {E} {C} {F} ends IsDone Why told old new text came =
     ⊎ ((f : F) × Why f × (new ≡ old) × (text ≡ (told f).0) × (came ≡ ends (told f).1))
 
 -- the end is as before, and this became of the line
-abbrev pub Stays : {E C : Type 0} → (was : C) → (old new : E) → C → Type 0
-Stays was old new came = (new ≡ old) × (came ≡ was)
+abbrev pub LeavesEnd : {E C : Type 0} → (was : C) → (old new : E) → C → Type 0
+LeavesEnd was old new came = (new ≡ old) × (came ≡ was)

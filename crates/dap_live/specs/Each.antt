@@ -16,18 +16,18 @@ use Rattle.dap_live.specs.Texts.{report_line, reports_text}
 -- ---- Each record by itself.
 
 -- a record and its number
-abbrev pub record_line : ℕ × List ℕ → List ℕ
-record_line (number, body) = concat (codes "report record " ∷ decimal number ∷ codes " " ∷ image_text body ∷ line_feed ∷ [])
+abbrev pub record_report_line : ℕ × List ℕ → List ℕ
+record_report_line (number, body) = concat (codes "report record " ∷ decimal number ∷ codes " " ∷ image_text body ∷ line_feed ∷ [])
 
 -- records, one a line
 abbrev pub records_text : List (ℕ × List ℕ) → List ℕ
-records_text records = flat_map record_line records
+records_text records = flat_map record_report_line records
 
--- the end of a batch of so many records, each of which was told by itself
+-- the end of a batch of this many records, each of which was told by itself
 abbrev pub batch_line : (count : ℕ) → Ending → List ℕ
 batch_line count end = concat (codes "report batch " ∷ decimal count ∷ codes " " ∷ (ending_text end ++ line_feed) ∷ [])
 
--- a report, where so many records of its batch were told by themselves before
+-- a report, where this many records of its batch were told by themselves before
 abbrev pub each_text : (told : ℕ) → Report → List ℕ
 each_text told (Batch bodies end) = records_text (drop told bodies) ++ batch_line (length bodies) end
 each_text told report = report_line report
@@ -49,7 +49,7 @@ told_text asking =
 abbrev pub waits_told : Asking → Bool
 waits_told asking = nat_lt 0 (length asking.reports.items) || (asking.is_each && nat_lt asking.told (length (kept asking)))
 
--- so many records of a batch under way are told once all is told that waits
+-- this many records of a batch under way are told once all is told that waits
 abbrev pub told_after : Asking → ℕ
 told_after asking = if asking.is_each then length (kept asking) else asking.told
 

@@ -21,15 +21,15 @@ use Rattle.dap_accessed.specs.declared.setup.Names.{Names}
 use Rattle.dap_accessed.specs.declared.setup.ServerSetup.{ServerSetup}
 use Rattle.dap_accessed.specs.Adding.{MayStore, with_new_file}
 use Rattle.dap_accessed.specs.Setup.{all_rights, same_name}
-use Rattle.dap_accessed.specs.Standing.{Files, file_at, place_by}
+use Rattle.dap_accessed.specs.Standing.{Files, file_at, index_by}
 use Rattle.dap_shared.specs.Nodes.{Begins, Event, Gives, GivesRecord, with_record_at}
 use Rattle.dap_shared.specs.Shared.{AtFile, NotAdded, NotRemoved, RecordNotAdded, SharedAfter, SharedDrops, SharedGiven, rights_on}
 use Rattle.dap_end.specs.declared.fault.EndFault.{EndFault}
 use Rattle.dap_end.specs.declared.fault.TakeFault.{TakeFault}
 use Rattle.dap_end.specs.declared.fault.TakeFault.TheVariants as take
 use Rattle.dap_end.specs.Ports.{PortValue, new_port}
-use Rattle.dap_end.specs.Node.{AtPort, BeganOn, EndedOn, HasPort, NodeNotGiven, NodeValue, NoneHasCome, OnLink, has_local, is_between, is_free, serves_on}
-use Rattle.dap_end.specs.Turns.{Takes, WentOn}
+use Rattle.dap_end.specs.Node.{AtPort, BeganOn, EndedOn, HasPort, NodeNotGiven, NodeValue, NoneHasCome, OnLink, has_local, is_between, is_free_link, serves_on}
+use Rattle.dap_end.specs.Turns.{TakesPacket, WentOn}
 use Rattle.dap_text.specs.declared.filed.FileLine.{FileLine}
 use Rattle.dap_text.specs.declared.filed.RecordLine.{RecordLine}
 use Rattle.dap_text.specs.declared.tables.FilesPlace.{FilesPlace}
@@ -44,8 +44,8 @@ use Rattle.dap_live.specs.declared.orders.Between.{Between}
 use Rattle.dap_live.specs.NodeOrders.{node_order_of}
 use Rattle.dap_live.specs.Orders.{most_anew, most_beside, setup_anew, setup_beside}
 use Rattle.dap_live.specs.Sending.{AllAgain, SaysAck, UnlessFailed, is_left, is_served_next, waits_of}
-use Rattle.dap_live.specs.Texts.{LineAnswer, add_refusal, done_said, link_refusal, locked_text, packets_text, refused, remove_refusal, status_line, taken_said}
-use Rattle.dap_live.specs.Both.{DoneOr, Stays}
+use Rattle.dap_live.specs.Texts.{LineAnswer, add_refusal, done_said, link_refusal, locked_text, packets_text, refused_with, remove_refusal, status_line, taken_said}
+use Rattle.dap_live.specs.Both.{DoneOr, LeavesEnd}
 
 -- ---- A new node.
 
@@ -57,8 +57,8 @@ first_events links = if links == 1 then Begins 0 all_rights ∷ [] else []
 abbrev pub first_ports : (links : ℕ) → LinkSetup → List (Option PortValue)
 first_ports links usual = if links == 1 then Some (new_port usual) ∷ [] else replicate links None
 
--- A node without files that is set up so, with room for so many links. Where that is one, it is there, with every right.
-pub record IsNew (own : ServerSetup) (links : ℕ) (usual : LinkSetup) (most : ℕ) (node : Node) : Type 0 where
+-- A node without files that is set up so, with room for this many links. Where that is one, it is there, with every right.
+pub record IsNewNode (own : ServerSetup) (links : ℕ) (usual : LinkSetup) (most : ℕ) (node : Node) : Type 0 where
   pub stands : SharedAfter [] (first_events links) node.node.noted.shared
   pub setup : node.node.noted.shared.setup ≡ own
   pub sessions : length node.node.noted.shared.sessions ≡ links
@@ -89,7 +89,7 @@ HasRun v = (first : Files) × (events : List Event) × SharedAfter first events 
 abbrev pub about : (link : ℕ) → Node → Node
 about link node = record node { last = Some link }
 
--- the same, if there is such a link
+-- the line concerns this link, where it names one that is there
 abbrev pub about_any : Option ℕ → Node → Node
 about_any None node = node
 about_any (Some link) node = about link node
@@ -99,8 +99,8 @@ abbrev pub Says : LineAnswer → (base new : Node) → List ℕ → Became → T
 Says said base new text became = (new ≡ base) × (text ≡ said.0) × (became ≡ said.1)
 
 -- a link is refused so, and nothing changed
-abbrev pub Refuses : LinkFault → (base new : Node) → List ℕ → Became → Type 0
-Refuses f = Says (link_refusal f)
+abbrev pub RefusesLink : LinkFault → (base new : Node) → List ℕ → Became → Type 0
+RefusesLink f = Says (link_refusal f)
 
 -- there is room for one link alone
 abbrev pub is_alone : NodeValue → Bool
@@ -118,7 +118,7 @@ meant (Some local) ports = position (has_local local) ports
 
 -- what is done on the link that is meant; where there is none, the line is refused as of a wrong link
 abbrev pub OnMeant : Option ℕ → (Does : ℕ → Type 0) → (old new : Node) → List ℕ → Became → Type 0
-OnMeant link Does old new text became = MatchOption link (Refuses fault.WrongLink old new text became) Does
+OnMeant link Does old new text became = MatchOption link (RefusesLink fault.WrongLink old new text became) Does
 
 -- a packet came on the link that it didn't refuse
 abbrev pub used_by : Result Got TakeFault → (link : ℕ) → List Bool → List Bool
@@ -152,18 +152,18 @@ FindsLink ports bytes (Err f) =
 pub record TakesOn (link : ℕ) (old : Node) (bytes : List ℕ) (new : Node) (text : List ℕ) (became : Became) : Type 0 where
   pub taken : Result Got TakeFault
   pub packets : List (List ℕ)
-  pub took : OnLink link (λ before after. Takes (serves_on link old.most_waiting) before after bytes [] packets taken) old.node new.node
+  pub took : OnLink link (λ before after. TakesPacket (serves_on link old.most_waiting) before after bytes [] packets taken) old.node new.node
   pub rest : new ≡ record (about link old) { node = new.node; used = new.used }
   pub used : new.used ≡ used_by taken link old.used
   pub says : text ≡ (taken_said taken (locked_text new.node.noted.locked) packets).0
   pub ended : became ≡ (taken_said taken (locked_text new.node.noted.locked) packets).1
 
--- the same on the link that it is of by its addresses
+-- a packet on the link that it is of by its addresses, or refused where there is none
 abbrev pub TakesPacketBy : Node → List ℕ → Node → List ℕ → Became → Type 0
 TakesPacketBy old bytes new text became = (found : Result ℕ LinkFault) × FindsLink old.node.ports bytes found
-    × MatchResult found (λ link. TakesOn link old bytes new text became) (λ f. Refuses f old new text became)
+    × MatchResult found (λ link. TakesOn link old bytes new text became) (λ f. RefusesLink f old new text became)
 
--- the same on the only link, or by its addresses
+-- a packet on the only link there is room for, or on the one that it is of by its addresses
 abbrev pub TakesPacketOf : Node → List ℕ → Node → List ℕ → Became → Type 0
 TakesPacketOf old bytes new text became =
     MatchOption (one_link old.node.ports) (TakesPacketBy old bytes new text became) (λ link. TakesOn link old bytes new text became)
@@ -203,16 +203,16 @@ pub record BeginsNow (link : ℕ) (setup : LinkSetup) (most : Rights) (old new :
 abbrev pub BeginsOn : (link : ℕ) → LinkSetup → (most : Rights) → Node → Node → List ℕ → Became → Type 0
 BeginsOn link setup most old new text became =
     (BeginsNow link setup most old new × (text ≡ []) × (became ≡ Done))
-    ⊎ ((f : LinkFault) × SetupFault setup f × Refuses f old new text became)
+    ⊎ ((f : LinkFault) × SetupFault setup f × RefusesLink f old new text became)
 
 -- why no link is added where all are there: a bad setup comes first
 abbrev pub NoLink : LinkSetup → LineAnswer → Type 0
 NoLink setup said =
-    ((IsSetup setup → ⊥) × (said ≡ link_refusal fault.BadSetup)) ⊎ (IsSetup setup × (said ≡ refused (codes "no-links")))
+    ((IsSetup setup → ⊥) × (said ≡ link_refusal fault.BadSetup)) ⊎ (IsSetup setup × (said ≡ refused_with (codes "no-links")))
 
 -- a link is added
 abbrev pub AddsLink : LinkSetup → (most : Rights) → Node → Node → List ℕ → Became → Type 0
-AddsLink setup most old new text became = MatchOption (position is_free old.node.ports)
+AddsLink setup most old new text became = MatchOption (position is_free_link old.node.ports)
     ((said : LineAnswer) × NoLink setup said × Says said old new text became)
     (λ link. BeginsOn link setup most old new text became)
 
@@ -250,7 +250,7 @@ pub record GivenTo (made : Files) (event : Event) (old new : NodeValue) : Type 0
 -- A file was added, while no link is used: no file had its name. The next records are added to it.
 pub record GivesFile (name : List ℕ) (shape : Shape) (old new : Node) : Type 0 where
   pub idle : is_used old ≡ false
-  pub first : place_by old.node.noted.shared.setup.names name old.node.noted.shared.files ≡ None
+  pub first : index_by old.node.noted.shared.setup.names name old.node.noted.shared.files ≡ None
   pub given : GivenTo (with_new_file name shape old.node.noted.shared.files) (Gives name shape) old.node new.node
   pub named : new.given ≡ Some name
   pub rest : new ≡ record old { node = new.node; given = new.given }
@@ -272,7 +272,7 @@ GivesRecordTo name number body old new = AtFile name old.noted.shared (λ at.
     MayStore (file_at at old.noted.shared.files) number body
     × GivenTo (with_record_at at number body old.noted.shared.files) (GivesRecord at number body) old new)
 
--- the same to the file of the last `file` line, while no link is used
+-- a record for the file of the last `file` line, while no link is used
 pub record GivesNext (r : RecordLine) (old new : Node) : Type 0 where
   pub idle : is_used old ≡ false
   pub name : List ℕ
@@ -313,20 +313,20 @@ DropsFile old name new text became =
 -- ---- A line.
 
 -- What the node does by each order, and its answer. It comes with the only link, or none, and then the line concerns that.
-abbrev pub Does : Node → NodeOrder → Node → List ℕ → Became → Type 0
-Does old (order.Packet bytes) new text became = TakesPacketOf old bytes new text became
-Does old (order.Resend local) new text became = OnMeant (meant local old.node.ports) (λ link. AtPort link old.node (λ p.
-    UnlessFailed p.link text (Stays Done (about link old) new became) (ResendsOn link p old new text became))) old new text became
-Does old (order.Ack local) new text became = OnMeant (meant local old.node.ports) (λ link. AtPort link old.node (λ p.
-    Stays Done (about link old) new became × SaysAck p.link text)) old new text became
-Does old (order.Close local) new text became = OnMeant (position (has_local local) old.node.ports)
+abbrev pub NodeDoes : Node → NodeOrder → Node → List ℕ → Became → Type 0
+NodeDoes old (order.Packet bytes) new text became = TakesPacketOf old bytes new text became
+NodeDoes old (order.Resend local) new text became = OnMeant (meant local old.node.ports) (λ link. AtPort link old.node (λ p.
+    UnlessFailed p.link text (LeavesEnd Done (about link old) new became) (ResendsOn link p old new text became))) old new text became
+NodeDoes old (order.Ack local) new text became = OnMeant (meant local old.node.ports) (λ link. AtPort link old.node (λ p.
+    LeavesEnd Done (about link old) new became × SaysAck p.link text)) old new text became
+NodeDoes old (order.Close local) new text became = OnMeant (position (has_local local) old.node.ports)
     (λ link. EndsOn link old new × (text ≡ []) × (became ≡ Done)) old new text became
-Does old (order.Renew anew) new text became = OnMeant (one_link old.node.ports) (λ link. RenewsOn link anew old new text became) old new text became
-Does old (order.New between) new text became = Renews between old new text became
-Does old order.Files new text became = (new ≡ old) × ComesIn (files_lines old.node.noted.shared.files) text became
-Does old (order.File file) new text became = AddsFileTo old file new text became
-Does old (order.Record r) new text became = AddsRecordTo old r new text became
-Does old (order.Drop name) new text became = DropsFile old name new text became
+NodeDoes old (order.Renew anew) new text became = OnMeant (one_link old.node.ports) (λ link. RenewsOn link anew old new text became) old new text became
+NodeDoes old (order.New between) new text became = Renews between old new text became
+NodeDoes old order.Files new text became = (new ≡ old) × ComesIn (files_lines old.node.noted.shared.files) text became
+NodeDoes old (order.File file) new text became = AddsFileTo old file new text became
+NodeDoes old (order.Record r) new text became = AddsRecordTo old r new text became
+NodeDoes old (order.Drop name) new text became = DropsFile old name new text became
 
 -- the link that an order means before its bytes are read: those of a packet have to be read first
 abbrev pub named_by : Node → NodeOrder → Option ℕ
@@ -354,8 +354,8 @@ before_line node = record node { last = one_link node.node.ports }
 abbrev pub DoesNodeOrder : Node → Option NodeOrder → Node → List ℕ → Became → Type 0
 DoesNodeOrder old None new text became = (new ≡ old) × (text ≡ []) × (became ≡ BadLine)
 DoesNodeOrder old (Some o) new text became =
-    Does old o new text became
-    ⊎ ((IsNotDone old o new ⊎ ((said : List ℕ) × (came : Became) × Does old o new said came)) × (text ≡ []) × (became ≡ NoMemory))
+    NodeDoes old o new text became
+    ⊎ ((IsNotDone old o new ⊎ ((said : List ℕ) × (came : Became) × NodeDoes old o new said came)) × (text ≡ []) × (became ≡ NoMemory))
 
 -- what a node does by a line; one that it misses changes nothing but what link a line concerns
 abbrev pub answered : Node → Option (List ℕ) → Node → List ℕ → Became → Type 0
@@ -376,6 +376,6 @@ abbrev pub waits_on : (most : ℕ) → Option ℕ → NodeValue → ℕ
 waits_on most None v = 0
 waits_on most (Some link) v = port_waits most (slice_get v.ports link)
 
--- what `waits` tells behind an answer
+-- what `waits` tells after an answer
 abbrev pub waiting : Node → Option ℕ
 waiting node = Some (waits_on node.most_waiting node.last node.node)

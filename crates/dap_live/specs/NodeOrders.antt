@@ -2,7 +2,7 @@
 -- alone, it names none.
 use Rattle.std.specs.Prelude.{ℕ, Bool, if◌then◌else◌, List, [], ◌∷◌, codes, Option, Some, None, option_map}
 use Rattle.dap_text.specs.Words.{Words, ends, field, one_of, text_of, word, words_of}
-use Rattle.dap_text.specs.Filed.{file_of, record_of}
+use Rattle.dap_text.specs.Filed.{file_line_of, record_line_of}
 use Rattle.dap_live.specs.declared.node_orders.NodeOrder.{NodeOrder}
 use Rattle.dap_live.specs.declared.node_orders.NodeOrder.TheVariants as order
 use Rattle.dap_live.specs.Orders.{address_of, anew_of, between_of, hex_alone}
@@ -19,8 +19,8 @@ text_alone = field text_of ends
 abbrev pub filing_forms : List ℕ → List (Words → Option NodeOrder)
 filing_forms line =
     word (codes "files") (ends order.Files)
-    ∷ word (codes "file") (λ words. option_map order.File (file_of line))
-    ∷ word [] (λ words. option_map order.Record (record_of line))
+    ∷ word (codes "file") (λ words. option_map order.File (file_line_of line))
+    ∷ word [] (λ words. option_map order.Record (record_line_of line))
     ∷ word (codes "drop") (λ words. option_map order.Drop (text_alone words))
     ∷ []
 
@@ -33,7 +33,7 @@ one_order_of line = one_of (
     ∷ word (codes "new") (λ words. option_map order.Renew (anew_of words))
     ∷ filing_forms line) (words_of line)
 
--- the same with room for several
+-- the order of a line, where there is room for several links: `new`, `resend` and `ack` name theirs
 abbrev pub links_order_of : List ℕ → Option NodeOrder
 links_order_of line = one_of (
     word (codes ">") (λ words. option_map order.Packet (hex_alone words))

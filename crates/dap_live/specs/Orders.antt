@@ -19,20 +19,20 @@ abbrev pub address_of : List ℕ → Option ℕ
 address_of word = option_map (from_be_bytes w16) (result_ok (decode_sized word 2))
 
 -- a link begins between these addresses, with this segment size and FAC where they are named
-abbrev pub between : (local remote : ℕ) → (segment fac : Option ℕ) → Between
-between local remote segment fac = record { local = local; remote = remote; segment = segment; fac = fac }
+abbrev pub between_order : (local remote : ℕ) → (segment fac : Option ℕ) → Between
+between_order local remote segment fac = record { local = local; remote = remote; segment = segment; fac = fac }
 
 -- nothing, or FAC: the bits of four rights
 abbrev pub fac_from : (local remote segment : ℕ) → Words → Option Between
 fac_from local remote segment = one_of (
-    ends (between local remote (Some segment) None)
-    ∷ field (decimal_of 15) (λ fac. ends (between local remote (Some segment) (Some fac)))
+    ends (between_order local remote (Some segment) None)
+    ∷ field (decimal_of 15) (λ fac. ends (between_order local remote (Some segment) (Some fac)))
     ∷ [])
 
 -- nothing, or SEGMENT, and FAC or not
 abbrev pub limits_from : (local remote : ℕ) → Words → Option Between
 limits_from local remote = one_of (
-    ends (between local remote None None)
+    ends (between_order local remote None None)
     ∷ field long (fac_from local remote)
     ∷ [])
 
@@ -51,16 +51,16 @@ anew_of (word ∷ words) = option_map Some (between_of (word ∷ words))
 abbrev pub setup_beside : LinkSetup → Between → LinkSetup
 setup_beside setup b = record setup { local = b.local; remote = b.remote; seg_size = unwrap_or b.segment setup.seg_size }
 
--- the same of a link that may begin as it was
+-- the setup of a link that begins so, or as it was where nothing is named
 abbrev pub setup_anew : LinkSetup → Option Between → LinkSetup
 setup_anew setup None = setup
 setup_anew setup (Some b) = setup_beside setup b
 
--- its rights: these where none are named
+-- the rights of a link that begins so: these where none are named
 abbrev pub most_beside : Rights → Between → Rights
 most_beside most b = option_map_or rights_of b.fac most
 
--- the same of a link that may begin as it was
+-- the rights of a link that begins so, or as it was where nothing is named
 abbrev pub most_anew : Rights → Option Between → Rights
 most_anew most None = most
 most_anew most (Some b) = most_beside most b

@@ -6,7 +6,7 @@ use Rattle.dap_end.specs.Writing.{AreSegments}
 use Rattle.nsp_link.specs.declared.fault.LinkFault.TheVariants.{Failed}
 use Rattle.dap_live.specs.Texts.{link_refusal, packet_text}
 
--- a message that came isn't gone through
+-- a message that came isn't processed
 abbrev pub has_message : LinkValue → Bool
 has_message link = nat_lt 0 (length link.coming.inbox)
 
@@ -14,7 +14,7 @@ has_message link = nat_lt 0 (length link.coming.inbox)
 abbrev pub is_served_next : (most : ℕ) → LinkValue → Bool
 is_served_next most link = has_message link && nat_lt (waiting_bytes link) most
 
--- The link takes the NSP messages that wait; and one waits, or a message isn't gone through, or a segment may be
+-- The link takes the NSP messages that wait; and one waits, or a message isn't processed, or a segment may be
 -- sent. That is so only after a call that ran out of memory. That it comes only then isn't part of a contract.
 abbrev pub is_left : LinkValue → (outbox : List (List ℕ)) → (more : Bool) → Bool
 is_left link outbox more = may_queue link outbox && (nat_lt 0 (length outbox) || (more || may_send link))

@@ -51,31 +51,31 @@ abbrev pub LineAnswer : Type 0
 LineAnswer = List ℕ × Became
 
 -- `refused` and this word
-abbrev pub refused : List ℕ → LineAnswer
-refused word = (concat (codes "refused " ∷ word ∷ line_feed ∷ []), Done)
+abbrev pub refused_with : List ℕ → LineAnswer
+refused_with word = (concat (codes "refused " ∷ word ∷ line_feed ∷ []), Done)
 
 -- why a link refuses; bytes that are no packet are answered in the words of a listing
 abbrev pub link_refusal : LinkFault → LineAnswer
 link_refusal (fault.Malformed f) = (codes "refused " ++ fault_line f, Done)
-link_refusal fault.BadSetup = refused (codes "bad-setup")
-link_refusal fault.WrongLink = refused (codes "wrong-link")
-link_refusal fault.BadSequence = refused (codes "bad-sequence")
-link_refusal fault.MessageTooLong = refused (codes "message-too-long")
-link_refusal fault.Failed = refused (codes "failed")
-link_refusal fault.Exhausted = refused (codes "exhausted")
-link_refusal fault.NoSuchSegment = refused (codes "nothing-to-do")
+link_refusal fault.BadSetup = refused_with (codes "bad-setup")
+link_refusal fault.WrongLink = refused_with (codes "wrong-link")
+link_refusal fault.BadSequence = refused_with (codes "bad-sequence")
+link_refusal fault.MessageTooLong = refused_with (codes "message-too-long")
+link_refusal fault.Failed = refused_with (codes "failed")
+link_refusal fault.Exhausted = refused_with (codes "exhausted")
+link_refusal fault.NoSuchSegment = refused_with (codes "nothing-to-do")
 link_refusal fault.NoMemory = ([], NoMemory)
 
 -- why an end doesn't do all that it could
 abbrev pub end_refusal : EndFault → LineAnswer
 end_refusal (end.Link f) = link_refusal f
-end_refusal (end.Read read.Failed) = refused (codes "ask-failed")
-end_refusal (end.Read read.Unexpected) = refused (codes "unexpected-answer")
+end_refusal (end.Read read.Failed) = refused_with (codes "ask-failed")
+end_refusal (end.Read read.Unexpected) = refused_with (codes "unexpected-answer")
 end_refusal (end.Read read.NoMemory) = ([], NoMemory)
 
 -- why a request isn't asked
 abbrev pub ask_refusal : AskFault → LineAnswer
-ask_refusal f = option_map_or refused (ask_text f) ([], NoMemory)
+ask_refusal f = option_map_or refused_with (ask_text f) ([], NoMemory)
 
 -- a refusal by a Status code and its reason
 abbrev pub status_line : ℕ → ℕ → List ℕ
@@ -83,7 +83,7 @@ status_line code why = refused_text code why ++ line_feed
 
 -- why a file or record isn't added
 abbrev pub add_refusal : AddFault → LineAnswer
-add_refusal add.Busy = refused (codes "busy")
+add_refusal add.Busy = refused_with (codes "busy")
 add_refusal add.FileExists = (status_line codes_of.stscode.access_refused codes_of.reasons.file_exists, Done)
 add_refusal add.NoFile = (status_line codes_of.stscode.file_not_found 0, Done)
 add_refusal (add.Record why) = (status_line codes_of.stscode.record_refused (reason_of why), Done)
@@ -92,7 +92,7 @@ add_refusal add.NoMemory = ([], NoMemory)
 -- why a file isn't dropped
 abbrev pub remove_refusal : RemoveFault → LineAnswer
 remove_refusal removing.NoFile = (status_line codes_of.stscode.file_not_found 0, Done)
-remove_refusal removing.Busy = refused (codes "busy")
+remove_refusal removing.Busy = refused_with (codes "busy")
 
 -- ---- What was done.
 
@@ -105,7 +105,7 @@ abbrev pub done_said : (told : List ℕ) → (packets : List (List ℕ)) → Res
 done_said told packets (Ok done) = (told ++ packets_text packets, Done)
 done_said told packets (Err f) = (told ++ (packets_text packets ++ (end_refusal f).0), (end_refusal f).1)
 
--- the same after what the packet was
+-- what a packet was, then what is reported, and the packets that answer it
 abbrev pub taken_said : Result Got TakeFault → (told : List ℕ) → (packets : List (List ℕ)) → LineAnswer
 taken_said (Ok got) told packets = ((got_text got ++ line_feed) ++ (done_said told packets (Ok tt)).0, Done)
 taken_said (Err (take.Refused f)) told packets = link_refusal f

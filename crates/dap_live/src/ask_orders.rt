@@ -3,7 +3,7 @@
 ghost use Rattle.std.specs.Prelude.{◌≡◌, option_and_then};
 ghost use Rattle.dap_text.specs.Words.{ends};
 ghost use Rattle.dap_live.specs.Orders.{anew_of};
-ghost use Rattle.dap_live.specs.AskOrders.{ask_order_of, asked_of, each_of, new_link, names_fac};
+ghost use Rattle.dap_live.specs.AskOrders.{ask_order_of, asked_of, each_of, new_link_order, names_fac};
 
 use crate::orders::{Between, read_anew, read_hex_alone};
 use dap_text::{RequestText, Text, Words, is, read_request};
@@ -41,7 +41,7 @@ fn names_rights(anew: Option<Between>) -> bool
 
 /// A new link: a client gives nobody rights.
 fn read_new<'a>(words: Words<'a>) -> Option<AskOrder<'a>>
-    ensures { result ≡ option_and_then new_link (anew_of words.entry) }
+    ensures { result ≡ option_and_then new_link_order (anew_of words.entry) }
 {
     let anew = read_anew(words)?;
     if names_rights(anew) {

@@ -8,14 +8,14 @@ ghost use Rattle.dap_msg.specs.declared.message.Message.TheVariants.{Config};
 ghost use Rattle.nsp_link.specs.Link.{SetupFault};
 ghost use Rattle.dap_end.specs.Ports.{new_port};
 ghost use Rattle.dap_end.specs.Asking.{HasAsked};
-ghost use Rattle.dap_end.specs.Hearing.{asks};
+ghost use Rattle.dap_end.specs.Hearing.{hears};
 ghost use Rattle.dap_end.specs.Done.{nothing_asked};
-ghost use Rattle.dap_end.specs.Turns.{WentOn, Takes};
+ghost use Rattle.dap_end.specs.Turns.{WentOn, TakesPacket};
 ghost use Rattle.dap_text.specs.Adding.{Adds};
 ghost use Rattle.dap_live.specs.declared.asking.Came.{Came as TheCame};
 ghost use Rattle.dap_live.specs.Inner.Reaching.{Reaches};
 ghost use Rattle.dap_live.specs.Each.{each_after, waits_told};
-ghost use Rattle.dap_live.specs.Asking.{Asks, Does, DoesAskOrder, Ends, GoesOn, Resends, TellsAlone, WasTold, begun, came_by, goes_on as goes_on_by};
+ghost use Rattle.dap_live.specs.Asking.{AnswersAsk, AskingDoes, DoesAskOrder, Ends, GoesOn, Resends, TellsAlone, WasTold, begun, came_by, has_more as has_more_of};
 ghost use Rattle.dap_live.specs.Inner.Saying.{front_text};
 
 use crate::ask_orders::{AskOrder, read_ask_order};
@@ -99,7 +99,7 @@ fn take(
     reports: &mut Vec<Report>,
 ) -> Result<Got, TakeFault>
     requires { packets.old.items ≡ [] }
-    ensures { Takes (asks reports.old.items reports.new.items) end.old end.new bytes.now []
+    ensures { TakesPacket (hears reports.old.items reports.new.items) end.old end.new bytes.now []
         (bodies packets.new.items) result }
 {
     end.take(bytes, packets, reports)
@@ -123,7 +123,7 @@ fn take_packet(
 ) -> Result<Came, AllocError>
     requires { text.old.items ≡ [] }
     ensures ok { IfOk result
-        (Does asking.old (AskOrder.Packet digits.now) asking.new text.new.items) }
+        (AskingDoes asking.old (AskOrder.Packet digits.now) asking.new text.new.items) }
     ensures err { OnErr result (Reaches asking.old (AskOrder.Packet digits.now) asking.new) }
 {
     let bytes = digits.to_vec(asking.alloc)?;
@@ -133,14 +133,14 @@ fn take_packet(
     Ok(came_of(taken, became))
 }
 
-/// Reads, hands over and writes what is left.
+/// Reads, passes on and writes what is left.
 fn go_on(
     end: &mut AskingEnd,
     packets: &mut Vec<Vec<u8>>,
     reports: &mut Vec<Report>,
 ) -> Result<(), EndFault>
     requires { packets.old.items ≡ [] }
-    ensures { WentOn (asks reports.old.items reports.new.items) end.old end.new []
+    ensures { WentOn (hears reports.old.items reports.new.items) end.old end.new []
         (bodies packets.new.items) result }
 {
     end.go_on(packets, reports)
@@ -181,18 +181,11 @@ fn go_on_behind(asking: &mut Asking, front: Front, text: &mut Vec<u8>) -> Result
     Ok(Came::Told(push_done(text, asking, &packets, gone)?))
 }
 
-/// Whether an unexpected answer failed the end.
-fn has_failed(end: &AskingEnd) -> bool
-    ensures { result ≡ end.now.present.failed }
+/// Whether something is left to do for the client: a message that came isn't read, or something isn't sent.
+fn has_more(end: &AskingEnd) -> bool
+    ensures { result ≡ has_more_of end.now }
 {
-    matches!(end.check(&Request::Hello), Err(AskFault::Failed))
-}
-
-/// Whether the end would do something by going on.
-fn goes_on(end: &AskingEnd) -> bool
-    ensures { result ≡ goes_on_by end.now }
-{
-    !has_failed(end) && (has_message(end.link()) || is_left(end.link(), end.waiting(), false))
+    !end.has_failed() && (has_message(end.link()) || is_left(end.link(), end.waiting(), false))
 }
 
 /// Goes on after segments that are sent again, and says what comes of it after their lines.
@@ -208,15 +201,15 @@ fn go_on_again(asking: &mut Asking, text: &mut Vec<u8>) -> Result<Came, AllocErr
 
 /// Goes on where something is left, or prints what waits to be told.
 fn go_on_if_left(asking: &mut Asking, text: &mut Vec<u8>) -> Result<Came, AllocError>
-    ensures ok { IfOk result (λ came. MatchBool (goes_on_by asking.old.end)
+    ensures ok { IfOk result (λ came. MatchBool (has_more_of asking.old.end)
         (GoesOn asking.old text.old.items asking.new text.new.items came)
         (TellsAlone asking.old text.old.items asking.new text.new.items came)) }
     ensures err { OnErr result ((said : List ℕ) × (came : TheCame)
-        × MatchBool (goes_on_by asking.old.end)
+        × MatchBool (has_more_of asking.old.end)
         (GoesOn asking.old text.old.items asking.new said came)
         (TellsAlone asking.old text.old.items asking.new said came)) }
 {
-    if goes_on(&asking.end) {
+    if has_more(&asking.end) {
         go_on_again(asking, text)
     } else {
         push_told(text, asking)?;
@@ -238,7 +231,7 @@ fn resend_running(asking: &mut Asking, text: &mut Vec<u8>) -> Result<Came, Alloc
 /// Sends all segments again that aren't acknowledged, and goes on.
 fn resend(asking: &mut Asking, text: &mut Vec<u8>) -> Result<Came, AllocError>
     requires { text.old.items ≡ [] }
-    ensures ok { IfOk result (Does asking.old AskOrder.Resend asking.new text.new.items) }
+    ensures ok { IfOk result (AskingDoes asking.old AskOrder.Resend asking.new text.new.items) }
     ensures err { OnErr result (Reaches asking.old AskOrder.Resend asking.new) }
 {
     if asking.end.link().has_failed() {
@@ -273,9 +266,9 @@ fn ask_request(
     text: &mut Vec<u8>,
 ) -> Result<Came, AllocError>
     requires { text.old.items ≡ [] }
-    ensures ok { IfOk result (Asks each asking.old request.now asking.new text.new.items) }
+    ensures ok { IfOk result (AnswersAsk each asking.old request.now asking.new text.new.items) }
     ensures err { OnErr result ((asking.new ≡ asking.old) ⊎ ((said : List ℕ) × (came : TheCame)
-        × Asks each asking.old request.now asking.new said came)) }
+        × AnswersAsk each asking.old request.now asking.new said came)) }
 {
     match asking.end.ask(request) {
         Ok(count) => {
@@ -304,9 +297,9 @@ fn ask_running(
     text: &mut Vec<u8>,
 ) -> Result<Came, AllocError>
     requires { text.old.items ≡ [] }
-    ensures ok { IfOk result (Asks each asking.old request.now asking.new text.new.items) }
+    ensures ok { IfOk result (AnswersAsk each asking.old request.now asking.new text.new.items) }
     ensures err { OnErr result ((asking.new ≡ asking.old) ⊎ ((said : List ℕ) × (came : TheCame)
-        × Asks each asking.old request.now asking.new said came)) }
+        × AnswersAsk each asking.old request.now asking.new said came)) }
 {
     if has_untold(asking, each) {
         return Err(AllocError);
@@ -317,7 +310,8 @@ fn ask_running(
 /// Asks what the words say.
 fn ask(asking: &mut Asking, asked: &RequestText<'_>, text: &mut Vec<u8>) -> Result<Came, AllocError>
     requires { text.old.items ≡ [] }
-    ensures ok { IfOk result (Does asking.old (AskOrder.Ask asked.now) asking.new text.new.items) }
+    ensures ok { IfOk result
+        (AskingDoes asking.old (AskOrder.Ask asked.now) asking.new text.new.items) }
     ensures err { OnErr result (Reaches asking.old (AskOrder.Ask asked.now) asking.new) }
 {
     if asking.end.link().has_failed() {
@@ -330,7 +324,7 @@ fn ask(asking: &mut Asking, asked: &RequestText<'_>, text: &mut Vec<u8>) -> Resu
 /// Asks for all records, each of which is told by itself.
 fn fetch_each(asking: &mut Asking, text: &mut Vec<u8>) -> Result<Came, AllocError>
     requires { text.old.items ≡ [] }
-    ensures ok { IfOk result (Does asking.old AskOrder.FetchEach asking.new text.new.items) }
+    ensures ok { IfOk result (AskingDoes asking.old AskOrder.FetchEach asking.new text.new.items) }
     ensures err { OnErr result (Reaches asking.old AskOrder.FetchEach asking.new) }
 {
     if asking.end.link().has_failed() {
@@ -342,7 +336,7 @@ fn fetch_each(asking: &mut Asking, text: &mut Vec<u8>) -> Result<Came, AllocErro
 /// Makes the link anew.
 fn renew(asking: &mut Asking, anew: Option<Between>, text: &mut Vec<u8>) -> Result<Came, AllocError>
     requires { text.old.items ≡ [] }
-    ensures ok { IfOk result (Does asking.old (AskOrder.New anew) asking.new text.new.items) }
+    ensures ok { IfOk result (AskingDoes asking.old (AskOrder.New anew) asking.new text.new.items) }
     ensures err { OnErr result (asking.new ≡ asking.old) }
 {
     let setup = set_up_anew(asking.setup, anew);
@@ -361,7 +355,7 @@ fn renew(asking: &mut Asking, anew: Option<Between>, text: &mut Vec<u8>) -> Resu
 /// Does what a line says.
 fn act(asking: &mut Asking, order: AskOrder<'_>, text: &mut Vec<u8>) -> Result<Came, AllocError>
     requires { text.old.items ≡ [] }
-    ensures ok { IfOk result (Does asking.old order.entry asking.new text.new.items) }
+    ensures ok { IfOk result (AskingDoes asking.old order.entry asking.new text.new.items) }
     ensures err { OnErr result (Reaches asking.old order.entry asking.new) }
 {
     match order {
@@ -429,11 +423,11 @@ fn has_told(asking: &Asking) -> bool
     !asking.reports.is_empty() || (asking.is_each && asking.told < asking.end.records().len())
 }
 
-/// Whether the end would do something by going on, or has something to tell.
+/// Whether something is left to do for the client, or to be reported.
 fn is_behind(asking: &Asking) -> bool
-    ensures { result ≡ (goes_on_by asking.now.end || waits_told asking.now) }
+    ensures { result ≡ (has_more_of asking.now.end || waits_told asking.now) }
 {
-    goes_on(&asking.end) || has_told(asking)
+    has_more(&asking.end) || has_told(asking)
 }
 
 impl Answers for Asking {

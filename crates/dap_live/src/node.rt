@@ -9,15 +9,15 @@ ghost use Rattle.nsp_link.specs.Link.{IsSetup, SetupFault};
 ghost use Rattle.nsp_link.specs.declared.fault.LinkFault.TheVariants as link_fault;
 ghost use Rattle.dap_end.specs.Ports.{PortValue};
 ghost use Rattle.dap_end.specs.Node.{AtPort, BeganOn, HasPort, NotBegun, OnLink, has_local, serves_on};
-ghost use Rattle.dap_end.specs.Turns.{Takes, WentOn};
+ghost use Rattle.dap_end.specs.Turns.{TakesPacket, WentOn};
 ghost use Rattle.linewise.specs.Talks.{Begins};
-ghost use Rattle.dap_live.specs.Both.{Stays};
+ghost use Rattle.dap_live.specs.Both.{LeavesEnd};
 ghost use Rattle.dap_live.specs.Sending.{SaysAck, UnlessFailed};
 ghost use Rattle.dap_live.specs.Texts.{LineAnswer};
 ghost use Rattle.dap_live.specs.Inner.NodeReaching.{Done, NodeReaches};
-ghost use Rattle.dap_live.specs.Inner.Filing.{AddsShapedTo, GivesRecordBy, IsEmpty, RecordNotBy};
+ghost use Rattle.dap_live.specs.Inner.Filing.{AddsShapedTo, GivesRecordBy, HasNoBytes, RecordNotBy};
 ghost use Rattle.dap_live.specs.Orders.{most_anew, most_beside, setup_anew};
-ghost use Rattle.dap_live.specs.Node.{AddsFileTo, AddsLink, AddsRecordTo, BeginsOn, Does, DoesNodeOrder, DropsFile, FindsLink, GoesOnWith, IsNew, IsNotDone, NoLink, ResendsOn, TakesOn, TakesPacketBy, RenewsOn, about, before_line, given_beside, is_alone, is_behind_at, is_used, meant, one_link, pieces, receiver_of, sender_of, ungiven, used_by, waits_on as waits_by};
+ghost use Rattle.dap_live.specs.Node.{AddsFileTo, AddsLink, AddsRecordTo, BeginsOn, NodeDoes, DoesNodeOrder, DropsFile, FindsLink, GoesOnWith, IsNewNode, IsNotDone, NoLink, ResendsOn, TakesOn, TakesPacketBy, RenewsOn, about, before_line, given_beside, is_alone, is_behind_at, is_used, meant, one_link, pieces, receiver_of, sender_of, ungiven, used_by, waits_on as waits_by};
 
 use crate::node_orders::{NodeOrder, read_node_order};
 use crate::orders::{Between, set_up_anew, set_up_beside};
@@ -68,7 +68,7 @@ fn no_links(
     most_waiting: u64,
 ) -> Result<Node, NoMemory>
     requires { IsServerSetup own }
-    ensures { IfOk result (IsEmpty own links usual most_waiting) }
+    ensures { IfOk result (HasNoBytes own links usual most_waiting) }
 {
     let node = ServingNode::with_setup(alloc, own, links)?;
     let used = Used::none(alloc, links)?;
@@ -99,7 +99,7 @@ fn begin_only(node: &mut Node) -> Result<(), LinkFault>
 }
 
 impl Node {
-    /// A node without files that is set up so, with room for so many links. It serves what came on a link while fewer
+    /// A node without files that is set up so, with room for this many links. It serves what came on a link while fewer
     /// than `most_waiting` bytes wait there. Where there is room for one, that link is there from the start, as `usual`
     /// says, and lines name no link; otherwise none is. Refused: `BadSetup` where there is one link and a limit of its
     /// setup isn't in its range; `NoMemory`.
@@ -112,7 +112,7 @@ impl Node {
         most_waiting: u64,
     ) -> Result<Node, LinkFault>
         requires { IsServerSetup own }
-        ensures ok { IfOk result (IsNew own links usual most_waiting) }
+        ensures ok { IfOk result (IsNewNode own links usual most_waiting) }
         ensures err { IfErr result (λ f. (f ≡ link_fault.NoMemory)
             ⊎ ((links ≡ 1) × SetupFault usual f)) }
     {
@@ -214,7 +214,7 @@ fn take(
 ) -> Result<Got, TakeFault>
     requires there { (p : PortValue) × HasPort link node.old p }
     requires packets { packets.old.items ≡ [] }
-    ensures { OnLink link (λ before after. Takes (serves_on link most_waiting) before after
+    ensures { OnLink link (λ before after. TakesPacket (serves_on link most_waiting) before after
         bytes.now [] (bodies packets.new.items) result) node.old node.new }
 {
     node.take(link, bytes, most_waiting, packets)
@@ -265,7 +265,7 @@ fn take_of(node: &mut Node, bytes: &[u8], text: &mut Vec<u8>) -> Result<Became, 
 /// The answer to a packet: the only link takes it, or that of its addresses.
 fn take_packet(node: &mut Node, digits: &Text<'_>, text: &mut Vec<u8>) -> Result<Became, AllocError>
     requires { text.old.items ≡ [] }
-    ensures ok { IfOk result (Does node.old (NodeOrder.Packet digits.now)
+    ensures ok { IfOk result (NodeDoes node.old (NodeOrder.Packet digits.now)
         node.new text.new.items) }
     ensures err { OnErr result (NodeReaches node.old (NodeOrder.Packet digits.now) node.new) }
 {
@@ -340,11 +340,12 @@ fn resend_on(node: &mut Node, link: usize, text: &mut Vec<u8>) -> Result<Became,
     requires there { (p : PortValue) × HasPort link node.old.node p }
     requires text { text.old.items ≡ [] }
     ensures ok { IfOk result (λ became. AtPort link node.old.node (λ p.
-        UnlessFailed p.link text.new.items (Stays Became.Done (about link node.old) node.new became)
+        UnlessFailed p.link text.new.items
+        (LeavesEnd Became.Done (about link node.old) node.new became)
         (ResendsOn link p node.old node.new text.new.items became))) }
     ensures err { OnErr result ((node.new ≡ about link node.old) ⊎ Done (λ said became.
         AtPort link node.old.node (λ p. UnlessFailed p.link said
-        (Stays Became.Done (about link node.old) node.new became)
+        (LeavesEnd Became.Done (about link node.old) node.new became)
         (ResendsOn link p node.old node.new said became)))) }
 {
     if link_of(&node.node, link).has_failed() {
@@ -357,7 +358,7 @@ fn resend_on(node: &mut Node, link: usize, text: &mut Vec<u8>) -> Result<Became,
 /// Sends all segments again that aren't acknowledged, of the link that a line means.
 fn resend(node: &mut Node, local: Option<u16>, text: &mut Vec<u8>) -> Result<Became, AllocError>
     requires { text.old.items ≡ [] }
-    ensures ok { IfOk result (Does node.old (NodeOrder.Resend local) node.new text.new.items) }
+    ensures ok { IfOk result (NodeDoes node.old (NodeOrder.Resend local) node.new text.new.items) }
     ensures err { OnErr result (NodeReaches node.old (NodeOrder.Resend local) node.new) }
 {
     match find(&node.node, local) {
@@ -371,7 +372,7 @@ fn ack_on(node: &mut Node, link: usize, text: &mut Vec<u8>) -> Result<Became, Al
     requires there { (p : PortValue) × HasPort link node.old.node p }
     requires text { text.old.items ≡ [] }
     ensures ok { IfOk result (λ became. AtPort link node.old.node (λ p.
-        Stays Became.Done (about link node.old) node.new became
+        LeavesEnd Became.Done (about link node.old) node.new became
         × SaysAck p.link text.new.items)) }
     ensures err { OnErr result (node.new ≡ about link node.old) }
 {
@@ -382,7 +383,7 @@ fn ack_on(node: &mut Node, link: usize, text: &mut Vec<u8>) -> Result<Became, Al
 /// Acknowledges all segments that were taken, on the link that a line means.
 fn ack(node: &mut Node, local: Option<u16>, text: &mut Vec<u8>) -> Result<Became, AllocError>
     requires { text.old.items ≡ [] }
-    ensures ok { IfOk result (Does node.old (NodeOrder.Ack local) node.new text.new.items) }
+    ensures ok { IfOk result (NodeDoes node.old (NodeOrder.Ack local) node.new text.new.items) }
     ensures err { OnErr result (IsNotDone node.old (NodeOrder.Ack local) node.new) }
 {
     match find(&node.node, local) {
@@ -394,7 +395,7 @@ fn ack(node: &mut Node, local: Option<u16>, text: &mut Vec<u8>) -> Result<Became
 /// Ends the link that has this own address.
 fn close(node: &mut Node, local: u16, text: &mut Vec<u8>) -> Result<Became, AllocError>
     requires { text.old.items ≡ [] }
-    ensures ok { IfOk result (Does node.old (NodeOrder.Close local) node.new text.new.items) }
+    ensures ok { IfOk result (NodeDoes node.old (NodeOrder.Close local) node.new text.new.items) }
     ensures err { OnErr result (node.new ≡ node.old) }
 {
     match find_local(&node.node, local) {
@@ -532,7 +533,7 @@ fn renew_one(
     text: &mut Vec<u8>,
 ) -> Result<Became, AllocError>
     requires { text.old.items ≡ [] }
-    ensures ok { IfOk result (Does node.old (NodeOrder.Renew anew) node.new text.new.items) }
+    ensures ok { IfOk result (NodeDoes node.old (NodeOrder.Renew anew) node.new text.new.items) }
     ensures err { OnErr result (IsNotDone node.old (NodeOrder.Renew anew) node.new) }
 {
     match find_one(&node.node) {
@@ -544,7 +545,7 @@ fn renew_one(
 /// Renews the link that has this own address, or adds one.
 fn renew(node: &mut Node, between: Between, text: &mut Vec<u8>) -> Result<Became, AllocError>
     requires { text.old.items ≡ [] }
-    ensures ok { IfOk result (Does node.old (NodeOrder.New between) node.new text.new.items) }
+    ensures ok { IfOk result (NodeDoes node.old (NodeOrder.New between) node.new text.new.items) }
     ensures err { OnErr result (IsNotDone node.old (NodeOrder.New between) node.new) }
 {
     match find_local(&node.node, between.local) {
@@ -693,7 +694,7 @@ fn act(
     text: &mut Vec<u8>,
 ) -> Result<Answer<FilesPlace>, AllocError>
     requires { text.old.items ≡ [] }
-    ensures ok { IfOk result (Begins Does pieces node.old order.entry
+    ensures ok { IfOk result (Begins NodeDoes pieces node.old order.entry
         node.new text.new.items) }
     ensures err { OnErr result (NodeReaches node.old order.entry node.new) }
 {

@@ -9,7 +9,7 @@ ghost use Rattle.dap_text.specs.Adding.{Adds};
 ghost use Rattle.dap_text.specs.Answers.{got_text};
 ghost use Rattle.dap_text.specs.Reports.{ending_text};
 ghost use Rattle.dap_text.specs.Text.{line_feed};
-ghost use Rattle.dap_live.specs.Texts.{add_refusal, ask_refusal, done_said, end_refusal, link_refusal, locked_text, packet_text, packets_text, refused, remove_refusal, report_line, reports_text, status_line, taken_said};
+ghost use Rattle.dap_live.specs.Texts.{add_refusal, ask_refusal, done_said, end_refusal, link_refusal, locked_text, packet_text, packets_text, refused_with, remove_refusal, report_line, reports_text, status_line, taken_said};
 ghost use Rattle.dap_live.specs.Each.{batch_line, each_text, records_text, told_text};
 ghost use Rattle.dap_text.specs.Text.{word_text};
 ghost use Rattle.dap_live.specs.Inner.Saying.{AddsSaid};
@@ -90,7 +90,7 @@ fn push_ending(text: &mut Vec<u8>, ending: Ending) -> Result<(), AllocError>
     }
 }
 
-/// The records that are left after so many.
+/// The records that are left after this many.
 fn untold(records: &[(u64, Octets)], told: usize) -> &[(u64, Octets)]
     ensures { result.now ≡ drop told records.now }
 {
@@ -101,7 +101,7 @@ fn untold(records: &[(u64, Octets)], told: usize) -> &[(u64, Octets)]
     }
 }
 
-/// The line of a batch of so many records, each of which was told by itself.
+/// The line of a batch of this many records, each of which was told by itself.
 fn push_batch_line(text: &mut Vec<u8>, count: usize, ending: Ending) -> Result<(), AllocError>
     ensures { OnOk result (Adds text.old text.new (batch_line count ending)) }
 {
@@ -110,7 +110,7 @@ fn push_batch_line(text: &mut Vec<u8>, count: usize, ending: Ending) -> Result<(
     push_ending(text, ending)
 }
 
-/// The lines of a report where each record is told by itself, and so many of a batch were.
+/// The lines of a report where each record is told by itself, and this many of a batch were.
 fn push_each(text: &mut Vec<u8>, told: usize, report: &Report) -> Result<(), AllocError>
     ensures { OnOk result (Adds text.old text.new (each_text told report.now)) }
 {
@@ -155,7 +155,7 @@ fn push_got(text: &mut Vec<u8>, got: Got) -> Result<(), AllocError>
 
 /// The line of a refusal by its word.
 pub(crate) fn push_refused(text: &mut Vec<u8>, word: &str) -> Result<(), AllocError>
-    ensures { OnOk result (Adds text.old text.new (refused word.now).0) }
+    ensures { OnOk result (Adds text.old text.new (refused_with word.now).0) }
 {
     push_str(text, "refused ")?;
     push_str(text, word)?;
@@ -164,7 +164,7 @@ pub(crate) fn push_refused(text: &mut Vec<u8>, word: &str) -> Result<(), AllocEr
 
 /// Says that something is refused, by its word.
 fn refuse(text: &mut Vec<u8>, word: &str) -> Result<Became, AllocError>
-    ensures { IfOk result (AddsSaid text.old text.new (refused word.now)) }
+    ensures { IfOk result (AddsSaid text.old text.new (refused_with word.now)) }
 {
     push_refused(text, word)?;
     Ok(Became::Done)

@@ -19,7 +19,7 @@ impl Model for Used {
     ghost view = { λ a. a.0.items };
 }
 
-/// So many that aren't.
+/// This many that aren't.
 fn none_used(alloc: Global, links: usize) -> Result<Vec<bool>, NoMemory>
     ensures { IfOk result (λ used. used.items ≡ replicate links false) }
 {
@@ -54,7 +54,7 @@ fn is_any(used: &[bool]) -> bool
 }
 
 impl Used {
-    /// So many links that aren't used.
+    /// This many links that aren't used.
     pub(crate) fn none(alloc: Global, links: usize) -> Result<Used, NoMemory>
         ensures { IfOk result (λ used. used ≡ replicate links false) }
     {

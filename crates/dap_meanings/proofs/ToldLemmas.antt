@@ -4,8 +4,8 @@ use Rattle.std.specs.Prelude.{codes}
 use Rattle.std.specs.List.{flat_map}
 use Rattle.std.proofs.lemmas.List.{append-nil}
 use Rattle.std.proofs.lemmas.Grind.{flat_map-append, take_at_read}
-use Rattle.dap_meanings.specs.Meanings.{told}
-use Rattle.dap_meanings.specs.Inner.Words.{said, text_of}
+use Rattle.dap_meanings.specs.Meanings.{words_text}
+use Rattle.dap_meanings.specs.Inner.Words.{word_list, said_text}
 use Rattle.dap_meanings.specs.declared.words.Word.{Word}
 use Rattle.dap_meanings.specs.declared.words.Word.TheVariants.{Nothing, Named, Record, Quoted, Rights, Frame}
 
@@ -14,7 +14,7 @@ abbrev pub mark_after : List (List ℕ) → List ℕ
 mark_after [] = codes " ; "
 mark_after (word ∷ words) = codes ", "
 
-pub told-snoc : (ws : List (List ℕ)) (w : List ℕ) → told (ws ++ w ∷ []) ≡ told ws ++ (mark_after ws ++ w)
+pub told-snoc : (ws : List (List ℕ)) (w : List ℕ) → words_text (ws ++ w ∷ []) ≡ words_text ws ++ (mark_after ws ++ w)
 told-snoc [] w = ap (λ (t : List ℕ). codes " ; " ++ t) (append-nil w)
 told-snoc (v ∷ ws) w =
     ap (λ (t : List ℕ). codes " ; " ++ (v ++ t)) (flat_map-append (λ (next : List ℕ). codes ", " ++ next) ws (w ∷ []) ∙ ap (λ (t : List ℕ). flat_map (λ (next : List ℕ). codes ", " ++ next) ws ++ t) (append-nil (codes ", " ++ w)))
@@ -29,7 +29,7 @@ pub mark-more : (ws : List (List ℕ)) (w : List ℕ) → codes ", " ≡ mark_af
 mark-more [] w = refl
 mark-more (v ∷ ws) w = refl
 
-said-some : (w : Word) → (w ≡ Nothing → ⊥) → said w ≡ text_of w ∷ []
+said-some : (w : Word) → (w ≡ Nothing → ⊥) → word_list w ≡ said_text w ∷ []
 said-some Nothing some = absurd (some refl)
 said-some (Named word) some = refl
 said-some (Record number) some = refl
@@ -39,15 +39,15 @@ said-some (Frame text) some = refl
 
 -- one word more
 pub words_more : (words : List Word) (i : ℕ) → i < length words → (get_or words i Nothing ≡ Nothing → ⊥)
-    → flat_map said (take (i + 1) words) ≡ flat_map said (take i words) ++ text_of (get_or words i Nothing) ∷ []
+    → flat_map word_list (take (i + 1) words) ≡ flat_map word_list (take i words) ++ said_text (get_or words i Nothing) ∷ []
 words_more words i within some =
-    ap (flat_map said) ((take_at_read words i Nothing within).1) ∙ flat_map-append said (take i words) (get_or words i Nothing ∷ [])
-    ∙ ap (λ (s : List (List ℕ)). flat_map said (take i words) ++ s) (append-nil (said (get_or words i Nothing)) ∙ said-some (get_or words i Nothing) some)
+    ap (flat_map word_list) ((take_at_read words i Nothing within).1) ∙ flat_map-append word_list (take i words) (get_or words i Nothing ∷ [])
+    ∙ ap (λ (s : List (List ℕ)). flat_map word_list (take i words) ++ s) (append-nil (word_list (get_or words i Nothing)) ∙ said-some (get_or words i Nothing) some)
 
 -- and its text, after its mark
-pub told_more : (old so_far marked new mark word : List ℕ) (ws : List (List ℕ)) → so_far ≡ old ++ told ws → mark ≡ mark_after ws → marked ≡ so_far ++ mark → new ≡ marked ++ word
-    → new ≡ old ++ told (ws ++ word ∷ [])
+pub told_more : (old so_far marked new mark word : List ℕ) (ws : List (List ℕ)) → so_far ≡ old ++ words_text ws → mark ≡ mark_after ws → marked ≡ so_far ++ mark → new ≡ marked ++ word
+    → new ≡ old ++ words_text (ws ++ word ∷ [])
 told_more old so_far marked new mark word ws here is one two =
     appended_twice so_far marked new mark word one two ∙ ap (λ (t : List ℕ). so_far ++ (t ++ word)) is
-    ∙ ap (λ (t : List ℕ). t ++ (mark_after ws ++ word)) here ∙ append_assoc old (told ws) (mark_after ws ++ word)
+    ∙ ap (λ (t : List ℕ). t ++ (mark_after ws ++ word)) here ∙ append_assoc old (words_text ws) (mark_after ws ++ word)
     ∙ ap (λ (t : List ℕ). old ++ t) (sym (told-snoc ws word))

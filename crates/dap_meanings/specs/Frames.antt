@@ -17,13 +17,13 @@ abbrev pub after_number : List ℕ → Option (List ℕ)
 after_number text = if nat_lt 0 (digits text) then Some (drop (digits text) text) else None
 
 -- what is after these parts, one after another
-abbrev pub after_all : List (List ℕ → Option (List ℕ)) → List ℕ → Option (List ℕ)
-after_all [] text = Some text
-after_all (part ∷ parts) text = option_and_then (after_all parts) (part text)
+abbrev pub after_parts : List (List ℕ → Option (List ℕ)) → List ℕ → Option (List ℕ)
+after_parts [] text = Some text
+after_parts (part ∷ parts) text = option_and_then (after_parts parts) (part text)
 
 -- two numbers with a point between them: a node, or seconds with their decimal places
 abbrev pub after_pair : List ℕ → Option (List ℕ)
-after_pair = after_all (after_number ∷ after (codes ".") ∷ after_number ∷ [])
+after_pair = after_parts (after_number ∷ after (codes ".") ∷ after_number ∷ [])
 
 -- a time in seconds, or `-` for none
 abbrev pub after_time : List ℕ → Option (List ℕ)
@@ -32,14 +32,14 @@ after_time text = option_or (after (codes "-") text) (after_pair text)
 -- `frame N SECONDS.PARTS A.N -> A.N`
 abbrev pub after_frame : List ℕ → Option (List ℕ)
 after_frame =
-    after_all (after (codes "frame ") ∷ after_number ∷ after (codes " ") ∷ after_time ∷ after (codes " ") ∷ after_pair ∷ after (codes " -> ") ∷ after_pair ∷ [])
+    after_parts (after (codes "frame ") ∷ after_number ∷ after (codes " ") ∷ after_time ∷ after (codes " ") ∷ after_pair ∷ after (codes " -> ") ∷ after_pair ∷ [])
 
 -- nothing is left
-abbrev pub is_end : Option (List ℕ) → Bool
-is_end (Some []) = true
-is_end _ = false
+abbrev pub is_at_end : Option (List ℕ) → Bool
+is_at_end (Some []) = true
+is_at_end _ = false
 
 -- the text of a comment that tells a frame; other lines have no words
 abbrev pub frame_words : List ℕ → List (List ℕ)
 frame_words line =
-    option_map_or (λ text. if is_end (after_frame text) then text ∷ [] else []) (after (codes "# ") line) []
+    option_map_or (λ text. if is_at_end (after_frame text) then text ∷ [] else []) (after (codes "# ") line) []

@@ -14,7 +14,7 @@ use Rattle.nsp_seg.specs.declared.packet.Packet.{Packet}
 use Rattle.nsp_seg.specs.declared.packet.SegFault.{SegFault}
 use Rattle.std.specs.Prelude.{Result}
 use Rattle.dap_text.specs.Text.{line_feed}
-use Rattle.dap_meanings.specs.Tables.{Table, word_in, access_functions, complete_functions, continue_functions, control_functions, control_packets, formats, organizations, other_types, reasons, record_accesses, status_codes, status_kinds, systems}
+use Rattle.dap_meanings.specs.Tables.{Table, word_in, access_functions, complete_functions, continue_functions, control_functions, control_packets, formats, organizations, other_types, reason_table, record_accesses, status_codes, status_kinds, systems}
 use Rattle.dap_meanings.specs.Quoted.{quoted}
 
 -- words, if a field is there
@@ -43,7 +43,7 @@ rights_words fac = if length (rights_text fac) == 0 then [] else (codes "for" ++
 
 -- STV as a reason: one byte
 abbrev pub reason_words : List ℕ → List (List ℕ)
-reason_words (reason ∷ []) = word_in reasons reason
+reason_words (reason ∷ []) = word_in reason_table reason
 reason_words _ = []
 
 -- the first words of these
@@ -89,10 +89,10 @@ packet_words (Ok packet) = []
 packet_words (Err fault) = fault_words fault
 
 -- ` ; ` and words, with `, ` between them
-abbrev pub told : List (List ℕ) → List ℕ
-told [] = []
-told (word ∷ words) = codes " ; " ++ (word ++ flat_map (λ next. codes ", " ++ next) words)
+abbrev pub words_text : List (List ℕ) → List ℕ
+words_text [] = []
+words_text (word ∷ words) = codes " ; " ++ (word ++ flat_map (λ next. codes ", " ++ next) words)
 
 -- a line with words before its end
 abbrev pub with_words : List (List ℕ) → List ℕ → List ℕ
-with_words words line = take (length line - 1) line ++ (told words ++ line_feed)
+with_words words line = take (length line - 1) line ++ (words_text words ++ line_feed)

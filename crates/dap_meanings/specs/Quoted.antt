@@ -6,7 +6,7 @@ use Rattle.std.specs.List.{flat_map, list_all}
 abbrev pub is_printable : ℕ → Bool
 is_printable byte = nat_le 0x20 byte && nat_le byte 0x7E
 
--- a quote or a backslash is behind a backslash
+-- a quote or a backslash is after a backslash
 abbrev pub escaped : ℕ → List ℕ
 escaped byte = if byte == 34 || byte == 92 then 92 ∷ byte ∷ [] else byte ∷ []
 

@@ -70,8 +70,8 @@ status_codes =
     (stscode.end_of_file, codes "end of file") ∷ (stscode.file_not_found, codes "file not found") ∷ (0x4030, codes "file locked") ∷ []
 
 -- the reason in STV, where an Access or an operation on a record is refused
-abbrev pub reasons : Table
-reasons =
+abbrev pub reason_table : Table
+reason_table =
     (1, codes "file exists") ∷ (2, codes "not permitted") ∷ (3, codes "no current record") ∷ (4, codes "record not found")
     ∷ (5, codes "record exists") ∷ (6, codes "number out of range") ∷ (7, codes "bad length") ∷ (8, codes "bad access mode")
     ∷ (9, codes "delete not allowed") ∷ (10, codes "too large for buffer") ∷ (11, codes "bad attributes") ∷ (12, codes "bad key") ∷ []

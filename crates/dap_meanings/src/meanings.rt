@@ -7,7 +7,7 @@ ghost use Rattle.dap_msg.specs.declared.message.Message.TheVariants.{Access, Att
 ghost use Rattle.dap_meanings.specs.Frames.{frame_words};
 ghost use Rattle.dap_meanings.specs.Meanings.{fault_words, if_there, item_words, message_words, first_words, reason_words, refusal_words, record_words, status_words, with_words};
 ghost use Rattle.dap_meanings.specs.Tables.{word_in, formats, organizations, record_accesses};
-ghost use Rattle.dap_meanings.specs.Inner.Words.{said};
+ghost use Rattle.dap_meanings.specs.Inner.Words.{word_list};
 
 use crate::frames::frame_text;
 use crate::quoted::quoted;
@@ -15,7 +15,8 @@ use crate::tables;
 use crate::words::{Word, add_words, rights_word};
 use dap_msg::codes::{ACCESS_REFUSED, RECORD_REFUSED};
 use dap_msg::{
-    AccessFields, Attributes, Bytes, ControlFields, Item, MessageValue, StatusFields, number_of,
+    AccessFields, Attributes, Bytes, ControlFields, Item, MessageValue, StatusCode, StatusFields,
+    number_of,
 };
 use nsp_seg::SegFault;
 use std::alloc::AllocError;
@@ -23,12 +24,9 @@ use std::alloc::AllocError;
 /// The most bytes of a number's image.
 const NUMBER: usize = 8;
 
-/// MACCODE is above so many bits of STSCODE.
-const MICCODES: u16 = 4096;
-
 /// What the number of a record says.
 fn record_word(image: &[u8]) -> Word<'static>
-    ensures { said result ≡ record_words image.now }
+    ensures { word_list result ≡ record_words image.now }
 {
     if image.is_empty() || image.len() > NUMBER {
         return Word::Nothing;
@@ -38,7 +36,7 @@ fn record_word(image: &[u8]) -> Word<'static>
 
 /// What a KEY says.
 fn key_word(key: &Option<Bytes<'_>>) -> Word<'static>
-    ensures { said result ≡ if_there record_words key.now }
+    ensures { word_list result ≡ if_there record_words key.now }
 {
     match key {
         Some(image) => record_word(image.0),
@@ -48,7 +46,7 @@ fn key_word(key: &Option<Bytes<'_>>) -> Word<'static>
 
 /// What ORG says.
 fn organization_word(org: Option<u8>) -> Word<'static>
-    ensures { said result ≡ if_there (word_in organizations) org }
+    ensures { word_list result ≡ if_there (word_in organizations) org }
 {
     match org {
         Some(org) => tables::organization(org),
@@ -58,7 +56,7 @@ fn organization_word(org: Option<u8>) -> Word<'static>
 
 /// What RFM says.
 fn format_word(rfm: Option<u8>) -> Word<'static>
-    ensures { said result ≡ if_there (word_in formats) rfm }
+    ensures { word_list result ≡ if_there (word_in formats) rfm }
 {
     match rfm {
         Some(rfm) => tables::format(rfm),
@@ -68,7 +66,7 @@ fn format_word(rfm: Option<u8>) -> Word<'static>
 
 /// What RAC says.
 fn access_word(rac: Option<u8>) -> Word<'static>
-    ensures { said result ≡ if_there (word_in record_accesses) rac }
+    ensures { word_list result ≡ if_there (word_in record_accesses) rac }
 {
     match rac {
         Some(rac) => tables::record_access(rac),
@@ -78,7 +76,7 @@ fn access_word(rac: Option<u8>) -> Word<'static>
 
 /// What a reason says, which is one byte.
 fn reason_word(stv: &[u8]) -> Word<'static>
-    ensures { said result ≡ reason_words stv.now }
+    ensures { word_list result ≡ reason_words stv.now }
 {
     match stv {
         [reason] => tables::reason(*reason),
@@ -88,7 +86,7 @@ fn reason_word(stv: &[u8]) -> Word<'static>
 
 /// What the first says, or else the other.
 fn first_of(first: Word<'static>, other: Word<'static>) -> Word<'static>
-    ensures { said result ≡ first_words (said first.entry) (said other.entry) }
+    ensures { word_list result ≡ first_words (word_list first.entry) (word_list other.entry) }
 {
     match first {
         Word::Nothing => other,
@@ -98,7 +96,7 @@ fn first_of(first: Word<'static>, other: Word<'static>) -> Word<'static>
 
 /// What the reason of a status says, if it is that of a refusal.
 fn refusal_word(code: u16, stv: &[u8]) -> Word<'static>
-    ensures { said result ≡ refusal_words code stv.now }
+    ensures { word_list result ≡ refusal_words code stv.now }
 {
     if code == ACCESS_REFUSED || code == RECORD_REFUSED {
         reason_word(stv)
@@ -109,17 +107,17 @@ fn refusal_word(code: u16, stv: &[u8]) -> Word<'static>
 
 /// What a status says: its code, or the reason of a refusal, or else MACCODE.
 fn status_word(code: u16, stv: &[u8]) -> Word<'static>
-    ensures { said result ≡ status_words code stv.now }
+    ensures { word_list result ≡ status_words code stv.now }
 {
     let whole = tables::status_code(code);
     let refusal = refusal_word(code, stv);
-    let kind = tables::status_kind(code / MICCODES);
+    let kind = tables::status_kind(u16::from(StatusCode(code).major()));
     first_of(whole, first_of(refusal, kind))
 }
 
 /// The words of Attributes.
 fn attributes_words(attributes: &Attributes<'_>) -> [Word<'static>; 2]
-    ensures { flat_map said result ≡ message_words (Attrib attributes.now) }
+    ensures { flat_map word_list result ≡ message_words (Attrib attributes.now) }
 {
     let org = organization_word(attributes.org);
     let rfm = format_word(attributes.rfm);
@@ -128,7 +126,7 @@ fn attributes_words(attributes: &Attributes<'_>) -> [Word<'static>; 2]
 
 /// The words of an Access.
 fn access_words<'a>(access: &AccessFields<'a>) -> [Word<'a>; 3]
-    ensures { flat_map said result ≡ message_words (Access access.now) }
+    ensures { flat_map word_list result ≡ message_words (Access access.now) }
 {
     let func = tables::access_function(access.func);
     let name = quoted(access.name.0);
@@ -138,7 +136,7 @@ fn access_words<'a>(access: &AccessFields<'a>) -> [Word<'a>; 3]
 
 /// The words of a Control.
 fn control_words(control: &ControlFields<'_>) -> [Word<'static>; 3]
-    ensures { flat_map said result ≡ message_words (Control control.now) }
+    ensures { flat_map word_list result ≡ message_words (Control control.now) }
 {
     let func = tables::control_function(control.func);
     let rac = access_word(control.rac);
@@ -148,7 +146,7 @@ fn control_words(control: &ControlFields<'_>) -> [Word<'static>; 3]
 
 /// The words of a Data message.
 fn data_words<'a>(recnum: &[u8], payload: &'a [u8]) -> [Word<'a>; 2]
-    ensures { flat_map said result ≡ message_words (Filedata recnum.now payload.now) }
+    ensures { flat_map word_list result ≡ message_words (Filedata recnum.now payload.now) }
 {
     let number = record_word(recnum);
     let record = quoted(payload);
@@ -157,7 +155,7 @@ fn data_words<'a>(recnum: &[u8], payload: &'a [u8]) -> [Word<'a>; 2]
 
 /// The words of a Status.
 fn status_words_of(status: &StatusFields<'_>) -> [Word<'static>; 2]
-    ensures { flat_map said result ≡ message_words (Status status.now) }
+    ensures { flat_map word_list result ≡ message_words (Status status.now) }
 {
     let code = status_word(status.code, status.stv.0);
     let number = record_word(status.recnum.0);
@@ -201,7 +199,7 @@ pub fn add_item_words(text: &mut Vec<u8>, item: &Item<'_>) -> Result<(), AllocEr
 
 /// What bytes that are no packet say.
 fn fault_word(fault: Option<SegFault>) -> Word<'static>
-    ensures { said result ≡ if_there fault_words fault }
+    ensures { word_list result ≡ if_there fault_words fault }
 {
     match fault {
         Some(SegFault::NotHere(flag)) => tables::control_packet(flag),
@@ -211,7 +209,7 @@ fn fault_word(fault: Option<SegFault>) -> Word<'static>
 
 /// What a line that may be a comment says.
 fn comment_word(line: &[u8]) -> Word<'_>
-    ensures { said result ≡ frame_words line.now }
+    ensures { word_list result ≡ frame_words line.now }
 {
     match frame_text(line) {
         Some(text) => Word::Frame(text),

@@ -4,7 +4,7 @@ ghost use Rattle.std.specs.Prelude.{◌≡◌, OnOk, take};
 ghost use Rattle.std.specs.List.{flat_map, list_all};
 ghost use Rattle.dap_text.specs.Adding.{Adds};
 ghost use Rattle.dap_meanings.specs.Quoted.{closing, escaped, quoted_at_most, is_printable as printable, quote, quoted as quoted_words};
-ghost use Rattle.dap_meanings.specs.Inner.Words.{said};
+ghost use Rattle.dap_meanings.specs.Inner.Words.{word_list};
 
 use crate::words::Word;
 use dap_text::push_str;
@@ -34,7 +34,7 @@ fn are_printable(bytes: &[u8]) -> bool
 
 /// What bytes say as text, if all are printable.
 pub(crate) fn quoted(bytes: &[u8]) -> Word<'_>
-    ensures { said result ≡ quoted_words bytes.now }
+    ensures { word_list result ≡ quoted_words bytes.now }
 {
     if are_printable(bytes) {
         Word::Quoted(bytes)

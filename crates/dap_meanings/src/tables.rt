@@ -5,7 +5,7 @@ ghost use Rattle.std.specs.Option.{option_map_or};
 ghost use Rattle.dap_meanings.specs.Tables as tables;
 ghost use Rattle.dap_meanings.specs.Tables.{word_in};
 ghost use Rattle.dap_meanings.specs.Meanings.{if_there};
-ghost use Rattle.dap_meanings.specs.Inner.Words.{entry_of, said};
+ghost use Rattle.dap_meanings.specs.Inner.Words.{entry_of, word_list};
 
 use crate::words::Word;
 use dap_msg::codes;
@@ -379,7 +379,7 @@ const STATUS_KINDS: [Entry; 10] = [
 
 /// The word of a number, if the table has one.
 fn word_of(table: &[Entry], number: u16) -> Word<'static>
-    ensures { said result ≡ word_in (map entry_of table.now) number }
+    ensures { word_list result ≡ word_in (map entry_of table.now) number }
 {
     for entry in table {
         if entry.number == number {
@@ -391,91 +391,91 @@ fn word_of(table: &[Entry], number: u16) -> Word<'static>
 
 /// The word of a packet's first byte.
 pub(crate) fn control_packet(flag: u8) -> Word<'static>
-    ensures { said result ≡ word_in tables.control_packets flag }
+    ensures { word_list result ≡ word_in tables.control_packets flag }
 {
     word_of(&CONTROL_PACKETS, u16::from(flag))
 }
 
 /// The word of OSTYPE.
 pub(crate) fn system(ostype: u8) -> Word<'static>
-    ensures { said result ≡ word_in tables.systems ostype }
+    ensures { word_list result ≡ word_in tables.systems ostype }
 {
     word_of(&SYSTEMS, u16::from(ostype))
 }
 
 /// The word of ORG.
 pub(crate) fn organization(org: u8) -> Word<'static>
-    ensures { said result ≡ word_in tables.organizations org }
+    ensures { word_list result ≡ word_in tables.organizations org }
 {
     word_of(&ORGANIZATIONS, u16::from(org))
 }
 
 /// The word of RFM.
 pub(crate) fn format(rfm: u8) -> Word<'static>
-    ensures { said result ≡ word_in tables.formats rfm }
+    ensures { word_list result ≡ word_in tables.formats rfm }
 {
     word_of(&FORMATS, u16::from(rfm))
 }
 
 /// The word of ACCFUNC.
 pub(crate) fn access_function(func: u8) -> Word<'static>
-    ensures { said result ≡ word_in tables.access_functions func }
+    ensures { word_list result ≡ word_in tables.access_functions func }
 {
     word_of(&ACCESS_FUNCTIONS, u16::from(func))
 }
 
 /// The word of CTLFUNC.
 pub(crate) fn control_function(func: u8) -> Word<'static>
-    ensures { said result ≡ word_in tables.control_functions func }
+    ensures { word_list result ≡ word_in tables.control_functions func }
 {
     word_of(&CONTROL_FUNCTIONS, u16::from(func))
 }
 
 /// The word of RAC.
 pub(crate) fn record_access(rac: u8) -> Word<'static>
-    ensures { said result ≡ word_in tables.record_accesses rac }
+    ensures { word_list result ≡ word_in tables.record_accesses rac }
 {
     word_of(&RECORD_ACCESSES, u16::from(rac))
 }
 
 /// The word of CONFUNC.
 pub(crate) fn continue_function(func: u8) -> Word<'static>
-    ensures { said result ≡ word_in tables.continue_functions func }
+    ensures { word_list result ≡ word_in tables.continue_functions func }
 {
     word_of(&CONTINUE_FUNCTIONS, u16::from(func))
 }
 
 /// The word of CMPFUNC.
 pub(crate) fn complete_function(func: u8) -> Word<'static>
-    ensures { said result ≡ word_in tables.complete_functions func }
+    ensures { word_list result ≡ word_in tables.complete_functions func }
 {
     word_of(&COMPLETE_FUNCTIONS, u16::from(func))
 }
 
 /// The word of a message's type.
 pub(crate) fn other_type(number: u8) -> Word<'static>
-    ensures { said result ≡ word_in tables.other_types number }
+    ensures { word_list result ≡ word_in tables.other_types number }
 {
     word_of(&OTHER_TYPES, u16::from(number))
 }
 
 /// The word of a reason.
 pub(crate) fn reason(stv: u8) -> Word<'static>
-    ensures { said result ≡ word_in tables.reasons stv }
+    ensures { word_list result ≡ word_in tables.reason_table stv }
 {
     word_of(&REASONS, u16::from(stv))
 }
 
 /// The word of STSCODE as a whole.
 pub(crate) fn status_code(code: u16) -> Word<'static>
-    ensures { said result ≡ word_in tables.status_codes code }
+    ensures { word_list result ≡ word_in tables.status_codes code }
 {
     word_of(&STATUS_CODES, code)
 }
 
 /// The word of MACCODE.
 pub(crate) fn status_kind(maccode: u16) -> Word<'static>
-    ensures { said result ≡ word_in tables.status_kinds maccode }
+    ensures { word_list result ≡ word_in tables.status_kinds maccode }
 {
     word_of(&STATUS_KINDS, maccode)
 }

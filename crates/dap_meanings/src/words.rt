@@ -4,8 +4,8 @@ ghost use Rattle.std.specs.Prelude.{◌≡◌, ◌<◌, ℕ, OnOk, length};
 ghost use Rattle.std.specs.List.{flat_map};
 ghost use Rattle.dap_msg.specs.Codes.{asks_for};
 ghost use Rattle.dap_text.specs.Adding.{Adds};
-ghost use Rattle.dap_meanings.specs.Meanings.{right_text, rights_text, rights_words, told, with_words};
-ghost use Rattle.dap_meanings.specs.Inner.Words.{said, text_of};
+ghost use Rattle.dap_meanings.specs.Meanings.{right_text, rights_text, rights_words, words_text, with_words};
+ghost use Rattle.dap_meanings.specs.Inner.Words.{word_list, said_text};
 
 use crate::quoted::push_quote;
 use dap_msg::FileAccess;
@@ -31,7 +31,7 @@ pub(crate) enum Word<'a> {
 
 /// What FAC says: the operations for which a file is opened, if there are any.
 pub(crate) fn rights_word(fac: u32) -> Word<'static>
-    ensures { said result ≡ rights_words fac }
+    ensures { word_list result ≡ rights_words fac }
 {
     let access = FileAccess::of_fac(fac);
     if access.allows_get()
@@ -67,7 +67,7 @@ fn push_rights(text: &mut Vec<u8>, fac: u32) -> Result<(), AllocError>
 
 /// Appends what a field says.
 fn push_word(text: &mut Vec<u8>, word: Word<'_>) -> Result<(), AllocError>
-    ensures { OnOk result (Adds text.old text.new (text_of word.entry)) }
+    ensures { OnOk result (Adds text.old text.new (said_text word.entry)) }
 {
     match word {
         Word::Nothing => Ok(()),
@@ -85,7 +85,7 @@ fn push_word(text: &mut Vec<u8>, word: Word<'_>) -> Result<(), AllocError>
 /// Appends words, each after its mark.
 #[tactic(auto, using(crate::proofs::ToldLemmas::appended_twice))]
 fn push_told(text: &mut Vec<u8>, words: &[Word<'_>]) -> Result<(), AllocError>
-    ensures { OnOk result (Adds text.old text.new (told (flat_map said words.now))) }
+    ensures { OnOk result (Adds text.old text.new (words_text (flat_map word_list words.now))) }
 {
     let mut mark = " ; ";
     for word in words {
@@ -102,7 +102,7 @@ fn push_told(text: &mut Vec<u8>, words: &[Word<'_>]) -> Result<(), AllocError>
 /// Puts words before the end of a text's last line.
 pub(crate) fn add_words(text: &mut Vec<u8>, words: &[Word<'_>]) -> Result<(), AllocError>
     requires { 0 < length text.old.items }
-    ensures { OnOk result (text.new.items ≡ with_words (flat_map said words.now) text.old.items) }
+    ensures { OnOk result (text.new.items ≡ with_words (flat_map word_list words.now) text.old.items) }
 {
     text.truncate(text.len() - 1);
     push_told(text, words)?;

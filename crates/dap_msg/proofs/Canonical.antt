@@ -9,9 +9,9 @@ use Rattle.std.proofs.Math.Nat.{pow-succ'}
 use Rattle.dap_fields.specs.Spelling.{FixedValue}
 use Rattle.dap_fields.specs.Writing.{groups, shortest}
 use Rattle.dap_fields.proofs.ForCallers.{groups_spell}
-use Rattle.dap_msg.specs.Grammar.{Kind, Byte, Word, Extensible, Image, ValueOf, SpellsField, Part, Must, When, OrElse, UnlessEnd, Remainder, PartValue, SpellsPart, Grammar, Next, Done, Spells, field_bytes, part_bytes, Writes}
+use Rattle.dap_msg.specs.Grammar.{Kind, Byte, Word, Extensible, Image, ValueOf, SpellsField, Part, Must, When, OrElse, UnlessEnd, Remainder, PartValue, SpellsPart, Grammar, Next, Done, SpellsFormat, field_bytes, part_bytes, WritesFormat}
 use Rattle.dap_msg.specs.Message.{Message, Config, Attrib, Access, Control, Contran, Ack, Accomp, Filedata, Status, Other, length_of}
-use Rattle.dap_msg.specs.Formats.{any, has, menu, optional, header, operand, configuration, attributes, access, control, continuation, acknowledge, completion, file_data, status, other, type_number}
+use Rattle.dap_msg.specs.Formats.{any, has, menu, optional_part, header, operand, configuration_format, attributes_format, access_format, control_format, continuation_format, acknowledge_format, completion_format, file_data_format, status_format, other_format, type_number}
 use Rattle.dap_msg.specs.Decoding.{HasLength, SpellsMessage, StandsInFront, IsSpelled}
 use Rattle.dap_msg.specs.declared.fault.FaultKind.{FaultKind}
 use Rattle.dap_msg.specs.Inner.Refusals.{refuses_type, refuses_flags, refuses_stream}
@@ -64,9 +64,9 @@ record WrittenPart (p : Part) (v : PartValue p) (rest : List ℕ) : Type 0 where
 
 -- the bytes are what is written of the format with the value x, where the rest follows
 pub record Written {A : Type 0} (g : Grammar A) (x : A) (bytes rest : List ℕ) : Type 0 where
-  pub written : Writes g x bytes rest
+  pub written : WritesFormat g x bytes rest
 
--- a part, and the format behind it
+-- a part, and the format after it
 infixr 5 ◌▷◌
 ◌▷◌ : {A : Type 0} {p : Part} {v : PartValue p} {g : PartValue p → Grammar A} {x : A} {back rest : List ℕ}
     → WrittenPart p v (back ++ rest) → Written (g v) x back rest → Written (Next p g) x (part_bytes p v ++ back) rest
@@ -76,7 +76,7 @@ done : {A : Type 0} {rest : List ℕ} (x : A) → Written (Done x) x [] rest
 done x = record { written = (refl, refl) }
 
 -- what is written is spelled
-spells : {A : Type 0} (g : Grammar A) (x : A) (bytes rest : List ℕ) → Writes g x bytes rest → Spells g x bytes rest
+spells : {A : Type 0} (g : Grammar A) (x : A) (bytes rest : List ℕ) → WritesFormat g x bytes rest → SpellsFormat g x bytes rest
 spells (Done a) x bytes rest w = w
 spells (Next p next) x bytes rest (v, back, joined, part, more) = (v, part_bytes p v, back, joined, part, spells (next v) x back rest more)
 
@@ -106,7 +106,7 @@ when : {rest : List ℕ} (test : Bool) (k : Kind) (o : Option (ValueOf k)) → t
 when test k (Some v) e room h = record { spelled = (e, field_spelled k v room h, refl) }
 when test k None e room h = absent test k any e
 
-optional_field : {rest : List ℕ} (flags : List Bool) (i : ℕ) (k : Kind) (o : Option (ValueOf k)) → get_or flags i false ≡ is_some o → has_room k ≡ true → FitsOption k o → WrittenPart (optional (bits_of flags) i k) o rest
+optional_field : {rest : List ℕ} (flags : List Bool) (i : ℕ) (k : Kind) (o : Option (ValueOf k)) → get_or flags i false ≡ is_some o → has_room k ≡ true → FitsOption k o → WrittenPart (optional_part (bits_of flags) i k) o rest
 optional_field flags i k o e room h = when (has (bits_of flags) i) k o (bit_is flags i ∙ e) room h
 
 bits : {rest : List ℕ} (max : ℕ) (flags : List Bool) → has_room (Extensible max) ≡ true → 2 ^ length flags ≤ 128 ^ max → WrittenPart (menu max (length flags)) (bits_of flags) rest
@@ -116,11 +116,11 @@ bits max flags room le =
 
 -- ---- Operands.
 
-pub other_operand : (n : ℕ) → 10 ≤ n → operand n ≡ other n
+pub other_operand : (n : ℕ) → 10 ≤ n → operand n ≡ other_format n
 other_operand n le = grind (arith, nat_tests, le)
 
 pub operand_written : (m : Message) → FieldsFit m → Written (operand (type_number m)) m (operand_bytes m) []
-unfolding configuration attributes access control continuation acknowledge completion file_data status other
+unfolding configuration_format attributes_format access_format control_format continuation_format acknowledge_format completion_format file_data_format status_format other_format
 operand_written (Config c) h =
     field Word c.bufsiz refl h.0
     ▷ field Byte c.ostype refl h.1

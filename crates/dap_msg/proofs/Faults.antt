@@ -1,4 +1,4 @@
--- No fault is want of memory.
+-- No fault is out of memory.
 use Rattle.std.proofs.Common.{◌≡◌, ◌≢◌, ℕ, ◌==◌, ◌^◌, Bool, true, false, List, [], ◌∷◌, sym, ap, ◌∙◌, inl, inr}
 use Rattle.std.specs.Prelude.{Option, Some, None, Result, Ok, Err, IfErr, nat_lt, if◌then◌else◌}
 use Rattle.dap_msg.specs.declared.fault.FaultKind.{FaultKind}
@@ -6,7 +6,7 @@ use Rattle.dap_msg.specs.declared.fault.FaultKind.TheVariants.{Truncated, TooLon
 use Rattle.dap_msg.specs.declared.fault.MsgFault.{MsgFault}
 use Rattle.dap_msg.specs.Grammar.{Kind, ValueOf, FaultyField, Part, Must, When, OrElse, UnlessEnd, Remainder, PartValue, FaultyPart, Grammar, Done, Next, Faulty}
 use Rattle.dap_msg.specs.Message.{Message}
-use Rattle.dap_msg.specs.Formats.{any, flags_are_known, header, configuration, attributes, access, control, continuation, acknowledge, completion, file_data, status, other, operand}
+use Rattle.dap_msg.specs.Formats.{any, flags_are_known, header, configuration_format, attributes_format, access_format, control_format, continuation_format, acknowledge_format, completion_format, file_data_format, status_format, other_format, operand}
 use Rattle.dap_msg.specs.Decoding.{IsFault, IsDecoded}
 use Rattle.dap_msg.specs.Inner.Refusals.{refuses_bits}
 
@@ -20,7 +20,7 @@ IsCalmPart (OrElse k default refuses) = IsCalmRefusal refuses
 IsCalmPart (UnlessEnd k refuses) = IsCalmRefusal refuses
 IsCalmPart (Remainder kept) = Unit {0}
 
--- no part refuses a value for want of memory
+-- no part refuses a value for out of memory
 abbrev IsCalm : {A : Type 0} → Grammar A → Type 0
 IsCalm (Done a) = Unit {0}
 IsCalm (Next p next) = IsCalmPart p × ((v : PartValue p) → IsCalm (next v))
@@ -69,44 +69,44 @@ calm_or : (b : Bool) (x y : Grammar Message) → IsCalm x → IsCalm y → IsCal
 calm_or true x y p q = p
 calm_or false x y p q = q
 
-calm_configuration : IsCalm configuration
-unfolding configuration
+calm_configuration : IsCalm configuration_format
+unfolding configuration_format
 calm_configuration = (calm_any, λ _. (calm_any, λ _. (calm_any, λ _. (calm_any, λ _. (calm_any, λ _. (calm_any, λ _. (calm_any, λ _. (calm_any, λ _. (calm_any, λ _. (tt, λ _. tt))))))))))
 
-calm_attributes : IsCalm attributes
-unfolding attributes
+calm_attributes : IsCalm attributes_format
+unfolding attributes_format
 calm_attributes = (calm_menu 21, λ _. (calm_any, λ _. (calm_any, λ _. (calm_any, λ _. (calm_any, λ _. (calm_any, λ _. (calm_any, λ _. (calm_any, λ _. (calm_any, λ _. (calm_any, λ _. (calm_any, λ _. (calm_any, λ _. (calm_any, λ _. (calm_any, λ _. (calm_any, λ _. (calm_any, λ _. (calm_any, λ _. (calm_any, λ _. (calm_any, λ _. (calm_any, λ _. (calm_any, λ _. (calm_any, λ _. (tt, λ _. tt)))))))))))))))))))))))
 
-calm_access : IsCalm access
-unfolding access
+calm_access : IsCalm access_format
+unfolding access_format
 calm_access = (calm_any, λ _. (calm_any, λ _. (calm_any, λ _. (calm_any, λ _. (calm_any, λ _. (calm_any, λ _. (calm_any, λ _. (tt, λ _. tt))))))))
 
-calm_control : IsCalm control
-unfolding control
+calm_control : IsCalm control_format
+unfolding control_format
 calm_control = (calm_any, λ _. (calm_menu 6, λ _. (calm_any, λ _. (calm_any, λ _. (calm_any, λ _. (calm_any, λ _. (calm_any, λ _. (calm_any, λ _. (tt, λ _. tt)))))))))
 
-calm_continuation : IsCalm continuation
-unfolding continuation
+calm_continuation : IsCalm continuation_format
+unfolding continuation_format
 calm_continuation = (calm_any, λ _. (tt, λ _. tt))
 
-calm_acknowledge : IsCalm acknowledge
-unfolding acknowledge
+calm_acknowledge : IsCalm acknowledge_format
+unfolding acknowledge_format
 calm_acknowledge = (tt, λ _. tt)
 
-calm_completion : IsCalm completion
-unfolding completion
+calm_completion : IsCalm completion_format
+unfolding completion_format
 calm_completion = (calm_any, λ _. (calm_any, λ _. (calm_any, λ _. (tt, λ _. tt))))
 
-calm_file_data : IsCalm file_data
-unfolding file_data
+calm_file_data : IsCalm file_data_format
+unfolding file_data_format
 calm_file_data = (calm_any, λ _. (tt, λ _. tt))
 
-calm_status : IsCalm status
-unfolding status
+calm_status : IsCalm status_format
+unfolding status_format
 calm_status = (calm_any, λ _. (calm_any, λ _. (calm_any, λ _. (calm_any, λ _. (tt, λ _. tt)))))
 
-calm_other : (number : ℕ) → IsCalm (other number)
-unfolding other
+calm_other : (number : ℕ) → IsCalm (other_format number)
+unfolding other_format
 calm_other number = (tt, λ _. tt)
 
 calm_operand : (n : ℕ) → IsCalm (operand n)

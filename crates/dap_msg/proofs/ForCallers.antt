@@ -8,7 +8,7 @@ pub use Rattle.dap_msg.proofs.Listing.{stands_some}
 pub use Rattle.dap_msg.proofs.Places.{have_items}
 -- joined messages that fit are the items that stand there
 pub use Rattle.dap_msg.proofs.Places.{are_items}
--- what is written is read back in place, whatever stands before and behind it
+-- what is written is read back in place, whatever stands before and after it
 pub use Rattle.dap_msg.proofs.Places.{read_in_place}
 -- the answers of both ends have spellings, and all but records have short ones
 pub use Rattle.dap_msg.proofs.Extents.{answers_fit}

@@ -7,9 +7,9 @@ use Rattle.dap_fields.specs.Spelling.{AreBytes}
 use Rattle.dap_msg.specs.declared.fault.MsgFault.{MsgFault}
 use Rattle.dap_msg.specs.Message.{Message}
 use Rattle.dap_msg.specs.Decoding.{StandsInFront, IsDecoded}
-use Rattle.dap_msg.specs.Inner.Whole.{message_at, told}
+use Rattle.dap_msg.specs.Inner.Whole.{message_at, fault_view}
 use Rattle.dap_msg.specs.Canon.{canon, Fits}
-use Rattle.dap_msg.specs.Blocked.{joined, AllFit}
+use Rattle.dap_msg.specs.Blocked.{blocked_bytes, AllFit}
 use Rattle.dap_msg.specs.Items.{Item, Whole, Malformed, ItemAt, ItemsFrom, Items}
 use Rattle.dap_msg.proofs.Messages.{exact}
 use Rattle.dap_msg.proofs.Canonical.{canon_stands}
@@ -23,23 +23,23 @@ placed m fits before after next e =
     let stands = canon_stands m (limits m fits) after in
     (length (canon m), subst (λ (b : List ℕ). StandsInFront m (length (canon m)) b) (sym (drop_at before (canon m ++ after) (length before) refl)) stands, e)
 
--- wherever what is written of a message stands, the message is the item there, and what follows begins behind it
+-- wherever what is written of a message stands, the message is the item there, and what follows begins after it
 pub read_in_place : (m : Message) → Fits m → (before after : List ℕ) → ItemAt (before ++ (canon m ++ after)) (length before) (Whole m) (length before + length (canon m))
 read_in_place m fits before after = placed m fits before after (length before + length (canon m)) refl
 
-listed_from : (before : List ℕ) (m : Message) (messages : List Message) → AllFit (m ∷ messages) → ItemsFrom (before ++ joined (m ∷ messages)) (length before) (map (λ x. Whole x) (m ∷ messages))
+listed_from : (before : List ℕ) (m : Message) (messages : List Message) → AllFit (m ∷ messages) → ItemsFrom (before ++ blocked_bytes (m ∷ messages)) (length before) (map (λ x. Whole x) (m ∷ messages))
 listed_from before m [] fit = placed m fit.0 before [] _ (omega (arith, length-append before (canon m ++ []), length-append (canon m) []))
 listed_from before m (second ∷ more) fit =
-    let after = joined (second ∷ more) in
+    let after = blocked_bytes (second ∷ more) in
     let some : 2 ≤ length (canon second) = stands_some second _ _ (canon_stands second (limits second fit.1.0) []) in
     let next : length (before ++ canon m) ≡ length before + length (canon m) = length-append before (canon m) in (
       length (before ++ canon m),
-      omega (arith, next, some, length-append before (canon m ++ after), length-append (canon m) after, length-append (canon second) (joined more)),
+      omega (arith, next, some, length-append before (canon m ++ after), length-append (canon m) after, length-append (canon second) (blocked_bytes more)),
       placed m fit.0 before after _ next,
       subst (λ (b : List ℕ). ItemsFrom b (length (before ++ canon m)) (map (λ x. Whole x) (second ∷ more))) (append_assoc before (canon m) after) (listed_from (before ++ canon m) second more fit.1),
     )
 
-pub are_items : (messages : List Message) → AllFit messages → messages ≢ [] → Items (joined messages) (map (λ m. Whole m) messages)
+pub are_items : (messages : List Message) → AllFit messages → messages ≢ [] → Items (blocked_bytes messages) (map (λ m. Whole m) messages)
 are_items [] fit some = absurd (some refl)
 are_items (m ∷ messages) fit some = listed_from [] m messages fit
 
@@ -72,7 +72,7 @@ answered bytes at (Err f) le h = record {
 }
 
 next_item : (bytes : List ℕ) (at : ℕ) → AreBytes bytes → at ≤ length bytes → Next bytes at
-next_item bytes at fits le = answered bytes at (told (drop at bytes) (message_at (drop at bytes))) le (exact (drop at bytes) (AreBytes-drop at bytes fits))
+next_item bytes at fits le = answered bytes at (fault_view (drop at bytes) (message_at (drop at bytes))) le (exact (drop at bytes) (AreBytes-drop at bytes fits))
 
 in_front : (bytes : List ℕ) (at next : ℕ) (item : Item) → next < length bytes → ItemAt bytes at item next → (items : List Item) → ItemsFrom bytes next items → ItemsFrom bytes at (item ∷ items)
 in_front bytes at next item lt h [] rest = absurd rest

@@ -3,8 +3,8 @@ use Rattle.std.proofs.Common.{◌≡◌, ℕ, ◌+◌, Bool, List, [], ◌++◌,
 use Rattle.std.proofs.lemmas.Bool.Decides.{nat_tests}
 use Rattle.std.proofs.lemmas.List.{append-nil, length-append, length-take-le, length-drop, take_at, take-append-drop, take-take}
 use Rattle.dap_msg.specs.Decoding.{HasLength, StandsInFront}
-use Rattle.dap_msg.specs.Formats.{operand, file_data}
-use Rattle.dap_msg.specs.Grammar.{Grammar, Spells}
+use Rattle.dap_msg.specs.Formats.{operand, file_data_format}
+use Rattle.dap_msg.specs.Grammar.{Grammar, SpellsFormat}
 use Rattle.dap_msg.specs.Message.{Message, Filedata, length_of}
 use Rattle.dap_msg.proofs.Messages.{header_any}
 use Rattle.dap_msg.proofs.Values.{values}
@@ -12,11 +12,11 @@ use Rattle.dap_msg.proofs.Values.{values}
 -- where a Filedata is spelled, its record stands at the end, and may be any other
 abbrev IsOpen : Grammar Message → Type 0
 IsOpen g =
-    (recnum payload bytes : List ℕ) → Spells g (Filedata recnum payload) bytes []
-    → (front : List ℕ) × (bytes ≡ front ++ payload) × ((body : List ℕ) → Spells g (Filedata recnum body) (front ++ body) [])
+    (recnum payload bytes : List ℕ) → SpellsFormat g (Filedata recnum payload) bytes []
+    → (front : List ℕ) × (bytes ≡ front ++ payload) × ((body : List ℕ) → SpellsFormat g (Filedata recnum body) (front ++ body) [])
 
-open_file_data : IsOpen file_data
-unfolding file_data
+open_file_data : IsOpen file_data_format
+unfolding file_data_format
 open_file_data recnum payload bytes (recnum', front, back, joined, image, (payload', rest, none, split, remainder, (done, end))) =
     let recnums : recnum ≡ recnum' = cc in
     let payloads : payload ≡ payload' = cc in

@@ -2,7 +2,7 @@
 use Rattle.std.specs.Prelude.{ℕ, ◌+◌, ◌*◌, Bool, if◌then◌else◌, List, [], ◌∷◌, ◌++◌, length, Option, is_some, ◌≡◌, true}
 use Rattle.std.specs.List.{concat}
 use Rattle.std.specs.Option.{option_map_or}
-use Rattle.dap_msg.specs.Grammar.{Kind, Byte, Word, Extensible, Image, ValueOf, field_bytes, Writes}
+use Rattle.dap_msg.specs.Grammar.{Kind, Byte, Word, Extensible, Image, ValueOf, field_bytes, WritesFormat}
 use Rattle.dap_msg.specs.Message.{Attributes, ControlFields, Message, Config, Attrib, Access, Control, Contran, Ack, Accomp, Filedata, Status, Other}
 use Rattle.dap_msg.specs.Formats.{type_number, header_bytes, operand}
 use Rattle.dap_msg.specs.Decoding.{SpellsMessage}
@@ -73,7 +73,7 @@ canon m = header_bytes (type_number m) (length (operand_bytes m)) ++ operand_byt
 abbrev pub IsWritten : Message → List ℕ → Type 0
 IsWritten m bytes =
     (body : List ℕ) × (bytes ≡ header_bytes (type_number m) (length body) ++ body)
-    × Writes (operand (type_number m)) m body []
+    × WritesFormat (operand (type_number m)) m body []
 
 -- some bytes with LENGTH are the message
 pub record Fits (m : Message) : Type 0 where

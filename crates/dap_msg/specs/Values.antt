@@ -7,8 +7,8 @@ use Rattle.dap_msg.specs.declared.fault.MsgFault.{MsgFault}
 use Rattle.dap_msg.specs.Message.{Message as MessageValue, Config, Attrib, Access, Control, Contran, Ack, Accomp, Filedata, Status, Other}
 
 -- the value with the same fields
-abbrev pub value_of : Message → MessageValue
-value_of (message.Config bufsiz ostype filesys vernum econum usrnum softver usrsoft syscap) = Config (record {
+abbrev pub message_value : Message → MessageValue
+message_value (message.Config bufsiz ostype filesys vernum econum usrnum softver usrsoft syscap) = Config (record {
   bufsiz = bufsiz;
   ostype = ostype;
   filesys = filesys;
@@ -19,7 +19,7 @@ value_of (message.Config bufsiz ostype filesys vernum econum usrnum softver usrs
   usrsoft = usrsoft;
   syscap = syscap;
 })
-value_of (message.Attrib datatype org rfm rat bls mrs alq bks fsz mrn runsys deq fop bsz dev sdc lrl hbk ebk ffb sbn) = Attrib (record {
+message_value (message.Attrib datatype org rfm rat bls mrs alq bks fsz mrn runsys deq fop bsz dev sdc lrl hbk ebk ffb sbn) = Attrib (record {
   datatype = datatype;
   org = org;
   rfm = rfm;
@@ -42,7 +42,7 @@ value_of (message.Attrib datatype org rfm rat bls mrs alq bks fsz mrn runsys deq
   ffb = ffb;
   sbn = option_copied sbn;
 })
-value_of (message.Access func opt name fac shr display password) = Access (record {
+message_value (message.Access func opt name fac shr display password) = Access (record {
   func = func;
   opt = opt;
   name = name.now;
@@ -51,7 +51,7 @@ value_of (message.Access func opt name fac shr display password) = Access (recor
   display = display;
   password = password.now;
 })
-value_of (message.Control func rac key krf rop hsh display) = Control (record {
+message_value (message.Control func rac key krf rop hsh display) = Control (record {
   func = func;
   rac = rac;
   key = option_copied key;
@@ -60,14 +60,14 @@ value_of (message.Control func rac key krf rop hsh display) = Control (record {
   hsh = option_copied hsh;
   display = display;
 })
-value_of (message.Contran func) = Contran func
-value_of message.Ack = Ack
-value_of (message.Accomp func fop check) = Accomp (record { func = func; fop = fop; check = check })
-value_of (message.Filedata recnum payload) = Filedata recnum.now payload.now
-value_of (message.Status code rfa recnum stv) = Status (record { code = code; rfa = rfa.now; recnum = recnum.now; stv = stv.now })
-value_of (message.Other number body) = Other number body.now
+message_value (message.Contran func) = Contran func
+message_value message.Ack = Ack
+message_value (message.Accomp func fop check) = Accomp (record { func = func; fop = fop; check = check })
+message_value (message.Filedata recnum payload) = Filedata recnum.now payload.now
+message_value (message.Status code rfa recnum stv) = Status (record { code = code; rfa = rfa.now; recnum = recnum.now; stv = stv.now })
+message_value (message.Other number body) = Other number body.now
 
 -- the same of an answer of `decode`
-abbrev pub value_of_answer : Result (Message × ℕ) MsgFault → Result (MessageValue × ℕ) MsgFault
-value_of_answer (Ok x) = Ok (value_of x.0, x.1)
-value_of_answer (Err fault) = Err fault
+abbrev pub message_answer_value : Result (Message × ℕ) MsgFault → Result (MessageValue × ℕ) MsgFault
+message_answer_value (Ok x) = Ok (message_value x.0, x.1)
+message_answer_value (Err fault) = Err fault

@@ -58,7 +58,7 @@ pub fn is_too_small(bufsiz: u16) -> bool
 /// How long a message, in bytes, an end takes that has this BUFSIZ: as long as any where that is 0 (DAP 5.6.0,
 /// Configuration message).
 pub fn limit_of(bufsiz: u16) -> u16
-    ensures { result ≡ both.limit_of bufsiz }
+    ensures { result ≡ both.message_limit bufsiz }
 {
     if bufsiz == 0 {
         GREATEST_MESSAGE

@@ -152,7 +152,7 @@ pub fn invalid(message_type: u8) -> u16
     INVALID + TYPE_UNIT * u16::from(message_type)
 }
 
-/// The STSCODE where a message of this type has no place in the exchange: MACCODE 10, with the type as MICCODE.
+/// The STSCODE where a message of this type is out of sequence in the exchange: MACCODE 10, with the type as MICCODE.
 pub fn out_of_place(message_type: u8) -> u16
     ensures { result ≡ codes.out_of_place message_type }
 {

@@ -6,7 +6,7 @@ ghost use Rattle.dap_msg.specs.declared.fault.FaultKind.TheVariants.{NoMemory};
 ghost use Rattle.dap_msg.specs.Message.{Message as MessageValue};
 ghost use Rattle.dap_msg.specs.Decoding.{IsDecoded, IsSpelled};
 ghost use Rattle.dap_msg.specs.Canon.{Fits, canon};
-ghost use Rattle.dap_msg.specs.Values.{value_of, value_of_answer};
+ghost use Rattle.dap_msg.specs.Values.{message_value, message_answer_value};
 ghost use Rattle.dap_msg.specs.Written.{Appends, no_memory};
 
 use crate::bytes::Bytes;
@@ -245,20 +245,20 @@ macro_rules! message_by_names {
 impl<'a> Message<'a> {
     /// The value of the message. Made into a message again it has the same fields.
     pub fn to_value(&self) -> MessageValue<'a>
-        ensures { result ≡ value_of self.now }
+        ensures { result ≡ message_value self.now }
     {
         by_names!(value_by_names, *self)
     }
 
     /// The message that has this value.
     pub fn from_value(value: MessageValue<'a>) -> Message<'a>
-        ensures { value_of result ≡ value.entry }
+        ensures { message_value result ≡ value.entry }
     {
         by_names!(message_by_names, value)
     }
 }
 
-/// The message in front of the input, and the number of its bytes (DAP 5.6.0, message format).
+/// The message at the start of the input, and the number of its bytes (DAP 5.6.0, message format).
 ///
 /// A message with LENGTH ends where that says, and further bytes may follow it; one without takes all the bytes.
 /// The refusal names the first field in reading order that is at fault, with its offset in bytes from the input's
@@ -268,13 +268,13 @@ impl<'a> Message<'a> {
 /// The clauses after `only` follow from `exact`, and spare each caller the proof.
 #[inline(always)]
 pub fn decode(input: &[u8]) -> Result<(Message<'_>, usize), MsgFault>
-    ensures exact { IsDecoded input.now (value_of_answer result) }
+    ensures exact { IsDecoded input.now (message_answer_value result) }
     ensures only { (other : Result (MessageValue × ℕ) TheFault) → IsDecoded input.now other
-        → other ≡ value_of_answer result }
+        → other ≡ message_answer_value result }
     ensures no_memory { IfErr result (λ f. f.kind ≢ NoMemory) }
     ensures some { IfOk result (λ x. 2 ≤ x.1) }
     ensures within { IfErr result (λ f. f.offset ≤ length input.now) }
-    ensures fields { IfOk result (λ x. IsSpelled (value_of x.0)) }
+    ensures fields { IfOk result (λ x. IsSpelled (message_value x.0)) }
 {
     match decode_value(input) {
         Ok((value, len)) => Ok((Message::from_value(value), len)),
@@ -286,7 +286,7 @@ pub fn decode(input: &[u8]) -> Result<(Message<'_>, usize), MsgFault>
 /// `Other` is 10 to 16, and the operand has at most 65,535 bytes (the fields are those of DAP 5.6.0, message
 /// formats).
 pub fn fits(message: &Message<'_>) -> bool
-    ensures { IsTrue result ↔ Fits (value_of message.now) }
+    ensures { IsTrue result ↔ Fits (message_value message.now) }
 {
     fits_value(&message.to_value())
 }
@@ -298,8 +298,8 @@ pub fn fits(message: &Message<'_>) -> bool
 /// The message must fit, as [`fits`] says. The only refusal is `FaultKind::NoMemory`, with type and offset 0, which
 /// comes only where `out` lacked the room and leaves it unchanged. Room is reserved once, and none is given back.
 pub fn encode(message: &Message<'_>, out: &mut Vec<u8>) -> Result<(), MsgFault>
-    requires { Fits (value_of message.now) }
-    ensures { Appends no_memory (canon (value_of message.now)) out.old out.new result }
+    requires { Fits (message_value message.now) }
+    ensures { Appends no_memory (canon (message_value message.now)) out.old out.new result }
 {
     encode_value(&message.to_value(), out)
 }

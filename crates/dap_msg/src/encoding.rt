@@ -7,7 +7,7 @@ ghost use Rattle.dap_msg.specs.Formats.{header_bytes};
 ghost use Rattle.dap_msg.specs.Canon.{canon, Fits};
 ghost use Rattle.dap_msg.specs.Canon.{operand_bytes, option_bytes, bits_of};
 ghost use Rattle.dap_msg.specs.Written.{Appends, no_memory};
-ghost use Rattle.dap_msg.specs.Inner.Fields.{bytes_of, fields_bytes, message_bytes, is_there, CanWrite, CanWriteAll};
+ghost use Rattle.dap_msg.specs.Inner.Fields.{bytes_of_field, fields_bytes, message_bytes, is_there, CanWrite, CanWriteAll};
 ghost use Rattle.dap_msg.specs.Fitting.{FieldsFit, FitsOption, KeepsLimits};
 
 use crate::fault::MsgFault;
@@ -33,8 +33,8 @@ pub(crate) enum Field<'a> {
 /// Appends the field, for which there is room.
 fn put(field: Field, out: &mut Vec<u8>)
     requires fits { CanWrite field }
-    requires room { vec_len out.old + length (bytes_of field) ≤ vec_capacity out.old }
-    ensures items { out.new.items ≡ out.old.items ++ bytes_of field.entry }
+    requires room { vec_len out.old + length (bytes_of_field field) ≤ vec_capacity out.old }
+    ensures items { out.new.items ≡ out.old.items ++ bytes_of_field field.entry }
     ensures capacity { vec_capacity out.old ≤ vec_capacity out.new }
 {
     let _written = match field {
@@ -81,7 +81,7 @@ fn extensible_len(value: u128) -> usize
 /// The bytes of a field, 0 where it is absent.
 fn field_len(field: Field) -> usize
     requires { CanWrite field }
-    ensures { result ≡ length (bytes_of field.entry) }
+    ensures { result ≡ length (bytes_of_field field.entry) }
 {
     match field {
         Field::Absent => 0,
@@ -175,7 +175,7 @@ fn write_message(
 fn option_field<'a, T, K: Kind<'a, T>>(field: Optional<K>, value: &Option<T>) -> Field<'a>
     requires known { K.is_known field.1 }
     requires fits { FitsOption (K.kind field.1) (K.seen_option field.1 value.now) }
-    ensures bytes { bytes_of result
+    ensures bytes { bytes_of_field result
         ≡ option_bytes (K.kind field.1) (K.seen_option field.1 value.now) }
     ensures can { CanWrite result }
     ensures there { is_there result ≡ is_some (K.seen_option field.1 value.now) }
@@ -213,7 +213,7 @@ fn menu_bits(fields: &[Field]) -> u64
 #[inline(always)]
 fn menu_field<'a>(fields: &[Field]) -> Field<'a>
     requires { length fields.now ≤ 63 }
-    ensures bytes { bytes_of result ≡ shortest (bits_of (map is_there fields.now)) }
+    ensures bytes { bytes_of_field result ≡ shortest (bits_of (map is_there fields.now)) }
     ensures can { CanWrite result }
 {
     Field::Extensible(u128::from(menu_bits(fields)))

@@ -1,9 +1,9 @@
 //! The operands of the messages.
 
 ghost use Rattle.std.specs.Prelude.{◌≡◌};
-ghost use Rattle.dap_msg.specs.Formats.{access, acknowledge, attributes, completion, configuration, continuation, control, file_data, other, status};
+ghost use Rattle.dap_msg.specs.Formats.{access_format, acknowledge_format, attributes_format, completion_format, configuration_format, continuation_format, control_format, file_data_format, other_format, status_format};
 ghost use Rattle.dap_msg.specs.Inner.Attributes.{later_attributes};
-ghost use Rattle.dap_msg.specs.Inner.Reading.{place, value_at};
+ghost use Rattle.dap_msg.specs.Inner.Reading.{as_unread, value_at};
 
 use crate::bytes::Bytes;
 use crate::fault::Fault;
@@ -15,20 +15,20 @@ use crate::reading::Cursor;
 use crate::{field, menu};
 
 /// The Acknowledge, whatever its operand is.
-#[tactic(auto, unfolding(crate::specs::Formats::acknowledge))]
+#[tactic(auto, unfolding(crate::specs::Formats::acknowledge_format))]
 #[inline(always)]
 pub(crate) fn read_acknowledge(cursor: Cursor<'_>) -> Result<Message<'_>, Fault>
-    ensures { result ≡ value_at acknowledge (place cursor.entry) }
+    ensures { result ≡ value_at acknowledge_format (as_unread cursor.entry) }
 {
     let _ignored = cursor;
     Ok(Message::Ack)
 }
 
 /// The Status that the operand spells; RFA, RECNUM and STV may be absent.
-#[tactic(auto, unfolding(crate::specs::Formats::status))]
+#[tactic(auto, unfolding(crate::specs::Formats::status_format))]
 #[inline(always)]
 pub(crate) fn read_status(mut cursor: Cursor<'_>) -> Result<Message<'_>, Fault>
-    ensures { result ≡ value_at status (place cursor.entry) }
+    ensures { result ≡ value_at status_format (as_unread cursor.entry) }
 {
     let code = cursor.read(Word)?;
     let rfa = cursor.or_else(field::RFA, Bytes(&[]))?;
@@ -43,10 +43,10 @@ pub(crate) fn read_status(mut cursor: Cursor<'_>) -> Result<Message<'_>, Fault>
 }
 
 /// The Control that the operand spells.
-#[tactic(auto, unfolding(crate::specs::Formats::control))]
+#[tactic(auto, unfolding(crate::specs::Formats::control_format))]
 #[inline(always)]
 pub(crate) fn read_control(mut cursor: Cursor<'_>) -> Result<Message<'_>, Fault>
-    ensures { result ≡ value_at control (place cursor.entry) }
+    ensures { result ≡ value_at control_format (as_unread cursor.entry) }
 {
     let func = cursor.read(Byte)?;
     let bits = cursor.menu_of(menu::CTLMENU)?;
@@ -68,10 +68,10 @@ pub(crate) fn read_control(mut cursor: Cursor<'_>) -> Result<Message<'_>, Fault>
 }
 
 /// The Attributes that the operand spells.
-#[tactic(auto, unfolding(crate::specs::Formats::attributes, crate::specs::Inner::Attributes::later_attributes))]
+#[tactic(auto, unfolding(crate::specs::Formats::attributes_format, crate::specs::Inner::Attributes::later_attributes))]
 #[inline(always)]
 pub(crate) fn read_attributes(mut cursor: Cursor<'_>) -> Result<Message<'_>, Fault>
-    ensures { result ≡ value_at attributes (place cursor.entry) }
+    ensures { result ≡ value_at attributes_format (as_unread cursor.entry) }
 {
     let bits = cursor.menu_of(menu::ATTMENU)?;
     let datatype = cursor.option_of(bits, menu::DATATYPE)?;
@@ -108,7 +108,7 @@ fn read_later_attributes<'a>(
     first: Attributes<'a>,
     mut cursor: Cursor<'a>,
 ) -> Result<Message<'a>, Fault>
-    ensures { result ≡ value_at (later_attributes bits first.entry) (place cursor.entry) }
+    ensures { result ≡ value_at (later_attributes bits first.entry) (as_unread cursor.entry) }
 {
     let runsys = cursor.option_of(bits, menu::RUNSYS)?;
     let deq = cursor.option_of(bits, menu::DEQ)?;
@@ -138,10 +138,10 @@ fn read_later_attributes<'a>(
 }
 
 /// The Config that the operand spells.
-#[tactic(auto, unfolding(crate::specs::Formats::configuration))]
+#[tactic(auto, unfolding(crate::specs::Formats::configuration_format))]
 #[inline(always)]
 pub(crate) fn read_configuration(mut cursor: Cursor<'_>) -> Result<Message<'_>, Fault>
-    ensures { result ≡ value_at configuration (place cursor.entry) }
+    ensures { result ≡ value_at configuration_format (as_unread cursor.entry) }
 {
     let bufsiz = cursor.read(Word)?;
     let ostype = cursor.read(Byte)?;
@@ -166,10 +166,10 @@ pub(crate) fn read_configuration(mut cursor: Cursor<'_>) -> Result<Message<'_>, 
 }
 
 /// The Access that the operand spells; the fields after FILESPEC may be absent.
-#[tactic(auto, unfolding(crate::specs::Formats::access))]
+#[tactic(auto, unfolding(crate::specs::Formats::access_format))]
 #[inline(always)]
 pub(crate) fn read_access(mut cursor: Cursor<'_>) -> Result<Message<'_>, Fault>
-    ensures { result ≡ value_at access (place cursor.entry) }
+    ensures { result ≡ value_at access_format (as_unread cursor.entry) }
 {
     let func = cursor.read(Byte)?;
     let opt = cursor.read(field::ACCOPT)?;
@@ -190,20 +190,20 @@ pub(crate) fn read_access(mut cursor: Cursor<'_>) -> Result<Message<'_>, Fault>
 }
 
 /// The Continue Transfer that the operand spells.
-#[tactic(auto, unfolding(crate::specs::Formats::continuation))]
+#[tactic(auto, unfolding(crate::specs::Formats::continuation_format))]
 #[inline(always)]
 pub(crate) fn read_continuation(mut cursor: Cursor<'_>) -> Result<Message<'_>, Fault>
-    ensures { result ≡ value_at continuation (place cursor.entry) }
+    ensures { result ≡ value_at continuation_format (as_unread cursor.entry) }
 {
     let func = cursor.read(Byte)?;
     Ok(Message::Contran { func })
 }
 
 /// The Access Complete that the operand spells; FOP and the checksum may be absent.
-#[tactic(auto, unfolding(crate::specs::Formats::completion))]
+#[tactic(auto, unfolding(crate::specs::Formats::completion_format))]
 #[inline(always)]
 pub(crate) fn read_completion(mut cursor: Cursor<'_>) -> Result<Message<'_>, Fault>
-    ensures { result ≡ value_at completion (place cursor.entry) }
+    ensures { result ≡ value_at completion_format (as_unread cursor.entry) }
 {
     let func = cursor.read(Byte)?;
     let fop = cursor.or_else(field::FOP, 0)?;
@@ -212,10 +212,10 @@ pub(crate) fn read_completion(mut cursor: Cursor<'_>) -> Result<Message<'_>, Fau
 }
 
 /// The Filedata that the operand spells: all that is after RECNUM is its payload.
-#[tactic(auto, unfolding(crate::specs::Formats::file_data))]
+#[tactic(auto, unfolding(crate::specs::Formats::file_data_format))]
 #[inline(always)]
 pub(crate) fn read_file_data(mut cursor: Cursor<'_>) -> Result<Message<'_>, Fault>
-    ensures { result ≡ value_at file_data (place cursor.entry) }
+    ensures { result ≡ value_at file_data_format (as_unread cursor.entry) }
 {
     let recnum = cursor.read(field::RECNUM)?;
     Ok(Message::Filedata {
@@ -225,10 +225,10 @@ pub(crate) fn read_file_data(mut cursor: Cursor<'_>) -> Result<Message<'_>, Faul
 }
 
 /// The message of another type, with its operand as it is.
-#[tactic(auto, unfolding(crate::specs::Formats::other))]
+#[tactic(auto, unfolding(crate::specs::Formats::other_format))]
 #[inline(always)]
 pub(crate) fn read_other(number: u8, cursor: Cursor<'_>) -> Result<Message<'_>, Fault>
-    ensures { result ≡ value_at (other number) (place cursor.entry) }
+    ensures { result ≡ value_at (other_format number) (as_unread cursor.entry) }
 {
     Ok(Message::Other {
         number,

@@ -4,8 +4,8 @@ ghost use Rattle.std.specs.Prelude.{◌≡◌, ◌≤◌, ◌<◌, ◌^◌, ℕ,
 ghost use Rattle.std.proofs.Common.{lit≤};
 ghost use Rattle.dap_msg.specs.Grammar as kinds;
 ghost use Rattle.dap_msg.specs.Grammar.{ValueOf, field_bytes};
-ghost use Rattle.dap_msg.specs.Inner.Reading.{field_at, Gives};
-ghost use Rattle.dap_msg.specs.Inner.Fields.{bytes_of, CanWrite, is_there};
+ghost use Rattle.dap_msg.specs.Inner.Reading.{field_at, ReadsAs};
+ghost use Rattle.dap_msg.specs.Inner.Fields.{bytes_of_field, CanWrite, is_there};
 ghost use Rattle.dap_msg.specs.Fitting.{FitsField};
 
 use crate::bytes::Bytes;
@@ -25,7 +25,7 @@ pub(crate) trait Kind<'a, T>: Copy {
     /// The field in front, and the number of its bytes.
     fn read(self, bytes: &'a [u8]) -> Result<(T, usize), FieldFault>
         requires { is_known self }
-        ensures exact { Gives (λ x. (seen self x.0, x.1)) result
+        ensures exact { ReadsAs (λ x. (seen self x.0, x.1)) result
             (field_at (kind self) bytes.now) }
         ensures there { IfOk result (λ x. x.1 ≤ length bytes.now) };
 
@@ -33,7 +33,7 @@ pub(crate) trait Kind<'a, T>: Copy {
     fn field(self, value: &T) -> Field<'a>
         requires known { is_known self }
         requires fits { FitsField (kind self) (seen self value.now) }
-        ensures bytes { bytes_of result ≡ field_bytes (kind self) (seen self value.now) }
+        ensures bytes { bytes_of_field result ≡ field_bytes (kind self) (seen self value.now) }
         ensures can { CanWrite result }
         ensures there { is_there result ≡ true };
 

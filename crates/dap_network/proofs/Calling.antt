@@ -14,12 +14,12 @@ use Rattle.dap_end.specs.declared.fault.TakeFault.{TakeFault}
 use Rattle.dap_end.specs.By.{ServedBy, TurnsBy, end_with}
 use Rattle.dap_end.specs.By as by
 use Rattle.dap_end.specs.Calls.{Came, EndEvent, EndStepped, GoesOn, Repeats}
-use Rattle.dap_end.specs.Headline.{Written, bytes_of}
+use Rattle.dap_end.specs.Headline.{Written, written_bytes}
 use Rattle.dap_end.specs.Joined.{IsBrought}
-use Rattle.dap_end.specs.Node.{HasPort, LinkValue, NodeValue, OnLink, forgotten, serves_on}
+use Rattle.dap_end.specs.Node.{HasPort, NodeLinkValue, NodeValue, OnLink, without_notes, serves_on}
 use Rattle.dap_end.specs.Ports.{EndValue, HandsOver, PortValue}
 use Rattle.dap_end.specs.Runs.{RunsBy}
-use Rattle.dap_end.specs.Turns.{DidAll, Takes, WentOn}
+use Rattle.dap_end.specs.Turns.{DidAll, TakesPacket, WentOn}
 use Rattle.dap_end.proofs.ForCallers.{SteppedBy, RunsIn, ack_is, again_is, wrote_nothing, going_on_is, taken_is}
 use Rattle.dap_network.specs.Calls.{Leads}
 use Rattle.dap_network.specs.Network.{AtNode, Network, Peer, LinkStepped, NetworkStepped, WorkedBy, hands_over, rests, serves_one}
@@ -28,18 +28,18 @@ use Rattle.dap_network.proofs.Sets.{set_again, set_here, set_same}
 -- ---- What is kept of all links, without the notes.
 
 -- a link's side without the notes
-abbrev plain : LinkValue → EndValue SharedValue
+abbrev plain : NodeLinkValue → EndValue SharedValue
 plain v = end_with v.port v.present.shared
 
 -- items of the link were served, and what waited was passed on
-abbrev pub Does : ℕ → LinkValue → LinkValue → Type 0
+abbrev pub Does : ℕ → NodeLinkValue → NodeLinkValue → Type 0
 Does link a b = WorkedBy (SharedServed link) (plain a) (plain b)
 
-pub nothing : (link : ℕ) (v : LinkValue) → Does link v v
+pub nothing : (link : ℕ) (v : NodeLinkValue) → Does link v v
 nothing link v = rests
 
 -- one item
-plain_one : (link : ℕ) (a b : LinkValue) (n : ℕ) → ServedBy (NotedServed link) a b n → ServedBy (SharedServed link) (plain a) (plain b) n
+plain_one : (link : ℕ) (a b : NodeLinkValue) (n : ℕ) → ServedBy (NotedServed link) a b n → ServedBy (SharedServed link) (plain a) (plain b) n
 plain_one link a b n s =
     record {
       idle = s.idle;
@@ -52,20 +52,20 @@ plain_one link a b n s =
       count = s.count;
     }
 
-plain_posted : (a b : LinkValue) (n : ℕ) → HandsOver a b n → HandsOver (plain a) (plain b) n
-plain_posted a b n p = (p.0, ap (λ (v : LinkValue). plain v) p.1, p.2)
+plain_posted : (a b : NodeLinkValue) (n : ℕ) → HandsOver a b n → HandsOver (plain a) (plain b) n
+plain_posted a b n p = (p.0, ap (λ (v : NodeLinkValue). plain v) p.1, p.2)
 
-one_posted : (link : ℕ) (a b : LinkValue) (n : ℕ) → HandsOver a b n → Does link a b
+one_posted : (link : ℕ) (a b : NodeLinkValue) (n : ℕ) → HandsOver a b n → Does link a b
 one_posted link a b n p = hands_over (plain b) n (plain_posted a b n p) rests
 
-turned : (link most : ℕ) (a b : LinkValue) (c : EndValue SharedValue) → TurnsBy (NotedServed link) most a b → WorkedBy (SharedServed link) (plain b) c → WorkedBy (SharedServed link) (plain a) c
+turned : (link most : ℕ) (a b : NodeLinkValue) (c : EndValue SharedValue) → TurnsBy (NotedServed link) most a b → WorkedBy (SharedServed link) (plain b) c → WorkedBy (SharedServed link) (plain a) c
 turned link most a b c by.begins w = w
 turned link most a b c (by.goes posted mid count n p room s on) w =
     hands_over (plain posted) count (plain_posted a posted count p) (serves_one (plain mid) n (plain_one link posted mid n s) (turned link most mid b c on w))
 
-pub did : (link most : ℕ) (a b : LinkValue) (r : Result (Unit {0}) EndFault) → DidAll (serves_on link most) a b r → Does link a b
+pub did : (link most : ℕ) (a b : NodeLinkValue) (r : Result (Unit {0}) EndFault) → DidAll (serves_on link most) a b r → Does link a b
 did link most a b (Ok u) d = turned link most a d.0 (plain b) d.2 (one_posted link d.0 b d.1 d.4)
-did link most a b (Err (end_fault.Link f)) (mid, on, inl (is, h)) = subst (λ (v : LinkValue). Does link a v) (sym is) (turned link most a mid (plain mid) on rests)
+did link most a b (Err (end_fault.Link f)) (mid, on, inl (is, h)) = subst (λ (v : NodeLinkValue). Does link a v) (sym is) (turned link most a mid (plain mid) on rests)
 did link most a b (Err (end_fault.Link f)) (mid, on, inr (want, room, p, may)) = turned link most a mid (plain b) on (one_posted link mid b p.0 p.1)
 did link most a b (Err (end_fault.Read f)) d = absurd d.2
 
@@ -74,24 +74,24 @@ did link most a b (Err (end_fault.Read f)) d = absurd d.2
 -- The peers, once the node wrote this on the link; and an event of the link leads from one to the other.
 module _ (link : ℕ) (comes : nsp.LinkValue → List ℕ → Type 0) (peers : List Written → List (Option Peer))
     (step : (ws more : List Written) (old new : Network) (event : EndEvent) → old.peers ≡ peers ws → LinkStepped link comes old.node event more new.node → new.peers ≡ peers (ws ++ more) → NetworkStepped old (AtNode link event) more new) where
-  plain_event : (a b : LinkValue) (event : EndEvent) (ws : List Written) → EndStepped (Unit {0}) (Does link) comes a event b ws → EndStepped (Unit {0}) (WorkedBy (SharedServed link)) comes (plain a) event (plain b) ws
-  plain_event a b (Came bytes) ws t = (t.0, t.1, t.2, ap (λ (v : LinkValue). plain v) t.3, t.4, t.5, t.6)
-  plain_event a b GoesOn ws t = (plain t.0, t.1, t.2, t.3, ap (λ (v : LinkValue). plain v) t.4, t.5)
-  plain_event a b (Repeats k) ws t = (t.0, t.1, t.2, ap (λ (v : LinkValue). plain v) t.3, t.4, t.5)
+  plain_event : (a b : NodeLinkValue) (event : EndEvent) (ws : List Written) → EndStepped (Unit {0}) (Does link) comes a event b ws → EndStepped (Unit {0}) (WorkedBy (SharedServed link)) comes (plain a) event (plain b) ws
+  plain_event a b (Came bytes) ws t = (t.0, t.1, t.2, ap (λ (v : NodeLinkValue). plain v) t.3, t.4, t.5, t.6)
+  plain_event a b GoesOn ws t = (plain t.0, t.1, t.2, t.3, ap (λ (v : NodeLinkValue). plain v) t.4, t.5)
+  plain_event a b (Repeats k) ws t = (t.0, t.1, t.2, ap (λ (v : NodeLinkValue). plain v) t.3, t.4, t.5)
 
   -- The link is so in the network, and this was written on it.
-  pub record IsSo (net : Network) (v : LinkValue) (ws : List Written) : Type 0 where
+  pub record IsSo (net : Network) (v : NodeLinkValue) (ws : List Written) : Type 0 where
     pub there : HasPort link net.node v.port
     pub shared : net.node.noted.shared ≡ v.present.shared
     pub with_peers : net.peers ≡ peers ws
 
   -- the network then
-  pub record Then (net : Network) (v : LinkValue) (ws : List Written) (new : Network) : Type 0 where
+  pub record Then (net : Network) (v : NodeLinkValue) (ws : List Written) (new : Network) : Type 0 where
     pub ports : new.node.ports ≡ set net.node.ports link (Some v.port)
     pub shared : new.node.noted.shared ≡ v.present.shared
     pub with_peers : new.peers ≡ peers ws
 
-  stepped_to : (net new : Network) (a b : LinkValue) (event : EndEvent) (ws more all : List Written) → IsSo net a ws → EndStepped (Unit {0}) (WorkedBy (SharedServed link)) comes (plain a) event (plain b) more → all ≡ ws ++ more → Then net b all new
+  stepped_to : (net new : Network) (a b : NodeLinkValue) (event : EndEvent) (ws more all : List Written) → IsSo net a ws → EndStepped (Unit {0}) (WorkedBy (SharedServed link)) comes (plain a) event (plain b) more → all ≡ ws ++ more → Then net b all new
       → NetworkStepped net (AtNode link event) more new
   stepped_to net new a b event ws more all so t at to =
       step ws more net new event so.with_peers
@@ -106,19 +106,19 @@ module _ (link : ℕ) (comes : nsp.LinkValue → List ℕ → Type 0) (peers : L
       (to.with_peers ∙ ap peers at)
 
   -- it goes on, and does nothing
-  rests_so : (net new : Network) (v : LinkValue) (ws : List Written) → IsSo net v ws → Then net v ws new → NetworkStepped net (AtNode link GoesOn) [] new
+  rests_so : (net new : Network) (v : NodeLinkValue) (ws : List Written) → IsSo net v ws → Then net v ws new → NetworkStepped net (AtNode link GoesOn) [] new
   rests_so net new v ws so to = stepped_to net new v v GoesOn ws [] ws so (plain v, [], rests, wrote_nothing v.port, refl, refl) (sym (append-nil ws)) to
 
   -- the network in between
-  abbrev between : Network → LinkValue → List Written → Network
+  abbrev between : Network → NodeLinkValue → List Written → Network
   between net v ws = record { node = record { noted = v.present; ports = set net.node.ports link (Some v.port) }; peers = peers ws }
 
   -- the events, and one more in which it rests
-  leads_by : (events : List EndEvent) (net new : Network) (a b : LinkValue) (ws all : List Written) → IsSo net a ws → RunsBy (SteppedBy (Does link) (nothing link) comes) (a, ws) events (b, all) → Then net b all new → Leads net new
+  leads_by : (events : List EndEvent) (net new : Network) (a b : NodeLinkValue) (ws all : List Written) → IsSo net a ws → RunsBy (SteppedBy (Does link) (nothing link) comes) (a, ws) events (b, all) → Then net b all new → Leads net new
   leads_by [] net new a b ws all so r to =
-      let v : b ≡ a = ap (λ (x : LinkValue × List Written). x.0) r in
-      let l : all ≡ ws = ap (λ (x : LinkValue × List Written). x.1) r in
-      let here : Then net a ws new = subst (λ (x : LinkValue). Then net x ws new) v (subst (λ (x : List Written). Then net b x new) l to) in
+      let v : b ≡ a = ap (λ (x : NodeLinkValue × List Written). x.0) r in
+      let l : all ≡ ws = ap (λ (x : NodeLinkValue × List Written). x.1) r in
+      let here : Then net a ws new = subst (λ (x : NodeLinkValue). Then net x ws new) v (subst (λ (x : List Written). Then net b x new) l to) in
       (AtNode link GoesOn ∷ [], (new, [], rests_so net new a ws so here, refl))
   leads_by (event ∷ events) net new a b ws all so r to =
       let mid = r.0 in
@@ -136,24 +136,24 @@ module _ (link : ℕ) (comes : nsp.LinkValue → List ℕ → Type 0) (peers : L
   so_far node wrote = record { node = node; peers = peers wrote }
 
   -- calls on the link lead to the network with what they wrote
-  leads_on : (old : Network) (node : NodeValue) (a b : LinkValue) (wrote : List Written) → old.peers ≡ peers [] → HasPort link old.node a.port → old.node.noted.shared ≡ a.present.shared → node.ports ≡ set old.node.ports link (Some b.port) → node.noted.shared ≡ b.present.shared
+  leads_on : (old : Network) (node : NodeValue) (a b : NodeLinkValue) (wrote : List Written) → old.peers ≡ peers [] → HasPort link old.node a.port → old.node.noted.shared ≡ a.present.shared → node.ports ≡ set old.node.ports link (Some b.port) → node.noted.shared ≡ b.present.shared
       → RunsIn (Does link) (nothing link) comes a b wrote → Leads old (so_far node wrote)
   leads_on old node a b wrote at there shared ports then r =
       leads_by r.0 old (so_far node wrote) a b [] wrote (record { there = there; shared = shared; with_peers = at }) r.1 (record { ports = ports; shared = then; with_peers = refl })
 
   pub take_leads : (most : ℕ) (old : Network) (node : NodeValue) (bytes : List ℕ) (out all : List (List ℕ)) (r : Result Got TakeFault) → old.peers ≡ peers [] → ((p : PortValue) → HasPort link old.node p → comes p.link bytes)
-      → OnLink link (λ before after. Takes (serves_on link most) before after bytes out all r) old.node node → (wrote : List Written) × Leads old (so_far node wrote) × (all ≡ out ++ bytes_of wrote)
+      → OnLink link (λ before after. TakesPacket (serves_on link most) before after bytes out all r) old.node node → (wrote : List Written) × Leads old (so_far node wrote) × (all ≡ out ++ written_bytes wrote)
   take_leads most old node bytes out all r at brought on =
-      let a : LinkValue = end_with on.before (forgotten old.node.noted) in
-      let b : LinkValue = end_with on.after node.noted in
+      let a : NodeLinkValue = end_with on.before (without_notes old.node.noted) in
+      let b : NodeLinkValue = end_with on.after node.noted in
       let c = taken_is (Does link) (nothing link) comes (serves_on link most) (did link most) a b bytes out all r (brought on.before on.there) on.does in
       (c.0, leads_on old node a b c.0 at on.there refl on.ports refl c.1, c.2)
 
   pub go_on_leads : (most : ℕ) (old : Network) (node : NodeValue) (out all : List (List ℕ)) (r : Result (Unit {0}) EndFault) → old.peers ≡ peers [] → OnLink link (λ before after. WentOn (serves_on link most) before after out all r) old.node node
-      → (wrote : List Written) × Leads old (so_far node wrote) × (all ≡ out ++ bytes_of wrote)
+      → (wrote : List Written) × Leads old (so_far node wrote) × (all ≡ out ++ written_bytes wrote)
   go_on_leads most old node out all r at on =
-      let a : LinkValue = end_with on.before (forgotten old.node.noted) in
-      let b : LinkValue = end_with on.after node.noted in
+      let a : NodeLinkValue = end_with on.before (without_notes old.node.noted) in
+      let b : NodeLinkValue = end_with on.after node.noted in
       let c = going_on_is (Does link) (nothing link) comes (serves_on link most) (did link most) a b out all r on.does in
       (c.0, leads_on old node a b c.0 at on.there refl on.ports refl c.1, c.2)
 
@@ -164,12 +164,12 @@ module _ (link : ℕ) (comes : nsp.LinkValue → List ℕ → Type 0) (peers : L
   pub resend_leads : (old : Network) (p : PortValue) (i : ℕ) (bytes : List ℕ) → old.peers ≡ peers [] → HasPort link old.node p → i < p.link.sent - p.link.acked → WritesSent p.link (Some (p.link.acked + 1 + i)) bytes
       → Leads old (so_far old.node (record { bytes = bytes; segment = Some (p.link.acked + 1 + i); acks = p.link.coming.received } ∷ []))
   resend_leads old p i bytes at there lt w =
-      let a : LinkValue = end_with p old.node.noted in leads_on old old.node a a _ at there refl (stays old p there) refl (again_is (Does link) (nothing link) comes a i bytes lt w)
+      let a : NodeLinkValue = end_with p old.node.noted in leads_on old old.node a a _ at there refl (stays old p there) refl (again_is (Does link) (nothing link) comes a i bytes lt w)
 
   pub ack_leads : (old : Network) (p : PortValue) (bytes : List ℕ) → old.peers ≡ peers [] → HasPort link old.node p → IsSpelling (ack_packet_of p.link) bytes
       → Leads old (so_far old.node (record { bytes = bytes; segment = None; acks = p.link.coming.received } ∷ []))
   ack_leads old p bytes at there s =
-      let a : LinkValue = end_with p old.node.noted in leads_on old old.node a a _ at there refl (stays old p there) refl (ack_is (Does link) (nothing link) comes a bytes s)
+      let a : NodeLinkValue = end_with p old.node.noted in leads_on old old.node a a _ at there refl (stays old p there) refl (ack_is (Does link) (nothing link) comes a bytes s)
 
 -- ---- Of a client, and of a stranger.
 

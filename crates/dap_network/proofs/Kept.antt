@@ -27,9 +27,9 @@ use Rattle.dap_end.specs.Moved.{with_link}
 use Rattle.dap_end.specs.Node.{EndedOn, HasPort, NodeValue}
 use Rattle.dap_end.specs.Ports.{EndValue, HandsOver, PortValue, gone_on, new_port}
 use Rattle.dap_end.proofs.ForCallers.{again_sent}
-use Rattle.dap_network.specs.History.{IsHistory, Tells}
+use Rattle.dap_network.specs.History.{IsHistory, AddsToHistory}
 use Rattle.dap_network.specs.Headline.{LinkHeadline, NetworkHeadline}
-use Rattle.dap_network.specs.Network.{AtNode, AtPeer, FileDropped, FileGiven, IsNew, IsNewPeer, LinkBegan, LinkBegins, LinkEnds, Network, NetworkEvent, NetworkRuns, NetworkStepped, Peer, PeerStepped, RecordGiven, SteppedBefore, SteppedOn, WorkedBy, hands_over, link_of, rests, serves_one}
+use Rattle.dap_network.specs.Network.{AtNode, AtPeer, FileDropped, FileGiven, IsNewNetwork, IsNewPeer, LinkBegan, LinkBegins, LinkEnds, Network, NetworkEvent, NetworkRuns, NetworkStepped, Peer, PeerStepped, RecordGiven, SteppedBefore, SteppedOn, WorkedBy, hands_over, end_of_link, rests, serves_one}
 use Rattle.dap_network.proofs.Histories.{IsSame, another_begins, answers_begin, file_dropped, file_given, items_begin, items_own, link_there, others_serve, record_given, same}
 use Rattle.dap_network.proofs.Linked.{LinkStands, kept, link_new, link_went, packet_again, packet_came, peer_called}
 use Rattle.dap_network.proofs.Sets.{set_other, set_there}
@@ -64,7 +64,7 @@ module _ (own : ServerSetup) (links : ℕ) (first : Files) where
       (s.by.item ∷ rest.0, subst (λ (l : List Event). Holds l b.present) (append_assoc history (Serves link s.by.item ∷ []) (map (Serves link) rest.0)) rest.1)
   any_worked link history a b (hands_over mid n p on) h = any_worked link history mid b on (subst (Holds history) (sym (ap (λ (v : EndValue SharedValue). v.present) p.1)) h)
 
-  -- Some items of the link were served, and what waited was handed over: so the port grew.
+  -- Some items of the link were served, and what waited was passed on: so the port grew.
   record Went (link : ℕ) (history : List Event) (given handed : List (List ℕ)) (old new : EndValue SharedValue) : Type 0 where
     items : List Item
     now : List Event
@@ -192,7 +192,7 @@ module _ (own : ServerSetup) (links : ℕ) (first : Files) where
   -- after one event
   record Next (event : NetworkEvent) (history : List Event) (new : Network) : Type 0 where
     told : List Event
-    tells : Tells event told
+    tells : AddsToHistory event told
     now : List Event
     is : now ≡ history ++ told
     stands : NetworkStands now new
@@ -227,8 +227,8 @@ module _ (own : ServerSetup) (links : ℕ) (first : Files) where
     same_shared e = subst (Holds history) (sym e) h.holds
 
   -- a packet is written again, or an acknowledgement
-  again : (link : ℕ) (history : List Event) (old new : Network) (event : EndEvent) (more : List Written) → (s : SteppedOn link old event more new) → NetworkStands history old → Tells (AtNode link event) [] → (w : Written) (k : Option ℕ) → WroteOne s.stepped.before.link k w
-      → IfSome k (λ n. n ≤ s.stepped.before.link.sent) → link_of s.stepped.after new.node ≡ link_of s.stepped.before old.node → more ≡ w ∷ [] → Next (AtNode link event) history new
+  again : (link : ℕ) (history : List Event) (old new : Network) (event : EndEvent) (more : List Written) → (s : SteppedOn link old event more new) → NetworkStands history old → AddsToHistory (AtNode link event) [] → (w : Written) (k : Option ℕ) → WroteOne s.stepped.before.link k w
+      → IfSome k (λ n. n ≤ s.stepped.before.link.sent) → end_of_link s.stepped.after new.node ≡ end_of_link s.stepped.before old.node → more ≡ w ∷ [] → Next (AtNode link event) history new
   again link history old new event more s h tells w k one was kept_so only =
       let before = before_it link history old new event more s h in
       let wrote = packet_again (items_on link history) (AnswersOn link own first links history) s.stepped.before s.peer before k w one was in
@@ -262,7 +262,7 @@ module _ (own : ServerSetup) (links : ℕ) (first : Files) where
   on_link link history old new GoesOn more s h =
       let t = s.stepped.steps in
       let before = before_it link history old new GoesOn more s h in
-      let w = worked link history before.given before.handed before.packets (link_of s.stepped.before old.node) t.0 t.2 h.holds before.stands in
+      let w = worked link history before.given before.handed before.packets (end_of_link s.stepped.before old.node) t.0 t.2 h.holds before.stands in
       let went = link_went (items_on link history) (AnswersOn link own first links history) s.stepped.before s.peer before w.left w.passed w.packets (items_on link w.now) (AnswersOn link own first links w.now) t.0.port s.stepped.after t.1 w.stands w.grew t.3 in
       let here = subst (λ (l : List Written). Linked link w.now s.stepped.after (record s.peer { from_node = s.peer.from_node ++ l })) (sym t.5) went in
       let holds : Holds w.now new.node.noted.shared = subst (Holds w.now) (sym (ap (λ (v : EndValue SharedValue). v.present) t.4)) w.holds in
@@ -295,7 +295,7 @@ module _ (own : ServerSetup) (links : ℕ) (first : Files) where
       })
       h
 
-  quiet_beside : (link : ℕ) (history : List Event) (old new : Network) (event : EndEvent) (more : List Written) → SteppedBefore link old event more new → NetworkStands history old → Tells (AtNode link event) [] → new.node.noted.shared ≡ old.node.noted.shared
+  quiet_beside : (link : ℕ) (history : List Event) (old new : Network) (event : EndEvent) (more : List Written) → SteppedBefore link old event more new → NetworkStands history old → AddsToHistory (AtNode link event) [] → new.node.noted.shared ≡ old.node.noted.shared
       → Next (AtNode link event) history new
   quiet_beside link history old new event more s h tells is_same =
       record {
@@ -312,7 +312,7 @@ module _ (own : ServerSetup) (links : ℕ) (first : Files) where
       let t = s.stepped.steps in quiet_beside link history old new (Came bytes) more s h refl (ap (λ (v : EndValue SharedValue). v.present) t.3)
   on_stranger link history old new GoesOn more s h =
       let t = s.stepped.steps in
-      let w = any_worked link history (link_of s.stepped.before old.node) t.0 t.2 h.holds in
+      let w = any_worked link history (end_of_link s.stepped.before old.node) t.0 t.2 h.holds in
       let now = history ++ map (Serves link) w.0 in
       record {
         told = map (Serves link) w.0;
@@ -405,7 +405,7 @@ module _ (own : ServerSetup) (links : ℕ) (first : Files) where
 
   -- ---- Files that are given.
 
-  on_given : (event : NetworkEvent) (given : Event) (history : List Event) (old new : Network) → Tells event (given ∷ []) → ((link : ℕ) → IsSame own links first link history (history ++ given ∷ [])) → SharedGiven given old.node.noted.shared new.node.noted.shared
+  on_given : (event : NetworkEvent) (given : Event) (history : List Event) (old new : Network) → AddsToHistory event (given ∷ []) → ((link : ℕ) → IsSame own links first link history (history ++ given ∷ [])) → SharedGiven given old.node.noted.shared new.node.noted.shared
       → new.node.ports ≡ old.node.ports → new.peers ≡ old.peers → NetworkStands history old → Next event history new
   on_given event given history old new tells all g ports peers h =
       let now = history ++ given ∷ [] in
@@ -488,7 +488,7 @@ module _ (own : ServerSetup) (links : ℕ) (first : Files) where
             subst (λ (n : ℕ). LinkHeadline link v.setup first n history peer) (sym h.holds.as_many) (subst (λ (o : ServerSetup). LinkHeadline link o first links history peer) (sym h.holds.is_own) one));
       }
 
-  pub network_keeps : (events : List NetworkEvent) (old new : Network) → IsNew first old → old.node.noted.shared.setup ≡ own → length old.node.noted.shared.sessions ≡ links → NetworkRuns old events new → NetworkHeadline first events new
+  pub network_keeps : (events : List NetworkEvent) (old new : Network) → IsNewNetwork first old → old.node.noted.shared.setup ≡ own → length old.node.noted.shared.sessions ≡ links → NetworkRuns old events new → NetworkHeadline first events new
   network_keeps events old new n is_own as_many r =
       let start : NetworkStands [] old = record { holds = record { after = n.shared; is_own = is_own; as_many = as_many }; each = λ link port peer at with_peer. absurd (n.none link port at) } in
       let end = runs events [] old new r start in

@@ -13,7 +13,7 @@ use Rattle.nsp_link.specs.Receiving.{Receives}
 use Rattle.dap_accessing.specs.Asked.{Asked}
 use Rattle.dap_accessing.specs.Request.{Request}
 use Rattle.dap_accessing.specs.Told.{Told}
-use Rattle.dap_end.specs.Calls.{AskingEvent, AskingStepped, WroteOne, numbered, requests_in}
+use Rattle.dap_end.specs.Calls.{AskingEvent, AskingStepped, WroteOne, numbered_packets, requests_in}
 use Rattle.dap_end.specs.Headline.{Written}
 use Rattle.dap_end.specs.Joined.{IsBrought}
 use Rattle.dap_end.specs.Moved.{with_link}
@@ -130,9 +130,9 @@ module _ (items : List Item) (answers : List Message) (port : PortValue) (peer :
 
   -- the port went on, and then wrote packets
   pub link_went : (given handed : List (List ℕ)) (packets : List NspMessage) (more : List Item) (others : List Message) (mid new : PortValue) (wrote : List (List ℕ)) → PortStands given handed packets more others mid → PortGrew j.given j.handed given handed port mid → WroteMore mid new wrote
-      → LinkStands more others new (record peer { from_node = peer.from_node ++ numbered (mid.link.sent + 1) mid.link.coming.received wrote })
+      → LinkStands more others new (record peer { from_node = peer.from_node ++ numbered_packets (mid.link.sent + 1) mid.link.coming.received wrote })
   link_went given handed packets more others mid new wrote stands grew w =
-      let ws = numbered (mid.link.sent + 1) mid.link.coming.received wrote in
+      let ws = numbered_packets (mid.link.sent + 1) mid.link.coming.received wrote in
       let back = swapped a port.link c.asked.handed j.handed c.asked.given j.given peer.from_peer peer.from_node c.ways in
       let ways = goes port.link a mid.link new mid j.handed c.asked.handed j.given c.asked.given grew.more.0 given handed peer.from_node peer.from_peer wrote back refl grew.link w grew.more.1 grew.more.2
       (grew.stands a.setup.seg_size c.asked.handed back.back.stands) stands.sends in

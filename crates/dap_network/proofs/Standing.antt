@@ -8,20 +8,20 @@ use Rattle.dap_fields.specs.Spelling.{AreBytes}
 use Rattle.dap_msg.specs.declared.items.Item.{Item}
 use Rattle.dap_msg.specs.declared.message.Message.{Message}
 use Rattle.dap_msg.specs.Items.{ItemAt}
-use Rattle.dap_msg.specs.Blocked.{AllFit, Blocked, NspMessage, all_joined, bodies, joined, messages_in}
+use Rattle.dap_msg.specs.Blocked.{AllFit, Blocked, NspMessage, all_joined, bodies, blocked_bytes, messages_in}
 use Rattle.dap_msg.proofs.ForCallers.{messages_in-Blocked}
 use Rattle.nsp_link.specs.declared.link.LinkSetup.{LinkSetup}
 use Rattle.nsp_link.specs.Link.{AreShort, LinkValue, Sends, SendsStill, Stands, with_inbox}
 use Rattle.nsp_link.proofs.ForCallers.{may_queue_parts, sends_all, sends_new}
 use Rattle.dap_accessed.specs.Served.{Answered}
 use Rattle.dap_end.specs.Going.{GoneThrough, given_then}
-use Rattle.dap_end.specs.Moved.{posted, sent_more, with_link}
-use Rattle.dap_end.specs.Pasts.{AreFull}
+use Rattle.dap_end.specs.Moved.{with_outbox_sent, sent_more, with_link}
+use Rattle.dap_end.specs.Histories.{AreFull}
 use Rattle.dap_end.specs.Ports.{EndValue, HandsOver, PortValue, gone_on, new_port}
 use Rattle.dap_end.specs.Writing.{Behind}
 use Rattle.dap_end.proofs.ForCallers.{Grown, fit-both, full-blocked, full-both, gone_nothing, gone_stays, in_append, none_short, port_given, port_gone}
 
--- The items are those of the NSP messages that left, and of a front of the next one. What was handed over, and what
+-- The items are those of the NSP messages that left, and of a front of the next one. What was passed on, and what
 -- waits, are these answers, joined to NSP messages.
 pub record PortStands (given handed : List (List ℕ)) (packets : List NspMessage) (items : List Item) (answers : List Message) (port : PortValue) : Type 0 where
   pub gone : GoneThrough given port.link.coming.inbox port.place items
@@ -51,8 +51,8 @@ module _ (given handed : List (List ℕ)) (packets : List NspMessage) (items : L
   pub stands_sent : (n : ℕ) → PortStands given handed packets items answers (sent_more port n)
   stands_sent n = record { gone = h.gone; sends = record { queue = h.sends.queue; acked = h.sends.acked; part = h.sends.part }; waiting = h.waiting; full = h.full; told = h.told; fit = h.fit }
 
-  -- what waited was handed over
-  pub stands_posted : PortStands given (handed ++ port.outbox) packets items answers (posted port)
+  -- what waited was passed on
+  pub stands_posted : PortStands given (handed ++ port.outbox) packets items answers (with_outbox_sent port)
   stands_posted =
       record {
         gone = h.gone;
@@ -75,7 +75,7 @@ module _ (given handed : List (List ℕ)) (packets : List NspMessage) (items : L
         waiting =
             ap (λ (l : List (List ℕ)). handed ++ l) a.bytes
             ∙ ap (λ (l : List (List ℕ)). l ++ all_joined block) (sym (append-nil handed) ∙ ap (λ (l : List (List ℕ)). handed ++ l) (sym idle) ∙ h.waiting)
-            ∙ sym (map-append joined packets block);
+            ∙ sym (map-append blocked_bytes packets block);
         full = full-both packets block h.full (full-blocked limit more);
         told = in_append packets block ∙ ap (λ (l : List Message). l ++ messages_in block) h.told ∙ ap (λ (l : List Message). answers ++ l) (messages_in-Blocked limit more);
         fit = fit-both answers more h.fit a.fits;
@@ -87,7 +87,7 @@ module _ (given handed : List (List ℕ)) (packets : List NspMessage) (items : L
 abbrev pub SameCounts : LinkValue → LinkValue → Type 0
 SameCounts old new = new ≡ record (with_inbox old new.coming.inbox) { queue = new.queue }
 
--- More left, and more was handed over.
+-- More left, and more was passed on.
 pub record PortGrew (given handed left passed : List (List ℕ)) (old new : PortValue) : Type 0 where
   pub link : SameCounts old.link new.link
   pub more : Behind handed passed (AreShort old.link)
@@ -109,7 +109,7 @@ grew_on g h g2 h2 g3 h3 a b c one two =
       stands = λ size messages s. two.stands size messages (one.stands size messages s);
     }
 
-pub grew_posted : {P : Type 0} (given handed : List (List ℕ)) (old new : EndValue P) (n : ℕ) → HandsOver old new n → PortGrew given handed given (handed ++ old.port.outbox) old.port (posted old.port)
+pub grew_posted : {P : Type 0} (given handed : List (List ℕ)) (old new : EndValue P) (n : ℕ) → HandsOver old new n → PortGrew given handed given (handed ++ old.port.outbox) old.port (with_outbox_sent old.port)
 grew_posted given handed old new n p =
     record {
       link = refl;

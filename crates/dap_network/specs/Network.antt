@@ -55,15 +55,15 @@ pub data WorkedBy {P : Type 0} (serves : ServesAt P) : EndValue P → EndValue P
   hands_over : {old new : EndValue P} (mid : EndValue P) (n : ℕ) → HandsOver old mid n → WorkedBy serves mid new → WorkedBy serves old new
 
 -- a port of a node, before what the node keeps of all links
-abbrev pub link_of : PortValue → NodeValue → EndValue SharedValue
-link_of port node = end_with port node.noted.shared
+abbrev pub end_of_link : PortValue → NodeValue → EndValue SharedValue
+end_of_link port node = end_with port node.noted.shared
 
 -- On a link there is an event of the node, and it writes these packets. No other port moves. What comes, comes so.
 pub record LinkStepped (link : ℕ) (comes : LinkValue → List ℕ → Type 0) (old : NodeValue) (event : EndEvent) (more : List Written) (new : NodeValue) : Type 0 where
   pub before : PortValue
   pub after : PortValue
   pub there : HasPort link old before
-  pub steps : EndStepped (Unit {0}) (WorkedBy (SharedServed link)) comes (link_of before old) event (link_of after new) more
+  pub steps : EndStepped (Unit {0}) (WorkedBy (SharedServed link)) comes (end_of_link before old) event (end_of_link after new) more
   pub ports : new.ports ≡ set old.ports link (Some after)
 
 -- The packets follow those that the node wrote on the link before. What comes is a packet that the link's peer wrote,
@@ -130,6 +130,6 @@ abbrev pub NetworkRuns : Network → List NetworkEvent → Network → Type 0
 NetworkRuns old events new = RunsBy NetworkStepped old events new
 
 -- A node with these files, of which no link is there.
-pub record IsNew (first : Files) (net : Network) : Type 0 where
+pub record IsNewNetwork (first : Files) (net : Network) : Type 0 where
   pub shared : SharedAfter first [] net.node.noted.shared
   pub none : (link : ℕ) (port : PortValue) → HasPort link net.node port → ⊥

@@ -17,14 +17,14 @@ ghost use Rattle.dap_end.specs.declared.fault.EndFault.{EndFault as TheEndFault}
 ghost use Rattle.dap_end.specs.declared.fault.TakeFault.{TakeFault as TheTakeFault};
 ghost use Rattle.dap_end.specs.Calls.{AskingRuns};
 ghost use Rattle.dap_end.specs.Done.{AskingValue};
-ghost use Rattle.dap_end.specs.Headline.{Arrival, Written, bytes_of};
+ghost use Rattle.dap_end.specs.Headline.{Arrival, Written, written_bytes};
 ghost use Rattle.dap_end.specs.Joined.{IsBrought};
 ghost use Rattle.dap_end.specs.Node.{HasPort, NodeValue, OnLink, serves_on};
 ghost use Rattle.dap_end.specs.Ports.{PortValue};
-ghost use Rattle.dap_end.specs.Turns.{Takes, WentOn};
+ghost use Rattle.dap_end.specs.Turns.{TakesPacket, WentOn};
 ghost use Rattle.dap_network.specs.Calls.{Leads, node_then, peer_then};
 ghost use Rattle.dap_network.specs.Headline.{NetworkHeadline};
-ghost use Rattle.dap_network.specs.Network.{IsNew, Network, NetworkEvent, NetworkRuns, Peer};
+ghost use Rattle.dap_network.specs.Network.{IsNewNetwork, Network, NetworkEvent, NetworkRuns, Peer};
 
 /// A node and the peers of its links keep the headline, over every list of their calls, links that begin and end among
 /// them, and over a network that loses, repeats and reorders packets, but brings none altered or more than 2,047 numbers
@@ -33,7 +33,7 @@ ghost use Rattle.dap_network.specs.Network.{IsNew, Network, NetworkEvent, Networ
 /// order gives there.
 pub fn many_links_keep_the_headline()
     ensures { (first : Files) (events : List NetworkEvent) (old new : Network)
-        → IsNew first old → NetworkRuns old events new → NetworkHeadline first events new }
+        → IsNewNetwork first old → NetworkRuns old events new → NetworkHeadline first events new }
 {}
 
 /// With one link that began once, the history is what was served on it, and its files and answers are those of a server of one
@@ -59,17 +59,18 @@ pub fn node_calls_are_events()
         (bytes : List ℕ) (out all : List (List ℕ)) (r : Result TheGot TheTakeFault)
         → slice_get old.peers link ≡ Some (Some peer)
         → ((p : PortValue) → HasPort link old.node p → IsBrought peer.from_peer p.link bytes)
-        → OnLink link (λ before after. Takes (serves_on link most) before after bytes out all r)
+        → OnLink link (λ before after. TakesPacket (serves_on link most)
+        before after bytes out all r)
         old.node node
         → (wrote : List Written) × Leads old (node_then old node link peer wrote)
-        × (all ≡ out ++ bytes_of wrote) }
+        × (all ≡ out ++ written_bytes wrote) }
     ensures go_on { (link most : ℕ) (old : Network) (node : NodeValue) (peer : Peer)
         (out all : List (List ℕ)) (r : Result (Unit {0}) TheEndFault)
         → slice_get old.peers link ≡ Some (Some peer)
         → OnLink link (λ before after. WentOn (serves_on link most) before after out all r)
         old.node node
         → (wrote : List Written) × Leads old (node_then old node link peer wrote)
-        × (all ≡ out ++ bytes_of wrote) }
+        × (all ≡ out ++ written_bytes wrote) }
     ensures resend { (link i : ℕ) (old : Network) (peer : Peer) (p : PortValue) (bytes : List ℕ)
         → slice_get old.peers link ≡ Some (Some peer) → HasPort link old.node p
         → i < p.link.sent - p.link.acked
@@ -97,7 +98,8 @@ pub fn strangers_are_taken()
     ensures take { (link most : ℕ) (old : Network) (node : NodeValue) (bytes : List ℕ)
         (out all : List (List ℕ)) (r : Result TheGot TheTakeFault)
         → slice_get old.peers link ≡ Some None
-        → OnLink link (λ before after. Takes (serves_on link most) before after bytes out all r)
+        → OnLink link (λ before after. TakesPacket (serves_on link most)
+        before after bytes out all r)
         old.node node
         → Leads old (record old { node = node }) }
     ensures go_on { (link most : ℕ) (old : Network) (node : NodeValue)

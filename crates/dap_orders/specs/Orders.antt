@@ -12,16 +12,16 @@ use Rattle.dap_text.specs.Requests.{request_of}
 use Rattle.dap_text.specs.Words.{Words, ends, field, long, one_of, short, word, words_of}
 
 -- an end
-abbrev pub end_of : List ℕ → Option End
-end_of word = lookup (bytes_eq word) ((codes "a", A) ∷ (codes "b", B) ∷ [])
+abbrev pub end_word : List ℕ → Option End
+end_word word = lookup (bytes_eq word) ((codes "a", A) ∷ (codes "b", B) ∷ [])
 
 -- an end, and no word after it
 abbrev pub one_end : (End → Event) → Words → Option Event
-one_end event = field end_of (λ end. ends (event end))
+one_end event = field end_word (λ end. ends (event end))
 
 -- an end and a number, and no word after them
 abbrev pub end_and_number : (End → ℕ → Event) → Words → Option Event
-end_and_number event = field end_of (λ end. field long (λ number. ends (event end number)))
+end_and_number event = field end_word (λ end. field long (λ number. ends (event end number)))
 
 -- the event of a line, by its first word and those after it
 abbrev pub event_of : List ℕ → Option Event
@@ -37,8 +37,8 @@ event_of line = one_of (
     ∷ []) (words_of line)
 
 -- `setup SEG WINDOW BUFA BUFB`; whether a world may have these sizes isn't checked here
-abbrev pub setup_of : List ℕ → Option WorldSetup
-setup_of line =
+abbrev pub world_setup_of : List ℕ → Option WorldSetup
+world_setup_of line =
     word (codes "setup") (field long (λ seg_size. field long (λ window. field short (λ bufsiz_a. field short (λ bufsiz_b.
     ends (record { seg_size = seg_size; window = window; bufsiz_a = bufsiz_a; bufsiz_b = bufsiz_b })))))) (words_of line)
 

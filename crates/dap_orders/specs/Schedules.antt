@@ -3,9 +3,9 @@ use Rattle.std.specs.Prelude.{◌≡◌, ℕ, List, [], ◌∷◌, if◌then◌e
 use Rattle.std.specs.List.{filter_map, enumerate_from, cons_option}
 use Rattle.std.specs.Str.Lines.{lines}
 use Rattle.linewise.specs.Talks.{is_skipped}
-use Rattle.dap_orders.specs.Orders.{event_of, setup_of}
-use Rattle.dap_listing.specs.declared.fault.CaptureFault.{CaptureFault}
-use Rattle.dap_listing.specs.declared.fault.CaptureFault.TheVariants.{BadLine}
+use Rattle.dap_orders.specs.Orders.{event_of, world_setup_of}
+use Rattle.linewise.specs.declared.fault.CaptureFault.{CaptureFault}
+use Rattle.linewise.specs.declared.fault.CaptureFault.TheVariants.{BadLine}
 
 -- a line and its number
 abbrev pub Numbered : Type 0
@@ -16,8 +16,8 @@ abbrev pub said_from : ℕ → List ℕ → List Numbered
 said_from number input = filter (λ line. not (is_skipped line.1)) (enumerate_from number (lines input))
 
 -- those of a whole input, whose first line has number 1
-abbrev pub said : List ℕ → List Numbered
-said = said_from 1
+abbrev pub numbered_lines : List ℕ → List Numbered
+numbered_lines = said_from 1
 
 -- the fault of a line that isn't what it has to be
 abbrev pub fault_unless : {X : Type 0} → ℕ → Option X → Option CaptureFault
@@ -31,7 +31,7 @@ event_fault line = fault_unless line.0 (event_of line.1)
 abbrev pub schedule_faults : List Numbered → List CaptureFault
 schedule_faults [] = []
 schedule_faults (first ∷ others) =
-    cons_option (fault_unless first.0 (setup_of first.1)) (filter_map event_fault others)
+    cons_option (fault_unless first.0 (world_setup_of first.1)) (filter_map event_fault others)
 
 -- the first of the faults, where there is one
 abbrev pub TellsFirst : {X : Type 0} → Result X CaptureFault → List CaptureFault → Type 0

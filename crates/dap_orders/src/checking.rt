@@ -2,12 +2,12 @@
 
 ghost use Rattle.std.specs.Prelude.{◌≤◌, IfErr, length};
 ghost use Rattle.std.specs.List.{filter_map};
-ghost use Rattle.dap_listing.specs.Firsts.{IsOfLine};
-ghost use Rattle.dap_orders.specs.Schedules.{TellsFirst, event_fault, said, schedule_faults};
+ghost use Rattle.linewise.specs.Firsts.{IsOfLine};
+ghost use Rattle.dap_orders.specs.Schedules.{TellsFirst, event_fault, numbered_lines, schedule_faults};
 
 use crate::meaningful::MeaningfulLines;
 use crate::orders::{read_order, read_setup};
-use dap_listing::{CaptureFault, INPUT_LIMIT};
+use linewise::{CaptureFault, INPUT_LIMIT};
 
 /// Whether the lines are events, or else the first line that is none (`BadLine`).
 pub fn check_orders<'a>(mut lines: MeaningfulLines<'a>) -> Result<(), CaptureFault>
@@ -26,7 +26,7 @@ pub fn check_orders<'a>(mut lines: MeaningfulLines<'a>) -> Result<(), CaptureFau
 /// line at fault (`BadLine`).
 pub fn check_schedule(input: &[u8]) -> Result<(), CaptureFault>
     requires { length input.now ≤ INPUT_LIMIT }
-    ensures faults { TellsFirst result (schedule_faults (said input.now)) }
+    ensures faults { TellsFirst result (schedule_faults (numbered_lines input.now)) }
     ensures of_line { IfErr result IsOfLine }
 {
     let mut lines = MeaningfulLines::of(input);

@@ -3,8 +3,7 @@
 ghost use Rattle.std.specs.Prelude.{◌≡◌, ◌≤◌, ◌+◌, ◌∷◌, [], length, IfSome, MatchOption};
 ghost use Rattle.dap_orders.specs.Schedules.{said_from};
 
-use dap_listing::{INPUT_LIMIT, next_line};
-use linewise::is_skipped;
+use linewise::{INPUT_LIMIT, is_skipped, next_line};
 use std::marker::Model;
 
 /// The first line that isn't skipped, after its number, and the bytes after it. The first of all
@@ -48,12 +47,12 @@ impl<'a> Model for MeaningfulLines<'a> {
 
 impl<'a> MeaningfulLines<'a> {
     ghost use Rattle.std.specs.Prelude.{◌≡◌, ◌≤◌, ◌+◌, ◌∷◌, [], length, MatchOption};
-    ghost use Rattle.dap_orders.specs.Schedules.{said};
+    ghost use Rattle.dap_orders.specs.Schedules.{numbered_lines};
 
     /// Those of a whole input.
     pub fn of(input: &'a [u8]) -> Self
         requires { length input.now ≤ INPUT_LIMIT }
-        ensures said { result ≡ said input.now }
+        ensures said { result ≡ numbered_lines input.now }
         ensures short { length result ≤ length input.now + 1 }
     {
         MeaningfulLines {

@@ -21,7 +21,7 @@ use Rattle.rec_file.specs.Acts.{Operation, StreamVal, outcome_of, act, get_recor
 use Rattle.dap_accessed.specs.declared.phase.OpenFile.{OpenFile}
 use Rattle.dap_accessed.specs.declared.verbs.Verb.{Verb}
 use Rattle.dap_accessed.specs.declared.verbs.Verb.TheVariants as verbs
-use Rattle.dap_accessed.specs.Standing.{Files, place_by, file_at, with_file, the_file, new_file, Place, Fresh, Ready, Opened, Connected, Store, Stopped, Group, Standing, Scene, Effect, enters}
+use Rattle.dap_accessed.specs.Standing.{Files, index_by, file_at, with_file, the_file, new_file, Place, Fresh, Ready, Opened, Connected, Store, Stopped, Group, Standing, Scene, Effect, enters}
 use Rattle.dap_accessed.specs.Past.{asked_shape, kept_attributes, is_dropping, ordinal_so_far}
 use Rattle.dap_accessed.specs.Accesses.{make_file, open_file, create_file, access_file, end_stream, complete, refuse_access, rights_to_create, rights_to_open}
 use Rattle.dap_accessed.specs.Replies.{opened_with, reason_of, refused_access}
@@ -30,7 +30,7 @@ use Rattle.dap_accessed.specs.Records.{at_number, verb_of, get_pick, got, record
 use Rattle.dap_accessed.specs.Transfers.{fetch, fetch_ends, continue_fetch, store_one}
 use Rattle.dap_accessed.specs.Effects.{Begun, Turn, Does, Begins, control_opened, control_connected, turn_in, turn_of, effect_with}
 use Rattle.dap_accessed.specs.Groups.{Grouped, after_two}
-use Rattle.dap_accessed.specs.Groups.{next_group, more_after, one_more}
+use Rattle.dap_accessed.specs.Groups.{next_group, more_after, after_item}
 use Rattle.dap_accessed.proofs.ForCallers.{with-same}
 use Rattle.dap_accessed.proofs.ForCallers.{place-within}
 use Rattle.dap_accessed.specs.Sessions.{there_at, there_if, would_open}
@@ -89,7 +89,7 @@ unallowed (put_record (Some n) body) file s e = refused-first s.rights.put _ (pu
 unallowed (update_record body) file s e = refused-first s.rights.upd _ (update_record body) file s e
 unallowed delete_record file s e = refused-first s.rights.del _ delete_record file s e
 
-or-true : (b : Bool) → (b || true) ≡ true
+pub or-true : (b : Bool) → (b || true) ≡ true
 or-true true = refl
 or-true false = refl
 
@@ -126,12 +126,12 @@ module _ (scene : Scene) (asks : Option OpenFile) where
 
   -- ---- Accesses.
 
-  opening-if : (own : ServerSetup) (a : AccessFields) (at : ℕ) (lack : Bool) → lacks own.most (rights_to_open a.fac) ≡ lack → asks ≡ would_open own scene.files a → place_by own.names a.name scene.files ≡ Some at
+  opening-if : (own : ServerSetup) (a : AccessFields) (at : ℕ) (lack : Bool) → lacks own.most (rights_to_open a.fac) ≡ lack → asks ≡ would_open own scene.files a → index_by own.names a.name scene.files ≡ Some at
       → (a.func == codes.accfunc.opening) ≡ true
       → Left None (if lack then refuse_access scene (refused_access (reason_of NotPermitted)) else enters scene (Opened (there_at a.fac at)) (opened_with (file_at at scene.files).shape))
   opening-if own a at true l w p e = entering Ready _ tt
   opening-if own a at false l w p e =
-      let found = place_by own.names a.name scene.files in
+      let found = index_by own.names a.name scene.files in
       record {
         moved = opens (there_at a.fac at) (subst (λ (x : Option ℕ). IfSome x (λ n. n < length scene.files)) p (place-within own.names a.name scene.files))
             (w ∙ ap (λ (b : Bool). if b then there_if own a.fac found else None) e
@@ -139,7 +139,7 @@ module _ (scene : Scene) (asks : Option OpenFile) where
         rights = tt;
       }
 
-  opening : (own : ServerSetup) (a : AccessFields) (at : Option ℕ) → asks ≡ would_open own scene.files a → place_by own.names a.name scene.files ≡ at → (a.func == codes.accfunc.opening) ≡ true → Left None (open_file own scene a.fac at)
+  opening : (own : ServerSetup) (a : AccessFields) (at : Option ℕ) → asks ≡ would_open own scene.files a → index_by own.names a.name scene.files ≡ at → (a.func == codes.accfunc.opening) ≡ true → Left None (open_file own scene a.fac at)
   opening own a None w p e = entering Ready _ tt
   opening own a (Some at) w p e = opening-if own a at (lacks own.most (rights_to_open a.fac)) refl w p e
 
@@ -153,7 +153,7 @@ module _ (scene : Scene) (asks : Option OpenFile) where
 
   accessing : (own : ServerSetup) (a : AccessFields) (shape : Option Shape) → asks ≡ would_open own scene.files a → Left None (access_file own scene a shape)
   accessing own a shape w =
-      let found = place_by own.names a.name scene.files in
+      let found = index_by own.names a.name scene.files in
       either-is None (a.func == codes.accfunc.opening) _ _ (opening own a found w refl)
       (either None (a.func == codes.accfunc.creating) _ _ (creating own a.name a.fac found shape) (entering Ready _ tt))
 
@@ -300,5 +300,5 @@ by-begun own s (Some b) item h n =
       steady = record { rights = l.rights; begun = tt };
     }
 
-pub one-goes : (own : ServerSetup) (c : Grouped) (item : Item) → IsSteady c → Goes c (one_more own c item) (asks_to_open own c.standing.scene.files c.standing.place item)
+pub one-goes : (own : ServerSetup) (c : Grouped) (item : Item) → IsSteady c → Goes c (after_item own c item) (asks_to_open own c.standing.scene.files c.standing.place item)
 one-goes own c item h = by-begun own c.standing c.begun item h.rights h.begun

@@ -19,7 +19,7 @@ use Rattle.dap_accessed.specs.Standing.{file_at, new_file, Files, Place, Fresh, 
 use Rattle.dap_accessed.specs.Accesses.{refuse_access}
 use Rattle.dap_accessed.specs.Effects.{Begun, Does}
 use Rattle.dap_accessed.specs.Groups.{Grouped}
-use Rattle.dap_accessed.specs.Groups.{one_more, next_group}
+use Rattle.dap_accessed.specs.Groups.{after_item, next_group}
 use Rattle.dap_shared.specs.Sharing.{open_in, has_alone, are_apart, bars, is_file, is_locked, asks_to_open, file_locked, place_moved_up}
 use Rattle.dap_shared.specs.Nodes.{Exchange, Node, new_exchange, no_exchange, new_node, exchange_at, exchange_of, end_at, before_files, open_on, open_beside, more_beside, begun_moved_up, exchange_moved_up, exchange_without, removed_by, is_open, without_file, with_record_at, setup_on, after_event, after_all, node_after, Event, Serves, Begins, Gives, GivesRecord, Drops}
 use Rattle.dap_shared.proofs.Changes.{closes, HasRights, IsSteady, Goes, one-goes}
@@ -137,7 +137,7 @@ module _ (own : ServerSetup) (node : Node) (link : ℕ) (item : Item) (there : l
   abbrev asks : Bool → Option OpenFile
   asks locked = if locked then None else asked
 
-  by-lock : (locked : Bool) → Goes old (if locked then next_group old.standing item (Does (refuse_access old.standing.scene (bare_status file_locked))) else one_more its old item) (asks locked)
+  by-lock : (locked : Bool) → Goes old (if locked then next_group old.standing item (Does (refuse_access old.standing.scene (bare_status file_locked))) else after_item its old item) (asks locked)
   by-lock true = record { moved = closes (open_in old.standing.place); steady = record { rights = tt; begun = tt } }
   by-lock false = one-goes its old item (record { rights = (h.steady link).rights; begun = (h.steady link).begun })
 

@@ -44,7 +44,7 @@ readers-share = refl
 writer-waits : AnswersOn 0 (plain_setup 1024) [] 2 readers ≡ config_of 1024 ∷ (opened_with plain_shape ++ completed ∷ (opened_with plain_shape ++ completed ∷ bare_status 0x4030 ∷ opened_with plain_shape))
 writer-waits = refl
 
--- A makes 65, B makes 66 behind it; A purges its file: B's is the first then, and still open
+-- A makes 65, B makes 66 after it; A purges its file: B's is the first then, and still open
 abbrev purged : List Event
 purged = both (Serves 0 (accesses 2 65 0) ∷ Serves 1 (accesses 2 66 0) ∷ Serves 0 (ends 3) ∷ [])
 

@@ -3,6 +3,8 @@ use Rattle.std.proofs.Common.{◌≡◌, false, ℕ, zero, suc, ◌<◌, List, [
 use Rattle.std.specs.List.{remove}
 use Rattle.std.specs.Prelude.{IfErr, IfSome, IfOk, OnOk, OnErr, Result, Ok, Err, get_or, set, replicate}
 use Rattle.std.specs.Global.{Vec}
+use Rattle.std.specs.Vec.{with_items}
+use Rattle.std.proofs.lemmas.List.{with_items_is}
 use Rattle.std.proofs.lemmas.Bool.{cases_eq}
 use Rattle.std.proofs.lemmas.List.{get_or-set_same, get_or-set_other, length-map, length-set}
 use Rattle.std.proofs.Math.ListN.{get_or-map}
@@ -19,12 +21,12 @@ use Rattle.dap_accessed.specs.declared.served.Served.{Served}
 use Rattle.dap_accessed.specs.declared.phase.OpenFile.{OpenFile}
 use Rattle.dap_accessed.specs.declared.phase.Phase.{Phase}
 use Rattle.dap_accessed.specs.declared.phase.Phase.TheVariants as phases
-use Rattle.dap_accessed.specs.Standing.{Files, file_at, place_by, with_file}
+use Rattle.dap_accessed.specs.Standing.{Files, file_at, index_by, with_file}
 use Rattle.dap_accessed.specs.Adding.{MayStore, with_new_file}
 use Rattle.dap_accessed.specs.Storing.{StoreRefused, Stores}
 use Rattle.dap_accessed.specs.Sessions.{SessionValue, IsOpenIn, session_with, open_at, phase_moved_up}
 use Rattle.dap_shared.specs.Nodes.{Event, Serves, Begins, Gives, GivesRecord, Drops, no_exchange, exchange_at, open_on, node_after, setup_with, with_record_at}
-use Rattle.dap_shared.specs.Shared.{AtFile, RecordNotAdded, SharedDrops, SharedValue, SharedGiven, SharedServes, is_held, kept_of, no_session, session_without}
+use Rattle.dap_shared.specs.Shared.{AtFile, RecordNotAdded, SharedDrops, SharedValue, SharedGiven, SharedServes, is_held, session_of_exchange, no_session, session_without}
 use Rattle.dap_shared.specs.Inner.Beside.{gone_by, session_moved_up}
 use Rattle.dap_shared.specs.Inner.Held.{HasNumber, IsHeld, MovesOn, session_at}
 use Rattle.dap_shared.proofs.Events.{history-shares}
@@ -76,14 +78,20 @@ pub held-open : (v : SharedValue) (link : ℕ) → IsHeld v → IsOpenIn v.files
 held-open v link h =
     let node = node_after v.setup h.first (length v.sessions) h.events in
     let shares = (history-shares v.setup h.first (length v.sessions) h.events h.after.links).0 in
-    let kept : session_at v.setup link v.sessions ≡ kept_of v.setup node.files (exchange_at link node) =
-    ap (λ (w : SharedValue). session_at v.setup link w.sessions) h.after.stands ∙ get_or-map (kept_of v.setup node.files) node.exchanges link no_exchange in
+    let kept : session_at v.setup link v.sessions ≡ session_of_exchange v.setup node.files (exchange_at link node) =
+    ap (λ (w : SharedValue). session_at v.setup link w.sessions) h.after.stands ∙ get_or-map (session_of_exchange v.setup node.files) node.exchanges link no_exchange in
     let files : node.files ≡ v.files = sym (ap (λ (w : SharedValue). w.files) h.after.stands) in
     let held : open_at (session_at v.setup link v.sessions).phase ≡ open_on (exchange_at link node) =
     ap (λ (s : SessionValue). open_at s.phase) kept ∙ open-kept v.setup node.files (exchange_at link node) (shares.steady link) in
     is-open v.files (session_at v.setup link v.sessions).phase
     (subst (λ (x : Option OpenFile). IfSome x (λ o. o.at < length v.files)) (sym held) (subst (λ (l : Files). IfSome (open_on (exchange_at link node)) (λ o. o.at < length l)) files (shares.within link)))
     (h.numbers link)
+
+-- the same whatever stands for a link that isn't there
+pub open-alike : (files : Files) (own other : ServerSetup) (link : ℕ) (sessions : List SessionValue) → link < length sessions → IsOpenIn files (session_at own link sessions).phase → IsOpenIn files (session_at other link sessions).phase
+open-alike files own other link [] lt held = absurd (let none : ⊥ = omega (arith, lt) in none)
+open-alike files own other zero (s ∷ sessions) lt held = held
+open-alike files own other (suc link) (s ∷ sessions) lt held = open-alike files own other link sessions (omega (arith, lt)) held
 
 -- one session was put back, and the others have moved up
 pub numbers-then : (own : ServerSetup) (sessions : List SessionValue) (link : ℕ) (r : Option OpenFile) (rest : List SessionValue) (s : SessionValue) → link < length sessions
@@ -183,7 +191,7 @@ record-held v at number body files (Ok u) h ok err = given-held v (GivesRecord a
 record-held v at number body files (Err f) h ok err = subst (λ (t : Files). IsHeld (record v { files = t })) (sym err) h
 
 -- the file of this name, where it is there
-module _ (v : SharedValue) (name : List ℕ) (at : ℕ) (found : place_by v.setup.names name v.files ≡ Some at) where
+module _ (v : SharedValue) (name : List ℕ) (at : ℕ) (found : index_by v.setup.names name v.files ≡ Some at) where
   pub may-store : (number : ℕ) (body : List ℕ) (after : FileVal) (r : Result (Unit {0}) AddFault) → Stores number body (file_at at v.files) after r → OnOk r (AtFile name v (λ k. MayStore (file_at k v.files) number body))
   may-store number body after (Ok u) s = (at, found, s.0)
   may-store number body after (Err f) s = tt
@@ -233,3 +241,18 @@ new-held own links sessions low e =
       after = new-shared own links sessions e;
       numbers = λ i. subst (λ (l : List SessionValue). HasNumber (session_at own i l).phase) (sym e) (all-fresh own links i);
     }
+
+-- ---- A slice of all sessions is as long as it was.
+
+pub served-many : (own : ServerSetup) (link : ℕ) (item : Item) (files files' : Files) (sessions sessions' : List SessionValue) (r : Result Served NoMemory)
+    → IfOk r (λ served. MovesOn own link item files sessions files' sessions' served.answers) → OnErr r ((files' ≡ files) × (sessions' ≡ sessions)) → length sessions' ≡ length sessions
+served-many own link item files files' sessions sessions' (Ok served) ok err =
+    ap (λ (l : List SessionValue). length l) ok.back
+    ∙ length-set ok.others link ok.session
+    ∙ ap (λ (l : List SessionValue). length l) ok.moves.moved
+    ∙ length-map (set sessions link (no_session own)) (session_moved_up (gone_by files files' (session_at own link sessions).phase))
+    ∙ length-set sessions link (no_session own)
+served-many own link item files files' sessions sessions' (Err f) ok err = ap (λ (l : List SessionValue). length l) err.1
+
+pub refilled : (v : Vec SessionValue) (ws : List SessionValue) → length ws ≡ length v.items → (with_items v ws).items ≡ ws
+refilled v ws many = with_items_is v ws (many ∙ sym v.ok.0)

@@ -3,6 +3,7 @@ pub mod Shares
 pub mod Events
 pub mod OneLink
 pub mod PutBack
+pub mod Among
 pub mod Stepping
 pub mod Growing
 pub mod Held

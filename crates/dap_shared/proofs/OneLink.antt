@@ -11,7 +11,7 @@ use Rattle.dap_accessed.specs.Accesses.{refuse_access}
 use Rattle.dap_accessed.specs.Effects.{Does}
 use Rattle.dap_accessed.specs.Standing.{Files, start}
 use Rattle.dap_accessed.specs.Groups.{Grouped, stands_after}
-use Rattle.dap_accessed.specs.Groups.{one_more, next_group}
+use Rattle.dap_accessed.specs.Groups.{after_item, next_group}
 use Rattle.dap_accessed.proofs.ForCallers.{cut-more}
 use Rattle.dap_shared.specs.Sharing.{is_locked, asks_to_open, file_locked}
 use Rattle.dap_shared.specs.Nodes.{Node, Serves, Begins, exchange_of, after_all, after_event, after_more, more_beside, node_after, setup_with}
@@ -28,13 +28,13 @@ module _ (own : ServerSetup) (most : Rights) where
   abbrev pub node_of : Grouped → Node
   node_of c = record { files = c.standing.scene.files; exchanges = exchange_of most c ∷ [] }
 
-  pub alone : (c : Grouped) (item : Item) → more_beside its (None ∷ []) c item ≡ one_more its c item
+  pub alone : (c : Grouped) (item : Item) → more_beside its (None ∷ []) c item ≡ after_item its c item
   alone c item =
       let s = c.standing in
-      ap (λ (b : Bool). if b then next_group s item (Does (refuse_access s.scene (bare_status file_locked))) else one_more its c item)
+      ap (λ (b : Bool). if b then next_group s item (Does (refuse_access s.scene (bare_status file_locked))) else after_item its c item)
       (none-locked (asks_to_open its s.scene.files s.place item))
 
-  one-served : (c : Grouped) (item : Item) → after_event own (node_of c) (Serves 0 item) ≡ node_of (one_more its c item)
+  one-served : (c : Grouped) (item : Item) → after_event own (node_of c) (Serves 0 item) ≡ node_of (after_item its c item)
   one-served c item = ap (λ (d : Grouped). after_more most 0 c d (exchange_of most c ∷ [])) (alone c item)
 
   pub served-on : (first : Files) (before more : List Item) →

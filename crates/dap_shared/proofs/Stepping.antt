@@ -25,14 +25,14 @@ use Rattle.dap_accessed.specs.Records.{Change, Putting, Updating}
 use Rattle.dap_accessed.specs.Replies.{bare_status}
 use Rattle.dap_accessed.specs.Accesses.{refuse_access}
 use Rattle.dap_accessed.specs.Effects.{Begun, Does}
-use Rattle.dap_accessed.specs.Groups.{Grouped, answers_of, next_group, one_more}
+use Rattle.dap_accessed.specs.Groups.{Grouped, answers_of, next_group, after_item}
 use Rattle.dap_accessed.specs.Present.{Present, present_of, phase_of, phase_at, phase_within, looked_back}
 use Rattle.dap_accessed.specs.Served.{AllAtMost, Answered}
-use Rattle.dap_accessed.specs.Sessions.{SessionValue, asked_in, joined, moved_up, session_with, open_at, phase_moved_up, session_of}
+use Rattle.dap_accessed.specs.Sessions.{SessionValue, asked_in, with_files, moved_up, session_with, open_at, phase_moved_up, session_of}
 use Rattle.dap_accessed.proofs.ForCallers.{access-keeps}
 use Rattle.dap_shared.specs.Sharing.{barred_by, bars, file_locked, is_file, open_in, place_moved_up, is_locked, asks_to_open}
 use Rattle.dap_shared.specs.Nodes.{Exchange, Node, Event, Serves, Begins, Gives, GivesRecord, Drops, new_exchange, no_exchange, new_node, exchange_at, exchange_of, end_at, before_files, open_on, open_beside, more_beside, answers_beside, begun_moved_up, exchange_moved_up, exchange_without, removed_by, is_open, without_file, setup_on, setup_with, after_event, after_all, asked_on, is_locked_out, locks_out, node_after}
-use Rattle.dap_shared.specs.Shared.{SharedValue, SharedAfter, SharedBegins, SharedDrops, SharedGiven, SharedServes, is_held, kept_of, no_session, session_without, shared_of}
+use Rattle.dap_shared.specs.Shared.{SharedValue, SharedAfter, SharedBegins, SharedDrops, SharedGiven, SharedServes, is_held, session_of_exchange, no_session, session_without, shared_of}
 use Rattle.dap_shared.specs.Keeping.{AreOf}
 use Rattle.dap_shared.specs.Inner.Beside.{is_barred, session_moved_up, gone_by, MovesBeside}
 use Rattle.dap_shared.specs.Inner.Beside as beside
@@ -66,16 +66,16 @@ phase-moved : (r : ℕ) (files : Files) (exchange : Exchange) (begun : Option Be
 phase-moved r files exchange None = at-moved r exchange.past exchange.place
 phase-moved r files exchange (Some b) = within-moved r b.change b.opened b.stream
 
-exchange-moved : (own : ServerSetup) (files after : Files) (r : Option OpenFile) (exchange : Exchange) → kept_of own after (exchange_moved_up r exchange) ≡ session_moved_up r (kept_of own files exchange)
+exchange-moved : (own : ServerSetup) (files after : Files) (r : Option OpenFile) (exchange : Exchange) → session_of_exchange own after (exchange_moved_up r exchange) ≡ session_moved_up r (session_of_exchange own files exchange)
 exchange-moved own files after None exchange = refl
 exchange-moved own files after (Some removed) exchange =
-    ap (λ (p : Phase). let s = kept_of own files exchange in let t : SessionValue = record { own = s.own; setup = s.setup; limit = s.limit; kept = s.kept; phase = p } in t) (phase-moved removed.at files exchange exchange.begun)
+    ap (λ (p : Phase). let s = session_of_exchange own files exchange in let t : SessionValue = record { own = s.own; setup = s.setup; limit = s.limit; kept = s.kept; phase = p } in t) (phase-moved removed.at files exchange exchange.begun)
 
-exchanges-moved : (own : ServerSetup) (files after : Files) (r : Option OpenFile) (exchanges : List Exchange) → map (kept_of own after) (map (exchange_moved_up r) exchanges) ≡ map (session_moved_up r) (map (kept_of own files) exchanges)
+exchanges-moved : (own : ServerSetup) (files after : Files) (r : Option OpenFile) (exchanges : List Exchange) → map (session_of_exchange own after) (map (exchange_moved_up r) exchanges) ≡ map (session_moved_up r) (map (session_of_exchange own files) exchanges)
 exchanges-moved own files after r [] = refl
 exchanges-moved own files after r (exchange ∷ exchanges) =
-    ap (λ (s : SessionValue). s ∷ map (kept_of own after) (map (exchange_moved_up r) exchanges)) (exchange-moved own files after r exchange)
-    ∙ ap (λ (l : List SessionValue). session_moved_up r (kept_of own files exchange) ∷ l) (exchanges-moved own files after r exchanges)
+    ap (λ (s : SessionValue). s ∷ map (session_of_exchange own after) (map (exchange_moved_up r) exchanges)) (exchange-moved own files after r exchange)
+    ∙ ap (λ (l : List SessionValue). session_moved_up r (session_of_exchange own files exchange) ∷ l) (exchanges-moved own files after r exchanges)
 
 -- ---- What is open, and what is asked for, by the phase.
 
@@ -138,11 +138,11 @@ phase-asks own files s (Some b) item h = within-asks own files b.change b.opened
 
 -- ---- What bars it.
 
-pub open-kept : (own : ServerSetup) (files : Files) (exchange : Exchange) → IsSteadyExchange exchange → open_at (kept_of own files exchange).phase ≡ open_on exchange
+pub open-kept : (own : ServerSetup) (files : Files) (exchange : Exchange) → IsSteadyExchange exchange → open_at (session_of_exchange own files exchange).phase ≡ open_on exchange
 open-kept own files exchange h = phase-open (before_files files exchange).standing exchange.begun h.begun
 
 -- what is asked for on a link, with its rights
-asks-kept : (own its : ServerSetup) (files : Files) (exchange : Exchange) (item : Item) → IsSteadyExchange exchange → asked_in its files (kept_of own files exchange).phase item ≡ asks_to_open its files exchange.place item
+asks-kept : (own its : ServerSetup) (files : Files) (exchange : Exchange) (item : Item) → IsSteadyExchange exchange → asked_in its files (session_of_exchange own files exchange).phase item ≡ asks_to_open its files exchange.place item
 asks-kept own its files exchange item h = phase-asks its files (before_files files exchange).standing exchange.begun item h.begun
 
 -- what a session asks to open
@@ -154,11 +154,11 @@ asked-kept : (v : SharedValue) (link : ℕ) (item : Item) (first : Files) (event
 asked-kept v link item first events h =
     let node = node_after v.setup first (length v.sessions) events in
     let shares = (history-shares v.setup first (length v.sessions) events h.links).0 in
-    let one : session_at v.setup link v.sessions ≡ kept_of v.setup node.files (exchange_at link node) =
-    ap (λ (w : SharedValue). session_at v.setup link w.sessions) h.stands ∙ get_or-map (kept_of v.setup node.files) node.exchanges link no_exchange in
+    let one : session_at v.setup link v.sessions ≡ session_of_exchange v.setup node.files (exchange_at link node) =
+    ap (λ (w : SharedValue). session_at v.setup link w.sessions) h.stands ∙ get_or-map (session_of_exchange v.setup node.files) node.exchanges link no_exchange in
     let files : v.files ≡ node.files = ap (λ (w : SharedValue). w.files) h.stands in
     ap (λ (s : SessionValue). asked_by s v.files item) one
-    ∙ ap (λ (f : Files). asked_by (kept_of v.setup node.files (exchange_at link node)) f item) files
+    ∙ ap (λ (f : Files). asked_by (session_of_exchange v.setup node.files (exchange_at link node)) f item) files
     ∙ asks-kept v.setup (setup_on v.setup link node) node.files (exchange_at link node) item (shares.steady link)
 
 -- whether another link locks it out
@@ -168,8 +168,8 @@ pub locks-kept : (v : SharedValue) (other link : ℕ) (item : Item) (first : Fil
 locks-kept v other link item first events h =
     let node = node_after v.setup first (length v.sessions) events in
     let shares = (history-shares v.setup first (length v.sessions) events h.links).0 in
-    let two : session_at v.setup other v.sessions ≡ kept_of v.setup node.files (exchange_at other node) =
-    ap (λ (w : SharedValue). session_at v.setup other w.sessions) h.stands ∙ get_or-map (kept_of v.setup node.files) node.exchanges other no_exchange in
+    let two : session_at v.setup other v.sessions ≡ session_of_exchange v.setup node.files (exchange_at other node) =
+    ap (λ (w : SharedValue). session_at v.setup other w.sessions) h.stands ∙ get_or-map (session_of_exchange v.setup node.files) node.exchanges other no_exchange in
     let asked = asked-kept v link item first events h in
     let held : open_at (session_at v.setup other v.sessions).phase ≡ open_on (exchange_at other node) =
     ap (λ (s : SessionValue). open_at s.phase) two ∙ open-kept v.setup node.files (exchange_at other node) (shares.steady other) in
@@ -187,14 +187,14 @@ locks-told v other link item s t told apart one two is first events h =
     ∙ locks-kept v other link item first events h
 
 any-kept : (own : ServerSetup) (files : Files) (o : OpenFile) (exchanges : List Exchange) → ((i : ℕ) → IsSteadyExchange (get_or exchanges i no_exchange)) →
-    list_any (λ (s : SessionValue). bars o (open_at s.phase)) (map (kept_of own files) exchanges) ≡ list_any (bars o) (map open_on exchanges)
+    list_any (λ (s : SessionValue). bars o (open_at s.phase)) (map (session_of_exchange own files) exchanges) ≡ list_any (bars o) (map open_on exchanges)
 any-kept own files o [] h = refl
 any-kept own files o (exchange ∷ exchanges) h =
-    ap (λ (x : Option OpenFile). bars o x || list_any (λ (s : SessionValue). bars o (open_at s.phase)) (map (kept_of own files) exchanges)) (open-kept own files exchange (h 0))
+    ap (λ (x : Option OpenFile). bars o x || list_any (λ (s : SessionValue). bars o (open_at s.phase)) (map (session_of_exchange own files) exchanges)) (open-kept own files exchange (h 0))
     ∙ ap (λ b. bars o (open_on exchange) || b) (any-kept own files o exchanges (λ i. h (suc i)))
 
 barred-is : (own : ServerSetup) (files : Files) (asked : Option OpenFile) (exchanges : List Exchange) → ((i : ℕ) → IsSteadyExchange (get_or exchanges i no_exchange)) →
-    is_barred (map (kept_of own files) exchanges) asked ≡ is_locked (map open_on exchanges) asked
+    is_barred (map (session_of_exchange own files) exchanges) asked ≡ is_locked (map open_on exchanges) asked
 barred-is own files None exchanges h = refl
 barred-is own files (Some o) exchanges h = any-kept own files o exchanges h
 
@@ -204,7 +204,7 @@ pub locked-kept : (v : SharedValue) (link : ℕ) (item : Item) (first : Files) (
 locked-kept v link item first events h =
     let node = node_after v.setup first (length v.sessions) events in
     let shares = (history-shares v.setup first (length v.sessions) events h.links).0 in
-    let sessions : v.sessions ≡ map (kept_of v.setup node.files) node.exchanges = ap (λ (w : SharedValue). w.sessions) h.stands in
+    let sessions : v.sessions ≡ map (session_of_exchange v.setup node.files) node.exchanges = ap (λ (w : SharedValue). w.sessions) h.stands in
     ap (is_barred v.sessions) (asked-kept v link item first events h)
     ∙ ap (λ (l : List SessionValue). is_barred l (asked_on v.setup link node item)) sessions
     ∙ barred-is v.setup node.files (asked_on v.setup link node item) node.exchanges shares.steady
@@ -245,7 +245,7 @@ module _ (own : ServerSetup) (node : Node) (link : ℕ) (item : Item) (h : IsSha
   before = end_at link node
 
   abbrev kept : Exchange → SessionValue
-  kept = kept_of own node.files
+  kept = session_of_exchange own node.files
 
   abbrev session : SessionValue
   session = kept (exchange_at link node)
@@ -276,8 +276,8 @@ module _ (own : ServerSetup) (node : Node) (link : ℕ) (item : Item) (h : IsSha
     pub answered : Answered before.standing.scene.limit messages answers
     pub within : AllAtMost greatest_message (bodies answers.items)
 
-  by-lock : (locked : Bool) (files : Files) (s : SessionValue) (answers : Vec (Vec ℕ)) → locked ≡ is_locked others asked → beside.Does locked item node.files session files s answers →
-      Leaves (if locked then locked_group before.standing item else one_more its before item) (if locked then bare_status file_locked ∷ [] else answers_of its before item) files s answers
+  by-lock : (locked : Bool) (files : Files) (s : SessionValue) (answers : Vec (Vec ℕ)) → locked ≡ is_locked others asked → beside.ServesOrRefuses locked item node.files session files s answers →
+      Leaves (if locked then locked_group before.standing item else after_item its before item) (if locked then bare_status file_locked ∷ [] else answers_of its before item) files s answers
   by-lock true files s answers e does =
       record {
         same_files = does.0;
@@ -286,7 +286,7 @@ module _ (own : ServerSetup) (node : Node) (link : ℕ) (item : Item) (h : IsSha
         within = at-most session.limit greatest_message does.3 (bodies answers.items) does.2.within;
       }
   by-lock false files s answers e does =
-      let stands : joined files s ≡ present_of its (one_more its before item) = does.stands before refl ∙ ap (λ (n : ServerSetup). present_of n (one_more its before item)) does.same_setup in
+      let stands : with_files files s ≡ present_of its (after_item its before item) = does.stands before refl ∙ ap (λ (n : ServerSetup). present_of n (after_item its before item)) does.same_setup in
       record {
         same_files = ap (λ (p : Present). p.files) stands;
         same_session = ap session_of stands;
@@ -294,10 +294,10 @@ module _ (own : ServerSetup) (node : Node) (link : ℕ) (item : Item) (h : IsSha
         within = at-most session.limit greatest_message does.most (bodies answers.items) does.within;
       }
 
-  leaves : (files : Files) (s : SessionValue) (answers : Vec (Vec ℕ)) → beside.Does (is_barred kept_beside (asked_by session node.files item)) item node.files session files s answers →
+  leaves : (files : Files) (s : SessionValue) (answers : Vec (Vec ℕ)) → beside.ServesOrRefuses (is_barred kept_beside (asked_by session node.files item)) item node.files session files s answers →
       Leaves (more_beside its others before item) (answers_beside its others before item) files s answers
   leaves files s answers does =
-      subst (λ (b : Bool). Leaves (if b then locked_group before.standing item else one_more its before item) (if b then bare_status file_locked ∷ [] else answers_of its before item) files s answers) lock-is
+      subst (λ (b : Bool). Leaves (if b then locked_group before.standing item else after_item its before item) (if b then bare_status file_locked ∷ [] else answers_of its before item) files s answers) lock-is
       (by-lock (is_barred kept_beside (asked_by session node.files item)) files s answers lock-is does)
 
   abbrev after : Grouped
@@ -317,7 +317,7 @@ module _ (own : ServerSetup) (node : Node) (link : ℕ) (item : Item) (h : IsSha
       ap (λ (x : Option OpenFile). if nat_lt (length d.standing.scene.files) (length node.files) then x else None) (sym (phase-open before.standing before.begun (h.steady link).begun))
       ∙ ap (λ (l : Files). gone_by node.files l session.phase) (sym left.same_files) in
       ap (value d.standing.scene.files)
-      (map-set (kept_of own d.standing.scene.files) (map (exchange_moved_up r) node.exchanges) link (exchange_of most d)
+      (map-set (session_of_exchange own d.standing.scene.files) (map (exchange_moved_up r) node.exchanges) link (exchange_of most d)
       ∙ ap (λ (l : List SessionValue). set l link (session_of (present_of its d))) (exchanges-moved own node.files d.standing.scene.files r node.exchanges)
       ∙ ap (λ (x : Option OpenFile). set (map (session_moved_up x) (map kept node.exchanges)) link (session_of (present_of its d))) same
       ∙ ap (set (map (session_moved_up g) (map kept node.exchanges)) link) (sym left.same_session)
@@ -369,12 +369,12 @@ module _ (old : SharedValue) (link : ℕ) (item : Item) (files : Files) (rest : 
     abbrev shares : IsShared node
     shares = (history-shares old.setup first (length old.sessions) events h.links).0
 
-    kept-link : session_at old.setup link (shared_of old.setup node).sessions ≡ kept_of old.setup node.files (exchange_at link node)
-    kept-link = get_or-map (kept_of old.setup node.files) node.exchanges link no_exchange
+    kept-link : session_at old.setup link (shared_of old.setup node).sessions ≡ session_of_exchange old.setup node.files (exchange_at link node)
+    kept-link = get_or-map (session_of_exchange old.setup node.files) node.exchanges link no_exchange
 
-    then-moves : MovesBeside item node.files (set (map (kept_of old.setup node.files) node.exchanges) link (no_session old.setup)) (kept_of old.setup node.files (exchange_at link node)) files rest s answers
+    then-moves : MovesBeside item node.files (set (map (session_of_exchange old.setup node.files) node.exchanges) link (no_session old.setup)) (session_of_exchange old.setup node.files (exchange_at link node)) files rest s answers
     then-moves =
-        subst (λ (t : SessionValue). MovesBeside item node.files (set (map (kept_of old.setup node.files) node.exchanges) link (no_session old.setup)) t files rest s answers) kept-link
+        subst (λ (t : SessionValue). MovesBeside item node.files (set (map (session_of_exchange old.setup node.files) node.exchanges) link (no_session old.setup)) t files rest s answers) kept-link
         (subst (λ (v : SharedValue). MovesBeside item v.files (set v.sessions link (no_session old.setup)) (session_at old.setup link v.sessions) files rest s answers) h.stands moves)
 
     then-stands : SharedAfter first (events ++ Serves link item ∷ []) new
@@ -432,7 +432,7 @@ begins-shared old link most lt =
       stands = λ first events h. (let node = node_after old.setup first (length old.sessions) events in
           after-more first events (Begins link most) old new h (lt, tt) refl links
           (ap (λ (v : SharedValue). let w : SharedValue = record { own = v.own; setup = old.setup; files = v.files; sessions = set v.sessions link fresh } in w) h.stands
-          ∙ ap (λ (l : List SessionValue). let w : SharedValue = record { own = old.setup.identity.bufsiz; setup = old.setup; files = node.files; sessions = l } in w) (sym (map-set (kept_of old.setup node.files) node.exchanges link (new_exchange most)))));
+          ∙ ap (λ (l : List SessionValue). let w : SharedValue = record { own = old.setup.identity.bufsiz; setup = old.setup; files = node.files; sessions = l } in w) (sym (map-set (session_of_exchange old.setup node.files) node.exchanges link (new_exchange most)))));
       rights = ap (λ (s : SessionValue). s.setup.most) (get_or-set_same old.sessions link fresh (no_session old.setup) lt);
       same_files = refl;
       same_own = refl;
@@ -444,15 +444,15 @@ phase-same : (files after : Files) (exchange : Exchange) (begun : Option Begun) 
 phase-same files after exchange None = refl
 phase-same files after exchange (Some b) = refl
 
-kept-same : (own : ServerSetup) (files after : Files) (exchange : Exchange) → kept_of own files exchange ≡ kept_of own after exchange
+kept-same : (own : ServerSetup) (files after : Files) (exchange : Exchange) → session_of_exchange own files exchange ≡ session_of_exchange own after exchange
 kept-same own files after exchange =
-    ap (λ (p : Phase). let s = kept_of own files exchange in let t : SessionValue = record { own = s.own; setup = s.setup; limit = s.limit; kept = s.kept; phase = p } in t) (phase-same files after exchange exchange.begun)
+    ap (λ (p : Phase). let s = session_of_exchange own files exchange in let t : SessionValue = record { own = s.own; setup = s.setup; limit = s.limit; kept = s.kept; phase = p } in t) (phase-same files after exchange exchange.begun)
 
-all-kept : (own : ServerSetup) (files after : Files) (exchanges : List Exchange) → map (kept_of own files) exchanges ≡ map (kept_of own after) exchanges
+all-kept : (own : ServerSetup) (files after : Files) (exchanges : List Exchange) → map (session_of_exchange own files) exchanges ≡ map (session_of_exchange own after) exchanges
 all-kept own files after [] = refl
 all-kept own files after (exchange ∷ exchanges) =
-    ap (λ (s : SessionValue). s ∷ map (kept_of own files) exchanges) (kept-same own files after exchange)
-    ∙ ap (λ (l : List SessionValue). kept_of own after exchange ∷ l) (all-kept own files after exchanges)
+    ap (λ (s : SessionValue). s ∷ map (session_of_exchange own files) exchanges) (kept-same own files after exchange)
+    ∙ ap (λ (l : List SessionValue). session_of_exchange own after exchange ∷ l) (all-kept own files after exchanges)
 
 -- an event that gives files, and leaves the links
 pub given-shared : (old : SharedValue) (event : Event) (f : Files → Files) → ((links : ℕ) → AreOf links (event ∷ [])) → ((node : Node) → after_event old.setup node event ≡ record node { files = f node.files })
@@ -471,17 +471,17 @@ given-shared old event f of does =
 
 -- ---- A file is dropped.
 
-withouts-moved : (own : ServerSetup) (files after : Files) (at : ℕ) (exchanges : List Exchange) → map (kept_of own after) (map (exchange_without at) exchanges) ≡ map (session_without at) (map (kept_of own files) exchanges)
+withouts-moved : (own : ServerSetup) (files after : Files) (at : ℕ) (exchanges : List Exchange) → map (session_of_exchange own after) (map (exchange_without at) exchanges) ≡ map (session_without at) (map (session_of_exchange own files) exchanges)
 withouts-moved own files after at [] = refl
 withouts-moved own files after at (exchange ∷ exchanges) =
-    ap (λ (s : SessionValue). s ∷ map (kept_of own after) (map (exchange_without at) exchanges)) (exchange-moved own files after (Some (dropped at)) exchange)
-    ∙ ap (λ (l : List SessionValue). session_without at (kept_of own files exchange) ∷ l) (withouts-moved own files after at exchanges)
+    ap (λ (s : SessionValue). s ∷ map (session_of_exchange own after) (map (exchange_without at) exchanges)) (exchange-moved own files after (Some (dropped at)) exchange)
+    ∙ ap (λ (l : List SessionValue). session_without at (session_of_exchange own files exchange) ∷ l) (withouts-moved own files after at exchanges)
 
 any-held : (own : ServerSetup) (files : Files) (at : ℕ) (exchanges : List Exchange) → ((i : ℕ) → IsSteadyExchange (get_or exchanges i no_exchange)) →
-    is_held at (map (kept_of own files) exchanges) ≡ list_any (λ (exchange : Exchange). is_file at (open_on exchange)) exchanges
+    is_held at (map (session_of_exchange own files) exchanges) ≡ list_any (λ (exchange : Exchange). is_file at (open_on exchange)) exchanges
 any-held own files at [] h = refl
 any-held own files at (exchange ∷ exchanges) h =
-    ap (λ (x : Option OpenFile). is_file at x || is_held at (map (kept_of own files) exchanges)) (open-kept own files exchange (h 0))
+    ap (λ (x : Option OpenFile). is_file at x || is_held at (map (session_of_exchange own files) exchanges)) (open-kept own files exchange (h 0))
     ∙ ap (λ b. is_file at (open_on exchange) || b) (any-held own files at exchanges (λ i. h (suc i)))
 
 pub drops-shared : (old : SharedValue) (at : ℕ) → is_held at old.sessions ≡ false
@@ -510,11 +510,11 @@ pub rights-kept : (v : SharedValue) (link : ℕ) (first : Files) (events : List 
 rights-kept v link first events h =
     let node = node_after v.setup first (length v.sessions) events in
     ap (λ (w : SharedValue). (session_at v.setup link w.sessions).setup.most) h.stands
-    ∙ ap (λ (s : SessionValue). s.setup.most) (get_or-map (kept_of v.setup node.files) node.exchanges link no_exchange)
+    ∙ ap (λ (s : SessionValue). s.setup.most) (get_or-map (session_of_exchange v.setup node.files) node.exchanges link no_exchange)
 
 -- ---- A new node.
 
-all-new : (own : ServerSetup) (first : Files) (links : ℕ) → replicate links (session_with own) ≡ map (kept_of own first) (replicate links (new_exchange own.most))
+all-new : (own : ServerSetup) (first : Files) (links : ℕ) → replicate links (session_with own) ≡ map (session_of_exchange own first) (replicate links (new_exchange own.most))
 all-new own first zero = refl
 all-new own first (suc links) = ap (λ (l : List SessionValue). session_with own ∷ l) (all-new own first links)
 

@@ -17,7 +17,7 @@ use Rattle.dap_accessed.specs.Sessions.{moved_up}
 use Rattle.dap_accessed.specs.Replies.{bare_status}
 use Rattle.dap_accessed.specs.Accesses.{refuse_access}
 use Rattle.dap_accessed.specs.Effects.{Begun, Does}
-use Rattle.dap_accessed.specs.Groups.{Grouped, answers_in, answers_of, next_group, one_more}
+use Rattle.dap_accessed.specs.Groups.{Grouped, answers_in, answers_of, next_group, after_item}
 use Rattle.dap_accessed.specs.Adding.{with_new_file}
 use Rattle.dap_shared.specs.Sharing.{file_locked, open_in, asks_to_open, barred_by, is_file, is_locked, place_moved_up}
 
@@ -43,7 +43,7 @@ new_exchange most = record { most = most; limit = least_buffer; place = Fresh; p
 abbrev pub no_exchange : Exchange
 no_exchange = new_exchange all_rights
 
--- so many links, and these files: a link that never began has the rights of the node's setup
+-- this many links, and these files: a link that never began has the rights of the node's setup
 abbrev pub new_node : (own : ServerSetup) → Files → (links : ℕ) → Node
 new_node own first links = record { files = first; exchanges = replicate links (new_exchange own.most) }
 
@@ -88,7 +88,7 @@ more_beside own others c item =
     let s = c.standing in
     if is_locked others (asks_to_open own s.scene.files s.place item)
     then next_group s item (Does (refuse_access s.scene (bare_status file_locked)))
-    else one_more own c item
+    else after_item own c item
 
 -- its answers
 abbrev pub answers_beside : (own : ServerSetup) → (others : List (Option OpenFile)) → Grouped → Item → List Message
@@ -179,7 +179,7 @@ abbrev pub after_all : (own : ServerSetup) → Node → List Event → Node
 after_all own node [] = node
 after_all own node (event ∷ events) = after_all own (after_event own node event) events
 
--- where a node of so many links, with this setup, which had these files at first, stands after these events
+-- where a node of this many links, with this setup, which had these files at first, stands after these events
 abbrev pub node_after : (own : ServerSetup) → Files → (links : ℕ) → List Event → Node
 node_after own first links events = after_all own (new_node own first links) events
 

@@ -12,7 +12,7 @@ use Rattle.dap_accessed.specs.declared.setup.Names.{Names}
 use Rattle.dap_accessed.specs.declared.served.Served.{Served}
 use Rattle.dap_accessed.specs.declared.fault.AddFault.{AddFault}
 use Rattle.dap_accessed.specs.declared.fault.AddFault.TheVariants as fault
-use Rattle.dap_accessed.specs.Standing.{Files, file_at, place_by}
+use Rattle.dap_accessed.specs.Standing.{Files, file_at, index_by}
 use Rattle.dap_accessed.specs.Setup.{all_rights}
 use Rattle.dap_accessed.specs.Storing.{StoreRefused}
 use Rattle.dap_accessed.specs.Present.{present_of}
@@ -35,13 +35,13 @@ pub record SharedValue : Type 0 where
   pub sessions : List SessionValue
 
 -- what is kept of an exchange
-abbrev pub kept_of : (own : ServerSetup) → Files → Exchange → SessionValue
-kept_of own files exchange = session_of (present_of (setup_with exchange.most own) (before_files files exchange))
+abbrev pub session_of_exchange : (own : ServerSetup) → Files → Exchange → SessionValue
+session_of_exchange own files exchange = session_of (present_of (setup_with exchange.most own) (before_files files exchange))
 
 -- what is kept of a node
 abbrev pub shared_of : (own : ServerSetup) → Node → SharedValue
 shared_of own node =
-    record { own = own.identity.bufsiz; setup = own; files = node.files; sessions = map (kept_of own node.files) node.exchanges }
+    record { own = own.identity.bufsiz; setup = own; files = node.files; sessions = map (session_of_exchange own node.files) node.exchanges }
 
 -- the node is as one with its setup, these files at first and as many links, after these events
 pub record SharedAfter (first : Files) (events : List Event) (v : SharedValue) : Type 0 where
@@ -97,17 +97,17 @@ pub record SharedGiven (event : Event) (old new : SharedValue) : Type 0 where
 
 -- why a file isn't added, the first reason in this order
 abbrev pub NotAdded : (names : Names) → Files → (name : List ℕ) → AddFault → Type 0
-NotAdded names files name fault.FileExists = place_by names name files ≡ None → ⊥
-NotAdded names files name fault.NoMemory = place_by names name files ≡ None
+NotAdded names files name fault.FileExists = index_by names name files ≡ None → ⊥
+NotAdded names files name fault.NoMemory = index_by names name files ≡ None
 NotAdded names files name _ = ⊥
 
 -- a file has this name, as the node compares names, and of its index this is true
 abbrev pub AtFile : (name : List ℕ) → SharedValue → (Says : ℕ → Type 0) → Type 0
-AtFile name v Says = (at : ℕ) × (place_by v.setup.names name v.files ≡ Some at) × Says at
+AtFile name v Says = (at : ℕ) × (index_by v.setup.names name v.files ≡ Some at) × Says at
 
 -- why a record isn't added to the file of this name, the first reason in this order
 abbrev pub RecordNotAdded : SharedValue → (name : List ℕ) → (number : ℕ) → (body : List ℕ) → AddFault → Type 0
-RecordNotAdded v name number body fault.NoFile = place_by v.setup.names name v.files ≡ None
+RecordNotAdded v name number body fault.NoFile = index_by v.setup.names name v.files ≡ None
 RecordNotAdded v name number body fault.Busy = ⊥
 RecordNotAdded v name number body fault.FileExists = ⊥
 RecordNotAdded v name number body f = AtFile name v (λ at. StoreRefused (file_at at v.files) number body f)
@@ -134,5 +134,5 @@ pub record SharedDrops (at : ℕ) (old new : SharedValue) : Type 0 where
 
 -- why a file isn't removed: none has this name, or a link has it open
 abbrev pub NotRemoved : SharedValue → (name : List ℕ) → RemoveFault → Type 0
-NotRemoved v name removing.NoFile = place_by v.setup.names name v.files ≡ None
+NotRemoved v name removing.NoFile = index_by v.setup.names name v.files ≡ None
 NotRemoved v name removing.Busy = AtFile name v (λ at. is_held at v.sessions ≡ true)

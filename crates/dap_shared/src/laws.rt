@@ -37,7 +37,8 @@ pub fn writers_are_alone()
 pub fn a_locked_file_has_a_holder()
     ensures holder { (own : ServerSetup) (node : Node) (link : ℕ) (item : TheItem)
         → IsTrue (is_locked_out own link node item)
-        → (other : ℕ) × (other < length node.exchanges) × IsTrue (locks_out own other link node item) }
+        → (other : ℕ) × (other < length node.exchanges)
+        × IsTrue (locks_out own other link node item) }
     ensures locked { (own : ServerSetup) (node : Node) (link other : ℕ) (item : TheItem)
         → other < length node.exchanges → IsTrue (locks_out own other link node item)
         → IsTrue (is_locked_out own link node item) }
@@ -59,7 +60,8 @@ pub fn answers_grow_on()
         (item : TheItem) → link < links
         → AnswersOn link own first links (events ++ Serves link item ∷ [])
         ≡ AnswersOn link own first links events ++ added_on link own first links events item }
-    ensures others { (own : ServerSetup) (first : Files) (links : ℕ) (events : List Event) (link other : ℕ)
+    ensures others { (own : ServerSetup) (first : Files) (links : ℕ) (events : List Event)
+        (link other : ℕ)
         (item : TheItem) → other ≢ link
         → AnswersOn other own first links (events ++ Serves link item ∷ [])
         ≡ AnswersOn other own first links events }
@@ -70,12 +72,14 @@ pub fn answers_grow_on()
 pub fn a_drop_leaves_what_is_open()
     ensures busy { (own : ServerSetup) (node : Node) (at : ℕ)
         → IsTrue (is_open at node) → after_event own node (Drops at) ≡ node }
-    ensures stays { (own : ServerSetup) (first : Files) (links : ℕ) (events : List Event) (link at : ℕ)
+    ensures stays { (own : ServerSetup) (first : Files) (links : ℕ) (events : List Event)
+        (link at : ℕ)
         (held : OpenFile) → AreOf links events
         → open_on (exchange_at link (node_after own first links events)) ≡ Some held
         → HoldsStill link (node_after own first links events)
         (after_event own (node_after own first links events) (Drops at)) held }
-    ensures answers { (own : ServerSetup) (first : Files) (links : ℕ) (events : List Event) (link at : ℕ)
+    ensures answers { (own : ServerSetup) (first : Files) (links : ℕ) (events : List Event)
+        (link at : ℕ)
         → AnswersOn link own first links (events ++ Drops at ∷ [])
         ≡ AnswersOn link own first links events }
 {}
@@ -83,6 +87,7 @@ pub fn a_drop_leaves_what_is_open()
 /// A link has the rights with which it began last, whatever is served and whatever other links do; one that never began
 /// has those of the node's setup.
 pub fn a_link_keeps_its_rights()
-    ensures { (own : ServerSetup) (first : Files) (links : ℕ) (events : List Event) (link : ℕ) → link < links
+    ensures { (own : ServerSetup) (first : Files) (links : ℕ) (events : List Event) (link : ℕ)
+        → link < links
         → (exchange_at link (node_after own first links events)).most ≡ most_on link own.most events }
 {}

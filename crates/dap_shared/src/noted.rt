@@ -5,7 +5,7 @@ ghost use Rattle.dap_msg.specs.BothEnds.{least_buffer};
 ghost use Rattle.rec_file.specs.Shapes.{is_shape};
 ghost use Rattle.dap_accessed.specs.Adding.{MayStore, with_new_file};
 ghost use Rattle.dap_accessed.specs.Setup.{IsServerSetup, plain_setup};
-ghost use Rattle.dap_accessed.specs.Standing.{Files, file_at, place_by};
+ghost use Rattle.dap_accessed.specs.Standing.{Files, file_at, index_by};
 ghost use Rattle.dap_shared.specs.Nodes.{Event, Gives, GivesRecord, exchange_at, node_after, with_record_at};
 ghost use Rattle.dap_shared.specs.Noted.{IsLowest, NotedServed};
 ghost use Rattle.dap_shared.specs.Inner.Lower.{IsLower};
@@ -102,7 +102,7 @@ fn locking(shared: &SharedFiles, addresses: &[u16], link: usize, item: &Item<'_>
     }
 }
 
-/// So many addresses 0.
+/// This many addresses 0.
 fn no_addresses(alloc: Global, links: usize) -> Result<Vec<u16>, NoMemory>
     ensures { IfOk result (λ addresses. addresses.items ≡ replicate links 0) }
 {
@@ -114,7 +114,7 @@ fn no_addresses(alloc: Global, links: usize) -> Result<Vec<u16>, NoMemory>
 }
 
 impl NotedFiles {
-    /// No files, and so many links on which no Config was served, with a buffer of this many bytes, at least 64. Their
+    /// No files, and this many links on which no Config was served, with a buffer of this many bytes, at least 64. Their
     /// addresses are 0.
     pub fn new(alloc: Global, bufsiz: u16, links: usize) -> Result<NotedFiles, NoMemory>
         requires { least_buffer ≤ bufsiz }
@@ -176,7 +176,8 @@ impl NotedFiles {
     pub fn rights(&self, link: usize) -> Rights
         requires { link < length self.now.shared.sessions }
         ensures held { result ≡ rights_on link self.now.shared }
-        ensures after { (first : Files) (events : List Event) → SharedAfter first events self.now.shared
+        ensures after { (first : Files) (events : List Event)
+            → SharedAfter first events self.now.shared
             → result ≡ (exchange_at link (node_after self.now.shared.setup first
             (length self.now.shared.sessions) events)).most }
     {
@@ -199,13 +200,14 @@ impl NotedFiles {
     pub fn add(&mut self, name: &[u8], shape: Shape) -> Result<(), AddFault>
         requires { IsTrue (is_shape shape) }
         ensures may { OnOk result
-            (place_by self.old.shared.setup.names name.now self.old.shared.files ≡ None) }
+            (index_by self.old.shared.setup.names name.now self.old.shared.files ≡ None) }
         ensures given { OnOk result
             (SharedGiven (Gives name.now shape) self.old.shared self.new.shared) }
         ensures files { OnOk result (self.new.shared.files
             ≡ with_new_file name.now shape self.old.shared.files) }
         ensures rest { self.new ≡ record self.old { shared = self.new.shared } }
-        ensures refused { IfErr result (NotAdded self.old.shared.setup.names self.old.shared.files name.now) }
+        ensures refused { IfErr result
+            (NotAdded self.old.shared.setup.names self.old.shared.files name.now) }
         ensures unchanged { OnErr result (self.new ≡ self.old) }
     {
         self.shared.add(name, shape)
@@ -218,7 +220,8 @@ impl NotedFiles {
         ensures given { OnOk result (AtFile name.now self.old.shared
             (λ at. SharedGiven (GivesRecord at number body.now) self.old.shared self.new.shared)) }
         ensures files { OnOk result (AtFile name.now self.old.shared
-            (λ at. self.new.shared.files ≡ with_record_at at number body.now self.old.shared.files)) }
+            (λ at. self.new.shared.files ≡ with_record_at at number body.now
+            self.old.shared.files)) }
         ensures rest { self.new ≡ record self.old { shared = self.new.shared } }
         ensures refused { IfErr result
             (RecordNotAdded self.old.shared name.now number body.now) }

@@ -6,25 +6,22 @@ ghost use Rattle.dap_msg.specs.Decoding.{IsSpelled};
 ghost use Rattle.dap_msg.specs.declared.items.Item.TheVariants.{Whole};
 ghost use Rattle.dap_msg.specs.declared.message.Message.{Message as TheMessage};
 ghost use Rattle.rec_file.specs.Shapes.{is_shape};
-ghost use Rattle.dap_accessed.specs.Standing.{Files, file_at, place_by};
+ghost use Rattle.dap_accessed.specs.Standing.{Files, file_at, index_by};
 ghost use Rattle.dap_accessed.specs.Adding.{MayStore, with_new_file};
 ghost use Rattle.dap_accessed.specs.Sessions.{IsOpenIn, session_with};
 ghost use Rattle.dap_accessed.specs.Setup.{IsServerSetup, plain_setup};
 ghost use Rattle.dap_shared.specs.Nodes.{Event, FilesAfter, Gives, GivesRecord, exchange_at, is_locked_out, locks_out, node_after, with_record_at};
-ghost use Rattle.dap_shared.specs.Shared.{AtFile, NotAdded, NotRemoved, RecordNotAdded, SharedAfter, SharedBegins, SharedDrops, SharedGiven, SharedServes, no_session, rights_on, session_without};
-ghost use Rattle.dap_shared.specs.Inner.Beside.{MovesBeside, session_moved_up};
+ghost use Rattle.dap_shared.specs.Shared.{AtFile, NotAdded, NotRemoved, RecordNotAdded, SharedAfter, SharedBegins, SharedDrops, SharedGiven, SharedServes, rights_on, session_without};
+ghost use Rattle.dap_shared.specs.Inner.Beside.{MovesAmong, session_moved_up};
 ghost use Rattle.dap_shared.specs.Inner.Held.{MovesOn, session_at};
 
 use crate::fault::RemoveFault;
 use crate::locks::{FILE_LOCKED, is_barred, is_barred_by_file, is_held};
-use dap_accessed::{
-    ALL_RIGHTS, AddFault, FileTable, NoMemory, OpenFile, Served, ServerSetup, Session,
-};
+use dap_accessed::{AddFault, FileTable, NoMemory, OpenFile, Served, ServerSetup, Session};
 use dap_msg::Item;
 use rec_file::{Rights, Shape};
 use std::alloc::Global;
 use std::marker::Model;
-use std::mem;
 
 /// One table of files, and what is kept of each link. It keeps no list of what it served: it is as after any messages
 /// of the links that leave what it keeps.
@@ -60,7 +57,7 @@ impl Model for SharedFiles {
     }) };
 }
 
-/// So many links on which no Config was served.
+/// This many links on which no Config was served.
 fn new_sessions(alloc: Global, setup: ServerSetup, links: usize) -> Result<Vec<Session>, NoMemory>
     requires { IsServerSetup setup }
     ensures { IfOk result (λ sessions. sessions.items ≡ replicate links (session_with setup)) }
@@ -74,8 +71,8 @@ fn new_sessions(alloc: Global, setup: ServerSetup, links: usize) -> Result<Vec<S
 
 /// The file at a place of the table was removed: those after it have moved up.
 #[tactic(auto, using(std::proofs::lemmas::List::Edits::map_over_more))]
-fn move_up(sessions: &mut Vec<Session>, removed: usize)
-    ensures { sessions.new.items ≡ map (session_without removed) sessions.old.items }
+fn move_up(sessions: &mut [Session], removed: usize)
+    ensures { sessions.new ≡ map (session_without removed) sessions.old }
 {
     for session in sessions.iter_mut() {
         session.move_up(removed);
@@ -83,8 +80,8 @@ fn move_up(sessions: &mut Vec<Session>, removed: usize)
 }
 
 /// The same where a file was removed.
-fn close_up(sessions: &mut Vec<Session>, gone: Option<OpenFile>)
-    ensures { sessions.new.items ≡ map (session_moved_up gone) sessions.old.items }
+fn close_up(sessions: &mut [Session], gone: Option<OpenFile>)
+    ensures { sessions.new ≡ map (session_moved_up gone) sessions.old }
 {
     if let Some(removed) = gone {
         move_up(sessions, removed.at);
@@ -98,76 +95,62 @@ fn gone(before: usize, after: usize, held: Option<OpenFile>) -> Option<OpenFile>
     if after < before { held } else { None }
 }
 
-/// Serves an item of a link beside the sessions of the others.
+/// Serves an item of a link, beside the sessions of the links before it and after it.
 fn serve_beside(
     files: &mut FileTable,
-    others: &mut Vec<Session>,
+    before: &mut [Session],
     session: &mut Session,
+    after: &mut [Session],
     item: Item<'_>,
     next: usize,
 ) -> Result<Served, NoMemory>
     requires spelled { (m : TheMessage) → item ≡ Whole m → IsSpelled m }
     requires there { IsOpenIn files.old session.old.phase }
-    ensures ok { IfOk result (λ served. MovesBeside item.entry files.old others.old.items session.old
-        files.new others.new.items session.new served.answers) }
+    ensures ok { IfOk result (λ served. MovesAmong item.entry files.old before.old session.old
+        after.old files.new before.new session.new after.new served.answers) }
     ensures next { IfOk result (λ served. served.next ≡ next) }
-    ensures err { OnErr result ((files.new ≡ files.old) × (others.new.items ≡ others.old.items)
-        × (session.new ≡ session.old)) }
+    ensures err { OnErr result ((files.new ≡ files.old) × (before.new ≡ before.old)
+        × (after.new ≡ after.old) × (session.new ≡ session.old)) }
 {
     let asked = session.asked(files, &item);
-    if is_barred(others, asked) {
+    if is_barred(before, asked) || is_barred(after, asked) {
         let answers = session.refuse_open(files, FILE_LOCKED)?;
         return Ok(Served { answers, next });
     }
     let count = files.count();
     let held = session.open_file();
     let served = session.serve_item(files, item, next)?;
-    close_up(others, gone(count, files.count(), held));
+    let gone = gone(count, files.count(), held);
+    close_up(before, gone);
+    close_up(after, gone);
     Ok(served)
 }
 
-/// What stands in a link's place while its session is taken out.
-fn no_session(alloc: Global, setup: ServerSetup) -> Session
-    requires { IsServerSetup setup }
-    ensures { result ≡ no_session setup }
-{
-    Session::with_setup(
-        alloc,
-        ServerSetup {
-            most: ALL_RIGHTS,
-            ..setup
-        },
-    )
-}
-
-/// Takes a link's session out, serves it, and puts it back.
+/// Serves an item of a link, where its session is.
 fn serve_on(
     files: &mut FileTable,
-    sessions: &mut Vec<Session>,
-    alloc: Global,
-    setup: ServerSetup,
+    sessions: &mut [Session],
     link: usize,
     item: Item<'_>,
     next: usize,
 ) -> Result<Served, NoMemory>
-    requires link { link < length sessions.old.items }
-    requires setup { IsServerSetup setup }
+    requires link { link < length sessions.old }
     requires spelled { (m : TheMessage) → item ≡ Whole m → IsSpelled m }
-    requires there { IsOpenIn files.old (session_at setup link sessions.old.items).phase }
-    ensures ok { IfOk result (λ served. MovesOn setup link item.entry files.old
-        sessions.old.items files.new sessions.new.items served.answers) }
+    requires there { (own : ServerSetup) → IsOpenIn files.old (session_at own link sessions.old).phase }
+    ensures ok { IfOk result (λ served. (own : ServerSetup) → MovesOn own link item.entry files.old
+        sessions.old files.new sessions.new served.answers) }
     ensures next { IfOk result (λ served. served.next ≡ next) }
-    ensures err { OnErr result ((files.new ≡ files.old)
-        × (sessions.new.items ≡ sessions.old.items)) }
+    ensures err { OnErr result ((files.new ≡ files.old) × (sessions.new ≡ sessions.old)) }
 {
-    let mut session = mem::replace(&mut sessions[link], no_session(alloc, setup));
-    let served = serve_beside(files, sessions, &mut session, item, next);
-    sessions[link] = session;
-    served
+    let (before, rest) = sessions.split_at_mut(link);
+    match rest.split_first_mut() {
+        Some((session, after)) => serve_beside(files, before, session, after, item, next),
+        None => unreachable!(),
+    }
 }
 
 impl SharedFiles {
-    /// No files, and so many links on which no Config was served, with a buffer of this many bytes, at least 64.
+    /// No files, and this many links on which no Config was served, with a buffer of this many bytes, at least 64.
     pub fn new(alloc: Global, bufsiz: u16, links: usize) -> Result<SharedFiles, NoMemory>
         requires { least_buffer ≤ bufsiz }
         ensures stands { IfOk result (SharedAfter [] []) }
@@ -255,15 +238,7 @@ impl SharedFiles {
         ensures next { IfOk result (λ served. served.next ≡ next) }
         ensures no_memory { OnErr result (self.new ≡ self.old) }
     {
-        serve_on(
-            &mut self.files,
-            &mut self.sessions,
-            self.alloc,
-            self.setup,
-            link,
-            item,
-            next,
-        )
+        serve_on(&mut self.files, &mut self.sessions, link, item, next)
     }
 
     /// The most that an Access on a link may ask for.
@@ -293,7 +268,7 @@ impl SharedFiles {
     pub fn add(&mut self, name: &[u8], shape: Shape) -> Result<(), AddFault>
         requires { IsTrue (is_shape shape) }
         ensures may { OnOk result
-            (place_by self.old.setup.names name.now self.old.files ≡ None) }
+            (index_by self.old.setup.names name.now self.old.files ≡ None) }
         ensures given { OnOk result (SharedGiven (Gives name.now shape) self.old self.new) }
         ensures files { OnOk result
             (self.new.files ≡ with_new_file name.now shape self.old.files) }

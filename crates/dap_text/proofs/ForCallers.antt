@@ -2,5 +2,3 @@
 
 -- hex text has an even number of digits, and all of it are hex digits
 pub use Rattle.dap_text.proofs.HexTextLemmas.{all_digits, even_hex}
--- the slice from a place to the end
-pub use Rattle.dap_text.proofs.SliceLemmas.{slice_from}

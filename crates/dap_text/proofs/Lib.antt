@@ -1,10 +1,8 @@
 pub mod ForCallers
 pub mod HexTextLemmas
 pub mod NumberLemmas
-pub mod PlaceLemmas
 pub mod ReadBack
 pub mod RequestLemmas
-pub mod SliceLemmas
 pub mod TableLemmas
 pub mod TextLemmas
 pub mod TextWords

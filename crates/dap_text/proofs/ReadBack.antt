@@ -21,7 +21,7 @@ use Rattle.rec_file.specs.declared.shapes.Org.{Org}
 use Rattle.rec_file.specs.declared.shapes.Org.TheVariants.{Seq, Rel}
 use Rattle.rec_file.specs.declared.shapes.Format.{Format}
 use Rattle.rec_file.specs.declared.shapes.Format.TheVariants.{Fixed, Variable}
-use Rattle.dap_text.specs.Filed.{file_of, org_of, record_of, rfm_of}
+use Rattle.dap_text.specs.Filed.{file_line_of, org_of, record_line_of, rfm_of}
 use Rattle.dap_text.specs.declared.filed.FileLine.{FileLine}
 use Rattle.dap_text.specs.Tables.{file_line, format_text, org_text, record_line}
 use Rattle.dap_text.specs.Text.{image_text, line_feed}
@@ -116,7 +116,7 @@ record_printed : (number : ℕ) (body : List ℕ) → record_line (number, body)
 record_printed number body = ap (λ l. 32 ∷ 32 ∷ l) (before (decimal number) (image_text body))
 
 pub record_back : (number : ℕ) (body line : List ℕ) → number ≤ greatest_number → AreBytes body → record_line (number, body) ≡ line ++ line_feed
-    → record_of line ≡ Some (record { number = number; body = body })
+    → record_line_of line ≡ Some (record { number = number; body = body })
 record_back number body line within are printed =
     let same : line ≡ record_said number body = append_cancel_right line (record_said number body) line_feed (sym printed ∙ record_printed number body) in
     let small : number ≤ 4294967295 = omega (arith, within) in
@@ -189,7 +189,7 @@ file_words name shape are good =
     a_word (image_text name) (org_said shape) (an_image name are) ∙ ap (λ ws. image_text name ∷ ws) org
 
 pub file_back : (name line : List ℕ) (shape : Shape) → AreBytes name → is_shape shape ≡ true → file_line name shape ≡ line ++ line_feed
-    → (file : FileLine) × (file_of line ≡ Some file) × (file.name ≡ name) × (checked_shape file.org file.rfm file.mrs file.mrn ≡ Some shape)
+    → (file : FileLine) × (file_line_of line ≡ Some file) × (file.name ≡ name) × (checked_shape file.org file.rfm file.mrs file.mrn ≡ Some shape)
 file_back name line shape are good printed =
     let same : line ≡ file_said name shape = append_cancel_right line (file_said name shape) line_feed (sym printed ∙ file_printed name shape) in
     let small = fits shape good in
@@ -198,6 +198,6 @@ file_back name line shape are good printed =
     let mrs = number_back 65535 shape.mrs (omega (arith, small.0)) (omega arith) in
     let mrn = number_back 4294967295 shape.mrn (omega (arith, small.1)) (omega arith) in
     let file : FileLine = record { name = name; org = org.0; rfm = rfm.0; mrs = shape.mrs; mrn = shape.mrn } in
-    let read : file_of line ≡ Some file =
+    let read : file_line_of line ≡ Some file =
     rw (same, file_words name shape are good, image_back name are, org.1, rfm.1, mrs, mrn) refl in
     (file, read, refl, rw (org.2, rfm.2) (shape_back shape good))

@@ -16,12 +16,12 @@ abbrev pub rfm_of : List ℕ → Option ℕ
 rfm_of word = lookup (bytes_eq word) ((codes "fixed", rfm.fixed) ∷ (codes "variable", rfm.variable) ∷ [])
 
 -- `file NAME ORG RFM MRS MRN`
-abbrev pub file_of : List ℕ → Option FileLine
-file_of line =
+abbrev pub file_line_of : List ℕ → Option FileLine
+file_line_of line =
     word (codes "file") (field text_of (λ name. field org_of (λ org. field rfm_of (λ rfm. field short (λ mrs. field long (λ mrn.
     ends (record { name = name; org = org; rfm = rfm; mrs = mrs; mrn = mrn }))))))) (words_of line)
 
 -- two spaces, that is two empty words, and `NUMBER BODY`
-abbrev pub record_of : List ℕ → Option RecordLine
-record_of line =
+abbrev pub record_line_of : List ℕ → Option RecordLine
+record_line_of line =
     word [] (word [] (field long (λ number. field text_of (λ body. ends (record { number = number; body = body }))))) (words_of line)

@@ -1,19 +1,9 @@
-//! Hex digits, and where a byte is.
+//! Hex digits.
 
-ghost use Rattle.std.specs.Prelude.{◌≡◌, ◌==◌};
-ghost use Rattle.std.specs.List.{list_all, position};
+ghost use Rattle.std.specs.Prelude.{◌≡◌};
+ghost use Rattle.std.specs.List.{list_all};
 ghost use Rattle.std.specs.Char.{is_ascii_hexdigit};
 ghost use Rattle.dap_text.specs.Words.{is_hex_text as spelled};
-
-use memchr::memchr;
-
-/// Where a byte is first, or None where it is nowhere.
-#[tactic(auto, using(crate::proofs::PlaceLemmas::first_place))]
-pub fn find_byte(wanted: u8, bytes: &[u8]) -> Option<usize>
-    ensures { result ≡ position (λ byte. byte == wanted) bytes.now }
-{
-    memchr(wanted, bytes)
-}
 
 /// Whether it is an even number of hex digits, of either case, and at least two.
 pub fn is_hex_text(digits: &[u8]) -> bool

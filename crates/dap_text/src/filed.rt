@@ -1,7 +1,7 @@
 //! The lines of files and records, read back.
 
 ghost use Rattle.std.specs.Prelude.{◌≡◌};
-ghost use Rattle.dap_text.specs.Filed.{file_of, org_of, record_of, rfm_of};
+ghost use Rattle.dap_text.specs.Filed.{file_line_of, org_of, record_line_of, rfm_of};
 
 use crate::words::{Text, Words, is};
 use dap_msg::codes::{ORG_RELATIVE, ORG_SEQUENTIAL, RFM_FIXED, RFM_VARIABLE};
@@ -54,7 +54,7 @@ fn read_rfm(word: &[u8]) -> Option<u8>
 /// of such a shape are there is not asked.
 #[tactic(auto, using(crate::proofs::RequestLemmas::ends_none))]
 pub fn read_file_line(line: &[u8]) -> Option<FileLine<'_>>
-    ensures { result ≡ file_of line.now }
+    ensures { result ≡ file_line_of line.now }
 {
     let mut words = Words::of(line);
     if !is(words.next()?, "file") {
@@ -63,7 +63,7 @@ pub fn read_file_line(line: &[u8]) -> Option<FileLine<'_>>
     let name = words.text()?;
     let org = read_org(words.next()?)?;
     let rfm = read_rfm(words.next()?)?;
-    let mrs = words.number(65535)? as u16;
+    let mrs = words.short()?;
     let mrn = words.number(u32::MAX)?;
     words.end()?;
     Some(FileLine {
@@ -77,7 +77,7 @@ pub fn read_file_line(line: &[u8]) -> Option<FileLine<'_>>
 
 /// The record that a line says, `  N BODY`, or None where it says none.
 pub fn read_record_line(line: &[u8]) -> Option<RecordLine<'_>>
-    ensures { result ≡ record_of line.now }
+    ensures { result ≡ record_line_of line.now }
 {
     let mut words = Words::of(line);
     if !words.next()?.is_empty() || !words.next()?.is_empty() {

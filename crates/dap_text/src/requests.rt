@@ -34,7 +34,7 @@ fn read_create<'a>(mut words: Words<'a>) -> Option<RequestText<'a>>
     let name = Octets(words.text()?);
     let org = words.number(255)? as u8;
     let rfm = words.number(255)? as u8;
-    let mrs = words.number(65535)? as u16;
+    let mrs = words.short()?;
     let mrn = words.number(u32::MAX)?;
     let fac = words.number(ACCESS_MOST)?;
     words.end()?;

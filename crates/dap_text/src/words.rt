@@ -4,11 +4,12 @@ ghost use Rattle.std.specs.Prelude.{◌≡◌, ◌≢◌, ◌≤◌, ◌<◌, �
 ghost use Rattle.std.specs.Prelude.{◌==◌, bytes_eq, true};
 ghost use Rattle.std.specs.List.{list_all};
 ghost use Rattle.std.specs.Char.{is_ascii_digit};
-ghost use Rattle.dap_text.specs.Words.{decimal_of, hex_of, text_of, texts_of, words_of};
+ghost use Rattle.dap_text.specs.Words.{decimal_of, hex_of, short as short_of, text_of, texts_of, words_of};
 ghost use Rattle.dap_text.specs.Inner.Words.{words_left};
 
-use crate::bytes::{find_byte, is_hex_text};
+use crate::bytes::is_hex_text;
 use dap_accessing::{Octets, ToBytes, ToRecords};
+use linewise::find_byte;
 use std::alloc::{AllocError, Global};
 use std::marker::Model;
 
@@ -39,7 +40,7 @@ fn first_word(line: &[u8]) -> (&[u8], Option<&[u8]>)
 
 impl<'a> Words<'a> {
     ghost use Rattle.std.specs.Prelude.{◌≡◌, ◌≢◌, ◌≤◌, ◌∷◌, [], IfSome, MatchOption, None, Some};
-    ghost use Rattle.dap_text.specs.Words.{decimal_of, read_next, text_of, words_of};
+    ghost use Rattle.dap_text.specs.Words.{decimal_of, read_next, short as short_of, text_of, words_of};
 
     /// All words of a line.
     pub fn of(line: &'a [u8]) -> Self
@@ -73,6 +74,14 @@ impl<'a> Words<'a> {
         ensures within { IfSome result (λ number. number ≤ most) }
     {
         read_number(self.next()?, most)
+    }
+
+    /// The next word as a number of 16 bits; or None, also where no word is left.
+    pub fn short(&mut self) -> Option<u16>
+        ensures { MatchOption result (read_next short_of self.old ≡ None)
+            (λ number. read_next short_of self.old ≡ Some (number, self.new)) }
+    {
+        read_short(self.next()?)
     }
 
     /// The next word as the bytes of a name or a record; or None, also where no word is left.
@@ -124,6 +133,17 @@ pub fn read_number(word: &[u8], most: u32) -> Option<u32>
         }
     }
     Some(number as u32)
+}
+
+/// The greatest number of 16 bits.
+const GREATEST_SHORT: u32 = u16::MAX as u32;
+
+/// A number of 16 bits, by 1 to 10 decimal digits; or None.
+pub fn read_short(word: &[u8]) -> Option<u16>
+    ensures { result ≡ short_of word.now }
+{
+    let number = read_number(word, GREATEST_SHORT)?;
+    Some(number as u16)
 }
 
 /// Bytes of a name or a record, by their hex digits, or `-` where there are none, which contracts see as bytes.

@@ -4,27 +4,27 @@ use Rattle.std.specs.List.{AllByRecursion}
 use Rattle.std.proofs.lemmas.Bool.Decides.{nat_tests}
 use Rattle.std.proofs.lemmas.Grind.{flat_map-append}
 use Rattle.dap_follow.specs.Streams.{Placed}
-use Rattle.dap_follow.specs.Joined.{Piece, joins, latest, payload, pieces, tail, with_segment}
+use Rattle.dap_follow.specs.Joined.{Fragment, joins, latest, payload, fragments_of, tail, with_segment}
 use Rattle.dap_watch.specs.Inner.Pieces.{all_segments, glue, merged}
 use Rattle.dap_watch.proofs.StayLemmas.{alone, and_one, apart, by_bool, joined, longer}
 
 -- ---- glue
 
-glued : (p y : Piece) (ys : List Piece) → joins (tail p) y.head ≡ true → glue (p ∷ []) (y ∷ ys) ≡ merged p y ∷ ys
+glued : (p y : Fragment) (ys : List Fragment) → joins (tail p) y.head ≡ true → glue (p ∷ []) (y ∷ ys) ≡ merged p y ∷ ys
 glued p y ys t = ap (λ b. if b then merged p y ∷ ys else p ∷ y ∷ ys) t
 
-pub unglued : (p y : Piece) (ys : List Piece) → joins (tail p) y.head ≡ false → glue (p ∷ []) (y ∷ ys) ≡ p ∷ y ∷ ys
+pub unglued : (p y : Fragment) (ys : List Fragment) → joins (tail p) y.head ≡ false → glue (p ∷ []) (y ∷ ys) ≡ p ∷ y ∷ ys
 unglued p y ys f = ap (λ b. if b then merged p y ∷ ys else p ∷ y ∷ ys) f
 
-pub glued_two : (p q : Piece) → joins (tail p) q.head ≡ true → glue (p ∷ []) (q ∷ []) ≡ merged p q ∷ []
+pub glued_two : (p q : Fragment) → joins (tail p) q.head ≡ true → glue (p ∷ []) (q ∷ []) ≡ merged p q ∷ []
 glued_two p q t = glued p q [] t
 
-pub glue_nil : (xs : List Piece) → glue xs [] ≡ xs
+pub glue_nil : (xs : List Fragment) → glue xs [] ≡ xs
 glue_nil [] = refl
 glue_nil (x ∷ []) = refl
 glue_nil (x ∷ y ∷ xs) = ap (λ l. x ∷ l) (glue_nil (y ∷ xs))
 
-pub glue_front : (ys : List Piece) (h : Piece) (hs rest : List Piece) → glue ys ((h ∷ hs) ++ rest) ≡ glue ys (h ∷ hs) ++ rest
+pub glue_front : (ys : List Fragment) (h : Fragment) (hs rest : List Fragment) → glue ys ((h ∷ hs) ++ rest) ≡ glue ys (h ∷ hs) ++ rest
 glue_front [] h hs rest = refl
 glue_front (p ∷ []) h hs rest =
     by_bool (joins (tail p) h.head)
@@ -32,12 +32,12 @@ glue_front (p ∷ []) h hs rest =
     (λ f. unglued p h (hs ++ rest) f ∙ ap (λ l. l ++ rest) (sym (unglued p h hs f)))
 glue_front (p ∷ q ∷ ps) h hs rest = ap (λ l. p ∷ l) (glue_front (q ∷ ps) h hs rest)
 
-pub glue_back : (front : List Piece) (h : Piece) (hs ys : List Piece) → glue (front ++ h ∷ hs) ys ≡ front ++ glue (h ∷ hs) ys
+pub glue_back : (front : List Fragment) (h : Fragment) (hs ys : List Fragment) → glue (front ++ h ∷ hs) ys ≡ front ++ glue (h ∷ hs) ys
 glue_back [] h hs ys = refl
 glue_back (f ∷ []) h hs ys = refl
 glue_back (f ∷ g ∷ front) h hs ys = ap (λ l. f ∷ l) (glue_back (g ∷ front) h hs ys)
 
-with_glue : (a : Placed) (ps ys : List Piece) → with_segment a (glue ps ys) ≡ glue (with_segment a ps) ys
+with_glue : (a : Placed) (ps ys : List Fragment) → with_segment a (glue ps ys) ≡ glue (with_segment a ps) ys
 with_glue a [] [] = refl
 with_glue a [] (y ∷ ys) = refl
 with_glue a (p ∷ []) [] =
@@ -59,27 +59,27 @@ with_glue a (p ∷ q ∷ ps) ys =
     (λ t. joined a p (glue (q ∷ ps) ys) t ∙ ap (λ l. glue l ys) (sym (joined a p (q ∷ ps) t)))
     (λ f. apart a p (glue (q ∷ ps) ys) f ∙ ap (λ l. glue l ys) (sym (apart a p (q ∷ ps) f)))
 
-pub pieces_glue : (xs ys : List Placed) → pieces (xs ++ ys) ≡ glue (pieces xs) (pieces ys)
+pub pieces_glue : (xs ys : List Placed) → fragments_of (xs ++ ys) ≡ glue (fragments_of xs) (fragments_of ys)
 pieces_glue [] ys = refl
-pieces_glue (x ∷ xs) ys = ap (λ l. with_segment x l) (pieces_glue xs ys) ∙ with_glue x (pieces xs) (pieces ys)
+pieces_glue (x ∷ xs) ys = ap (λ l. with_segment x l) (pieces_glue xs ys) ∙ with_glue x (fragments_of xs) (fragments_of ys)
 
 -- ---- the segments of pieces
 
-pub segments_append : (xs ys : List Piece) → all_segments (xs ++ ys) ≡ all_segments xs ++ all_segments ys
+pub segments_append : (xs ys : List Fragment) → all_segments (xs ++ ys) ≡ all_segments xs ++ all_segments ys
 segments_append xs ys = flat_map-append (λ p. p.head ∷ p.others) xs ys
 
-segments_with : (s : Placed) (ps : List Piece) → all_segments (with_segment s ps) ≡ s ∷ all_segments ps
+segments_with : (s : Placed) (ps : List Fragment) → all_segments (with_segment s ps) ≡ s ∷ all_segments ps
 segments_with s [] = refl
 segments_with s (p ∷ ps) =
     by_bool (joins s p.head)
     (λ t. ap (λ l. all_segments l) (joined s p ps t))
     (λ f. ap (λ l. all_segments l) (apart s p ps f))
 
-pub segments_pieces : (xs : List Placed) → all_segments (pieces xs) ≡ xs
+pub segments_pieces : (xs : List Placed) → all_segments (fragments_of xs) ≡ xs
 segments_pieces [] = refl
-segments_pieces (x ∷ xs) = segments_with x (pieces xs) ∙ ap (λ l. x ∷ l) (segments_pieces xs)
+segments_pieces (x ∷ xs) = segments_with x (fragments_of xs) ∙ ap (λ l. x ∷ l) (segments_pieces xs)
 
-pub segments_glue : (xs ys : List Piece) → all_segments (glue xs ys) ≡ all_segments xs ++ all_segments ys
+pub segments_glue : (xs ys : List Fragment) → all_segments (glue xs ys) ≡ all_segments xs ++ all_segments ys
 segments_glue [] ys = refl
 segments_glue (p ∷ []) [] = sym (append-nil (all_segments (p ∷ [])))
 segments_glue (p ∷ []) (y ∷ ys) =
@@ -96,51 +96,51 @@ abbrev pub Chain : Placed → List Placed → Type 0
 Chain s [] = Unit {0}
 Chain s (t ∷ others) = (joins s t ≡ true) × Chain t others
 
-abbrev pub IsEnd : Piece → List Piece → Type 0
+abbrev pub IsEnd : Fragment → List Fragment → Type 0
 IsEnd p [] = Unit {0}
 IsEnd p (q ∷ ps) = joins (tail p) q.head ≡ false
 
-abbrev pub Proper : List Piece → Type 0
+abbrev pub Proper : List Fragment → Type 0
 Proper [] = Unit {0}
 Proper (p ∷ ps) = Chain p.head p.others × IsEnd p ps × Proper ps
 
-end_longer : (a : Placed) (p : Piece) (ps : List Piece) → IsEnd p ps → IsEnd (longer a p) ps
+end_longer : (a : Placed) (p : Fragment) (ps : List Fragment) → IsEnd p ps → IsEnd (longer a p) ps
 end_longer a p [] end = tt
 end_longer a p (q ∷ ps) end = end
 
-proper_with : (s : Placed) (ps : List Piece) → Proper ps → Proper (with_segment s ps)
+proper_with : (s : Placed) (ps : List Fragment) → Proper ps → Proper (with_segment s ps)
 proper_with s [] h = (tt, tt, tt)
 proper_with s (p ∷ ps) h =
     by_bool (joins s p.head)
-    (λ t. subst (λ (l : List Piece). Proper l) (sym (joined s p ps t)) ((t, h.0), end_longer s p ps h.1, h.2))
-    (λ f. subst (λ (l : List Piece). Proper l) (sym (apart s p ps f)) (tt, f, h))
+    (λ t. subst (λ (l : List Fragment). Proper l) (sym (joined s p ps t)) ((t, h.0), end_longer s p ps h.1, h.2))
+    (λ f. subst (λ (l : List Fragment). Proper l) (sym (apart s p ps f)) (tt, f, h))
 
-pub proper_pieces : (xs : List Placed) → Proper (pieces xs)
+pub proper_pieces : (xs : List Placed) → Proper (fragments_of xs)
 proper_pieces [] = tt
-proper_pieces (x ∷ xs) = proper_with x (pieces xs) (proper_pieces xs)
+proper_pieces (x ∷ xs) = proper_with x (fragments_of xs) (proper_pieces xs)
 
-chain_one : (s : Placed) (others : List Placed) → Chain s others → pieces (s ∷ others) ≡ record { head = s; others = others } ∷ []
+chain_one : (s : Placed) (others : List Placed) → Chain s others → fragments_of (s ∷ others) ≡ record { head = s; others = others } ∷ []
 chain_one s [] chain = refl
 chain_one s (t ∷ others) chain = ap (λ l. with_segment s l) (chain_one t others chain.1) ∙ joined s (record { head = t; others = others }) [] chain.0
 
-glue_end : (p : Piece) (ps : List Piece) → IsEnd p ps → glue (p ∷ []) ps ≡ p ∷ ps
+glue_end : (p : Fragment) (ps : List Fragment) → IsEnd p ps → glue (p ∷ []) ps ≡ p ∷ ps
 glue_end p [] end = refl
 glue_end p (q ∷ ps) end = unglued p q ps end
 
-pub pieces_flat : (ps : List Piece) → Proper ps → pieces (all_segments ps) ≡ ps
+pub pieces_flat : (ps : List Fragment) → Proper ps → fragments_of (all_segments ps) ≡ ps
 pieces_flat [] h = refl
 pieces_flat (p ∷ ps) h =
     pieces_glue (p.head ∷ p.others) (all_segments ps)
-    ∙ ap (λ l. glue l (pieces (all_segments ps))) (chain_one p.head p.others h.0)
+    ∙ ap (λ l. glue l (fragments_of (all_segments ps))) (chain_one p.head p.others h.0)
     ∙ ap (λ l. glue (p ∷ []) l) (pieces_flat ps h.2)
     ∙ glue_end p ps h.1
 
-pub proper_front : (xs ys : List Piece) → Proper (xs ++ ys) → Proper xs
+pub proper_front : (xs ys : List Fragment) → Proper (xs ++ ys) → Proper xs
 proper_front [] ys h = tt
 proper_front (x ∷ []) ys h = (h.0, tt, tt)
 proper_front (x ∷ y ∷ xs) ys h = (h.0, h.1, proper_front (y ∷ xs) ys h.2)
 
-pub proper_back : (xs ys : List Piece) → Proper (xs ++ ys) → Proper ys
+pub proper_back : (xs ys : List Fragment) → Proper (xs ++ ys) → Proper ys
 proper_back [] ys h = h
 proper_back (x ∷ xs) ys h = proper_back xs ys h.2
 
@@ -195,7 +195,7 @@ row_within s (t ∷ others) chain =
     let more = all_weaker (IsWithin t.place end) (IsWithin s.place end) (t ∷ others) (λ u both. (let low : t.place ≤ u.place = both.0 in omega (arith, next, low), both.1)) rest.1 in
     (omega (arith, next, far), ((omega arith, omega (arith, next, far)), more))
 
-pub within : (p : Piece) → Chain p.head p.others → (p.head.place ≤ (tail p).place) × AllByRecursion (IsWithin p.head.place (tail p).place) (p.head ∷ p.others)
+pub within : (p : Fragment) → Chain p.head p.others → (p.head.place ≤ (tail p).place) × AllByRecursion (IsWithin p.head.place (tail p).place) (p.head ∷ p.others)
 within p chain = row_within p.head p.others chain
 
 above : (a b place : ℕ) → b ≡ a + 1 → a ≤ place → (a == place) ≡ false → b ≤ place
@@ -208,7 +208,7 @@ row_full place s (t ∷ others) chain low high =
     (λ here. ([], t ∷ others, s, refl, eqb-true _ _ here))
     (λ other. has_back place (s ∷ []) (t ∷ others) (row_full place t others chain.1 (above s.place t.place place (joined_place s t chain.0) low other) high))
 
-pub full : (place : ℕ) (p : Piece) → Chain p.head p.others → p.head.place ≤ place → place ≤ (tail p).place → Has place (p.head ∷ p.others)
+pub full : (place : ℕ) (p : Fragment) → Chain p.head p.others → p.head.place ≤ place → place ≤ (tail p).place → Has place (p.head ∷ p.others)
 full place p chain low high = row_full place p.head p.others chain low high
 
 -- ---- merged pieces
@@ -218,10 +218,10 @@ fold_end : (s : Placed) (xs : List Placed) (t : Placed) (ys : List Placed)
 fold_end s [] t ys = refl
 fold_end s (x ∷ xs) t ys = fold_end x xs t ys
 
-pub tail_merged : (p q : Piece) → tail (merged p q) ≡ tail q
+pub tail_merged : (p q : Fragment) → tail (merged p q) ≡ tail q
 tail_merged p q = fold_end p.head p.others q.head q.others
 
-pub payload_merged : (p q : Piece) → payload (merged p q) ≡ payload p ++ payload q
+pub payload_merged : (p q : Fragment) → payload (merged p q) ≡ payload p ++ payload q
 payload_merged p q = flat_map-append (λ s. s.payload) (p.head ∷ p.others) (q.head ∷ q.others)
 
 -- ---- the latest packet

@@ -10,13 +10,13 @@ use Rattle.indexmap.specs.IndexSet.{insert_key}
 use Rattle.dap_listing.specs.declared.lines.Direction.{Direction}
 use Rattle.dap_listing.specs.declared.captured.CapturedSegment.{CapturedSegment}
 use Rattle.dap_follow.specs.Streams.{ArePlaced, Captured, Placed, at, came_as, came_in, is_same, no_more, streams}
-use Rattle.dap_follow.specs.Joined.{Message, Piece, is_message, message_of, messages, pieces}
+use Rattle.dap_follow.specs.Joined.{Message, Fragment, is_message, fragment_message, messages, fragments_of}
 use Rattle.dap_follow.specs.Inner.Keeping.{stream_of}
-use Rattle.dap_watch.specs.Inner.Segments.{Came, HasAt, came, put_at, segment_packet, top}
+use Rattle.dap_follow.specs.Segments.{NumberedSegment, HasStreamAt, numbered_segment, placed_at, captured_segment, highest_in}
 use Rattle.dap_follow.specs.declared.streams.Stream.{Stream}
 use Rattle.dap_follow.proofs.ForCallers.{at-append, came_in-more, came_in-none, is_same_self, or_else, same_is, same_sym, streams-more, streams-none, unseen}
-use Rattle.dap_watch.specs.Inner.Kept.{Found, Keeps, KeepsPlaces}
-use Rattle.dap_watch.specs.Inner.Streams.{AreAdded, Grows, IsIndexed, KeepsAll, KeepsEach, KeepsStream}
+use Rattle.dap_watch.specs.Inner.Kept.{Found, KeepsPieces, KeepsPlaces}
+use Rattle.dap_watch.specs.Inner.Streams.{AreAdded, Grows, IsIndexedStream, KeepsAllOrdered, KeepsEachOrdered, KeepsStreamOrdered}
 use Rattle.dap_watch.specs.declared.places.Kept.{Kept}
 use Rattle.dap_watch.specs.declared.places.Places.{Places}
 use Rattle.dap_watch.specs.declared.places.Whole.{Whole}
@@ -30,7 +30,7 @@ one_longer : (packets : List Captured) (x : Captured) → length (packets ++ x �
 one_longer packets x = length-append packets (x ∷ [])
 
 keeps_stream : (packets : List Captured) (x : Captured) (s : Stream) (o : List Placed) (p : Places) → came_as s (1 + length packets) x ≡ None
-    → KeepsStream packets s o p → KeepsStream (packets ++ x ∷ []) s o p
+    → KeepsStreamOrdered packets s o p → KeepsStreamOrdered (packets ++ x ∷ []) s o p
 keeps_stream packets x s o p none k =
     let longer = one_longer packets x in
     let old = k.keeps in
@@ -52,7 +52,7 @@ keeps_stream packets x s o p none k =
     }
 
 keeps_each : (packets : List Captured) (x : Captured) (keys : List Stream) (orders : List (List Placed)) (places : List Places)
-    → ((s : Stream) → came_as s (1 + length packets) x ≡ None) → KeepsEach packets keys orders places → KeepsEach (packets ++ x ∷ []) keys orders places
+    → ((s : Stream) → came_as s (1 + length packets) x ≡ None) → KeepsEachOrdered packets keys orders places → KeepsEachOrdered (packets ++ x ∷ []) keys orders places
 keeps_each packets x [] [] [] none each = tt
 keeps_each packets x [] [] (p ∷ places) none each = absurd each
 keeps_each packets x [] (o ∷ orders) places none each = absurd each
@@ -62,13 +62,13 @@ keeps_each packets x (s ∷ keys) (o ∷ orders) (p ∷ places) none each = (kee
 
 -- a packet that carries no segment
 pub keeps_aside : (packets : List Captured) (x : Captured) (ordered : List (List Placed)) (s : Streams) → stream_of x ≡ None
-    → ((stream : Stream) → came_as stream (1 + length packets) x ≡ None) → KeepsAll packets ordered s → KeepsAll (packets ++ x ∷ []) ordered s
+    → ((stream : Stream) → came_as stream (1 + length packets) x ≡ None) → KeepsAllOrdered packets ordered s → KeepsAllOrdered (packets ++ x ∷ []) ordered s
 keeps_aside packets x ordered s of_none none k = record {
   names = k.names ∙ sym (streams-none packets x of_none);
   each = keeps_each packets x s.names.keys ordered s.places.items none k.each;
 }
 
-pub lengths : (packets : List Captured) (keys : List Stream) (orders : List (List Placed)) (places : List Places) → KeepsEach packets keys orders places → length keys ≡ length places
+pub lengths : (packets : List Captured) (keys : List Stream) (orders : List (List Placed)) (places : List Places) → KeepsEachOrdered packets keys orders places → length keys ≡ length places
 lengths packets [] [] [] each = refl
 lengths packets [] [] (p ∷ places) each = absurd each
 lengths packets [] (o ∷ orders) places each = absurd each
@@ -81,32 +81,32 @@ lengths packets (s ∷ keys) (o ∷ orders) (p ∷ places) each = ap suc (length
 abbrev pub stream_is : Direction → CapturedSegment → Stream
 stream_is way c = record { way = way; dst = c.dst; src = c.src }
 
-apart : (s : Stream) (way : Direction) (c : CapturedSegment) (n : ℕ) → is_same s (stream_is way c) ≡ false → came_as s n (segment_packet way c) ≡ None
+apart : (s : Stream) (way : Direction) (c : CapturedSegment) (n : ℕ) → is_same s (stream_is way c) ≡ false → came_as s n (captured_segment way c) ≡ None
 apart s way c n other = rw other refl
 
-of_it : (s : Stream) (way : Direction) (c : CapturedSegment) (n : ℕ) → is_same s (stream_is way c) ≡ true → came_as s n (segment_packet way c) ≡ Some (came n c)
+of_it : (s : Stream) (way : Direction) (c : CapturedSegment) (n : ℕ) → is_same s (stream_is way c) ≡ true → came_as s n (captured_segment way c) ≡ Some (numbered_segment n c)
 of_it s way c n same = rw same refl
 
 -- the segments of the stream before the packet
 pub record Ready (packets : List Captured) (c : CapturedSegment) (s : Stream) (ordered : List Placed) (p : Places) : Type 0 where
-  pub before : List Came
+  pub before : List NumberedSegment
   pub are : came_in s packets ≡ before
-  pub first : Came
-  pub others : List Came
-  pub begins : before ++ came (1 + length packets) c ∷ [] ≡ first ∷ others
+  pub first : NumberedSegment
+  pub others : List NumberedSegment
+  pub begins : before ++ numbered_segment (1 + length packets) c ∷ [] ≡ first ∷ others
   pub placed : List Placed
   pub are_placed : ArePlaced (first.1.number + 4096) before placed
   pub same : (place : ℕ) → at place ordered ≡ at place placed
-  pub highest : p.highest ≡ top (first.1.number + 4096) placed
+  pub highest : p.highest ≡ highest_in (first.1.number + 4096) placed
   pub keeps : KeepsPlaces (1 + length packets) ordered p
   pub most : p.highest ≤ 8192 + 2048 * length packets
 
-ready_known : (packets : List Captured) (c : CapturedSegment) (s : Stream) (o : List Placed) (p : Places) → KeepsStream packets s o p → Ready packets c s o p
+ready_known : (packets : List Captured) (c : CapturedSegment) (s : Stream) (o : List Placed) (p : Places) → KeepsStreamOrdered packets s o p → Ready packets c s o p
 ready_known packets c s o p k = record {
   before = k.first ∷ k.others;
   are = k.are;
   first = k.first;
-  others = k.others ++ came (1 + length packets) c ∷ [];
+  others = k.others ++ numbered_segment (1 + length packets) c ∷ [];
   begins = refl;
   placed = k.placed;
   are_placed = k.are_placed;
@@ -121,38 +121,38 @@ ready_new : (packets : List Captured) (c : CapturedSegment) (s : Stream) (p : Pl
 ready_new packets c s p none highest small empty = record {
   before = [];
   are = none;
-  first = came (1 + length packets) c;
+  first = numbered_segment (1 + length packets) c;
   others = [];
   begins = refl;
   placed = [];
   are_placed = no_more;
   same = λ place. refl;
   highest = highest;
-  keeps = record { keeps = subst (λ (l : List Kept). Keeps [] l) (sym empty) refl; rises = tt; numbered = tt; low = omega (arith, highest) };
+  keeps = record { keeps = subst (λ (l : List Kept). KeepsPieces [] l) (sym empty) refl; rises = tt; numbered = tt; low = omega (arith, highest) };
   most = omega (arith, highest, small);
 }
 
 ready_done : (packets : List Captured) (way : Direction) (c : CapturedSegment) (s : Stream) (ordered : List Placed) (old new : Places) (digits : List ℕ) (found : Option Whole)
     → is_same s (stream_is way c) ≡ true → Ready packets c s ordered old → (f : Found (1 + length packets) c ordered old new digits found)
-    → KeepsStream (packets ++ segment_packet way c ∷ []) s f.later new
+    → KeepsStreamOrdered (packets ++ captured_segment way c ∷ []) s f.later new
 ready_done packets way c s ordered old new digits found same r f =
-    let x = segment_packet way c in
+    let x = captured_segment way c in
     let n : ℕ = 1 + length packets in
     let longer = one_longer packets x in
     let start : ℕ = r.first.1.number + 4096 in
     let place : ℕ = f.place in
-    let here = put_at place (came n c) in
-    let low : top start r.placed ≤ place + 2047 = rw r.highest at f.near.0 in
-    let high : place ≤ top start r.placed + 2048 = rw r.highest at f.near.1 in
+    let here = placed_at place (numbered_segment n c) in
+    let low : highest_in start r.placed ≤ place + 2047 = rw r.highest at f.near.0 in
+    let high : place ≤ highest_in start r.placed + 2048 = rw r.highest at f.near.1 in
     let up : place ≤ old.highest + 2048 = f.near.1 in
     let was = r.keeps in
     let low_was : 4096 ≤ old.highest = was.low in
     record {
       first = r.first;
       others = r.others;
-      are = came_in-more s packets x (came n c) (of_it s way c n same) ∙ ap (λ (l : List Came). l ++ came n c ∷ []) r.are ∙ r.begins;
+      are = came_in-more s packets x (numbered_segment n c) (of_it s way c n same) ∙ ap (λ (l : List NumberedSegment). l ++ numbered_segment n c ∷ []) r.are ∙ r.begins;
       placed = r.placed ++ here ∷ [];
-      are_placed = subst (λ (l : List Came). ArePlaced start l (r.placed ++ here ∷ [])) r.begins (placed_more (came n c) place r.are_placed low high f.near.2);
+      are_placed = subst (λ (l : List NumberedSegment). ArePlaced start l (r.placed ++ here ∷ [])) r.begins (placed_more (numbered_segment n c) place r.are_placed low high f.near.2);
       same = λ p. at_put p ordered here f.later f.put ∙ ap (λ (o : Option Placed). or_else o (at p (here ∷ []))) (r.same p) ∙ sym (at-append p r.placed (here ∷ []));
       highest = f.highest ∙ ap (λ (h : ℕ). max h place) r.highest ∙ sym (top_more start r.placed here);
       keeps = record {
@@ -170,12 +170,12 @@ ready_done packets way c s ordered old new digits found same r f =
 pub MidEach : List Captured → Direction → CapturedSegment → List Stream → List (List Placed) → List Places → Type 0
 MidEach packets way c [] [] [] = Unit {0}
 MidEach packets way c (s ∷ keys) (o ∷ orders) (p ∷ places) =
-    (((is_same s (stream_is way c) ≡ true) × Ready packets c s o p) ⊎ ((is_same s (stream_is way c) ≡ false) × KeepsStream (packets ++ segment_packet way c ∷ []) s o p))
+    (((is_same s (stream_is way c) ≡ true) × Ready packets c s o p) ⊎ ((is_same s (stream_is way c) ≡ false) × KeepsStreamOrdered (packets ++ captured_segment way c ∷ []) s o p))
     × MidEach packets way c keys orders places
 MidEach packets way c _ _ _ = ⊥
 
 mid_known : (packets : List Captured) (way : Direction) (c : CapturedSegment) (keys : List Stream) (orders : List (List Placed)) (places : List Places)
-    → KeepsEach packets keys orders places → MidEach packets way c keys orders places
+    → KeepsEachOrdered packets keys orders places → MidEach packets way c keys orders places
 unfolding MidEach
 mid_known packets way c [] [] [] each = tt
 mid_known packets way c [] [] (p ∷ places) each = absurd each
@@ -184,13 +184,13 @@ mid_known packets way c (s ∷ keys) [] places each = absurd each
 mid_known packets way c (s ∷ keys) (o ∷ orders) [] each = absurd each
 mid_known packets way c (s ∷ keys) (o ∷ orders) (p ∷ places) each = (
   ⊎_elim (λ (same : is_same s (stream_is way c) ≡ true). inl (same, ready_known packets c s o p each.0))
-      (λ (other : is_same s (stream_is way c) ≡ false). inr (other, keeps_stream packets (segment_packet way c) s o p (apart s way c (1 + length packets) other) each.0))
+      (λ (other : is_same s (stream_is way c) ≡ false). inr (other, keeps_stream packets (captured_segment way c) s o p (apart s way c (1 + length packets) other) each.0))
       (cases_Bool (is_same s (stream_is way c))),
   mid_known packets way c keys orders places each.1,
 )
 
 mid_new : (packets : List Captured) (way : Direction) (c : CapturedSegment) (new : Places) → Ready packets c (stream_is way c) [] new
-    → (keys : List Stream) (orders : List (List Placed)) (places : List Places) → KeepsEach packets keys orders places
+    → (keys : List Stream) (orders : List (List Placed)) (places : List Places) → KeepsEachOrdered packets keys orders places
     → MidEach packets way c (keys ++ stream_is way c ∷ []) (orders ++ [] ∷ []) (places ++ new ∷ [])
 unfolding MidEach
 mid_new packets way c new ready [] [] [] each = (inl (is_same_self (stream_is way c), ready), tt)
@@ -207,13 +207,13 @@ some_is a b e = cc
 no_other : (a : Stream) → None ≡ Some a → ⊥
 no_other a e = cc
 
-other_at : (s k : Stream) (index : ℕ) (keys : List Stream) → AllByRecursion (λ y. is_same s y ≡ false) keys → HasAt k index keys → is_same s k ≡ false
+other_at : (s k : Stream) (index : ℕ) (keys : List Stream) → AllByRecursion (λ y. is_same s y ≡ false) keys → HasStreamAt k index keys → is_same s k ≡ false
 other_at s k index [] all at = absurd (no_other at.0 at.1)
 other_at s k zero (y ∷ keys) all at = subst (λ (t : Stream). is_same s t ≡ false) (some_is y at.0 at.1 ∙ sym (same_is k at.0 at.2)) all.0
 other_at s k (suc index) (y ∷ keys) all at = other_at s k index keys all.1 at
 
 mid_rest : (packets : List Captured) (way : Direction) (c : CapturedSegment) (keys : List Stream) (orders : List (List Placed)) (places : List Places)
-    → AllByRecursion (λ y. is_same (stream_is way c) y ≡ false) keys → MidEach packets way c keys orders places → KeepsEach (packets ++ segment_packet way c ∷ []) keys orders places
+    → AllByRecursion (λ y. is_same (stream_is way c) y ≡ false) keys → MidEach packets way c keys orders places → KeepsEachOrdered (packets ++ captured_segment way c ∷ []) keys orders places
 unfolding MidEach
 mid_rest packets way c [] [] [] all mid = tt
 mid_rest packets way c [] [] (p ∷ places) all mid = absurd mid
@@ -225,8 +225,8 @@ mid_rest packets way c (s ∷ keys) (o ∷ orders) (p ∷ places) all mid =
 
 -- ---- the messages
 
-messages_of : (o : List Placed) (front back : List Piece) → filter is_message (pieces o) ≡ front ++ back → messages o ≡ map message_of front ++ map message_of back
-messages_of o front back is = ap (λ (l : List Piece). map message_of l) is ∙ map-append message_of front back
+messages_of : (o : List Placed) (front back : List Fragment) → filter is_message (fragments_of o) ≡ front ++ back → messages o ≡ map fragment_message front ++ map fragment_message back
+messages_of o front back is = ap (λ (l : List Fragment). map fragment_message l) is ∙ map-append fragment_message front back
 
 added_here : (packet : ℕ) (c : CapturedSegment) (o : List Placed) (orders : List (List Placed)) (old new : Places) (digits : List ℕ) (found : Option Whole)
     → (f : Found packet c o old new digits found) → AreAdded packet digits found (flat_map messages (o ∷ orders)) (flat_map messages (f.later ∷ orders))
@@ -235,13 +235,13 @@ added_here packet c o orders old new digits found f =
     let back = f.added.1 in
     let rest = flat_map messages orders in
     record {
-      front = map message_of front;
-      back = map message_of back ++ rest;
+      front = map fragment_message front;
+      back = map fragment_message back ++ rest;
       ms = f.ms;
-      before = ap (λ (l : List Message). l ++ rest) (messages_of o front back f.added.2) ∙ append_assoc (map message_of front) (map message_of back) rest;
-      after = ap (λ (l : List Message). l ++ rest) (messages_of f.later front (f.ms ++ back) f.added.3 ∙ ap (λ (l : List Message). map message_of front ++ l) (map-append message_of f.ms back))
-          ∙ append_assoc (map message_of front) (map message_of f.ms ++ map message_of back) rest
-          ∙ ap (λ (l : List Message). map message_of front ++ l) (append_assoc (map message_of f.ms) (map message_of back) rest);
+      before = ap (λ (l : List Message). l ++ rest) (messages_of o front back f.added.2) ∙ append_assoc (map fragment_message front) (map fragment_message back) rest;
+      after = ap (λ (l : List Message). l ++ rest) (messages_of f.later front (f.ms ++ back) f.added.3 ∙ ap (λ (l : List Message). map fragment_message front ++ l) (map-append fragment_message f.ms back))
+          ∙ append_assoc (map fragment_message front) (map fragment_message f.ms ++ map fragment_message back) rest
+          ∙ ap (λ (l : List Message). map fragment_message front ++ l) (append_assoc (map fragment_message f.ms) (map fragment_message back) rest);
       told = f.told;
     }
 
@@ -252,7 +252,7 @@ added_behind packet digits found o old new a = record {
   back = a.back;
   ms = a.ms;
   before = ap (λ (l : List Message). messages o ++ l) a.before ∙ sym (append_assoc (messages o) a.front a.back);
-  after = ap (λ (l : List Message). messages o ++ l) a.after ∙ sym (append_assoc (messages o) a.front (map message_of a.ms ++ a.back));
+  after = ap (λ (l : List Message). messages o ++ l) a.after ∙ sym (append_assoc (messages o) a.front (map fragment_message a.ms ++ a.back));
   told = a.told;
 }
 
@@ -260,11 +260,11 @@ added_behind packet digits found o old new a = record {
 
 record Done (packets : List Captured) (way : Direction) (c : CapturedSegment) (digits : List ℕ) (found : Option Whole) (keys : List Stream) (orders : List (List Placed)) (places : List Places) : Type 0 where
   pub laters : List (List Placed)
-  pub each : KeepsEach (packets ++ segment_packet way c ∷ []) keys laters places
+  pub each : KeepsEachOrdered (packets ++ captured_segment way c ∷ []) keys laters places
   pub added : AreAdded (1 + length packets) digits found (flat_map messages orders) (flat_map messages laters)
 
 mid_done : (packets : List Captured) (way : Direction) (c : CapturedSegment) (new d : Places) (digits : List ℕ) (found : Option Whole)
-    → (index : ℕ) (keys : List Stream) (orders : List (List Placed)) (places : List Places) → MidEach packets way c keys orders places → IsDistinct is_same keys → HasAt (stream_is way c) index keys
+    → (index : ℕ) (keys : List Stream) (orders : List (List Placed)) (places : List Places) → MidEach packets way c keys orders places → IsDistinct is_same keys → HasStreamAt (stream_is way c) index keys
     → ((o : List Placed) → KeepsPlaces (1 + length packets) o (get_or places index d) → (get_or places index d).highest ≤ 8192 + 2048 * length packets
     → Found (1 + length packets) c o (get_or places index d) new digits found)
     → Done packets way c digits found keys orders (slice_set places index new)
@@ -307,26 +307,26 @@ inserted_new s keys none = rw none refl
 
 -- a segment was put into its stream
 pub grows : (packets : List Captured) (way : Direction) (c : CapturedSegment) (ordered : List (List Placed)) (old mid new : Streams) (index : ℕ) (one shown : Places) (digits : List ℕ) (found : Option Whole)
-    → KeepsAll packets ordered old → IsIndexed (stream_is way c) c.number old mid index → shown ≡ get_or mid.places.items index shown → new.names.keys ≡ mid.names.keys
+    → KeepsAllOrdered packets ordered old → IsIndexedStream (stream_is way c) c.number old mid index → shown ≡ get_or mid.places.items index shown → new.names.keys ≡ mid.names.keys
     → new.places.items ≡ slice_set mid.places.items index one
     → ((o : List Placed) → KeepsPlaces (1 + length packets) o shown → shown.highest ≤ 8192 + 2048 * length packets → Found (1 + length packets) c o shown one digits found)
-    → Grows packets (segment_packet way c) ordered new digits found
+    → Grows packets (captured_segment way c) ordered new digits found
 grows packets way c ordered old mid new index one shown digits found k i is names items finds =
     ⊎_elim
     (λ known.
-    let each = subst (λ (l : List Places). KeepsEach packets old.names.keys ordered l) (sym known.2) k.each in
+    let each = subst (λ (l : List Places). KeepsEachOrdered packets old.names.keys ordered l) (sym known.2) k.each in
     let here = subst (λ (l : List Stream). MidEach packets way c l ordered mid.places.items) (sym known.1) (mid_known packets way c old.names.keys ordered mid.places.items each) in
     let done = mid_done packets way c one shown digits found index mid.names.keys ordered mid.places.items here i.distinct i.has
     (λ o keeps most. subst (λ (p : Places). Found (1 + length packets) c o p one digits found) is
     (finds o (subst (λ (p : Places). KeepsPlaces (1 + length packets) o p) (sym is) keeps) (subst (λ (p : Places). p.highest ≤ 8192 + 2048 * length packets) (sym is) most))) in
-    let all : mid.names.keys ≡ streams (packets ++ segment_packet way c ∷ []) =
-    known.1 ∙ k.names ∙ sym (streams-more packets (segment_packet way c) (stream_is way c) refl ∙ inserted_known (stream_is way c) (streams packets) (subst (λ (l : List Stream). list_any (is_same (stream_is way c)) l ≡ true) k.names known.0)) in
+    let all : mid.names.keys ≡ streams (packets ++ captured_segment way c ∷ []) =
+    known.1 ∙ k.names ∙ sym (streams-more packets (captured_segment way c) (stream_is way c) refl ∙ inserted_known (stream_is way c) (streams packets) (subst (λ (l : List Stream). list_any (is_same (stream_is way c)) l ≡ true) k.names known.0)) in
     record {
       later = done.laters;
       keeps = record {
         names = names ∙ all;
-        each = subst (λ (l : List Stream). KeepsEach (packets ++ segment_packet way c ∷ []) l done.laters new.places.items) (sym names)
-            (subst (λ (l : List Places). KeepsEach (packets ++ segment_packet way c ∷ []) mid.names.keys done.laters l) (sym items) done.each);
+        each = subst (λ (l : List Stream). KeepsEachOrdered (packets ++ captured_segment way c ∷ []) l done.laters new.places.items) (sym names)
+            (subst (λ (l : List Places). KeepsEachOrdered (packets ++ captured_segment way c ∷ []) mid.names.keys done.laters l) (sym items) done.each);
       };
       added = done.added;
     })
@@ -339,15 +339,15 @@ grows packets way c ordered old mid new index one shown digits found k i is name
     let done = mid_done packets way c one shown digits found index mid.names.keys (ordered ++ [] ∷ []) mid.places.items here i.distinct i.has
     (λ o keeps most. subst (λ (p : Places). Found (1 + length packets) c o p one digits found) is
     (finds o (subst (λ (p : Places). KeepsPlaces (1 + length packets) o p) (sym is) keeps) (subst (λ (p : Places). p.highest ≤ 8192 + 2048 * length packets) (sym is) most))) in
-    let all : mid.names.keys ≡ streams (packets ++ segment_packet way c ∷ []) =
+    let all : mid.names.keys ≡ streams (packets ++ captured_segment way c ∷ []) =
     fresh.1 ∙ ap (λ (l : List Stream). l ++ stream_is way c ∷ []) k.names
-    ∙ sym (streams-more packets (segment_packet way c) (stream_is way c) refl ∙ inserted_new (stream_is way c) (streams packets) (subst (λ (l : List Stream). list_any (is_same (stream_is way c)) l ≡ false) k.names fresh.0)) in
+    ∙ sym (streams-more packets (captured_segment way c) (stream_is way c) refl ∙ inserted_new (stream_is way c) (streams packets) (subst (λ (l : List Stream). list_any (is_same (stream_is way c)) l ≡ false) k.names fresh.0)) in
     record {
       later = done.laters;
       keeps = record {
         names = names ∙ all;
-        each = subst (λ (l : List Stream). KeepsEach (packets ++ segment_packet way c ∷ []) l done.laters new.places.items) (sym names)
-            (subst (λ (l : List Places). KeepsEach (packets ++ segment_packet way c ∷ []) mid.names.keys done.laters l) (sym items) done.each);
+        each = subst (λ (l : List Stream). KeepsEachOrdered (packets ++ captured_segment way c ∷ []) l done.laters new.places.items) (sym names)
+            (subst (λ (l : List Places). KeepsEachOrdered (packets ++ captured_segment way c ∷ []) mid.names.keys done.laters l) (sym items) done.each);
       };
       added = subst (λ (l : List Message). AreAdded (1 + length packets) digits found l (flat_map messages done.laters)) (no_messages_more ordered) done.added;
     })
@@ -363,7 +363,7 @@ last_at : (keys : List Stream) (s : Stream) → slice_get (keys ++ s ∷ []) (le
 last_at [] s = refl
 last_at (k ∷ keys) s = last_at keys s
 
-pub stands_last : (s : Stream) (keys : List Stream) (index : ℕ) → index ≡ length keys → HasAt s index (keys ++ s ∷ [])
+pub stands_last : (s : Stream) (keys : List Stream) (index : ℕ) → index ≡ length keys → HasStreamAt s index (keys ++ s ∷ [])
 stands_last s keys index is = (s, ap (λ n. slice_get (keys ++ s ∷ []) n) is ∙ last_at keys s, is_same_self s)
 
 none_there : (s : Stream) → None ≡ Some s → ⊥

@@ -3,10 +3,10 @@ use Rattle.std.proofs.Common.{◌≡◌, ◌&&◌, ◌/◌, ◌⊎◌, inl, inr,
 use Rattle.std.specs.List.{AllByRecursion, filter}
 use Rattle.std.proofs.lemmas.Bool.{false≢true}
 use Rattle.std.proofs.lemmas.List.Elements.{filter-append}
-use Rattle.dap_listing.specs.Captured.{Spell, bytes_of}
-use Rattle.dap_follow.specs.Joined.{Piece, is_message, latest, tail}
+use Rattle.dap_listing.specs.Captured.{Spell, digit_bytes}
+use Rattle.dap_follow.specs.Joined.{Fragment, is_message, latest, tail}
 use Rattle.dap_watch.specs.Inner.Pieces.{all_segments, glue}
-use Rattle.dap_watch.specs.Inner.Kept.{AbsorbsAfter, AbsorbsBefore, Holds, IsAbsorbed, IsApart, IsBehindApart, IsOpen, Joins, Keeps, Lists, Regroups, Settles, Stays, do_join}
+use Rattle.dap_watch.specs.Inner.Kept.{AbsorbsAfter, AbsorbsBefore, HoldsPieces, IsAbsorbed, IsApart, IsBehindApart, IsOpen, Joins, KeepsPieces, Lists, Regroups, Settles, Stays, do_join}
 use Rattle.dap_watch.specs.declared.places.Kept.{Kept}
 use Rattle.dap_watch.specs.declared.places.Whole.{Whole}
 use Rattle.dap_watch.proofs.GlueLemmas.{glue_back, glue_front, glue_nil, latest_back, latest_front, segments_glue}
@@ -23,23 +23,23 @@ drop-append_seam : (xs ys : List Kept) → drop (length xs) (xs ++ ys) ≡ ys
 drop-append_seam [] ys = refl
 drop-append_seam (x ∷ xs) ys = drop-append_seam xs ys
 
--- ---- the one behind
+-- ---- the one after
 
-apart_all : (piece : Kept) (ys zs : List Piece) (ks : List Kept) → Holds piece ys → Keeps zs ks → IsApart piece ks → glue ys zs ≡ ys ++ zs
-apart_all piece ys zs [] holds none apart = ap (λ (l : List Piece). glue ys l) none ∙ glue_nil ys ∙ sym (append-nil ys) ∙ ap (λ (l : List Piece). ys ++ l) (sym none)
+apart_all : (piece : Kept) (ys zs : List Fragment) (ks : List Kept) → HoldsPieces piece ys → KeepsPieces zs ks → IsApart piece ks → glue ys zs ≡ ys ++ zs
+apart_all piece ys zs [] holds none apart = ap (λ (l : List Fragment). glue ys l) none ∙ glue_nil ys ∙ sym (append-nil ys) ∙ ap (λ (l : List Fragment). ys ++ l) (sym none)
 apart_all piece ys zs (k ∷ ks) holds (held, rest, is, stays, keeps) apart =
     let some = holds_some k held stays.0 in
-    let whole : zs ≡ (some.0 ∷ some.1) ++ rest = is ∙ ap (λ (l : List Piece). l ++ rest) some.2 in
-    ap (λ (l : List Piece). glue ys l) whole ∙ glue_front ys some.0 some.1 rest ∙ ap (λ (l : List Piece). glue ys l ++ rest) (sym some.2)
-    ∙ ap (λ (l : List Piece). l ++ rest) (apart_held piece k ys held holds stays.0 apart) ∙ append_assoc ys held rest ∙ ap (λ (l : List Piece). ys ++ l) (sym is)
+    let whole : zs ≡ (some.0 ∷ some.1) ++ rest = is ∙ ap (λ (l : List Fragment). l ++ rest) some.2 in
+    ap (λ (l : List Fragment). glue ys l) whole ∙ glue_front ys some.0 some.1 rest ∙ ap (λ (l : List Fragment). glue ys l ++ rest) (sym some.2)
+    ∙ ap (λ (l : List Fragment). l ++ rest) (apart_held piece k ys held holds stays.0 apart) ∙ append_assoc ys held rest ∙ ap (λ (l : List Fragment). ys ++ l) (sym is)
 
-record After (index : ℕ) (old : List Kept) (piece : Kept) (mid : List Kept) (middle : Kept) (ys zs : List Piece) : Type 0 where
-  pub these : List Piece
-  pub behind : List Piece
+record After (index : ℕ) (old : List Kept) (piece : Kept) (mid : List Kept) (middle : Kept) (ys zs : List Fragment) : Type 0 where
+  pub these : List Fragment
+  pub behind : List Fragment
   pub within : index ≤ length mid
   pub front : take index mid ≡ take index old
-  pub holds : Holds middle these
-  pub keeps : Keeps behind (drop index mid)
+  pub holds : HoldsPieces middle these
+  pub keeps : KeepsPieces behind (drop index mid)
   pub all : glue ys zs ≡ these ++ behind
   pub kind : middle.listed ≡ piece.listed
   pub messages : piece.listed ≡ false → filter is_message behind ≡ filter is_message zs
@@ -53,46 +53,46 @@ take_exact index old others within =
       omega (arith, size, length-append (take index old) others),
     )
 
-fewer : (held rest zs : List Piece) → zs ≡ held ++ rest → filter is_message held ≡ [] → filter is_message rest ≡ filter is_message zs
-fewer held rest zs is none = sym (ap (λ (l : List Piece). filter is_message l) is ∙ filter-append is_message held rest ∙ ap (λ (l : List Piece). l ++ filter is_message rest) none)
+fewer : (held rest zs : List Fragment) → zs ≡ held ++ rest → filter is_message held ≡ [] → filter is_message rest ≡ filter is_message zs
+fewer held rest zs is none = sym (ap (λ (l : List Fragment). filter is_message l) is ∙ filter-append is_message held rest ∙ ap (λ (l : List Fragment). l ++ filter is_message rest) none)
 
-longer_latest : (xs ys : List Piece) → (latest (all_segments xs) ≤ latest (all_segments (glue xs ys))) × (latest (all_segments ys) ≤ latest (all_segments (glue xs ys)))
+longer_latest : (xs ys : List Fragment) → (latest (all_segments xs) ≤ latest (all_segments (glue xs ys))) × (latest (all_segments ys) ≤ latest (all_segments (glue xs ys)))
 longer_latest xs ys =
     let same = segments_glue xs ys in (
       subst (λ l. latest (all_segments xs) ≤ latest l) (sym same) (latest_front (all_segments xs) (all_segments ys)),
       subst (λ l. latest (all_segments ys) ≤ latest l) (sym same) (latest_back (all_segments xs) (all_segments ys)),
     )
 
-after_step : (index : ℕ) (old : List Kept) (piece : Kept) (mid : List Kept) (middle : Kept) (ys zs : List Piece) → index ≤ length old
-    → AbsorbsAfter index old piece mid middle → Holds piece ys → Keeps zs (drop index old) → After index old piece mid middle ys zs
+after_step : (index : ℕ) (old : List Kept) (piece : Kept) (mid : List Kept) (middle : Kept) (ys zs : List Fragment) → index ≤ length old
+    → AbsorbsAfter index old piece mid middle → HoldsPieces piece ys → KeepsPieces zs (drop index old) → After index old piece mid middle ys zs
 after_step index old piece mid middle ys zs within (inl (same, is, apart)) holds keeps = record {
   these = ys;
   behind = zs;
   within = subst (λ (l : List Kept). index ≤ length l) (sym same) within;
   front = ap (λ (l : List Kept). take index l) same;
-  holds = subst (λ (k : Kept). Holds k ys) (sym is) holds;
-  keeps = subst (λ (l : List Kept). Keeps zs (drop index l)) (sym same) keeps;
+  holds = subst (λ (k : Kept). HoldsPieces k ys) (sym is) holds;
+  keeps = subst (λ (l : List Kept). KeepsPieces zs (drop index l)) (sym same) keeps;
   all = apart_all piece ys zs (drop index old) holds keeps apart;
   kind = ap (λ (k : Kept). k.listed) is;
   messages = λ is_open. refl;
   later = omega arith;
 }
 after_step index old piece mid middle ys zs within (inr (next, others, is, same, join, absorbed)) holds keeps =
-    let first : Keeps zs (next ∷ others) = subst (λ (l : List Kept). Keeps zs l) is keeps in
+    let first : KeepsPieces zs (next ∷ others) = subst (λ (l : List Kept). KeepsPieces zs l) is keeps in
     let held = first.0 in
     let rest = first.1 in
     let stays : Stays next held = first.3 in
     let some = holds_some next held stays.0 in
     let cut = take_exact index old others within in
-    let whole : zs ≡ (some.0 ∷ some.1) ++ rest = first.2 ∙ ap (λ (l : List Piece). l ++ rest) some.2 in
+    let whole : zs ≡ (some.0 ∷ some.1) ++ rest = first.2 ∙ ap (λ (l : List Fragment). l ++ rest) some.2 in
     record {
       these = glue ys held;
       behind = rest;
       within = subst (λ (l : List Kept). index ≤ length l) (sym same) cut.2;
       front = ap (λ (l : List Kept). take index l) same ∙ cut.0;
       holds = joined_held piece next middle ys held holds stays.0 join absorbed;
-      keeps = subst (λ (l : List Kept). Keeps rest l) (sym (ap (λ (l : List Kept). drop index l) same ∙ cut.1)) first.4;
-      all = ap (λ (l : List Piece). glue ys l) whole ∙ glue_front ys some.0 some.1 rest ∙ ap (λ (l : List Piece). glue ys l ++ rest) (sym some.2);
+      keeps = subst (λ (l : List Kept). KeepsPieces rest l) (sym (ap (λ (l : List Kept). drop index l) same ∙ cut.1)) first.4;
+      all = ap (λ (l : List Fragment). glue ys l) whole ∙ glue_front ys some.0 some.1 rest ∙ ap (λ (l : List Fragment). glue ys l ++ rest) (sym some.2);
       kind = absorbed.listed;
       messages = λ is_open. fewer held rest zs first.2 (no_messages held (stays.1 (open_too piece next join is_open)));
       later = (longer_latest ys held).0;
@@ -109,64 +109,64 @@ snoc_cases : (ks : List Kept) → (ks ≡ []) ⊎ ((others : List Kept) × (k : 
 snoc_cases [] = inl refl
 snoc_cases (k ∷ ks) = at_end k (snoc_cases ks)
 
-record Before (index : ℕ) (mid : List Kept) (middle : Kept) (now : ℕ) (new : List Kept) (joined : Kept) (xs these behind : List Piece) : Type 0 where
-  pub before : List Piece
-  pub all_these : List Piece
+record Before (index : ℕ) (mid : List Kept) (middle : Kept) (now : ℕ) (new : List Kept) (joined : Kept) (xs these behind : List Fragment) : Type 0 where
+  pub before : List Fragment
+  pub all_these : List Fragment
   pub within : now ≤ length new
   pub back : drop now new ≡ drop index mid
-  pub holds : Holds joined all_these
-  pub keeps : Keeps before (take now new)
+  pub holds : HoldsPieces joined all_these
+  pub keeps : KeepsPieces before (take now new)
   pub all : glue xs (these ++ behind) ≡ before ++ (all_these ++ behind)
   pub kind : joined.listed ≡ middle.listed
   pub messages : middle.listed ≡ false → filter is_message before ≡ filter is_message xs
   pub later : latest (all_segments these) ≤ latest (all_segments all_these)
 
 -- what is in front, its last and these
-glue_in_front : (front held these behind : List Piece) (k piece : Kept) → Holds k held → Holds piece these
+glue_in_front : (front held these behind : List Fragment) (k piece : Kept) → HoldsPieces k held → HoldsPieces piece these
     → glue (front ++ held) (these ++ behind) ≡ front ++ (glue held these ++ behind)
 glue_in_front front held these behind k piece one two =
     let some = holds_some k held one in
     let first = holds_some piece these two in
-    ap (λ (l : List Piece). glue (front ++ l) (these ++ behind)) some.2 ∙ glue_back front some.0 some.1 (these ++ behind)
-    ∙ ap (λ (l : List Piece). front ++ glue l (these ++ behind)) (sym some.2)
-    ∙ ap (λ (l : List Piece). front ++ glue held (l ++ behind)) first.2 ∙ ap (λ (l : List Piece). front ++ l) (glue_front held first.0 first.1 behind)
-    ∙ ap (λ (l : List Piece). front ++ (glue held l ++ behind)) (sym first.2)
+    ap (λ (l : List Fragment). glue (front ++ l) (these ++ behind)) some.2 ∙ glue_back front some.0 some.1 (these ++ behind)
+    ∙ ap (λ (l : List Fragment). front ++ glue l (these ++ behind)) (sym some.2)
+    ∙ ap (λ (l : List Fragment). front ++ glue held (l ++ behind)) first.2 ∙ ap (λ (l : List Fragment). front ++ l) (glue_front held first.0 first.1 behind)
+    ∙ ap (λ (l : List Fragment). front ++ (glue held l ++ behind)) (sym first.2)
 
-behind_apart : (front : List Kept) (piece : Kept) (xs these behind : List Piece) → Keeps xs front → Holds piece these → IsBehindApart front piece
+behind_apart : (front : List Kept) (piece : Kept) (xs these behind : List Fragment) → KeepsPieces xs front → HoldsPieces piece these → IsBehindApart front piece
     → (front ≡ []) ⊎ ((others : List Kept) × (k : Kept) × (front ≡ others ++ k ∷ [])) → glue xs (these ++ behind) ≡ xs ++ (these ++ behind)
 behind_apart front piece xs these behind keeps holds apart (inl none) =
-    let no_pieces : xs ≡ [] = subst (λ (l : List Kept). Keeps xs l) none keeps in
-    ap (λ (l : List Piece). glue l (these ++ behind)) no_pieces ∙ ap (λ (l : List Piece). l ++ (these ++ behind)) (sym no_pieces)
+    let no_pieces : xs ≡ [] = subst (λ (l : List Kept). KeepsPieces xs l) none keeps in
+    ap (λ (l : List Fragment). glue l (these ++ behind)) no_pieces ∙ ap (λ (l : List Fragment). l ++ (these ++ behind)) (sym no_pieces)
 behind_apart front piece xs these behind keeps holds apart (inr (others, k, is)) =
-    let parts = keeps_split xs others (k ∷ []) (subst (λ (l : List Kept). Keeps xs l) is keeps) in
+    let parts = keeps_split xs others (k ∷ []) (subst (λ (l : List Kept). KeepsPieces xs l) is keeps) in
     let start = parts.0 in
     let held = parts.1 in
     let stays : Stays k held = keeps_only held k parts.4 in
-    ap (λ (l : List Piece). glue l (these ++ behind)) parts.2 ∙ glue_in_front start held these behind k piece stays.0 holds
-    ∙ ap (λ (l : List Piece). start ++ (l ++ behind)) (apart_held k piece held these stays.0 holds (apart others k is))
-    ∙ ap (λ (l : List Piece). start ++ l) (append_assoc held these behind) ∙ sym (append_assoc start held (these ++ behind))
-    ∙ ap (λ (l : List Piece). l ++ (these ++ behind)) (sym parts.2)
+    ap (λ (l : List Fragment). glue l (these ++ behind)) parts.2 ∙ glue_in_front start held these behind k piece stays.0 holds
+    ∙ ap (λ (l : List Fragment). start ++ (l ++ behind)) (apart_held k piece held these stays.0 holds (apart others k is))
+    ∙ ap (λ (l : List Fragment). start ++ l) (append_assoc held these behind) ∙ sym (append_assoc start held (these ++ behind))
+    ∙ ap (λ (l : List Fragment). l ++ (these ++ behind)) (sym parts.2)
 
 -- neighbours that are joined are of one kind
 both_kinds : (a b : Kept) → do_join a b ≡ true → a.listed ≡ b.listed
 both_kinds a b h = by_bool a.listed (λ t. t ∙ sym (listed_too a b h t)) (λ f. f ∙ sym (open_too a b h f))
 
-before_step : (index : ℕ) (mid : List Kept) (middle : Kept) (now : ℕ) (new : List Kept) (joined : Kept) (xs these behind : List Piece) → index ≤ length mid
-    → AbsorbsBefore index mid middle now new joined → Keeps xs (take index mid) → Holds middle these → Before index mid middle now new joined xs these behind
+before_step : (index : ℕ) (mid : List Kept) (middle : Kept) (now : ℕ) (new : List Kept) (joined : Kept) (xs these behind : List Fragment) → index ≤ length mid
+    → AbsorbsBefore index mid middle now new joined → KeepsPieces xs (take index mid) → HoldsPieces middle these → Before index mid middle now new joined xs these behind
 before_step index mid middle now new joined xs these behind within (inl (same, at, is, apart)) keeps holds = record {
   before = xs;
   all_these = these;
   within = subst (λ n. n ≤ length new) (sym at) (subst (λ (l : List Kept). index ≤ length l) (sym same) within);
   back = ap (λ n. drop n new) at ∙ ap (λ (l : List Kept). drop index l) same;
-  holds = subst (λ (k : Kept). Holds k these) (sym is) holds;
-  keeps = subst (λ n. Keeps xs (take n new)) (sym at) (subst (λ (l : List Kept). Keeps xs (take index l)) (sym same) keeps);
+  holds = subst (λ (k : Kept). HoldsPieces k these) (sym is) holds;
+  keeps = subst (λ n. KeepsPieces xs (take n new)) (sym at) (subst (λ (l : List Kept). KeepsPieces xs (take index l)) (sym same) keeps);
   all = behind_apart (take index mid) middle xs these behind keeps holds apart (snoc_cases (take index mid));
   kind = ap (λ (k : Kept). k.listed) is;
   messages = λ is_open. refl;
   later = omega arith;
 }
 before_step index mid middle now new joined xs these behind within (inr (last, others, is, same, at, join, absorbed)) keeps holds =
-    let parts = keeps_split xs others (last ∷ []) (subst (λ (l : List Kept). Keeps xs l) is keeps) in
+    let parts = keeps_split xs others (last ∷ []) (subst (λ (l : List Kept). KeepsPieces xs l) is keeps) in
     let start = parts.0 in
     let held = parts.1 in
     let stays : Stays last held = keeps_only held last parts.4 in
@@ -176,11 +176,11 @@ before_step index mid middle now new joined xs these behind within (inr (last, o
       within = omega (arith, at, ap length same, length-append others (drop index mid));
       back = ap (λ n. drop n new) at ∙ ap (λ (l : List Kept). drop (length others) l) same ∙ drop-append_seam others (drop index mid);
       holds = joined_held last middle joined held these stays.0 holds join absorbed;
-      keeps = subst (λ (l : List Kept). Keeps start l) (sym (ap (λ n. take n new) at ∙ ap (λ (l : List Kept). take (length others) l) same ∙ take-append_seam others (drop index mid))) parts.3;
-      all = ap (λ (l : List Piece). glue l (these ++ behind)) parts.2 ∙ glue_in_front start held these behind last middle stays.0 holds;
+      keeps = subst (λ (l : List Kept). KeepsPieces start l) (sym (ap (λ n. take n new) at ∙ ap (λ (l : List Kept). take (length others) l) same ∙ take-append_seam others (drop index mid))) parts.3;
+      all = ap (λ (l : List Fragment). glue l (these ++ behind)) parts.2 ∙ glue_in_front start held these behind last middle stays.0 holds;
       kind = absorbed.listed ∙ both_kinds last middle join;
-      messages = λ is_open. sym (ap (λ (l : List Piece). filter is_message l) parts.2 ∙ filter-append is_message start held
-          ∙ ap (λ (l : List Piece). filter is_message start ++ l) (no_messages held (stays.1 (both_kinds last middle join ∙ is_open))) ∙ append-nil (filter is_message start));
+      messages = λ is_open. sym (ap (λ (l : List Fragment). filter is_message l) parts.2 ∙ filter-append is_message start held
+          ∙ ap (λ (l : List Fragment). filter is_message start ++ l) (no_messages held (stays.1 (both_kinds last middle join ∙ is_open))) ∙ append-nil (filter is_message start));
       later = (longer_latest held these).1;
     }
 
@@ -202,7 +202,7 @@ joins_both index old piece mid middle now new joined within after before = recor
   within = within_then index old piece mid middle now new joined within after before;
   regroups = λ xs ys zs in_front holds at_back.
       let a = after_step index old piece mid middle ys zs within after holds at_back in
-      let b = before_step index mid middle now new joined xs a.these a.behind a.within before (subst (λ (l : List Kept). Keeps xs l) (sym a.front) in_front) a.holds in
+      let b = before_step index mid middle now new joined xs a.these a.behind a.within before (subst (λ (l : List Kept). KeepsPieces xs l) (sym a.front) in_front) a.holds in
       let low : latest (all_segments ys) ≤ latest (all_segments a.these) = a.later in
       let high : latest (all_segments a.these) ≤ latest (all_segments b.all_these) = b.later in
       record {
@@ -211,8 +211,8 @@ joins_both index old piece mid middle now new joined within after before = recor
         behind = a.behind;
         front_keeps = b.keeps;
         holds = b.holds;
-        back_keeps = subst (λ (l : List Kept). Keeps a.behind l) (sym b.back) a.keeps;
-        all = ap (λ (l : List Piece). glue xs l) a.all ∙ b.all;
+        back_keeps = subst (λ (l : List Kept). KeepsPieces a.behind l) (sym b.back) a.keeps;
+        all = ap (λ (l : List Fragment). glue xs l) a.all ∙ b.all;
         kind = b.kind ∙ a.kind;
         messages = λ is_open. (b.messages (a.kind ∙ is_open), a.messages is_open);
         later = omega (arith, low, high);
@@ -220,32 +220,32 @@ joins_both index old piece mid middle now new joined within after before = recor
 }
 
 -- one put between others
-pub inserted : (xs ys zs : List Piece) (ks : List Kept) (index : ℕ) (k : Kept) → Keeps xs (take index ks) → Stays k ys → Keeps zs (drop index ks)
-    → Keeps (xs ++ (ys ++ zs)) (insert ks index k)
+pub inserted : (xs ys zs : List Fragment) (ks : List Kept) (index : ℕ) (k : Kept) → KeepsPieces xs (take index ks) → Stays k ys → KeepsPieces zs (drop index ks)
+    → KeepsPieces (xs ++ (ys ++ zs)) (insert ks index k)
 inserted xs ys zs ks index k front stays back = keeps_append xs (ys ++ zs) (take index ks) (k ∷ drop index ks) front (keeps_cons ys zs k (drop index ks) stays back)
 
 -- a message between others is kept same_as listed
 pub lists_run : (index : ℕ) (old : List Kept) (run : Kept) (now : ℕ) (new : List Kept) (joined : Kept) → Joins index old run now new joined → run.listed ≡ true
-    → (xs zs : List Piece) (m : Piece) → is_message m ≡ true → run.from ≡ m.head.place → run.to ≡ (tail m).place → Keeps xs (take index old) → Keeps zs (drop index old)
-    → Keeps (xs ++ m ∷ zs) (insert new now joined)
+    → (xs zs : List Fragment) (m : Fragment) → is_message m ≡ true → run.from ≡ m.head.place → run.to ≡ (tail m).place → KeepsPieces xs (take index old) → KeepsPieces zs (drop index old)
+    → KeepsPieces (xs ++ m ∷ zs) (insert new now joined)
 lists_run index old run now new joined joins listed xs zs m is from to front back =
     let r = joins.regroups xs (m ∷ []) zs front (inl (listed, (is, sym from, sym to))) back in
-    subst (λ (l : List Piece). Keeps l (insert new now joined)) (sym r.all ∙ message_apart xs zs m is)
+    subst (λ (l : List Fragment). KeepsPieces l (insert new now joined)) (sym r.all ∙ message_apart xs zs m is)
     (inserted r.before r.these r.behind new now joined r.front_keeps (r.holds, λ is_open. absurd (false≢true (sym is_open ∙ (r.kind ∙ listed)))) r.back_keeps)
 
 -- ---- a segment between others
 
-open_piece : (k : Kept) (ps : List Piece) → Holds k ps → k.listed ≡ false → (p : Piece) × (ps ≡ p ∷ []) × IsOpen k p
+open_piece : (k : Kept) (ps : List Fragment) → HoldsPieces k ps → k.listed ≡ false → (p : Fragment) × (ps ≡ p ∷ []) × IsOpen k p
 open_piece k ps (inl (listed, run)) kind = absurd (false≢true (sym kind ∙ listed))
 open_piece k ps (inr one) kind = one
 
-marks_of : (k : Kept) (p : Piece) → IsOpen k p → is_message p ≡ (k.first && k.last)
+marks_of : (k : Kept) (p : Fragment) → IsOpen k p → is_message p ≡ (k.first && k.last)
 marks_of k p one = ap (λ (b : Bool). b && (tail p).last) (sym one.first) ∙ ap (λ (b : Bool). k.first && b) (sym one.last)
 
-alone_later : (n : ℕ) (p : Piece) (ps : List Piece) → ps ≡ p ∷ [] → n ≤ latest (all_segments ps) → n ≤ latest (p.head ∷ p.others)
-alone_later n p ps is low = subst (λ l. n ≤ latest l) (ap (λ (l : List Piece). all_segments l) is ∙ append-nil (p.head ∷ p.others)) low
+alone_later : (n : ℕ) (p : Fragment) (ps : List Fragment) → ps ≡ p ∷ [] → n ≤ latest (all_segments ps) → n ≤ latest (p.head ∷ p.others)
+alone_later n p ps is low = subst (λ l. n ≤ latest l) (ap (λ (l : List Fragment). all_segments l) is ∙ append-nil (p.head ∷ p.others)) low
 
-pub settles_message : (xs ys zs : List Piece) (piece : Kept) (mid : List Kept) (now : ℕ) (joined : Kept) (new : List Kept) (digits : List ℕ) (whole : Whole)
+pub settles_message : (xs ys zs : List Fragment) (piece : Kept) (mid : List Kept) (now : ℕ) (joined : Kept) (new : List Kept) (digits : List ℕ) (whole : Whole)
     → Regroups xs ys zs piece (take now mid) joined (drop now mid) → piece.listed ≡ false → (joined.first && joined.last) ≡ true → Lists now mid joined new digits whole
     → Settles xs ys zs new digits (Some whole)
 settles_message xs ys zs piece mid now joined new digits whole r kind marks lists =
@@ -257,33 +257,33 @@ settles_message xs ys zs piece mid now joined new digits whole r kind marks list
       before = r.before;
       piece = p;
       behind = r.behind;
-      all = r.all ∙ ap (λ (l : List Piece). r.before ++ (l ++ r.behind)) one.1;
+      all = r.all ∙ ap (λ (l : List Fragment). r.before ++ (l ++ r.behind)) one.1;
       keeps = lists.keeps r.before r.behind p message is_open.from is_open.to r.front_keeps r.back_keeps;
       told = record {
         message = message;
         from = lists.from ∙ is_open.from;
         to = lists.to ∙ is_open.to;
-        bytes = ap (λ l. bytes_of l) lists.digits_are ∙ is_open.bytes;
+        bytes = ap (λ l. digit_bytes l) lists.digits_are ∙ is_open.bytes;
         spelled = subst (λ l. Spell l (length l / 2)) (sym lists.digits_are) is_open.spelled;
       };
       messages = r.messages kind;
       later = alone_later (latest (all_segments ys)) p r.these one.1 r.later;
     }
 
-pub settles_open : (xs ys zs : List Piece) (piece : Kept) (mid : List Kept) (now : ℕ) (joined : Kept) (digits : List ℕ)
+pub settles_open : (xs ys zs : List Fragment) (piece : Kept) (mid : List Kept) (now : ℕ) (joined : Kept) (digits : List ℕ)
     → Regroups xs ys zs piece (take now mid) joined (drop now mid) → piece.listed ≡ false → (joined.first && joined.last) ≡ false
     → Settles xs ys zs (insert mid now joined) digits None
 settles_open xs ys zs piece mid now joined digits r kind marks =
     let one = open_piece joined r.these r.holds (r.kind ∙ kind) in
     let p = one.0 in
     let none : is_message p ≡ false = marks_of joined p one.2 ∙ marks in
-    let stays : Stays joined r.these = (r.holds, λ kind_is. subst (λ (l : List Piece). AllByRecursion (λ q. is_message q ≡ false) l) (sym one.1) (none, tt)) in
+    let stays : Stays joined r.these = (r.holds, λ kind_is. subst (λ (l : List Fragment). AllByRecursion (λ q. is_message q ≡ false) l) (sym one.1) (none, tt)) in
     record {
       before = r.before;
       piece = p;
       behind = r.behind;
-      all = r.all ∙ ap (λ (l : List Piece). r.before ++ (l ++ r.behind)) one.1;
-      keeps = subst (λ (l : List Piece). Keeps (r.before ++ (l ++ r.behind)) (insert mid now joined)) one.1 (inserted r.before r.these r.behind mid now joined r.front_keeps stays r.back_keeps);
+      all = r.all ∙ ap (λ (l : List Fragment). r.before ++ (l ++ r.behind)) one.1;
+      keeps = subst (λ (l : List Fragment). KeepsPieces (r.before ++ (l ++ r.behind)) (insert mid now joined)) one.1 (inserted r.before r.these r.behind mid now joined r.front_keeps stays r.back_keeps);
       told = none;
       messages = r.messages kind;
       later = alone_later (latest (all_segments ys)) p r.these one.1 r.later;

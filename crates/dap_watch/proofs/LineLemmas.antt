@@ -20,7 +20,7 @@ unfolding Lacks
 lacks_cons x xs one all zero d below = one
 lacks_cons x xs one all (suc k) d below = all k d (omega arith)
 
--- what is up to the first line feed and behind it
+-- what is up to the first line feed and after it
 record Cut (rest before after : List ℕ) : Type 0 where
   pub is : rest ≡ before ++ 10 ∷ after
   pub lacks : Lacks before

@@ -10,19 +10,19 @@ use Rattle.std.proofs.lemmas.Map.Keys.{IsStrictlyIncreasing-from_sorted}
 use Rattle.dap_follow.specs.Streams.{ArePlaced, Placed, at, no_more, one_more}
 use Rattle.dap_follow.proofs.ForCallers.{at-append, at-here, at-other, or_else}
 use Rattle.dap_watch.specs.Inner.Pieces.{IsPut, Rises}
-use Rattle.dap_watch.specs.Inner.Segments.{Came, put_at, top}
+use Rattle.dap_follow.specs.Segments.{NumberedSegment, placed_at, highest_in}
 use Rattle.dap_watch.proofs.GlueLemmas.{all_append, all_back, all_front}
 
 -- ---- places
 
 -- one segment more, near the highest before it
-pub placed_more : {highest : ℕ} {before : List Came} {placed : List Placed} (c : Came) (place : ℕ) → ArePlaced highest before placed
-    → top highest placed ≤ place + 2047 → place ≤ top highest placed + 2048 → place % 4096 ≡ c.1.number
-    → ArePlaced highest (before ++ c ∷ []) (placed ++ put_at place c ∷ [])
+pub placed_more : {highest : ℕ} {before : List NumberedSegment} {placed : List Placed} (c : NumberedSegment) (place : ℕ) → ArePlaced highest before placed
+    → highest_in highest placed ≤ place + 2047 → place ≤ highest_in highest placed + 2048 → place % 4096 ≡ c.1.number
+    → ArePlaced highest (before ++ c ∷ []) (placed ++ placed_at place c ∷ [])
 placed_more c place no_more low high number = one_more place low high number no_more
 placed_more c place (one_more first l h n others) low high number = one_more first l h n (placed_more c place others low high number)
 
-pub top_more : (highest : ℕ) (placed : List Placed) (s : Placed) → top highest (placed ++ s ∷ []) ≡ max (top highest placed) s.place
+pub top_more : (highest : ℕ) (placed : List Placed) (s : Placed) → highest_in highest (placed ++ s ∷ []) ≡ max (highest_in highest placed) s.place
 top_more highest [] s = refl
 top_more highest (t ∷ placed) s = top_more (max highest t.place) placed s
 

@@ -4,13 +4,13 @@ use Rattle.std.specs.List.{AllByRecursion, filter}
 use Rattle.std.specs.List.Sorted.{IsPartitionPoint, IsPartitionedBy}
 use Rattle.std.proofs.lemmas.List.Elements.{filter-append}
 use Rattle.std.proofs.lemmas.Bool.Decides.{nat_tests}
-use Rattle.dap_listing.specs.Captured.{Spell, bytes_of}
+use Rattle.dap_listing.specs.Captured.{Spell, digit_bytes}
 use Rattle.dap_listing.specs.declared.captured.CapturedSegment.{CapturedSegment}
 use Rattle.dap_follow.specs.Streams.{Placed}
-use Rattle.dap_follow.specs.Joined.{Piece, is_message, latest, pieces}
-use Rattle.dap_watch.specs.Inner.Segments.{came, put_at}
+use Rattle.dap_follow.specs.Joined.{Fragment, is_message, latest, fragments_of}
+use Rattle.dap_follow.specs.Segments.{numbered_segment, placed_at}
 use Rattle.dap_watch.specs.Inner.Pieces.{Rises, all_segments, glue}
-use Rattle.dap_watch.specs.Inner.Kept.{AreTold, Ascends, Found, IsNear, IsOpen, IsSegment, IsTold, Keeps, KeepsPlaces, Puts, is_taken}
+use Rattle.dap_watch.specs.Inner.Kept.{AreTold, Ascends, Found, IsNear, IsOpen, IsSegment, IsListedPiece, KeepsPieces, KeepsPlaces, Puts, is_taken}
 use Rattle.dap_watch.specs.declared.places.Kept.{Kept}
 use Rattle.dap_watch.specs.declared.places.Places.{Places}
 use Rattle.dap_watch.specs.declared.places.Whole.{Whole}
@@ -28,7 +28,7 @@ pub rises_back : (xs ys : List Placed) → Rises (xs ++ ys) → Rises ys
 rises_back [] ys rises = rises
 rises_back (x ∷ xs) ys rises = rises_back xs ys rises.1
 
--- what stands in front is below all behind
+-- what stands in front is below all after
 rises_over : (n : ℕ) (xs ys : List Placed) → Rises (xs ++ ys) → Has n xs → AllByRecursion (λ s. n < s.place) ys
 rises_over n xs ys rises (front, back, s, is, at) =
     let behind : Rises (s ∷ (back ++ ys)) = rises_back front (s ∷ (back ++ ys)) (subst (λ l. Rises l) (ap (λ l. l ++ ys) is ∙ append_assoc front (s ∷ back) ys) rises) in
@@ -43,23 +43,23 @@ is_at_least from place t = grind (arith, nat_tests)
 -- ---- how many are below
 
 -- the segments of the first, and those of the others
-parts : (held rest ps : List Piece) → ps ≡ held ++ rest → all_segments ps ≡ all_segments held ++ all_segments rest
-parts held rest ps is = ap (λ (l : List Piece). all_segments l) is ∙ segments_append held rest
+parts : (held rest ps : List Fragment) → ps ≡ held ++ rest → all_segments ps ≡ all_segments held ++ all_segments rest
+parts held rest ps is = ap (λ (l : List Fragment). all_segments l) is ∙ segments_append held rest
 
-all_over : (n : ℕ) (ps : List Piece) (ks : List Kept) → Proper ps → Keeps ps ks → AllByRecursion (λ s. n < s.place) (all_segments ps) → AllByRecursion (λ k. n < k.to) ks
+all_over : (n : ℕ) (ps : List Fragment) (ks : List Kept) → Proper ps → KeepsPieces ps ks → AllByRecursion (λ s. n < s.place) (all_segments ps) → AllByRecursion (λ k. n < k.to) ks
 all_over n ps [] proper keeps over = tt
 all_over n ps (k ∷ ks) proper (held, rest, is, stays, keeps) over =
-    let both : Proper (held ++ rest) = subst (λ (l : List Piece). Proper l) is proper in
+    let both : Proper (held ++ rest) = subst (λ (l : List Fragment). Proper l) is proper in
     let split : AllByRecursion (λ s. n < s.place) (all_segments held ++ all_segments rest) = subst (λ l. AllByRecursion (λ s. n < s.place) l) (parts held rest ps is) over in
     let row = holds_within k held (proper_front held rest both) stays.0 in (
       all_has (λ m. n < m) k.to (all_segments held) (all_front (λ s. n < s.place) (all_segments held) (all_segments rest) split) (holds_full k.to k held (proper_front held rest both) stays.0 row.0 (omega arith)),
       all_over n rest ks (proper_back held rest both) keeps (all_back (λ s. n < s.place) (all_segments held) (all_segments rest) split),
     )
 
-pub keeps_ascends : (ps : List Piece) (ks : List Kept) → Proper ps → Keeps ps ks → Rises (all_segments ps) → Ascends ks
+pub keeps_ascends : (ps : List Fragment) (ks : List Kept) → Proper ps → KeepsPieces ps ks → Rises (all_segments ps) → Ascends ks
 keeps_ascends ps [] proper keeps rises = tt
 keeps_ascends ps (k ∷ ks) proper (held, rest, is, stays, keeps) rises =
-    let both : Proper (held ++ rest) = subst (λ (l : List Piece). Proper l) is proper in
+    let both : Proper (held ++ rest) = subst (λ (l : List Fragment). Proper l) is proper in
     let split : Rises (all_segments held ++ all_segments rest) = subst (λ l. Rises l) (parts held rest ps is) rises in
     let row = holds_within k held (proper_front held rest both) stays.0 in
     let end = holds_full k.to k held (proper_front held rest both) stays.0 row.0 (omega arith) in (
@@ -112,10 +112,10 @@ above_point place ks i within point = each_above place i ks (λ k d low less. po
 
 -- ---- below a place and above it
 
-pub keeps_below : (place : ℕ) (ps : List Piece) (ks : List Kept) → Proper ps → Keeps ps ks → AllByRecursion (λ k. k.to < place) ks → AllByRecursion (λ s. s.place < place) (all_segments ps)
-keeps_below place ps [] proper keeps below = subst (λ (l : List Piece). AllByRecursion (λ s. s.place < place) (all_segments l)) (sym keeps) tt
+pub keeps_below : (place : ℕ) (ps : List Fragment) (ks : List Kept) → Proper ps → KeepsPieces ps ks → AllByRecursion (λ k. k.to < place) ks → AllByRecursion (λ s. s.place < place) (all_segments ps)
+keeps_below place ps [] proper keeps below = subst (λ (l : List Fragment). AllByRecursion (λ s. s.place < place) (all_segments l)) (sym keeps) tt
 keeps_below place ps (k ∷ ks) proper (held, rest, is, stays, keeps) below =
-    let both : Proper (held ++ rest) = subst (λ (l : List Piece). Proper l) is proper in
+    let both : Proper (held ++ rest) = subst (λ (l : List Fragment). Proper l) is proper in
     let row = holds_within k held (proper_front held rest both) stays.0 in
     let end : k.to < place = below.0 in
     subst (λ l. AllByRecursion (λ s. s.place < place) l) (sym (parts held rest ps is))
@@ -123,11 +123,11 @@ keeps_below place ps (k ∷ ks) proper (held, rest, is, stays, keeps) below =
     (all_weaker (IsWithin k.from k.to) (λ s. s.place < place) (all_segments held) (λ s w. let high : s.place ≤ k.to = w.1 in omega (arith, high, end)) row.1)
     (keeps_below place rest ks (proper_back held rest both) keeps below.1))
 
-pub keeps_above : (place : ℕ) (ps : List Piece) (ks : List Kept) → Proper ps → Keeps ps ks → Rises (all_segments ps) → is_taken place ks ≡ false → AllByRecursion (λ k. place ≤ k.to) ks
+pub keeps_above : (place : ℕ) (ps : List Fragment) (ks : List Kept) → Proper ps → KeepsPieces ps ks → Rises (all_segments ps) → is_taken place ks ≡ false → AllByRecursion (λ k. place ≤ k.to) ks
     → AllByRecursion (λ s. place < s.place) (all_segments ps)
-keeps_above place ps [] proper keeps rises free above = subst (λ (l : List Piece). AllByRecursion (λ s. place < s.place) (all_segments l)) (sym keeps) tt
+keeps_above place ps [] proper keeps rises free above = subst (λ (l : List Fragment). AllByRecursion (λ s. place < s.place) (all_segments l)) (sym keeps) tt
 keeps_above place ps (k ∷ ks) proper (held, rest, is, stays, keeps) rises free above =
-    let both : Proper (held ++ rest) = subst (λ (l : List Piece). Proper l) is proper in
+    let both : Proper (held ++ rest) = subst (λ (l : List Fragment). Proper l) is proper in
     let split : Rises (all_segments held ++ all_segments rest) = subst (λ l. Rises l) (parts held rest ps is) rises in
     let row = holds_within k held (proper_front held rest both) stays.0 in
     let end = holds_full k.to k held (proper_front held rest both) stays.0 row.0 (omega arith) in
@@ -140,45 +140,45 @@ keeps_above place ps (k ∷ ks) proper (held, rest, is, stays, keeps) rises free
     (rises_over k.to (all_segments held) (all_segments rest) split end)))
 
 -- the first that doesn't end below a place has it
-pub keeps_taken : (place : ℕ) (ps : List Piece) (ks : List Kept) → Proper ps → Keeps ps ks → is_taken place ks ≡ true → AllByRecursion (λ k. place ≤ k.to) ks → Has place (all_segments ps)
+pub keeps_taken : (place : ℕ) (ps : List Fragment) (ks : List Kept) → Proper ps → KeepsPieces ps ks → is_taken place ks ≡ true → AllByRecursion (λ k. place ≤ k.to) ks → Has place (all_segments ps)
 keeps_taken place ps [] proper keeps taken above = absurd (cc)
 keeps_taken place ps (k ∷ ks) proper (held, rest, is, stays, keeps) taken above =
-    let both : Proper (held ++ rest) = subst (λ (l : List Piece). Proper l) is proper in
+    let both : Proper (held ++ rest) = subst (λ (l : List Fragment). Proper l) is proper in
     subst (λ l. Has place l) (sym (parts held rest ps is))
     (has_front place (all_segments held) (all_segments rest) (holds_full place k held (proper_front held rest both) stays.0 (is_at_least k.from place taken) above.0))
 
 -- ---- a segment more
 
 -- one segment by itself
-open_alone : (place : ℕ) (packet : ℕ) (c : CapturedSegment) (k : Kept) → IsSegment place c k → Spell c.digits.now (length c.digits.now / 2) → IsOpen k (alone (put_at place (came packet c)))
+open_alone : (place : ℕ) (packet : ℕ) (c : CapturedSegment) (k : Kept) → IsSegment place c k → Spell c.digits.now (length c.digits.now / 2) → IsOpen k (alone (placed_at place (numbered_segment packet c)))
 open_alone place packet c k is spelled = record {
   from = is.from;
   to = is.to;
   first = is.first;
   last = is.last;
   listed = is.listed;
-  bytes = ap (λ l. bytes_of l) is.digits ∙ sym (append-nil (bytes_of c.digits.now));
+  bytes = ap (λ l. digit_bytes l) is.digits ∙ sym (append-nil (digit_bytes c.digits.now));
   spelled = subst (λ l. Spell l (length l / 2)) (sym is.digits) spelled;
 }
 
--- the segments in front of a place and those behind it
-record Cut (place : ℕ) (ordered : List Placed) (xs ys : List Piece) : Type 0 where
-  pub all : pieces ordered ≡ xs ++ ys
+-- the segments before a place and those after it
+record Cut (place : ℕ) (ordered : List Placed) (xs ys : List Fragment) : Type 0 where
+  pub all : fragments_of ordered ≡ xs ++ ys
   pub whole : ordered ≡ all_segments xs ++ all_segments ys
-  pub front : pieces (all_segments xs) ≡ xs
-  pub back : pieces (all_segments ys) ≡ ys
+  pub front : fragments_of (all_segments xs) ≡ xs
+  pub back : fragments_of (all_segments ys) ≡ ys
   pub below : AllByRecursion (λ s. s.place < place) (all_segments xs)
   pub above : AllByRecursion (λ s. place < s.place) (all_segments ys)
 
-cut_at : (place index : ℕ) (ordered : List Placed) (ks : List Kept) → Keeps (pieces ordered) ks → Rises ordered
+cut_at : (place index : ℕ) (ordered : List Placed) (ks : List Kept) → KeepsPieces (fragments_of ordered) ks → Rises ordered
     → AllByRecursion (λ k. k.to < place) (take index ks) → AllByRecursion (λ k. place ≤ k.to) (drop index ks) → is_taken place (drop index ks) ≡ false
-    → (xs ys : List Piece) × Keeps xs (take index ks) × Keeps ys (drop index ks) × Cut place ordered xs ys
+    → (xs ys : List Fragment) × KeepsPieces xs (take index ks) × KeepsPieces ys (drop index ks) × Cut place ordered xs ys
 cut_at place index ordered ks keeps rises below above free =
-    let halves = keeps_split (pieces ordered) (take index ks) (drop index ks) (subst (λ (l : List Kept). Keeps (pieces ordered) l) (sym (take-append-drop index ks)) keeps) in
+    let halves = keeps_split (fragments_of ordered) (take index ks) (drop index ks) (subst (λ (l : List Kept). KeepsPieces (fragments_of ordered) l) (sym (take-append-drop index ks)) keeps) in
     let xs = halves.0 in
     let ys = halves.1 in
-    let proper : Proper (xs ++ ys) = subst (λ (l : List Piece). Proper l) halves.2 (proper_pieces ordered) in
-    let whole : ordered ≡ all_segments xs ++ all_segments ys = sym (segments_pieces ordered) ∙ ap (λ (l : List Piece). all_segments l) halves.2 ∙ segments_append xs ys in
+    let proper : Proper (xs ++ ys) = subst (λ (l : List Fragment). Proper l) halves.2 (proper_pieces ordered) in
+    let whole : ordered ≡ all_segments xs ++ all_segments ys = sym (segments_pieces ordered) ∙ ap (λ (l : List Fragment). all_segments l) halves.2 ∙ segments_append xs ys in
     let over : Rises (all_segments ys) = rises_back (all_segments xs) (all_segments ys) (subst (λ l. Rises l) whole rises) in (
       xs,
       ys,
@@ -195,14 +195,14 @@ cut_at place index ordered ks keeps rises below above free =
     )
 
 -- the pieces with one segment more
-pieces_with : (place : ℕ) (ordered : List Placed) (xs ys : List Piece) (s : Placed) → Cut place ordered xs ys
-    → pieces (all_segments xs ++ s ∷ all_segments ys) ≡ glue xs (glue (alone s ∷ []) ys)
+pieces_with : (place : ℕ) (ordered : List Placed) (xs ys : List Fragment) (s : Placed) → Cut place ordered xs ys
+    → fragments_of (all_segments xs ++ s ∷ all_segments ys) ≡ glue xs (glue (alone s ∷ []) ys)
 pieces_with place ordered xs ys s cut =
-    pieces_glue (all_segments xs) (s ∷ all_segments ys) ∙ ap (λ (l : List Piece). glue l (pieces (s ∷ all_segments ys))) cut.front
-    ∙ ap (λ (l : List Piece). glue xs l) (pieces_glue (s ∷ []) (all_segments ys)) ∙ ap (λ (l : List Piece). glue xs (glue (alone s ∷ []) l)) cut.back
+    pieces_glue (all_segments xs) (s ∷ all_segments ys) ∙ ap (λ (l : List Fragment). glue l (fragments_of (s ∷ all_segments ys))) cut.front
+    ∙ ap (λ (l : List Fragment). glue xs l) (pieces_glue (s ∷ []) (all_segments ys)) ∙ ap (λ (l : List Fragment). glue xs (glue (alone s ∷ []) l)) cut.back
 
 -- the packet with which a piece is whole that has the latest segment
-whole_packet : (packet : ℕ) (later : List Placed) (before behind : List Piece) (p : Piece) → all_segments (before ++ p ∷ behind) ≡ later → AllByRecursion (λ s. s.packet ≤ packet) later
+whole_packet : (packet : ℕ) (later : List Placed) (before behind : List Fragment) (p : Fragment) → all_segments (before ++ p ∷ behind) ≡ later → AllByRecursion (λ s. s.packet ≤ packet) later
     → packet ≤ latest (p.head ∷ p.others) → latest (p.head ∷ p.others) ≡ packet
 whole_packet packet later before behind p is all low =
     let split : all_segments before ++ ((p.head ∷ p.others) ++ all_segments behind) ≡ later = sym (segments_append before (p ∷ behind)) ∙ is in
@@ -211,8 +211,8 @@ whole_packet packet later before behind p is all low =
     let high : latest (p.head ∷ p.others) ≤ packet = latest_below packet (p.head ∷ p.others) own in
     omega (arith, high, low)
 
-told : (packet : ℕ) (digits : List ℕ) (found : Option Whole) (p : Piece) → IsTold digits found p → latest (p.head ∷ p.others) ≡ packet
-    → (ms : List Piece) × ((front back : List Piece) → filter is_message (front ++ p ∷ back) ≡ filter is_message front ++ (ms ++ filter is_message back)) × AreTold packet digits found ms
+told : (packet : ℕ) (digits : List ℕ) (found : Option Whole) (p : Fragment) → IsListedPiece digits found p → latest (p.head ∷ p.others) ≡ packet
+    → (ms : List Fragment) × ((front back : List Fragment) → filter is_message (front ++ p ∷ back) ≡ filter is_message front ++ (ms ++ filter is_message back)) × AreTold packet digits found ms
 told packet digits None p none is = (
   [],
   λ front back. filter-append is_message front (p ∷ back) ∙ ap (λ b. filter is_message front ++ (if b then p ∷ filter is_message back else filter is_message back)) none,
@@ -229,7 +229,7 @@ pub finds_put : (c : CapturedSegment) (old new : Places) (digits : List ℕ) (fo
     → AllByRecursion (λ k. k.to < place) (take index old.kept.items) → AllByRecursion (λ k. place ≤ k.to) (drop index old.kept.items) → is_taken place (drop index old.kept.items) ≡ false
     → IsSegment place c one → Puts index old.kept.items one new.kept.items digits found → Found packet c ordered old new digits found
 finds_put c old new digits found place index one ordered packet k spelled near highest below above free is puts =
-    let s = put_at place (came packet c) in
+    let s = placed_at place (numbered_segment packet c) in
     let parts_of = cut_at place index ordered old.kept.items k.keeps k.rises below above free in
     let xs = parts_of.0 in
     let ys = parts_of.1 in
@@ -237,8 +237,8 @@ finds_put c old new digits found place index one ordered packet k spelled near h
     let is_open = open_alone place packet c one is spelled in
     let r = puts xs (alone s ∷ []) ys is.listed parts_of.2 (inr (alone s, refl, is_open)) parts_of.3 in
     let later = all_segments xs ++ s ∷ all_segments ys in
-    let all : pieces later ≡ r.before ++ r.piece ∷ r.behind = pieces_with place ordered xs ys s cut ∙ r.all in
-    let flat : all_segments (r.before ++ r.piece ∷ r.behind) ≡ later = ap (λ (l : List Piece). all_segments l) (sym all) ∙ segments_pieces later in
+    let all : fragments_of later ≡ r.before ++ r.piece ∷ r.behind = pieces_with place ordered xs ys s cut ∙ r.all in
+    let flat : all_segments (r.before ++ r.piece ∷ r.behind) ≡ later = ap (λ (l : List Fragment). all_segments l) (sym all) ∙ segments_pieces later in
     let numbered = subst (λ l. AllByRecursion (λ t. t.packet < packet) l) cut.whole k.numbered in
     let upto : AllByRecursion (λ t. t.packet ≤ packet) later = all_append (λ t. t.packet ≤ packet) (all_segments xs) (s ∷ all_segments ys)
     (all_weaker (λ t. t.packet < packet) (λ t. t.packet ≤ packet) (all_segments xs) (λ t low. omega (arith, low)) (all_front (λ t. t.packet < packet) (all_segments xs) (all_segments ys) numbered))
@@ -246,18 +246,18 @@ finds_put c old new digits found place index one ordered packet k spelled near h
     let most : latest (s ∷ []) ≤ latest (r.piece.head ∷ r.piece.others) = r.later in
     let whole = whole_packet packet later r.before r.behind r.piece flat upto (omega (arith, most)) in
     let ms = told packet digits found r.piece r.told whole in
-    let old_messages : filter is_message (pieces ordered) ≡ filter is_message r.before ++ filter is_message r.behind =
-    ap (λ (l : List Piece). filter is_message l) cut.all ∙ filter-append is_message xs ys ∙ ap (λ (l : List Piece). l ++ filter is_message ys) (sym r.messages.0)
-    ∙ ap (λ (l : List Piece). filter is_message r.before ++ l) (sym r.messages.1) in
+    let old_messages : filter is_message (fragments_of ordered) ≡ filter is_message r.before ++ filter is_message r.behind =
+    ap (λ (l : List Fragment). filter is_message l) cut.all ∙ filter-append is_message xs ys ∙ ap (λ (l : List Fragment). l ++ filter is_message ys) (sym r.messages.0)
+    ∙ ap (λ (l : List Fragment). filter is_message r.before ++ l) (sym r.messages.1) in
     record {
       place = place;
       near = near;
       highest = highest;
       later = later;
       put = inr (all_segments xs, all_segments ys, cut.whole, refl, cut.below, cut.above);
-      keeps = subst (λ (l : List Piece). Keeps l new.kept.items) (sym all) r.keeps;
+      keeps = subst (λ (l : List Fragment). KeepsPieces l new.kept.items) (sym all) r.keeps;
       ms = ms.0;
-      added = (filter is_message r.before, filter is_message r.behind, old_messages, ap (λ (l : List Piece). filter is_message l) all ∙ ms.1 r.before r.behind);
+      added = (filter is_message r.before, filter is_message r.behind, old_messages, ap (λ (l : List Fragment). filter is_message l) all ∙ ms.1 r.before r.behind);
       told = ms.2;
     }
 
@@ -266,11 +266,11 @@ pub finds_taken : (c : CapturedSegment) (old new : Places) (digits : List ℕ) (
     → AllByRecursion (λ k. place ≤ k.to) (drop index old.kept.items) → is_taken place (drop index old.kept.items) ≡ true → Found packet c ordered old new digits None
 finds_taken c old new digits place index ordered packet k near highest same above taken =
     let ks = old.kept.items in
-    let halves = keeps_split (pieces ordered) (take index ks) (drop index ks) (subst (λ (l : List Kept). Keeps (pieces ordered) l) (sym (take-append-drop index ks)) k.keeps) in
+    let halves = keeps_split (fragments_of ordered) (take index ks) (drop index ks) (subst (λ (l : List Kept). KeepsPieces (fragments_of ordered) l) (sym (take-append-drop index ks)) k.keeps) in
     let xs = halves.0 in
     let ys = halves.1 in
-    let proper : Proper (xs ++ ys) = subst (λ (l : List Piece). Proper l) halves.2 (proper_pieces ordered) in
-    let whole : ordered ≡ all_segments xs ++ all_segments ys = sym (segments_pieces ordered) ∙ ap (λ (l : List Piece). all_segments l) halves.2 ∙ segments_append xs ys in
+    let proper : Proper (xs ++ ys) = subst (λ (l : List Fragment). Proper l) halves.2 (proper_pieces ordered) in
+    let whole : ordered ≡ all_segments xs ++ all_segments ys = sym (segments_pieces ordered) ∙ ap (λ (l : List Fragment). all_segments l) halves.2 ∙ segments_append xs ys in
     let has = subst (λ l. Has place l) (sym whole) (has_back place (all_segments xs) (all_segments ys) (keeps_taken place ys (drop index ks) (proper_back xs ys proper) halves.4 taken above)) in
     record {
       place = place;
@@ -278,11 +278,11 @@ finds_taken c old new digits place index ordered packet k near highest same abov
       highest = highest;
       later = ordered;
       put = inl (refl, has.0, has.1, has.2, has.3, has.4);
-      keeps = subst (λ (l : List Kept). Keeps (pieces ordered) l) (sym same) k.keeps;
+      keeps = subst (λ (l : List Kept). KeepsPieces (fragments_of ordered) l) (sym same) k.keeps;
       ms = [];
-      added = (filter is_message (pieces ordered), [], sym (append-nil (filter is_message (pieces ordered))), sym (append-nil (filter is_message (pieces ordered))));
+      added = (filter is_message (fragments_of ordered), [], sym (append-nil (filter is_message (fragments_of ordered))), sym (append-nil (filter is_message (fragments_of ordered))));
       told = refl;
     }
 
 pub kept_ascends : (packet : ℕ) (ordered : List Placed) (p : Places) → KeepsPlaces packet ordered p → Ascends p.kept.items
-kept_ascends packet ordered p k = keeps_ascends (pieces ordered) p.kept.items (proper_pieces ordered) k.keeps (subst (λ l. Rises l) (sym (segments_pieces ordered)) k.rises)
+kept_ascends packet ordered p k = keeps_ascends (fragments_of ordered) p.kept.items (proper_pieces ordered) k.keeps (subst (λ l. Rises l) (sym (segments_pieces ordered)) k.rises)

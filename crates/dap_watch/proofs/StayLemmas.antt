@@ -2,7 +2,7 @@
 use Rattle.std.proofs.Common.{◌≡◌, ℕ, ◌+◌, ◌<◌, ◌≤◌, ◌==◌, ◌&&◌, not, Bool, true, false, List, [], ◌∷◌, ◌++◌, if◌then◌else◌, arith, refl, ap, sym, subst, ◌∙◌, eqb-true}
 use Rattle.std.specs.List.{AllByRecursion, filter}
 use Rattle.dap_follow.specs.Streams.{Placed}
-use Rattle.dap_follow.specs.Joined.{Piece, is_message, joins, pieces, tail, with_segment}
+use Rattle.dap_follow.specs.Joined.{Fragment, is_message, joins, fragments_of, tail, with_segment}
 use Rattle.dap_watch.specs.Watched.{is_whole_with, whole_at, whole_with}
 
 pub by_bool : {X : Type 0} (b : Bool) → (b ≡ true → X) → (b ≡ false → X) → X
@@ -28,21 +28,21 @@ pub and_false_two : (a b : Bool) → b ≡ false → (a && b) ≡ false
 and_false_two true b h = h
 and_false_two false b h = refl
 
-abbrev only : ℕ → List Piece → List Piece
+abbrev only : ℕ → List Fragment → List Fragment
 only k ps = filter (is_whole_with k) ps
 
 -- ---- joining
 
-abbrev pub alone : Placed → Piece
+abbrev pub alone : Placed → Fragment
 alone a = record { head = a; others = [] }
 
-abbrev pub longer : Placed → Piece → Piece
+abbrev pub longer : Placed → Fragment → Fragment
 longer a p = record { head = a; others = p.head ∷ p.others }
 
-pub joined : (a : Placed) (p : Piece) (ps : List Piece) → joins a p.head ≡ true → with_segment a (p ∷ ps) ≡ longer a p ∷ ps
+pub joined : (a : Placed) (p : Fragment) (ps : List Fragment) → joins a p.head ≡ true → with_segment a (p ∷ ps) ≡ longer a p ∷ ps
 joined a p ps h = ap (λ b. if b then longer a p ∷ ps else alone a ∷ p ∷ ps) h
 
-pub apart : (a : Placed) (p : Piece) (ps : List Piece) → joins a p.head ≡ false → with_segment a (p ∷ ps) ≡ alone a ∷ p ∷ ps
+pub apart : (a : Placed) (p : Fragment) (ps : List Fragment) → joins a p.head ≡ false → with_segment a (p ∷ ps) ≡ alone a ∷ p ∷ ps
 apart a p ps h = ap (λ b. if b then longer a p ∷ ps else alone a ∷ p ∷ ps) h
 
 pub not_last : (a b : Placed) → joins a b ≡ true → a.last ≡ false
@@ -59,92 +59,92 @@ far a b h =
 
 -- ---- what isn't listed
 
-passed : (k : ℕ) (p : Piece) (ps : List Piece) → is_whole_with k p ≡ false → only k (p ∷ ps) ≡ only k ps
+passed : (k : ℕ) (p : Fragment) (ps : List Fragment) → is_whole_with k p ≡ false → only k (p ∷ ps) ≡ only k ps
 passed k p ps h = ap (λ b. if b then p ∷ only k ps else only k ps) h
 
-later : (k : ℕ) (s : Placed) (p : Piece) → k < s.packet → s.packet ≤ whole_with p → is_whole_with k p ≡ false
+later : (k : ℕ) (s : Placed) (p : Fragment) → k < s.packet → s.packet ≤ whole_with p → is_whole_with k p ≡ false
 later k s p h le =
     by_bool (whole_with p == k) (λ t. let e : whole_with p ≡ k = eqb-true _ _ t in absurd (omega arith)) (λ f. and_false_two (is_message p) (whole_with p == k) f)
 
-unfinished : (k : ℕ) (p : Piece) → (tail p).last ≡ false → is_whole_with k p ≡ false
+unfinished : (k : ℕ) (p : Fragment) → (tail p).last ≡ false → is_whole_with k p ≡ false
 unfinished k p h = and_false_one (is_message p) (whole_with p == k) (and_false_two p.head.first (tail p).last h)
 
-unbegun : (k : ℕ) (p : Piece) → p.head.first ≡ false → is_whole_with k p ≡ false
+unbegun : (k : ℕ) (p : Fragment) → p.head.first ≡ false → is_whole_with k p ≡ false
 unbegun k p h = and_false_one (is_message p) (whole_with p == k) (and_false_one p.head.first (tail p).last h)
 
 -- ---- with the segment and without
 
-abbrev StartsAbove : Placed → List Piece → Type 0
+abbrev StartsAbove : Placed → List Fragment → Type 0
 StartsAbove s [] = Unit {0}
 StartsAbove s (q ∷ qs) = s.place < q.head.place
 
-data Beside (k : ℕ) (s : Placed) : List Piece → List Piece → Type 0 where
+data Beside (k : ℕ) (s : Placed) : List Fragment → List Fragment → Type 0 where
   -- the segment begins the first piece
-  here : {p : Piece} {ps qs : List Piece} → p.head ≡ s → StartsAbove s qs → only k ps ≡ only k qs → Beside k s (p ∷ ps) qs
+  here : {p : Fragment} {ps qs : List Fragment} → p.head ≡ s → StartsAbove s qs → only k ps ≡ only k qs → Beside k s (p ∷ ps) qs
   -- it stands in the first piece, which ends before it without it
-  inside : {p q : Piece} {ps qs : List Piece} → p.head ≡ q.head → (tail q).last ≡ false → s.packet ≤ whole_with p → only k ps ≡ only k qs → Beside k s (p ∷ ps) (q ∷ qs)
-  -- it stands behind
-  behind : {p : Piece} {ps qs : List Piece} → only k ps ≡ only k qs → Beside k s (p ∷ ps) (p ∷ qs)
+  inside : {p q : Fragment} {ps qs : List Fragment} → p.head ≡ q.head → (tail q).last ≡ false → s.packet ≤ whole_with p → only k ps ≡ only k qs → Beside k s (p ∷ ps) (q ∷ qs)
+  -- it stands after
+  behind : {p : Fragment} {ps qs : List Fragment} → only k ps ≡ only k qs → Beside k s (p ∷ ps) (p ∷ qs)
 
-has : (s : Placed) (p : Piece) → p.head ≡ s → s.packet ≤ whole_with p
+has : (s : Placed) (p : Fragment) → p.head ≡ s → s.packet ≤ whole_with p
 has s p h = let e : p.head.packet ≡ s.packet = ap (λ x. x.packet) h in omega arith
 
-alone_above : (a s : Placed) (qs : List Piece) → a.place < s.place → StartsAbove s qs → with_segment a qs ≡ alone a ∷ qs
+alone_above : (a s : Placed) (qs : List Fragment) → a.place < s.place → StartsAbove s qs → with_segment a qs ≡ alone a ∷ qs
 alone_above a s [] h above = refl
 alone_above a s (q ∷ qs) h above = let far_off : s.place < q.head.place = above in apart a q qs (far a q.head (omega arith))
 
-beside_on : {k : ℕ} {s : Placed} {ps qs : List Piece} (a : Placed) → k < s.packet → a.place < s.place → Beside k s ps qs → Beside k s (with_segment a ps) (with_segment a qs)
+beside_on : {k : ℕ} {s : Placed} {ps qs : List Fragment} (a : Placed) → k < s.packet → a.place < s.place → Beside k s ps qs → Beside k s (with_segment a ps) (with_segment a qs)
 beside_on {k} {s} a late below (here {p} {ps} {qs} head above same) =
-    subst (λ (ys : List Piece). Beside k s (with_segment a (p ∷ ps)) ys) (sym (alone_above a s qs below above))
+    subst (λ (ys : List Fragment). Beside k s (with_segment a (p ∷ ps)) ys) (sym (alone_above a s qs below above))
     (by_bool (joins a p.head)
-    (λ t. subst (λ (xs : List Piece). Beside k s xs (alone a ∷ qs)) (sym (joined a p ps t))
+    (λ t. subst (λ (xs : List Fragment). Beside k s xs (alone a ∷ qs)) (sym (joined a p ps t))
     (inside refl (not_last a p.head t) (let le : s.packet ≤ whole_with p = has s p head in omega arith) same))
-    (λ f. subst (λ (xs : List Piece). Beside k s xs (alone a ∷ qs)) (sym (apart a p ps f))
+    (λ f. subst (λ (xs : List Fragment). Beside k s xs (alone a ∷ qs)) (sym (apart a p ps f))
     (behind (passed k p ps (later k s p late (has s p head)) ∙ same))))
 beside_on {k} {s} a late below (inside {p} {q} {ps} {qs} heads unended le same) =
     by_bool (joins a p.head)
-    (λ t. subst (λ (xs : List Piece). Beside k s xs (with_segment a (q ∷ qs))) (sym (joined a p ps t))
-    (subst (λ (ys : List Piece). Beside k s (longer a p ∷ ps) ys) (sym (joined a q qs (ap (λ x. joins a x) (sym heads) ∙ t)))
+    (λ t. subst (λ (xs : List Fragment). Beside k s xs (with_segment a (q ∷ qs))) (sym (joined a p ps t))
+    (subst (λ (ys : List Fragment). Beside k s (longer a p ∷ ps) ys) (sym (joined a q qs (ap (λ x. joins a x) (sym heads) ∙ t)))
     (inside refl unended (let more : s.packet ≤ whole_with p = le in omega arith) same)))
-    (λ f. subst (λ (xs : List Piece). Beside k s xs (with_segment a (q ∷ qs))) (sym (apart a p ps f))
-    (subst (λ (ys : List Piece). Beside k s (alone a ∷ p ∷ ps) ys) (sym (apart a q qs (ap (λ x. joins a x) (sym heads) ∙ f)))
+    (λ f. subst (λ (xs : List Fragment). Beside k s xs (with_segment a (q ∷ qs))) (sym (apart a p ps f))
+    (subst (λ (ys : List Fragment). Beside k s (alone a ∷ p ∷ ps) ys) (sym (apart a q qs (ap (λ x. joins a x) (sym heads) ∙ f)))
     (behind (passed k p ps (later k s p late le) ∙ (same ∙ sym (passed k q qs (unfinished k q unended)))))))
 beside_on {k} {s} a late below (behind {p} {ps} {qs} same) =
     by_bool (joins a p.head)
-    (λ t. subst (λ (xs : List Piece). Beside k s xs (with_segment a (p ∷ qs))) (sym (joined a p ps t))
-    (subst (λ (ys : List Piece). Beside k s (longer a p ∷ ps) ys) (sym (joined a p qs t)) (behind same)))
-    (λ f. subst (λ (xs : List Piece). Beside k s xs (with_segment a (p ∷ qs))) (sym (apart a p ps f))
-    (subst (λ (ys : List Piece). Beside k s (alone a ∷ p ∷ ps) ys) (sym (apart a p qs f))
+    (λ t. subst (λ (xs : List Fragment). Beside k s xs (with_segment a (p ∷ qs))) (sym (joined a p ps t))
+    (subst (λ (ys : List Fragment). Beside k s (longer a p ∷ ps) ys) (sym (joined a p qs t)) (behind same)))
+    (λ f. subst (λ (xs : List Fragment). Beside k s xs (with_segment a (p ∷ qs))) (sym (apart a p ps f))
+    (subst (λ (ys : List Fragment). Beside k s (alone a ∷ p ∷ ps) ys) (sym (apart a p qs f))
     (behind (ap (λ r. if is_whole_with k p then p ∷ r else r) same))))
 
-beside_first : (k : ℕ) (s : Placed) (qs : List Piece) → StartsAbove s qs → Beside k s (with_segment s qs) qs
+beside_first : (k : ℕ) (s : Placed) (qs : List Fragment) → StartsAbove s qs → Beside k s (with_segment s qs) qs
 beside_first k s [] above = here refl tt refl
 beside_first k s (q ∷ qs) above =
     by_bool (joins s q.head)
-    (λ t. subst (λ (xs : List Piece). Beside k s xs (q ∷ qs)) (sym (joined s q qs t)) (here refl above (sym (passed k q qs (unbegun k q (not_first s q.head t))))))
-    (λ f. subst (λ (xs : List Piece). Beside k s xs (q ∷ qs)) (sym (apart s q qs f)) (here refl above refl))
+    (λ t. subst (λ (xs : List Fragment). Beside k s xs (q ∷ qs)) (sym (joined s q qs t)) (here refl above (sym (passed k q qs (unbegun k q (not_first s q.head t))))))
+    (λ f. subst (λ (xs : List Fragment). Beside k s xs (q ∷ qs)) (sym (apart s q qs f)) (here refl above refl))
 
-same_listed : {k : ℕ} {s : Placed} {ps qs : List Piece} → k < s.packet → Beside k s ps qs → only k ps ≡ only k qs
+same_listed : {k : ℕ} {s : Placed} {ps qs : List Fragment} → k < s.packet → Beside k s ps qs → only k ps ≡ only k qs
 same_listed {k} {s} late (here {p} {ps} head above same) = passed k p ps (later k s p late (has s p head)) ∙ same
 same_listed {k} {s} late (inside {p} {q} {ps} {qs} heads unended le same) =
     passed k p ps (later k s p late le) ∙ (same ∙ sym (passed k q qs (unfinished k q unended)))
 same_listed {k} {s} late (behind {p} same) = ap (λ r. if is_whole_with k p then p ∷ r else r) same
 
 -- the first piece begins with the first segment
-first_above : (s b : Placed) (ps : List Piece) → s.place < b.place → StartsAbove s (with_segment b ps)
+first_above : (s b : Placed) (ps : List Fragment) → s.place < b.place → StartsAbove s (with_segment b ps)
 first_above s b [] h = h
 first_above s b (p ∷ ps) h =
     by_bool (joins b p.head)
-    (λ t. subst (λ (xs : List Piece). StartsAbove s xs) (sym (joined b p ps t)) h)
-    (λ f. subst (λ (xs : List Piece). StartsAbove s xs) (sym (apart b p ps f)) h)
+    (λ t. subst (λ (xs : List Fragment). StartsAbove s xs) (sym (joined b p ps t)) h)
+    (λ f. subst (λ (xs : List Fragment). StartsAbove s xs) (sym (apart b p ps f)) h)
 
-above_all : (s : Placed) (back : List Placed) → AllByRecursion (λ b. s.place < b.place) back → StartsAbove s (pieces back)
+above_all : (s : Placed) (back : List Placed) → AllByRecursion (λ b. s.place < b.place) back → StartsAbove s (fragments_of back)
 above_all s [] h = tt
-above_all s (b ∷ back) h = first_above s b (pieces back) h.0
+above_all s (b ∷ back) h = first_above s b (fragments_of back) h.0
 
 beside_all : (k : ℕ) (s : Placed) (front back : List Placed) → k < s.packet → AllByRecursion (λ a. a.place < s.place) front
-    → AllByRecursion (λ b. s.place < b.place) back → Beside k s (pieces (front ++ s ∷ back)) (pieces (front ++ back))
-beside_all k s [] back late below above = beside_first k s (pieces back) (above_all s back above)
+    → AllByRecursion (λ b. s.place < b.place) back → Beside k s (fragments_of (front ++ s ∷ back)) (fragments_of (front ++ back))
+beside_all k s [] back late below above = beside_first k s (fragments_of back) (above_all s back above)
 beside_all k s (a ∷ front) back late below above = beside_on a late below.0 (beside_all k s front back late below.1 above)
 
 pub stays : (k : ℕ) (s : Placed) (front back : List Placed) → k < s.packet → AllByRecursion (λ a. a.place < s.place) front
@@ -160,26 +160,26 @@ IsSeam (x ∷ []) [] = Unit {0}
 IsSeam (x ∷ []) (b ∷ back) = joins x b ≡ false
 IsSeam (x ∷ y ∷ xs) back = IsSeam (y ∷ xs) back
 
-begins : (b : Placed) (bs : List Piece) → (p : Piece) × (rest : List Piece) × (with_segment b bs ≡ p ∷ rest) × (p.head ≡ b)
+begins : (b : Placed) (bs : List Fragment) → (p : Fragment) × (rest : List Fragment) × (with_segment b bs ≡ p ∷ rest) × (p.head ≡ b)
 begins b [] = (alone b, [], refl, refl)
 begins b (p ∷ ps) = by_bool (joins b p.head) (λ t. (longer b p, ps, joined b p ps t, refl)) (λ f. (alone b, p ∷ ps, apart b p ps f, refl))
 
-in_front : (x : Placed) (p : Piece) (ps qs : List Piece) → with_segment x ((p ∷ ps) ++ qs) ≡ with_segment x (p ∷ ps) ++ qs
+in_front : (x : Placed) (p : Fragment) (ps qs : List Fragment) → with_segment x ((p ∷ ps) ++ qs) ≡ with_segment x (p ∷ ps) ++ qs
 in_front x p ps qs =
     by_bool (joins x p.head)
     (λ t. joined x p (ps ++ qs) t ∙ ap (λ xs. xs ++ qs) (sym (joined x p ps t)))
     (λ f. apart x p (ps ++ qs) f ∙ ap (λ xs. xs ++ qs) (sym (apart x p ps f)))
 
-pub seam : (xs back : List Placed) → IsSeam xs back → pieces (xs ++ back) ≡ pieces xs ++ pieces back
+pub seam : (xs back : List Placed) → IsSeam xs back → fragments_of (xs ++ back) ≡ fragments_of xs ++ fragments_of back
 seam [] back h = refl
 seam (x ∷ []) [] h = refl
 seam (x ∷ []) (b ∷ back) h =
-    let first = begins b (pieces back) in
+    let first = begins b (fragments_of back) in
     ap (λ ps. with_segment x ps) first.2 ∙ (apart x first.0 first.1 (ap (λ y. joins x y) first.3 ∙ h) ∙ ap (λ ps. alone x ∷ ps) (sym first.2))
 seam (x ∷ y ∷ xs) back h =
-    let first = begins y (pieces xs) in
-    ap (λ ps. with_segment x ps) (seam (y ∷ xs) back h) ∙ (ap (λ ps. with_segment x (ps ++ pieces back)) first.2
-    ∙ (in_front x first.0 first.1 (pieces back) ∙ ap (λ ps. with_segment x ps ++ pieces back) (sym first.2)))
+    let first = begins y (fragments_of xs) in
+    ap (λ ps. with_segment x ps) (seam (y ∷ xs) back h) ∙ (ap (λ ps. with_segment x (ps ++ fragments_of back)) first.2
+    ∙ (in_front x first.0 first.1 (fragments_of back) ∙ ap (λ ps. with_segment x ps ++ fragments_of back) (sym first.2)))
 
 seam_first : (front : List Placed) (b : Placed) (back : List Placed) → b.first ≡ true → IsSeam front (b ∷ back)
 seam_first [] b back h = tt
@@ -197,11 +197,11 @@ seam_hole place (x ∷ []) [] below above = tt
 seam_hole place (x ∷ []) (b ∷ back) below above = let one : x.place < place = below.0 in let other : place < b.place = above.0 in far x b (omega arith)
 seam_hole place (x ∷ y ∷ xs) back below above = seam_hole place (y ∷ xs) back below.1 above
 
-pub goes : (m : Piece) (front back : List Placed) → is_message m ≡ true → pieces (m.head ∷ m.others) ≡ m ∷ [] → AllByRecursion (λ a. a.place < m.head.place) front
+pub goes : (m : Fragment) (front back : List Placed) → is_message m ≡ true → fragments_of (m.head ∷ m.others) ≡ m ∷ [] → AllByRecursion (λ a. a.place < m.head.place) front
     → AllByRecursion (λ b. m.head.place < b.place) back
-    → (pieces (front ++ ((m.head ∷ m.others) ++ back)) ≡ pieces front ++ m ∷ pieces back) × (pieces (front ++ back) ≡ pieces front ++ pieces back)
+    → (fragments_of (front ++ ((m.head ∷ m.others) ++ back)) ≡ fragments_of front ++ m ∷ fragments_of back) × (fragments_of (front ++ back) ≡ fragments_of front ++ fragments_of back)
 goes m front back is one below above = (
   seam front ((m.head ∷ m.others) ++ back) (seam_first front m.head (m.others ++ back) (and_one m.head.first (tail m).last is))
-      ∙ ap (λ ps. pieces front ++ ps) (seam (m.head ∷ m.others) back (seam_last m.head m.others back (and_two m.head.first (tail m).last is)) ∙ ap (λ ps. ps ++ pieces back) one),
+      ∙ ap (λ ps. fragments_of front ++ ps) (seam (m.head ∷ m.others) back (seam_last m.head m.others back (and_two m.head.first (tail m).last is)) ∙ ap (λ ps. ps ++ fragments_of back) one),
   seam front back (seam_hole m.head.place front back below above),
 )

@@ -15,8 +15,8 @@ use Rattle.linewise.specs.Output.{WritesFront}
 use Rattle.linewise.specs.Talks.{AnswersLine, Fails, Talked, is_bad, is_given, is_skipped, longest, said_of}
 use Rattle.linewise.specs.declared.talking.Became.{Became}
 use Rattle.linewise.specs.declared.talking.Became.TheVariants.{Done, BadLine, NoMemory}
-use Rattle.linewise.specs.declared.talking.TalkFault.{TalkFault}
-use Rattle.linewise.specs.declared.talking.TalkFault.TheVariants.{ReadFailed, WriteFailed, NoMemory as OutOfMemory}
+use Rattle.linewise.specs.declared.fault.CaptureFault.{CaptureFault}
+use Rattle.linewise.specs.declared.fault.CaptureFault.TheVariants.{BadLine as BadLineFault, TooLarge, ReadFailed, WriteFailed, NoMemory as OutOfMemory}
 use Rattle.dap_text.specs.Words.{is_hex_text}
 use Rattle.dap_listing.specs.Lines.{Capture, Line, capture_line, digits_line, line_of}
 use Rattle.dap_listing.specs.Listing.{captures, frames_after, packet_limit}
@@ -24,13 +24,13 @@ use Rattle.dap_listing.proofs.ForCallers.{none_told, frames_by, frames_found}
 use Rattle.dap_meanings.specs.Frames.{frame_words}
 use Rattle.dap_follow.specs.Following.{frame_of}
 use Rattle.dap_follow.proofs.ForCallers.{frame_here}
-use Rattle.dap_listing.specs.declared.fault.CaptureFault.TheVariants as fault
+use Rattle.linewise.specs.declared.fault.CaptureFault.TheVariants as fault
 use Rattle.dap_listing.specs.declared.lines.Direction.{Direction}
 use Rattle.dap_listing.specs.declared.lines.Direction.TheVariants.{Right, Left}
 use Rattle.dap_watch.specs.Watched.{IsWatched, IsWatchedTo, WatchFails, WatchGives, heard_frames, heard_lines, is_refused}
 use Rattle.dap_watch.specs.Inner.Rest.{all_kept_rest}
-use Rattle.dap_watch.specs.Inner.Watching.{GoesOn, PassesBy, Starts, Watches, answered, waiting}
-use Rattle.dap_watch.specs.Inner.Streams.{KeepsAll}
+use Rattle.dap_watch.specs.Inner.Watching.{WatchesPacket, PassesBy, Starts, Watches, answered, waiting}
+use Rattle.dap_watch.specs.Inner.Streams.{KeepsAllOrdered}
 use Rattle.dap_watch.specs.declared.streams.Streams.{Streams}
 use Rattle.dap_watch.specs.declared.watching.Watching.{Watching}
 use Rattle.dap_watch.proofs.StayLemmas.{by_bool}
@@ -173,7 +173,7 @@ passed words frames captured said line now new p w = record {
   words = p.words ∙ w.words;
   count = p.packets ∙ w.count;
   most = w.most;
-  keeps = subst (λ (s : Streams). KeepsAll w.packets w.ordered s) (sym p.streams) w.keeps;
+  keeps = subst (λ (s : Streams). KeepsAllOrdered w.packets w.ordered s) (sym p.streams) w.keeps;
 }
 
 -- a line that has no packet
@@ -207,7 +207,7 @@ unheard words input rest said were now new became more w some long same none bad
 
 -- a line with a packet
 listed : (words : Bool) (input rest said : List ℕ) (were : List (Option Became)) (now new : Watching) (more : List ℕ) (capture : Capture) → WatchedSo words input rest said were now → 0 < length rest
-    → length (first_line rest) ≤ longest → line_of packet_limit (first_line rest) ≡ Ok (Some capture) → GoesOn capture now new more
+    → length (first_line rest) ≤ longest → line_of packet_limit (first_line rest) ≡ Ok (Some capture) → WatchesPacket capture now new more
     → WatchedSo words input (drop_through 10 rest) (said ++ more) (were ++ Some Done ∷ []) new
 listed words input rest said were now new more capture w some short is (one, cleared, goes) =
     let all = heard_frames input in
@@ -311,19 +311,19 @@ tells_bad first now (Some input) held mid bad start (text, were, talked, held_so
     is ∙ sym (w.bad ∙ or_none (list_any is_bad were))
 
 -- the rest wasn't written
-pub ends_short : (first now : Watching) (unread held mid holds : Option (List ℕ)) (bad : Bool) (f : TalkFault) → Starts first → HasEnded first now unread held mid bad
+pub ends_short : (first now : Watching) (unread held mid holds : Option (List ℕ)) (bad : Bool) (f : CaptureFault) → Starts first → HasEnded first now unread held mid bad
     → ((f ≡ OutOfMemory) × Keeps mid holds) ⊎ ((f ≡ WriteFailed) × WritesFront mid holds (all_kept_rest now.streams.names.keys now.streams.places.items))
     → IfSome unread (λ input. WatchFails first.in_words input held holds f)
 ends_short first now None held mid holds bad f start ended short = _
 ends_short first now (Some input) held mid holds bad f start (text, were, talked, held_so, is, unbroken) (inl (same, keeps)) =
     let w = so_far first now input text were start talked unbroken in
     let rest = all_kept_rest now.streams.names.keys now.streams.places.items in
-    subst (λ (g : TalkFault). WatchFails first.in_words input held holds g) (sym same)
+    subst (λ (g : CaptureFault). WatchFails first.in_words input held holds g) (sym same)
     ([], text, rest, (captures packet_limit input, sym (append-nil (captures packet_limit input)), all_read first.in_words input text were now w), Appends-kept held mid holds text held_so keeps)
 ends_short first now (Some input) held mid holds bad f start (text, were, talked, held_so, is, unbroken) (inr (same, front)) =
     let w = so_far first now input text were start talked unbroken in
     let rest = all_kept_rest now.streams.names.keys now.streams.places.items in
-    subst (λ (g : TalkFault). WatchFails first.in_words input held holds g) (sym same)
+    subst (λ (g : CaptureFault). WatchFails first.in_words input held holds g) (sym same)
     ([], text, rest, (captures packet_limit input, sym (append-nil (captures packet_limit input)), all_read first.in_words input text were now w), inr (refl, front_behind held mid holds text rest held_so front))
 
 -- ---- where a talk fails
@@ -388,7 +388,7 @@ breaks words input (x ∷ rest) said were now new (Some BadLine) text held mid h
     let s = some_read words input (drop_through 10 (x ∷ rest)) (said ++ (text ++ [])) (were ++ Some BadLine ∷ []) new after in
     (s.0, said ++ (text ++ []), s.1, s.2, inl (front_behind held mid holds said (text ++ []) held_so front))
 
-pub fails : (first now : Watching) (unread held holds : Option (List ℕ)) (f : TalkFault) → Starts first
+pub fails : (first now : Watching) (unread held holds : Option (List ℕ)) (f : CaptureFault) → Starts first
     → IfSome unread (λ input. Fails answered waiting first input now held holds f) → IfSome unread (λ input. WatchFails first.in_words input held holds f)
 fails first now None held holds f start failed = _
 fails first now (Some input) held holds ReadFailed start (rest, said, were, talked, held_so, unbroken) =
@@ -400,6 +400,8 @@ fails first now (Some input) held holds OutOfMemory start (rest, said, were, tal
 fails first new (Some input) held holds WriteFailed start (now, mid, rest, said, more, were, became, talked, held_so, says, front, unbroken) =
     let w = talked_so first now input rest said were talked start (unbroken (λ e. refl)) in
     breaks first.in_words input rest said were now new became says.text held mid holds w held_so says.answers (subst (λ l. WritesFront mid holds l) says.says front)
+fails first now (Some input) held holds TooLarge start failed = absurd failed
+fails first now (Some input) held holds (BadLineFault number) start failed = absurd failed
 
 -- memory was refused before the first line
 pub nothing_listed : (words : Bool) (input : List ℕ) (held holds : Option (List ℕ)) → Keeps held holds → WatchFails words input held holds OutOfMemory

@@ -3,24 +3,24 @@ use Rattle.std.proofs.Common.{◌≡◌, ℕ, ◌+◌, ◌/◌, ◌<◌, ◌≤�
 use Rattle.std.specs.List.{AllByRecursion, AllZip, concat, enumerate_from, filter, flat_map, zip}
 use Rattle.std.proofs.lemmas.Bool.Decides.{nat_tests}
 use Rattle.std.proofs.lemmas.List.Elements.{filter-append}
-use Rattle.dap_listing.specs.Captured.{Spell, bytes_of}
+use Rattle.dap_listing.specs.Captured.{Spell, digit_bytes}
 use Rattle.dap_listing.specs.Lines.{Capture}
 use Rattle.dap_listing.specs.Packets.{IsSeen, Seen}
 use Rattle.dap_listing.specs.declared.lines.Direction.{Direction}
 use Rattle.dap_listing.proofs.ForCallers.{decoded}
 use Rattle.dap_follow.specs.Streams.{Captured, IsOrdered, Placed, came_in, first_place, streams, ArePlaced}
-use Rattle.dap_follow.specs.Joined.{Message, Piece, is_message, latest, message_of, messages, pieces}
+use Rattle.dap_follow.specs.Joined.{Message, Fragment, is_message, latest, fragment_message, messages, fragments_of}
 use Rattle.dap_meanings.specs.Frames.{frame_words}
-use Rattle.dap_follow.specs.Following.{IsMessageText, IsPacketText, frame_of, packet_line, rest_lines}
-use Rattle.dap_watch.specs.Inner.Segments.{Came}
+use Rattle.dap_follow.specs.Following.{IsMessageText, IsFollowedPacketText, frame_of, packet_line, rest_lines}
+use Rattle.dap_follow.specs.Segments.{NumberedSegment}
 use Rattle.dap_follow.specs.declared.streams.Stream.{Stream}
 use Rattle.dap_follow.proofs.ForCallers.{enumerate_from-snoc, seen_more}
 use Rattle.dap_watch.specs.Watched.{IsWatched, whole_with}
 use Rattle.dap_watch.specs.Inner.Pieces.{all_segments}
-use Rattle.dap_watch.specs.Inner.Kept.{AreTold, IsWhole}
-use Rattle.dap_watch.specs.Inner.Streams.{Grows, KeepsAll, KeepsEach, KeepsStream}
+use Rattle.dap_watch.specs.Inner.Kept.{AreTold, IsWholeMessage}
+use Rattle.dap_watch.specs.Inner.Streams.{Grows, KeepsAllOrdered, KeepsEachOrdered, KeepsStreamOrdered}
 use Rattle.dap_watch.specs.Inner.Rest.{all_kept_rest}
-use Rattle.dap_watch.specs.Inner.Watching.{Tells, Watches}
+use Rattle.dap_watch.specs.Inner.Watching.{TellsPacket, Watches}
 use Rattle.dap_watch.specs.declared.places.Places.{Places}
 use Rattle.dap_watch.specs.declared.places.Whole.{Whole}
 use Rattle.dap_watch.specs.declared.streams.Streams.{Streams}
@@ -31,12 +31,12 @@ use Rattle.dap_watch.proofs.RestLemmas.{all_same}
 
 -- ---- messages of packets so far
 
-if_messages : (n : ℕ) (p : Piece) (ps : List Piece) (b : Bool) → latest (p.head ∷ p.others) ≤ n → AllByRecursion (λ m. m.packet ≤ n) (map message_of ps)
-    → AllByRecursion (λ m. m.packet ≤ n) (map message_of (if b then p ∷ ps else ps))
+if_messages : (n : ℕ) (p : Fragment) (ps : List Fragment) (b : Bool) → latest (p.head ∷ p.others) ≤ n → AllByRecursion (λ m. m.packet ≤ n) (map fragment_message ps)
+    → AllByRecursion (λ m. m.packet ≤ n) (map fragment_message (if b then p ∷ ps else ps))
 if_messages n p ps true one rest = (one, rest)
 if_messages n p ps false one rest = rest
 
-pieces_upto : (n : ℕ) (ps : List Piece) → AllByRecursion (λ s. s.packet ≤ n) (all_segments ps) → AllByRecursion (λ m. m.packet ≤ n) (map message_of (filter is_message ps))
+pieces_upto : (n : ℕ) (ps : List Fragment) → AllByRecursion (λ s. s.packet ≤ n) (all_segments ps) → AllByRecursion (λ m. m.packet ≤ n) (map fragment_message (filter is_message ps))
 pieces_upto n [] all = tt
 pieces_upto n (p ∷ ps) all =
     let rest = pieces_upto n ps (all_back (λ s. s.packet ≤ n) (p.head ∷ p.others) (all_segments ps) all) in
@@ -47,7 +47,7 @@ messages_append : (n : ℕ) (ms ns : List Message) → AllByRecursion (λ m. m.p
 messages_append n [] ns one two = two
 messages_append n (m ∷ ms) ns one two = (one.0, messages_append n ms ns one.1 two)
 
-upto : (packets : List Captured) (keys : List Stream) (orders : List (List Placed)) (places : List Places) → KeepsEach packets keys orders places
+upto : (packets : List Captured) (keys : List Stream) (orders : List (List Placed)) (places : List Places) → KeepsEachOrdered packets keys orders places
     → AllByRecursion (λ m. m.packet ≤ length packets) (flat_map messages orders)
 upto packets [] [] [] each = tt
 upto packets [] [] (p ∷ places) each = absurd each
@@ -58,7 +58,7 @@ upto packets (s ∷ keys) (o ∷ orders) (p ∷ places) each =
     let numbered : AllByRecursion (λ t. t.packet < 1 + length packets) o = each.0.keeps.numbered in
     let low : AllByRecursion (λ t. t.packet ≤ length packets) o = all_weaker (λ t. t.packet < 1 + length packets) (λ t. t.packet ≤ length packets) o (λ t less. omega (arith, less)) numbered in
     messages_append (length packets) (messages o) (flat_map messages orders)
-    (pieces_upto (length packets) (pieces o) (subst (λ l. AllByRecursion (λ t. t.packet ≤ length packets) l) (sym (segments_pieces o)) low))
+    (pieces_upto (length packets) (fragments_of o) (subst (λ l. AllByRecursion (λ t. t.packet ≤ length packets) l) (sym (segments_pieces o)) low))
     (upto packets keys orders places each.1)
 
 -- ---- messages under a packet
@@ -85,47 +85,47 @@ none_under n (m ∷ ms) all =
     ap (λ b. if b then m ∷ filter (λ k. k.packet == 1 + n) ms else filter (λ k. k.packet == 1 + n) ms) (other_number m.packet (1 + n) (λ e. omega (arith, e, low))) ∙ none_under n ms all.1
 
 -- those of one packet are under it alone
-all_under : (n : ℕ) (ps : List Piece) → AllByRecursion (λ p. whole_with p ≡ n) ps → filter (λ m. m.packet == n) (map message_of ps) ≡ map message_of ps
+all_under : (n : ℕ) (ps : List Fragment) → AllByRecursion (λ p. whole_with p ≡ n) ps → filter (λ m. m.packet == n) (map fragment_message ps) ≡ map fragment_message ps
 all_under n [] all = refl
 all_under n (p ∷ ps) all =
-    ap (λ b. if b then message_of p ∷ filter (λ k. k.packet == n) (map message_of ps) else filter (λ k. k.packet == n) (map message_of ps)) (same_number (whole_with p) n all.0)
-    ∙ ap (λ (l : List Message). message_of p ∷ l) (all_under n ps all.1)
+    ap (λ b. if b then fragment_message p ∷ filter (λ k. k.packet == n) (map fragment_message ps) else filter (λ k. k.packet == n) (map fragment_message ps)) (same_number (whole_with p) n all.0)
+    ∙ ap (λ (l : List Message). fragment_message p ∷ l) (all_under n ps all.1)
 
-not_under : (n k : ℕ) (ps : List Piece) → k < n → AllByRecursion (λ p. whole_with p ≡ n) ps → filter (λ m. m.packet == k) (map message_of ps) ≡ []
+not_under : (n k : ℕ) (ps : List Fragment) → k < n → AllByRecursion (λ p. whole_with p ≡ n) ps → filter (λ m. m.packet == k) (map fragment_message ps) ≡ []
 not_under n k [] below all = refl
 not_under n k (p ∷ ps) below all =
     let is : whole_with p ≡ n = all.0 in
-    ap (λ b. if b then message_of p ∷ filter (λ j. j.packet == k) (map message_of ps) else filter (λ j. j.packet == k) (map message_of ps)) (other_number (whole_with p) k (λ e. omega (arith, e, is, below)))
+    ap (λ b. if b then fragment_message p ∷ filter (λ j. j.packet == k) (map fragment_message ps) else filter (λ j. j.packet == k) (map fragment_message ps)) (other_number (whole_with p) k (λ e. omega (arith, e, is, below)))
     ∙ not_under n k ps below all.1
 
 -- an earlier packet keeps its messages
-earlier : (n k : ℕ) (old new front back : List Message) (ms : List Piece) → k < n → old ≡ front ++ back → new ≡ front ++ (map message_of ms ++ back) → AllByRecursion (λ p. whole_with p ≡ n) ms
+earlier : (n k : ℕ) (old new front back : List Message) (ms : List Fragment) → k < n → old ≡ front ++ back → new ≡ front ++ (map fragment_message ms ++ back) → AllByRecursion (λ p. whole_with p ≡ n) ms
     → filter (λ m. m.packet == k) new ≡ filter (λ m. m.packet == k) old
 earlier n k old new front back ms below before after all =
     let test : Message → Bool = λ m. m.packet == k in
-    ap (λ (l : List Message). filter test l) after ∙ filter-append test front (map message_of ms ++ back) ∙ ap (λ (l : List Message). filter test front ++ l) (filter-append test (map message_of ms) back)
+    ap (λ (l : List Message). filter test l) after ∙ filter-append test front (map fragment_message ms ++ back) ∙ ap (λ (l : List Message). filter test front ++ l) (filter-append test (map fragment_message ms) back)
     ∙ ap (λ (l : List Message). filter test front ++ (l ++ filter test back)) (not_under n k ms below all) ∙ sym (filter-append test front back) ∙ ap (λ (l : List Message). filter test l) (sym before)
 
 -- the messages of the packet
-these_under : (n : ℕ) (old new front back : List Message) (ms : List Piece) → old ≡ front ++ back → new ≡ front ++ (map message_of ms ++ back) → AllByRecursion (λ p. whole_with p ≡ 1 + n) ms
-    → AllByRecursion (λ m. m.packet ≤ n) old → filter (λ m. m.packet == 1 + n) new ≡ map message_of ms
+these_under : (n : ℕ) (old new front back : List Message) (ms : List Fragment) → old ≡ front ++ back → new ≡ front ++ (map fragment_message ms ++ back) → AllByRecursion (λ p. whole_with p ≡ 1 + n) ms
+    → AllByRecursion (λ m. m.packet ≤ n) old → filter (λ m. m.packet == 1 + n) new ≡ map fragment_message ms
 these_under n old new front back ms before after all low =
     let test : Message → Bool = λ m. m.packet == 1 + n in
     let both = subst (λ (l : List Message). AllByRecursion (λ m. m.packet ≤ n) l) before low in
-    ap (λ (l : List Message). filter test l) after ∙ filter-append test front (map message_of ms ++ back) ∙ ap (λ (l : List Message). filter test front ++ l) (filter-append test (map message_of ms) back)
-    ∙ ap (λ (l : List Message). l ++ (filter test (map message_of ms) ++ filter test back)) (none_under n front (messages_front n front back both))
+    ap (λ (l : List Message). filter test l) after ∙ filter-append test front (map fragment_message ms ++ back) ∙ ap (λ (l : List Message). filter test front ++ l) (filter-append test (map fragment_message ms) back)
+    ∙ ap (λ (l : List Message). l ++ (filter test (map fragment_message ms) ++ filter test back)) (none_under n front (messages_front n front back both))
     ∙ ap (λ (l : List Message). l ++ filter test back) (all_under (1 + n) ms all)
-    ∙ ap (λ (l : List Message). map message_of ms ++ l) (none_under n back (messages_back n front back both)) ∙ append-nil (map message_of ms)
+    ∙ ap (λ (l : List Message). map fragment_message ms ++ l) (none_under n back (messages_back n front back both)) ∙ append-nil (map fragment_message ms)
 
 -- ---- texts
 
 one_text : (words : Bool) (frames : List (List (List ℕ))) (k : ℕ) (p : Captured) (text : List ℕ) (all later : List Message) → filter (λ m. m.packet == k) later ≡ filter (λ m. m.packet == k) all
-    → IsPacketText words frames all (k, p) text → IsPacketText words frames later (k, p) text
+    → IsFollowedPacketText words frames all (k, p) text → IsFollowedPacketText words frames later (k, p) text
 one_text words frames k p text all later same is = (is.0, subst (λ (l : List Message). AllZip (λ m. IsMessageText words m.piece) l is.0) (sym same) is.1, is.2)
 
 -- the texts of earlier packets stay
 retext : (words : Bool) (frames : List (List (List ℕ))) (n : ℕ) (all later : List Message) → ((k : ℕ) → k < n → filter (λ m. m.packet == k) later ≡ filter (λ m. m.packet == k) all)
-    → (k : ℕ) (packets : List Captured) (texts : List (List ℕ)) → k + length packets ≤ n → AllZip (IsPacketText words frames all) (enumerate_from k packets) texts → AllZip (IsPacketText words frames later) (enumerate_from k packets) texts
+    → (k : ℕ) (packets : List Captured) (texts : List (List ℕ)) → k + length packets ≤ n → AllZip (IsFollowedPacketText words frames all) (enumerate_from k packets) texts → AllZip (IsFollowedPacketText words frames later) (enumerate_from k packets) texts
 retext words frames n all later same k [] [] within each = tt
 retext words frames n all later same k [] (t ∷ texts) within each = absurd each
 retext words frames n all later same k (p ∷ packets) [] within each = absurd each
@@ -142,7 +142,7 @@ concat_snoc : (ts : List (List ℕ)) (t : List ℕ) → concat (ts ++ t ∷ []) 
 concat_snoc [] t = append-nil t
 concat_snoc (u ∷ ts) t = ap (λ l. u ++ l) (concat_snoc ts t) ∙ sym (append_assoc u (concat ts) t)
 
-message_texts : (words : Bool) (ms : List Piece) (texts : List (List ℕ)) → AllZip (IsMessageText words) ms texts → AllZip (λ m. IsMessageText words m.piece) (map message_of ms) texts
+message_texts : (words : Bool) (ms : List Fragment) (texts : List (List ℕ)) → AllZip (IsMessageText words) ms texts → AllZip (λ m. IsMessageText words m.piece) (map fragment_message ms) texts
 message_texts words [] [] all = tt
 message_texts words [] (t ∷ texts) all = absurd all
 message_texts words (m ∷ ms) [] all = absurd all
@@ -151,26 +151,26 @@ message_texts words (m ∷ ms) (t ∷ texts) all = (all.0, message_texts words m
 -- ---- one packet more
 
 pub watches_more : (words : Bool) (frames : List (List (List ℕ))) (captured : List Capture) (written : List ℕ) (old new : Watching) (way : Direction) (digits : List ℕ) (seen : Seen) (text first : List ℕ) (start : Streams)
-    → frame_of frames (old.packets + 1) ≡ frame_words old.before.items → Watches words frames captured written old → Spell digits (length digits / 2) → IsSeen seen (bytes_of digits) → new.in_words ≡ old.in_words → new.packets ≡ old.packets + 1 → old.packets + 1 ≤ 2 ^ 50 → start ≡ old.streams
+    → frame_of frames (old.packets + 1) ≡ frame_words old.before.items → Watches words frames captured written old → Spell digits (length digits / 2) → IsSeen seen (digit_bytes digits) → new.in_words ≡ old.in_words → new.packets ≡ old.packets + 1 → old.packets + 1 ≤ 2 ^ 50 → start ≡ old.streams
     → first ≡ packet_line old.in_words (frame_words old.before.items) (old.packets + 1) (way, seen)
-    → ((packets : List Captured) (ordered : List (List Placed)) → length packets < 2 ^ 50 → KeepsAll packets ordered start → Tells old.in_words packets (way, seen) ordered new.streams first text)
+    → ((packets : List Captured) (ordered : List (List Placed)) → length packets < 2 ^ 50 → KeepsAllOrdered packets ordered start → TellsPacket old.in_words packets (way, seen) ordered new.streams first text)
     → Watches words frames (captured ++ (way, digits) ∷ []) (written ++ text) new
 watches_more words frames captured written old new way digits seen text first start framed w spelled is wanted count most same line tells =
     let n : ℕ = length w.packets in
     let number : old.packets + 1 ≡ 1 + n = omega (arith, w.count) in
     let few : n < 2 ^ 50 = omega (arith, number, most) in
     let x : Captured = (way, seen) in
-    let told = tells w.packets w.ordered few (subst (λ (s : Streams). KeepsAll w.packets w.ordered s) (sym same) w.keeps) in
-    let t = subst (λ (b : Bool). Tells b w.packets x w.ordered new.streams first text) w.words told in
+    let told = tells w.packets w.ordered few (subst (λ (s : Streams). KeepsAllOrdered w.packets w.ordered s) (sym same) w.keeps) in
+    let t = subst (λ (b : Bool). TellsPacket b w.packets x w.ordered new.streams first text) w.words told in
     let all = flat_map messages w.ordered in
     let later = flat_map messages t.later in
     let packets = w.packets ++ x ∷ [] in
     let low = upto w.packets old.streams.names.keys w.ordered old.streams.places.items w.keeps.each in
-    let here : filter (λ m. m.packet == 1 + n) later ≡ map message_of t.ms = these_under n all later t.front t.back t.ms t.before t.after t.whole low in
+    let here : filter (λ m. m.packet == 1 + n) later ≡ map fragment_message t.ms = these_under n all later t.front t.back t.ms t.before t.after t.whole low in
     let own_line : first ≡ packet_line words (frame_of frames (1 + n)) (1 + n) x =
     line ∙ ap (λ (b : Bool). packet_line b (frame_words old.before.items) (old.packets + 1) x) w.words
     ∙ ap (λ (f : List (List ℕ)). packet_line words f (old.packets + 1) x) (sym framed) ∙ ap (λ k. packet_line words (frame_of frames k) k x) number in
-    let own : IsPacketText words frames later (1 + n, x) text = (
+    let own : IsFollowedPacketText words frames later (1 + n, x) text = (
       t.texts,
       subst (λ (l : List Message). AllZip (λ m. IsMessageText words m.piece) l t.texts) (sym here) (message_texts words t.ms t.texts t.are),
       t.added ∙ ap (λ l. l ++ concat t.texts) own_line,
@@ -180,9 +180,9 @@ watches_more words frames captured written old new way digits seen text first st
       packets = packets;
       ordered = t.later;
       texts = w.texts ++ text ∷ [];
-      are_seen = seen_more captured w.packets way digits (bytes_of digits) seen w.are_seen (decoded digits (length digits / 2) spelled) is;
-      are_texts = subst (λ (l : List (ℕ × Captured)). AllZip (IsPacketText words frames later) l (w.texts ++ text ∷ [])) (sym (enumerate_from-snoc 1 w.packets x))
-          (zip_snoc (IsPacketText words frames later) (enumerate_from 1 w.packets) w.texts (1 + n, x) text
+      are_seen = seen_more captured w.packets way digits (digit_bytes digits) seen w.are_seen (decoded digits (length digits / 2) spelled) is;
+      are_texts = subst (λ (l : List (ℕ × Captured)). AllZip (IsFollowedPacketText words frames later) l (w.texts ++ text ∷ [])) (sym (enumerate_from-snoc 1 w.packets x))
+          (zip_snoc (IsFollowedPacketText words frames later) (enumerate_from 1 w.packets) w.texts (1 + n, x) text
           (retext words frames (1 + n) all later (λ k below. earlier (1 + n) k all later t.front t.back t.ms below t.before t.after t.whole) 1 w.packets w.texts (omega arith) w.are_texts) own);
       written_is = ap (λ l. l ++ text) w.written_is ∙ sym (concat_snoc w.texts text);
       words = wanted ∙ w.words;
@@ -194,8 +194,8 @@ watches_more words frames captured written old new way digits seen text first st
 -- ---- what a packet tells
 
 pub tells_message : (words : Bool) (packets : List Captured) (x : Captured) (ordered : List (List Placed)) (new : Streams) (digits : List ℕ) (w : Whole) (old_text new_text : List ℕ)
-    → Grows packets x ordered new digits (Some w) → ((m : Piece) → IsWhole digits w m → (text : List ℕ) × IsMessageText words m text × (new_text ≡ old_text ++ text))
-    → Tells words packets x ordered new old_text new_text
+    → Grows packets x ordered new digits (Some w) → ((m : Fragment) → IsWholeMessage digits w m → (text : List ℕ) × IsMessageText words m text × (new_text ≡ old_text ++ text))
+    → TellsPacket words packets x ordered new old_text new_text
 tells_message words packets x ordered new digits w old_text new_text g said =
     let a = g.added in
     let told : AreTold (1 + length packets) digits (Some w) a.ms = a.told in
@@ -209,14 +209,14 @@ tells_message words packets x ordered new digits w old_text new_text g said =
       ms = a.ms;
       before = a.before;
       after = a.after;
-      whole = subst (λ (l : List Piece). AllByRecursion (λ p. whole_with p ≡ 1 + length packets) l) (sym told.1) (told.2, tt);
+      whole = subst (λ (l : List Fragment). AllByRecursion (λ p. whole_with p ≡ 1 + length packets) l) (sym told.1) (told.2, tt);
       texts = text.0 ∷ [];
-      are = subst (λ (l : List Piece). AllZip (IsMessageText words) l (text.0 ∷ [])) (sym told.1) (text.1, tt);
+      are = subst (λ (l : List Fragment). AllZip (IsMessageText words) l (text.0 ∷ [])) (sym told.1) (text.1, tt);
       added = text.2 ∙ ap (λ l. old_text ++ l) (sym (append-nil text.0));
     }
 
 pub tells_none : (words : Bool) (packets : List Captured) (x : Captured) (ordered : List (List Placed)) (new : Streams) (digits : List ℕ) (text : List ℕ)
-    → Grows packets x ordered new digits None → Tells words packets x ordered new text text
+    → Grows packets x ordered new digits None → TellsPacket words packets x ordered new text text
 tells_none words packets x ordered new digits text g =
     let a = g.added in
     let told : a.ms ≡ [] = a.told in
@@ -227,14 +227,14 @@ tells_none words packets x ordered new digits text g =
       back = a.back;
       ms = [];
       before = a.before;
-      after = a.after ∙ ap (λ (l : List Piece). a.front ++ (map message_of l ++ a.back)) told;
+      after = a.after ∙ ap (λ (l : List Fragment). a.front ++ (map fragment_message l ++ a.back)) told;
       whole = tt;
       texts = [];
       are = tt;
       added = sym (append-nil text);
     }
 
-pub tells_aside : (words : Bool) (packets : List Captured) (x : Captured) (ordered : List (List Placed)) (new : Streams) (text : List ℕ) → KeepsAll (packets ++ x ∷ []) ordered new → Tells words packets x ordered new text text
+pub tells_aside : (words : Bool) (packets : List Captured) (x : Captured) (ordered : List (List Placed)) (new : Streams) (text : List ℕ) → KeepsAllOrdered (packets ++ x ∷ []) ordered new → TellsPacket words packets x ordered new text text
 tells_aside words packets x ordered new text keeps = record {
   later = ordered;
   keeps = keeps;
@@ -251,15 +251,15 @@ tells_aside words packets x ordered new text keeps = record {
 
 -- ---- at the end
 
-is_ordered : (packets : List Captured) (s : Stream) (o : List Placed) (p : Places) → KeepsStream packets s o p → IsOrdered (came_in s packets) o
+is_ordered : (packets : List Captured) (s : Stream) (o : List Placed) (p : Places) → KeepsStreamOrdered packets s o p → IsOrdered (came_in s packets) o
 is_ordered packets s o p k = record {
   placed = k.placed;
-  are_placed = subst (λ (l : List Came). ArePlaced (first_place l) l k.placed) (sym k.are) k.are_placed;
+  are_placed = subst (λ (l : List NumberedSegment). ArePlaced (first_place l) l k.placed) (sym k.are) k.are_placed;
   ascending = ascending o k.keeps.rises;
   same = k.same;
 }
 
-are_ordered : (packets : List Captured) (keys : List Stream) (orders : List (List Placed)) (places : List Places) → KeepsEach packets keys orders places
+are_ordered : (packets : List Captured) (keys : List Stream) (orders : List (List Placed)) (places : List Places) → KeepsEachOrdered packets keys orders places
     → AllZip (λ stream. IsOrdered (came_in stream packets)) keys orders
 are_ordered packets [] [] [] each = tt
 are_ordered packets [] [] (p ∷ places) each = absurd each
@@ -282,5 +282,5 @@ is_watched words frames captured written w k =
       are_texts = k.are_texts;
       written_is = k.written_is;
       rest_is = sym (all_same k.packets keys k.ordered w.streams.places.items k.keeps.each)
-          ∙ ap (λ (l : List Stream). flat_map (λ (stream, segments). rest_lines stream (pieces segments)) (zip l k.ordered)) names;
+          ∙ ap (λ (l : List Stream). flat_map (λ (stream, segments). rest_lines stream (fragments_of segments)) (zip l k.ordered)) names;
     }

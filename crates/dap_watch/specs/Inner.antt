@@ -1,5 +1,4 @@
 -- What only the contracts of private functions cite, and proofs: nobody has to believe it.
-pub mod Segments
 pub mod Pieces
 pub mod Kept
 pub mod Streams

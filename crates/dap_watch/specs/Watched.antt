@@ -4,26 +4,26 @@ use Rattle.std.specs.List.{AllZip, concat, enumerate_from, filter, flat_map, zip
 use Rattle.std.specs.Io.KnownBytes.{Appends}
 use Rattle.linewise.specs.Output.{WritesFront}
 use Rattle.linewise.specs.Talks.{longest}
-use Rattle.linewise.specs.declared.talking.TalkFault.{TalkFault}
-use Rattle.linewise.specs.declared.talking.TalkFault.TheVariants.{WriteFailed}
+use Rattle.linewise.specs.declared.fault.CaptureFault.{CaptureFault}
+use Rattle.linewise.specs.declared.fault.CaptureFault.TheVariants.{BadLine, TooLarge, WriteFailed}
 use Rattle.dap_listing.specs.Lines.{Capture, line_of}
 use Rattle.std.specs.Str.Lines.{lines}
 use Rattle.dap_listing.specs.Listing.{captures, frames_after, packet_limit}
 use Rattle.dap_follow.specs.Streams.{IsOrdered, Captured, Placed, came_in, streams}
-use Rattle.dap_follow.specs.Joined.{Piece, is_message, latest, messages, pieces}
-use Rattle.dap_follow.specs.Following.{IsCaptured, IsPacketText, rest_lines}
+use Rattle.dap_follow.specs.Joined.{Fragment, is_message, latest, messages, fragments_of}
+use Rattle.dap_follow.specs.Following.{IsCaptured, IsFollowedPacketText, rest_lines}
 
 -- the packet with which a piece is whole
-abbrev pub whole_with : Piece → ℕ
+abbrev pub whole_with : Fragment → ℕ
 whole_with p = latest (p.head ∷ p.others)
 
 -- a message that is whole with the packet
-abbrev pub is_whole_with : ℕ → Piece → Bool
+abbrev pub is_whole_with : ℕ → Fragment → Bool
 is_whole_with packet p = is_message p && (whole_with p == packet)
 
 -- the messages of a stream that are whole with a packet
-abbrev pub whole_at : ℕ → List Placed → List Piece
-whole_at packet ordered = filter (is_whole_with packet) (pieces ordered)
+abbrev pub whole_at : ℕ → List Placed → List Fragment
+whole_at packet ordered = filter (is_whole_with packet) (fragments_of ordered)
 
 -- What is written when these lines came, and what would be written if the capture ended with them. By the law
 -- `watched_captures_are_followed` both together are the listing of `follow`. The frames are the words of the line directly
@@ -34,16 +34,16 @@ pub record IsWatched (in_words : Bool) (captured : List Capture) (frames : List 
   pub texts : List (List ℕ)
   pub are_seen : AllZip IsCaptured captured packets
   pub are_ordered : AllZip (λ stream. IsOrdered (came_in stream packets)) (streams packets) ordered
-  pub are_texts : AllZip (IsPacketText in_words frames (flat_map messages ordered)) (enumerate_from 1 packets) texts
+  pub are_texts : AllZip (IsFollowedPacketText in_words frames (flat_map messages ordered)) (enumerate_from 1 packets) texts
   pub written_is : written ≡ concat texts
-  pub rest_is : rest ≡ flat_map (λ (stream, segments). rest_lines stream (pieces segments)) (zip (streams packets) ordered)
+  pub rest_is : rest ≡ flat_map (λ (stream, segments). rest_lines stream (fragments_of segments)) (zip (streams packets) ordered)
 
 -- the lines that aren't too long
 abbrev pub heard_lines : List ℕ → List (List ℕ)
 heard_lines input = filter (λ line. nat_le (length line) longest) (lines input)
 
 -- Of each packet of an input, the words of the line directly before it. A line that is too long counts as none: it is as if
--- the lines around it were one behind the other. By the law `short_inputs_have_their_frames` an input without such a line, as
+-- the lines around it were one after the other. By the law `short_inputs_have_their_frames` an input without such a line, as
 -- each that `follow` takes, has the frames that it has there.
 abbrev pub heard_frames : List ℕ → List (List (List ℕ))
 heard_frames input = frames_after packet_limit [] (heard_lines input)
@@ -52,7 +52,7 @@ heard_frames input = frames_after packet_limit [] (heard_lines input)
 abbrev pub is_refused : List ℕ → Bool
 is_refused line = nat_lt longest (length line) || is_err (line_of packet_limit line)
 
--- the same of the packets of an input in front of these
+-- the same of the packets of an input before these
 abbrev pub IsWatchedTo : (in_words : Bool) → (input : List ℕ) → (left : List Capture) → (written rest : List ℕ) → Type 0
 IsWatchedTo in_words input left written rest =
     (captured : List Capture) × (captures packet_limit input ≡ captured ++ left) × IsWatched in_words captured (heard_frames input) written rest
@@ -63,9 +63,12 @@ WatchGives in_words input held holds =
     (written rest : List ℕ) × IsWatched in_words (captures packet_limit input) (heard_frames input) written rest × Appends held holds (written ++ rest)
 
 -- What the writer holds where that failed: the lines of the packets so far, or a prefix of them where it is the writer that failed.
-abbrev pub WatchFails : (in_words : Bool) → (input : List ℕ) → (held holds : Option (List ℕ)) → TalkFault → Type 0
+-- A line at fault doesn't end the listing.
+abbrev pub WatchFails : (in_words : Bool) → (input : List ℕ) → (held holds : Option (List ℕ)) → CaptureFault → Type 0
 WatchFails in_words input held holds WriteFailed =
     (left : List Capture) × (written rest : List ℕ) × IsWatchedTo in_words input left written rest
     × (WritesFront held holds written ⊎ ((left ≡ []) × WritesFront held holds (written ++ rest)))
+WatchFails in_words input held holds (BadLine number) = ⊥
+WatchFails in_words input held holds TooLarge = ⊥
 WatchFails in_words input held holds _ =
     (left : List Capture) × (written rest : List ℕ) × IsWatchedTo in_words input left written rest × Appends held holds written

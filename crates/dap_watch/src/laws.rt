@@ -7,7 +7,7 @@ ghost use Rattle.linewise.specs.Talks.{longest};
 ghost use Rattle.dap_follow.specs.Following.{IsFollowed};
 ghost use Rattle.std.specs.List.{AllByRecursion};
 ghost use Rattle.dap_follow.specs.Streams.{Placed};
-ghost use Rattle.dap_follow.specs.Joined.{Piece, is_message, pieces};
+ghost use Rattle.dap_follow.specs.Joined.{Fragment, is_message, fragments_of};
 ghost use Rattle.dap_watch.specs.Watched.{IsWatched, heard_frames, whole_at};
 
 /// What is listed under a packet stays so whatever comes later: a segment of a later packet, put in its place among those of its
@@ -21,15 +21,15 @@ pub fn listed_messages_stay()
 {}
 
 /// The segments of a message that is listed can be let go: what they cut stays cut, since their places stay taken. Whatever
-/// comes in front of a message or behind it, the pieces are those of the segments in front, the message, and those of the
-/// segments behind; and without the message's segments they are the same but for it.
+/// comes before a message or after it, the pieces are those of the segments before it, the message, and those of the
+/// segments after it; and without the message's segments they are the same but for it.
 pub fn listed_messages_can_go()
-    ensures { (m : Piece) (front back : List Placed) → is_message m ≡ true
-        → pieces (m.head ∷ m.others) ≡ m ∷ []
+    ensures { (m : Fragment) (front back : List Placed) → is_message m ≡ true
+        → fragments_of (m.head ∷ m.others) ≡ m ∷ []
         → AllByRecursion (λ a. a.place < m.head.place) front
         → AllByRecursion (λ b. m.head.place < b.place) back
-        → (pieces (front ++ ((m.head ∷ m.others) ++ back)) ≡ pieces front ++ m ∷ pieces back)
-        × (pieces (front ++ back) ≡ pieces front ++ pieces back) }
+        → (fragments_of (front ++ ((m.head ∷ m.others) ++ back)) ≡ fragments_of front ++ m ∷ fragments_of back)
+        × (fragments_of (front ++ back) ≡ fragments_of front ++ fragments_of back) }
 {}
 
 /// What was written of a capture, and what is left of it, are together the listing of `follow`.

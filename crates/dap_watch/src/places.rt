@@ -3,18 +3,19 @@
 ghost use Rattle.std.specs.Prelude.{◌≡◌, ◌&&◌, true, ◌≤◌, ◌<◌, ◌+◌, ◌/◌, ◌^◌, [], IfOk, IfSome, OnOk, drop, length, take};
 ghost use Rattle.std.specs.List.{AllByRecursion};
 ghost use Rattle.dap_listing.specs.Captured.{Spell};
-ghost use Rattle.dap_watch.specs.Inner.Kept.{AbsorbsAfter, AbsorbsBefore, Ascends, Finds, IsAbsorbed, IsNear, IsSegment, Joins, Lists, Puts, digits_of, do_join, is_taken as takes};
+ghost use Rattle.dap_watch.specs.Inner.Kept.{AbsorbsAfter, AbsorbsBefore, Ascends, Finds, IsAbsorbed, IsNear, IsSegment, Joins, Lists, Puts, kept_digits, do_join, is_taken as takes};
 
 use dap_listing::CapturedSegment;
-use nsp_seg::Seq12;
+use nsp_link::GREATEST_AGE;
+use nsp_seg::{MODULUS, Seq12};
 use std::alloc::{AllocError, Global};
 use std::marker::Model;
 
-/// So many numbers of segments there are (NSP 4.0.0, segment numbers).
-const ROUND: u64 = 4096;
+/// This many numbers of segments there are.
+const ROUND: u64 = MODULUS as u64;
 
-/// How far below the highest place before it a segment may lie.
-const BELOW: u64 = 2047;
+/// How far below the highest place before it a segment may lie: as far as its number identifies it.
+const BELOW: u64 = GREATEST_AGE;
 
 /// The hex digits of a payload, two for each byte.
 #[derive(Drop)]
@@ -135,7 +136,7 @@ impl Kept {
 
     /// The digits of all payloads.
     pub(crate) fn gather(&self, digits: &mut Vec<u8>) -> Result<(), AllocError>
-        ensures gathered { OnOk result (digits.new.items ≡ digits_of self.now) }
+        ensures gathered { OnOk result (digits.new.items ≡ kept_digits self.now) }
         ensures spelled { OnOk result
             (Spell digits.new.items (length digits.new.items / 2)) }
     {
@@ -166,7 +167,7 @@ fn count_below(kept: &[Kept], place: u64) -> usize
     kept.partition_point(|one| one.to < place)
 }
 
-/// Whether a segment has the place, where so many are below it.
+/// Whether a segment has this sequence number, where this many are below it.
 fn is_taken(kept: &[Kept], below: usize, place: u64) -> bool
     ensures { result ≡ takes place (drop below kept.now) }
 {
@@ -176,7 +177,7 @@ fn is_taken(kept: &[Kept], below: usize, place: u64) -> bool
     }
 }
 
-/// Joins the one behind an index, if they are in a row.
+/// Joins the one after an index, if they are in a row.
 fn join_after(kept: &mut Vec<Kept>, index: usize, piece: &mut Kept) -> Result<(), AllocError>
     requires { index ≤ length kept.old.items }
     ensures { OnOk result
@@ -189,7 +190,7 @@ fn join_after(kept: &mut Vec<Kept>, index: usize, piece: &mut Kept) -> Result<()
     piece.absorb(after)
 }
 
-/// Joins the one in front of an index, if they are in a row; returns the index then.
+/// Joins the one before an index, if they are in a row; returns the index then.
 fn join_before(kept: &mut Vec<Kept>, index: usize, piece: Kept) -> Result<(usize, Kept), AllocError>
     requires { index ≤ length kept.old.items }
     ensures { IfOk result (λ joined.

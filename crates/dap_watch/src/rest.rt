@@ -29,7 +29,7 @@ fn push_part(
     push_length(text, digits.len() / 2)
 }
 
-/// Appends the places that are missing between some and those behind them.
+/// Appends the sequence numbers that are missing between some and those after them.
 fn push_gap(
     text: &mut Vec<u8>,
     stream: &Stream,

@@ -2,9 +2,9 @@
 
 ghost use Rattle.std.specs.Prelude.{◌≡◌, ◌<◌, ◌/◌, ◌^◌, ◌∷◌, [], List, IfOk, IfSome, length};
 ghost use Rattle.dap_listing.specs.Captured.{Spell};
-ghost use Rattle.dap_watch.specs.Inner.Segments.{segment_packet};
+ghost use Rattle.dap_follow.specs.Segments.{captured_segment};
 ghost use Rattle.dap_follow.specs.Streams.{Captured, Placed};
-ghost use Rattle.dap_watch.specs.Inner.Streams.{Grows, IsIndexed, KeepsAll};
+ghost use Rattle.dap_watch.specs.Inner.Streams.{Grows, IsIndexedStream, KeepsAllOrdered};
 
 use crate::places::{Places, Whole};
 use dap_follow::Stream;
@@ -24,7 +24,7 @@ pub(crate) struct Streams {
 impl Streams {
     /// No streams. It takes no memory.
     pub(crate) fn new(alloc: Global) -> Self
-        ensures { KeepsAll [] [] result }
+        ensures { KeepsAllOrdered [] [] result }
     {
         Streams {
             alloc,
@@ -37,7 +37,7 @@ impl Streams {
     fn place_of(&mut self, stream: Stream, number: Seq12) -> Result<usize, AllocError>
         ensures within { IfOk result (λ index. index < length self.new.places.items) }
         ensures indexed { length self.old.names.keys ≡ length self.old.places.items
-            → IfOk result (IsIndexed stream number self.old self.new) }
+            → IfOk result (IsIndexedStream stream number self.old self.new) }
     {
         let (index, is_new) = self.names.insert_full(stream)?;
         if !is_new && index < self.places.len() {
@@ -57,8 +57,8 @@ impl Streams {
         requires { Spell segment.now.digits.now (length segment.now.digits.now / 2) }
         ensures grows { IfOk result (λ found.
             (packets : List Captured) (ordered : List (List Placed))
-            → length packets < 2 ^ 50 → KeepsAll packets ordered self.old
-            → Grows packets (segment_packet way segment.now) ordered self.new digits.new.items
+            → length packets < 2 ^ 50 → KeepsAllOrdered packets ordered self.old
+            → Grows packets (captured_segment way segment.now) ordered self.new digits.new.items
             found) }
         ensures spelled { IfOk result (λ found. IfSome found
             (λ whole. Spell digits.new.items (length digits.new.items / 2))) }

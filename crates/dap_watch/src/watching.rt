@@ -9,13 +9,13 @@ ghost use Rattle.linewise.specs.declared.talking.Became.{Became as TheBecame};
 ghost use Rattle.dap_text.specs.Adding.{AddsSome};
 ghost use Rattle.dap_listing.specs.Captured.{Spell};
 ghost use Rattle.dap_follow.specs.Following.{IsMessageText};
-ghost use Rattle.dap_watch.specs.Inner.Segments.{segment_packet};
-ghost use Rattle.dap_follow.specs.Joined.{Piece};
+ghost use Rattle.dap_follow.specs.Segments.{captured_segment};
+ghost use Rattle.dap_follow.specs.Joined.{Fragment};
 ghost use Rattle.dap_follow.specs.Streams.{Captured, Placed};
-ghost use Rattle.dap_watch.specs.Inner.Kept.{IsWhole};
+ghost use Rattle.dap_watch.specs.Inner.Kept.{IsWholeMessage};
 ghost use Rattle.dap_watch.specs.Inner.Rest.{all_kept_rest};
-ghost use Rattle.dap_watch.specs.Inner.Streams.{KeepsAll};
-ghost use Rattle.dap_watch.specs.Inner.Watching.{GoesOn, PassesBy, Starts, Tells};
+ghost use Rattle.dap_watch.specs.Inner.Streams.{KeepsAllOrdered};
+ghost use Rattle.dap_watch.specs.Inner.Watching.{WatchesPacket, PassesBy, Starts, TellsPacket};
 ghost use Rattle.dap_watch.specs.Watched.{WatchFails, WatchGives, is_refused};
 
 use crate::places::Whole;
@@ -23,11 +23,11 @@ use crate::rest::push_all;
 use crate::streams::Streams;
 use dap_follow::{push_length, push_packet_line, push_range};
 use dap_listing::{
-    CapturedPacket, CapturedSegment, Direction, line_packet, push_messages, read_packet, write_text,
+    CapturedPacket, CapturedSegment, Direction, line_packet, push_messages, read_packet,
 };
 use dap_meanings::frame_text;
 use dap_text::push_str;
-use linewise::{Answer, Answers, Became, TalkFault, talk};
+use linewise::{Answer, Answers, Became, CaptureFault, talk, write_text};
 use std::alloc::{AllocError, Global};
 use std::io::{BufRead, Write};
 
@@ -57,7 +57,7 @@ fn push_whole(
     in_words: bool,
 ) -> Result<(), AllocError>
     requires { Spell digits.now (length digits.now / 2) }
-    ensures { OnOk result ((m : Piece) → IsWhole digits.now whole m
+    ensures { OnOk result ((m : Fragment) → IsWholeMessage digits.now whole m
         → AddsSome text.old text.new (IsMessageText in_words m)) }
 {
     let count = digits.len() / 2;
@@ -96,8 +96,8 @@ impl Watching {
         ensures packets { self.new.packets ≡ self.old.packets }
         ensures before { self.new.before ≡ self.old.before }
         ensures told { OnOk result ((packets : List Captured) (ordered : List (List Placed))
-            → length packets < 2 ^ 50 → KeepsAll packets ordered self.old.streams
-            → Tells self.old.in_words packets (segment_packet way segment.now) ordered
+            → length packets < 2 ^ 50 → KeepsAllOrdered packets ordered self.old.streams
+            → TellsPacket self.old.in_words packets (captured_segment way segment.now) ordered
             self.new.streams text.old.items text.new.items) }
     {
         let Some(whole) = self.streams.add(way, segment, &mut self.digits)? else {
@@ -115,7 +115,7 @@ impl Watching {
     ) -> Result<(), AllocError>
         requires spelled { Spell digits.now (length digits.now / 2) }
         requires empty { text.old.items ≡ [] }
-        ensures { OnOk result (GoesOn (way, digits.now) self.old self.new text.new.items) }
+        ensures { OnOk result (WatchesPacket (way, digits.now) self.old self.new text.new.items) }
     {
         if self.packets >= MOST_PACKETS {
             return Err(AllocError);
@@ -137,7 +137,7 @@ impl Watching {
         requires spelled { Spell digits.now (length digits.now / 2) }
         requires empty { text.old.items ≡ [] }
         ensures done { result ≡ TheBecame.Done
-            → GoesOn (way, digits.now) self.old self.new text.new.items }
+            → WatchesPacket (way, digits.now) self.old self.new text.new.items }
         ensures refused { result ≢ TheBecame.Done
             → (result ≡ TheBecame.NoMemory) × (text.new.items ≡ []) }
     {
@@ -209,23 +209,24 @@ impl Answers for Watching {
 }
 
 /// Writes what is left of each stream.
-fn write_rest<W: Write>(alloc: Global, streams: &Streams, writer: &mut W) -> Result<(), TalkFault>
+fn write_rest<W: Write>(
+    alloc: Global,
+    streams: &Streams,
+    writer: &mut W,
+) -> Result<(), CaptureFault>
     ensures whole { OnOk result (Appends (W.contents writer.old) (W.contents writer.new)
         (all_kept_rest streams.now.names.keys streams.now.places.items)) }
     ensures fault { IfErr result (λ fault.
-        ((fault ≡ TalkFault.NoMemory) × Keeps (W.contents writer.old) (W.contents writer.new))
-        ⊎ ((fault ≡ TalkFault.WriteFailed)
+        ((fault ≡ CaptureFault.NoMemory) × Keeps (W.contents writer.old) (W.contents writer.new))
+        ⊎ ((fault ≡ CaptureFault.WriteFailed)
         × WritesFront (W.contents writer.old) (W.contents writer.new)
         (all_kept_rest streams.now.names.keys streams.now.places.items))) }
 {
     let mut text = Vec::new(alloc);
     if push_all(alloc, &mut text, streams).is_err() {
-        return Err(TalkFault::NoMemory);
+        return Err(CaptureFault::NoMemory);
     }
-    match write_text(&text, writer) {
-        Ok(()) => Ok(()),
-        Err(_) => Err(TalkFault::WriteFailed),
-    }
+    write_text(&text, writer)
 }
 
 /// Lists the lines of a capture, and what is left at their end.
@@ -235,7 +236,7 @@ fn watch_all<R: BufRead, W: Write, F: Write>(
     reader: &mut R,
     writer: &mut W,
     error_writer: &mut F,
-) -> Result<bool, TalkFault>
+) -> Result<bool, CaptureFault>
     requires { Starts watching.old }
     ensures watched { OnOk result (IfSome (R.remaining reader.old) (λ input.
         WatchGives watching.old.in_words input (W.contents writer.old) (W.contents writer.new))) }
@@ -271,7 +272,7 @@ pub fn watch<R: BufRead, W: Write, F: Write>(
     writer: &mut W,
     error_writer: &mut F,
     in_words: bool,
-) -> Result<bool, TalkFault>
+) -> Result<bool, CaptureFault>
     ensures watched { OnOk result (IfSome (R.remaining reader.old) (λ input.
         WatchGives in_words input (W.contents writer.old) (W.contents writer.new))) }
     ensures told { IfOk result (λ bad. IfSome (R.remaining reader.old) (λ input.

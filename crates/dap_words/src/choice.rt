@@ -1,7 +1,7 @@
 //! The command that words name.
 ghost use Rattle.std.specs.Prelude.{◌≡◌, IfErr, IfOk, map, string_bytes};
 ghost use Rattle.clap.specs.Words.{FailsBy, kind_of, fault_of};
-ghost use Rattle.dap_words.specs.Inner.CommandLine.{HasOneMore, IsCommandLine};
+ghost use Rattle.dap_words.specs.Inner.CommandLine.{HasOneMore, IsDapnspLine};
 ghost use Rattle.dap_words.specs.Choosing.{Chooses, dapnsp};
 
 use clap::error::ErrorKind;
@@ -81,7 +81,7 @@ fn with_command<'a>(
 
 /// The program's command line.
 fn command_line<'a>(alloc: Global) -> Result<Command<'a>, Error>
-    ensures line { IfOk result IsCommandLine }
+    ensures line { IfOk result IsDapnspLine }
     ensures memory { IfErr result (λ error. kind_of error ≡ ErrorKind.OutOfMemory) }
 {
     let command = Command::new(alloc, "dapnsp")

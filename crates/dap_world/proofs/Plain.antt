@@ -9,7 +9,7 @@ use Rattle.dap_accessed.specs.Setup.{plain_setup}
 use Rattle.dap_accessed.specs.Standing.{Files}
 use Rattle.dap_accessed.proofs.ForCallers as accessed
 use Rattle.dap_accessing.specs.Request.{Request}
-use Rattle.dap_end.specs.Pasts.{AreFull}
+use Rattle.dap_end.specs.Histories.{AreFull}
 use Rattle.dap_end.proofs.ForCallers as ends
 use Rattle.dap_world.specs.Agreement.{IsBufsiz}
 use Rattle.dap_world.specs.Plain.{messages_of, Asked, Answers, added}

@@ -4,7 +4,7 @@ use Rattle.std.specs.Option.{option_map_or}
 use Rattle.dap_msg.specs.declared.message.Message.{Message}
 use Rattle.dap_msg.specs.declared.items.Item.{Item}
 use Rattle.dap_msg.specs.declared.items.Item.TheVariants.{Whole}
-use Rattle.dap_msg.specs.Blocked.{NspMessage, joined, Blocked, messages_in}
+use Rattle.dap_msg.specs.Blocked.{NspMessage, blocked_bytes, Blocked, messages_in}
 use Rattle.dap_accessed.specs.Standing.{Files}
 use Rattle.dap_world.specs.Plain.{Answers, After, added, limit_for, messages_of, IsAdmissible, IsRefused}
 use Rattle.dap_accessing.specs.Request.{Request}
@@ -75,9 +75,9 @@ fresh setup =
     }
 
 -- the other end
-abbrev pub other : End → End
-other A = B
-other B = A
+abbrev pub other_end : End → End
+other_end A = B
+other_end B = A
 
 -- one of the two ends
 abbrev pub end_of : State → End → EndState
@@ -94,13 +94,13 @@ with_end s B e = record s { b = e }
 -- how many segments NSP messages have
 abbrev pub segments_of : ℕ → List NspMessage → ℕ
 segments_of seg_size [] = 0
-segments_of seg_size (message ∷ messages) = count_of seg_size (length (joined message)) + segments_of seg_size messages
+segments_of seg_size (message ∷ messages) = count_of seg_size (length (blocked_bytes message)) + segments_of seg_size messages
 
 -- the NSP messages that are whole in the first r segments
 abbrev pub arrived : ℕ → ℕ → List NspMessage → List NspMessage
 arrived seg_size r [] = []
 arrived seg_size r (message ∷ messages) =
-    let n = count_of seg_size (length (joined message)) in
+    let n = count_of seg_size (length (blocked_bytes message)) in
     if nat_le n r then message ∷ arrived seg_size (r - n) messages else []
 
 -- the messages that an end passed to its link
@@ -109,7 +109,7 @@ sent_by e = messages_in e.handed
 
 -- those of the other end that have arrived whole at an end
 abbrev pub arrived_at : State → End → List Message
-arrived_at s end = messages_in (arrived s.seg_size (end_of s end).taken (end_of s (other end)).handed)
+arrived_at s end = messages_in (arrived s.seg_size (end_of s end).taken (end_of s (other_end end)).handed)
 
 -- ---- What both ends did.
 
@@ -151,15 +151,15 @@ wrote e sent k = record e { sent = sent; wire = e.wire ++ record { segment = k; 
 
 -- What an end has taken and holds once a segment came. The next one is taken, with all held ones that follow it
 -- without a hole. A later one is held, if the end keeps it. One that was taken changes nothing.
-abbrev pub came : (keep : Bool) → (taken : ℕ) → (held : List ℕ) → Option ℕ → ℕ × List ℕ
-came keep taken held None = (taken, held)
-came keep taken held (Some k) =
+abbrev pub taken_and_held : (keep : Bool) → (taken : ℕ) → (held : List ℕ) → Option ℕ → ℕ × List ℕ
+taken_and_held keep taken held None = (taken, held)
+taken_and_held keep taken held (Some k) =
     if k == taken + 1 then closed_up k held else (taken, if nat_lt taken k && keep then insert_key nat_cmp held k else held)
 
 -- a packet comes; the greatest acknowledgement counts
 abbrev pub delivered : (keep : Bool) → EndState → Sending → EndState
 delivered keep e p =
-    let got = came keep e.taken e.held p.segment in record e { acked = max e.acked p.acks; taken = got.0; held = got.1 }
+    let got = taken_and_held keep e.taken e.held p.segment in record e { acked = max e.acked p.acks; taken = got.0; held = got.1 }
 
 -- more than 2,047 below
 abbrev pub is_old : ℕ → ℕ → Bool
@@ -179,8 +179,8 @@ abbrev pub served_one : State → Message → State
 served_one s m = record s { b = record s.b { waiting = answering s m }; served = s.served + 1 }
 
 -- A reads an answer
-abbrev pub read_one : State → State
-read_one s = record s { read = s.read + 1 }
+abbrev pub with_read : State → State
+with_read s = record s { read = s.read + 1 }
 
 -- whether there is a report more
 abbrev pub told_by : State → State → Step
@@ -204,14 +204,14 @@ next_to_read s = slice_get (arrived_at s A) s.read
 -- ---- Events.
 
 -- the other end wrote a packet at this index of its wire, and it isn't stale at this end
-abbrev pub IsDue : State → End → ℕ → Sending → Type 0
-IsDue s end j p = (slice_get (end_of s (other end)).wire j ≡ Some p) × (is_stale (end_of s end) p ≡ false)
+abbrev pub MayDeliver : State → End → ℕ → Sending → Type 0
+MayDeliver s end j p = (slice_get (end_of s (other_end end)).wire j ≡ Some p) × (is_stale (end_of s end) p ≡ false)
 
 -- a packet comes to an end
 abbrev pub Delivers : (keep : Bool) → State → End → ℕ → Step → State → Type 0
 Delivers keep s end j answer new =
     let e = end_of s end in
-    (p : Sending) × IsDue s end j p × (answer ≡ step.Delivered (got_of e.taken p.segment)) × (new ≡ with_end s end (delivered keep e p))
+    (p : Sending) × MayDeliver s end j p × (answer ≡ step.Delivered (got_of e.taken p.segment)) × (new ≡ with_end s end (delivered keep e p))
 
 -- The event happens, has this answer, and leads from one state to another. Early segments are kept.
 unfoldable pub Steps : State → Event → Step → State → Type 0
@@ -233,7 +233,7 @@ Steps s (event.Deliver end j) answer new = Delivers true s end j answer new
 Steps s event.Serve answer new =
     (m : Message) × (s.b.waiting ≡ []) × (next_to_serve s ≡ Some m) × (answer ≡ step.Served (length (answering s m))) × (new ≡ served_one s m)
 Steps s event.Read answer new =
-    (m : Message) × (next_to_read s ≡ Some m) × (answer ≡ told_by s (read_one s)) × (new ≡ read_one s)
+    (m : Message) × (next_to_read s ≡ Some m) × (answer ≡ told_by s (with_read s)) × (new ≡ with_read s)
 
 -- The same of ends that may also let an early segment go.
 abbrev pub StepsFreely : State → Event → Step → State → Type 0
@@ -242,15 +242,15 @@ StepsFreely s e answer new = Steps s e answer new
 
 -- The event has no step, and this is the first reason. Out of memory is none. By the law `events_are_decided` an
 -- event has either one step or one reason.
-unfoldable pub Refuses : State → Event → WorldFault → Type 0
-Refuses s (event.Ask request) (fault.Ask ask_fault.NoMemory) = ⊥
-Refuses s (event.Ask request) (fault.Ask f) = IsRefused s.own_a s.requests (answers_read s) request f
-Refuses s (event.Post end) fault.NothingToDo = (end_of s end).waiting ≡ []
-Refuses s (event.Post end) fault.Exhausted = (0 < length (end_of s end).waiting) × (most_segments < segments_of s.seg_size (posted (end_of s end)).handed)
-Refuses s (event.Emit end) fault.NothingToDo = MayEmit s end → ⊥
-Refuses s (event.Resend end i) fault.NothingToDo = (end_of s end).sent - (end_of s end).acked ≤ i
-Refuses s (event.Deliver end j) fault.NoSuchPacket = slice_get (end_of s (other end)).wire j ≡ None
-Refuses s (event.Deliver end j) fault.Stale = (p : Sending) × (slice_get (end_of s (other end)).wire j ≡ Some p) × (is_stale (end_of s end) p ≡ true)
-Refuses s event.Serve fault.NothingToDo = (0 < length s.b.waiting) ⊎ (next_to_serve s ≡ None)
-Refuses s event.Read fault.NothingToDo = next_to_read s ≡ None
-Refuses s e f = ⊥
+unfoldable pub RefusesEvent : State → Event → WorldFault → Type 0
+RefusesEvent s (event.Ask request) (fault.Ask ask_fault.NoMemory) = ⊥
+RefusesEvent s (event.Ask request) (fault.Ask f) = IsRefused s.own_a s.requests (answers_read s) request f
+RefusesEvent s (event.Post end) fault.NothingToDo = (end_of s end).waiting ≡ []
+RefusesEvent s (event.Post end) fault.Exhausted = (0 < length (end_of s end).waiting) × (most_segments < segments_of s.seg_size (posted (end_of s end)).handed)
+RefusesEvent s (event.Emit end) fault.NothingToDo = MayEmit s end → ⊥
+RefusesEvent s (event.Resend end i) fault.NothingToDo = (end_of s end).sent - (end_of s end).acked ≤ i
+RefusesEvent s (event.Deliver end j) fault.NoSuchPacket = slice_get (end_of s (other_end end)).wire j ≡ None
+RefusesEvent s (event.Deliver end j) fault.Stale = (p : Sending) × (slice_get (end_of s (other_end end)).wire j ≡ Some p) × (is_stale (end_of s end) p ≡ true)
+RefusesEvent s event.Serve fault.NothingToDo = (0 < length s.b.waiting) ⊎ (next_to_serve s ≡ None)
+RefusesEvent s event.Read fault.NothingToDo = next_to_read s ≡ None
+RefusesEvent s e f = ⊥

@@ -9,7 +9,7 @@ use Rattle.dap_events.specs.declared.event.Step.{Step}
 use Rattle.dap_events.specs.declared.event.Step.TheVariants as step
 use Rattle.dap_events.specs.declared.event.WorldFault.{WorldFault}
 use Rattle.dap_events.specs.declared.event.WorldFault.TheVariants as fault
-use Rattle.dap_world.specs.Machine.{State, Steps, StepsFreely, Refuses, fresh}
+use Rattle.dap_world.specs.Machine.{State, Steps, StepsFreely, RefusesEvent, fresh}
 use Rattle.dap_world.specs.Setups.{IsWorldSetup}
 use Rattle.dap_events.specs.declared.setup.WorldSetup.{WorldSetup}
 
@@ -27,7 +27,7 @@ WantsMemory s e = (answer : Step) × (new : State) × Steps s e answer new × Ta
 abbrev pub Went : State → Event → Result Step WorldFault → State → Type 0
 Went old e (Ok answer) new = Steps old e answer new
 Went old e (Err fault.NoMemory) new = WantsMemory old e × (new ≡ old)
-Went old e (Err f) new = Refuses old e f × (new ≡ old)
+Went old e (Err f) new = RefusesEvent old e f × (new ≡ old)
 
 -- the end that an event lets write a packet
 abbrev pub writing_end : Event → Option End

@@ -12,7 +12,7 @@ use Rattle.dap_events.specs.declared.event.Event.{Event}
 use Rattle.dap_events.specs.declared.event.Event.TheVariants as event
 use Rattle.dap_events.specs.declared.event.WorldFault.{WorldFault}
 use Rattle.dap_events.specs.declared.event.WorldFault.TheVariants as fault
-use Rattle.dap_world.specs.Machine.{State, Refuses, end_of, segments_of, sent_by, taken_of, answers_read, reported}
+use Rattle.dap_world.specs.Machine.{State, RefusesEvent, end_of, segments_of, sent_by, taken_of, answers_read, reported}
 use Rattle.dap_world.specs.Runs.{Runs}
 
 -- n events lead from one state to another, and none of them asks.
@@ -67,7 +67,7 @@ pub record Finished (old new : State) (n : ℕ) : Type 0 where
   pub ran : RanBy old new n
   pub finished : IsFinished new
   pub told : AllTold new
-  -- both ends are settled, what waits is handed over, and the rest is work
+  -- both ends are settled, what waits is passed on, and the rest is work
   pub bound : n + work old ≤ 4 * old.window + 6 + work new
   pub only : IsFinished old → n ≡ 0
 
@@ -78,7 +78,7 @@ IsPostDue s B = IsEmpty s A × (unacked s B ≡ 0)
 
 -- what is passed on then would make more than 2^40 segments
 abbrev pub IsExhausted : State → Type 0
-IsExhausted s = (end : End) × IsPostDue s end × Refuses s (event.Post end) fault.Exhausted
+IsExhausted s = (end : End) × IsPostDue s end × RefusesEvent s (event.Post end) fault.Exhausted
 
 -- why not all is finished: that, or else memory was refused
 abbrev pub FinishFault : State → WorldFault → Type 0
@@ -89,8 +89,8 @@ FinishFault s _ = ⊥
 -- ---- Requests over perfect delivery.
 
 -- no request was asked, and no packet was written
-abbrev pub IsFresh : State → Type 0
-IsFresh s = (s.requests ≡ []) × (s.a.wire ≡ []) × (s.b.wire ≡ [])
+abbrev pub IsUnused : State → Type 0
+IsUnused s = (s.requests ≡ []) × (s.a.wire ≡ []) × (s.b.wire ≡ [])
 
 -- these requests were asked, each was admissible after those before it, and each has its report
 pub record AllDone (requests : List Request) (new : State) : Type 0 where

@@ -1,21 +1,19 @@
 //! What an event is to the end that it is at: one call of it.
 
 ghost use Rattle.std.specs.Prelude.{◌≡◌, ◌<◌, ◌≤◌, ◌+◌, ◌++◌, ◌∷◌, [], length, IfOk, IfErr, Some, OnOk, OnErr, vec_len, vec_capacity, false, IsTrue};
-ghost use Rattle.dap_msg.specs.BothEnds.{four_bytes};
 ghost use Rattle.dap_msg.specs.Blocked.{bodies};
 ghost use Rattle.nsp_link.specs.Limits.{most_segments};
 ghost use Rattle.nsp_link.specs.Link.{may_send};
 ghost use Rattle.nsp_link.specs.Sending.{may_queue};
 ghost use Rattle.dap_accessing.specs.Calls.{IsAdmittedBy};
-ghost use Rattle.dap_accessing.specs.Outgoing.{number_carried};
 ghost use Rattle.dap_accessing.specs.Prepared.{IsPrepared};
 ghost use Rattle.dap_end.specs.Moved.{with_link};
 ghost use Rattle.dap_end.specs.Moved.{sent_more};
 ghost use Rattle.dap_end.specs.Ports.{HandsOver};
 ghost use Rattle.dap_end.specs.Serving.{IsAfter};
 ghost use Rattle.dap_end.specs.Asking.{HasAsked};
-ghost use Rattle.dap_end.specs.Pasts.{Still};
-ghost use Rattle.dap_world.specs.Inner.Sides.{AreShort, AskFaultOf, AskedSo, EmitFault, KeptSo, PostFault, PostedSo, WroteOne};
+ghost use Rattle.dap_end.specs.Histories.{Still};
+ghost use Rattle.dap_world.specs.Inner.Sides.{AreWithinLimit, AskFaultOf, AskedSo, EmitFault, KeptSo, PostFault, PostedSo, WroteWired};
 ghost use Rattle.dap_world.specs.Inner.Splitting.{SentAll};
 ghost use Rattle.dap_world.specs.Inner.Ways.{Delivery, delivered_as};
 ghost use Rattle.dap_events.specs.declared.event.WorldFault.TheVariants.{NoMemory};
@@ -79,7 +77,7 @@ impl World {
         }
     }
 
-    /// Hands over what waits.
+    /// Passes on what waits.
     pub(crate) fn post(&mut self, end: End) -> Result<Step, WorldFault>
         ensures { Went self.old (Event.Post end) result self.new }
     {
@@ -159,8 +157,7 @@ fn copy_and_ask(
     ensures err { IfErr result (λ f. (end.new ≡ end.old)
         × (requests.new.items ≡ requests.old.items) × AskFaultOf request.now end.old.present f) }
 {
-    let number = request.number();
-    let prepared = prepare(end, request, &number)?;
+    let prepared = prepare(end, request)?;
     let copy = request.copy(alloc)?;
     requests.reserve(1)?;
     let step = ask_prepared(end, request, prepared)?;
@@ -179,36 +176,30 @@ fn ask_next(
     ensures err { IfErr result (λ f. (end.new ≡ end.old)
         × (requests.new.items ≡ requests.old.items) × AskFaultOf request end.old.present f) }
 {
-    let number = request.number();
-    let prepared = prepare(end, &request, &number)?;
+    let prepared = prepare(end, &request)?;
     requests.reserve(1)?;
     let step = ask_prepared(end, &request, prepared)?;
     requests.push_reserved(request);
     Ok(step)
 }
 
-/// The messages of a request that A may ask.
-fn prepare<'a>(
-    end: &AskingEnd,
-    request: &'a Request,
-    number: &'a [u8],
-) -> Result<Prepared<'a>, WorldFault>
-    requires { number.now ≡ four_bytes (number_carried request.now) }
+/// What is needed of a request that A may ask.
+fn prepare(end: &AskingEnd, request: &Request) -> Result<Prepared, WorldFault>
     ensures ok { IfOk result (IsPrepared end.now.present request.now) }
     ensures admissible { OnOk result (IsAdmittedBy end.now.present request.now) }
     ensures err { IfErr result (AskFaultOf request.now end.now.present) }
 {
-    match end.prepare(request, number) {
+    match end.prepare(request) {
         Ok(prepared) => Ok(prepared),
         Err(fault) => Err(WorldFault::Ask(fault)),
     }
 }
 
-/// Asks a request by its messages, and fails only if memory is refused.
+/// Asks a request that was looked at, and fails only if memory is refused.
 fn ask_prepared(
     end: &mut AskingEnd,
     request: &Request,
-    prepared: Prepared<'_>,
+    prepared: Prepared,
 ) -> Result<Step, WorldFault>
     requires { IsPrepared end.old.present request.now prepared }
     ensures ok { IfOk result (λ answer. AskedSo request.now end.old end.new answer) }
@@ -239,7 +230,7 @@ fn emit_a(end: &mut AskingEnd, wire: &mut Vec<Wired>) -> Result<Step, WorldFault
     requires { end.old.port.link.failed ≡ false }
     ensures rest { end.new ≡ record end.old { port = end.new.port } }
     ensures ok { IfOk result (λ answer. IsTrue (may_send end.old.port.link)
-        × WroteOne end.old.port.link wire.old.items wire.new.items
+        × WroteWired end.old.port.link wire.old.items wire.new.items
         (Some (end.old.port.link.sent + 1)) answer) }
     ensures sent { OnOk result (end.new.port ≡ sent_more end.old.port 1) }
     ensures err { IfErr result (λ f. (end.new.port ≡ end.old.port)
@@ -259,7 +250,7 @@ fn emit_b(end: &mut ServingEnd, wire: &mut Vec<Wired>) -> Result<Step, WorldFaul
     requires { end.old.port.link.failed ≡ false }
     ensures rest { end.new ≡ record end.old { port = end.new.port } }
     ensures ok { IfOk result (λ answer. IsTrue (may_send end.old.port.link)
-        × WroteOne end.old.port.link wire.old.items wire.new.items
+        × WroteWired end.old.port.link wire.old.items wire.new.items
         (Some (end.old.port.link.sent + 1)) answer) }
     ensures sent { OnOk result (end.new.port ≡ sent_more end.old.port 1) }
     ensures err { IfErr result (λ f. (end.new.port ≡ end.old.port)
@@ -308,7 +299,7 @@ fn delivered(got: Result<Got, LinkFault>) -> Result<Step, WorldFault>
     }
 }
 
-/// A hands over what waits; the DAP messages in it are sent.
+/// A passes on what waits; the DAP messages in it are sent.
 fn post_a(
     alloc: Global,
     end: &mut AskingEnd,
@@ -316,7 +307,7 @@ fn post_a(
     sent: &mut Vec<Vec<u8>>,
 ) -> Result<Step, WorldFault>
     requires running { end.old.port.link.failed ≡ false }
-    requires short { AreShort end.old.port.link.setup.max_message end.old.port.outbox }
+    requires short { AreWithinLimit end.old.port.link.setup.max_message end.old.port.outbox }
     requires few { posted.old ≤ most_segments }
     ensures ok { IfOk result (λ answer. PostedSo end.old.port.outbox posted.old posted.new answer) }
     ensures handed { OnOk result (HandsOver end.old end.new (length end.old.port.outbox)) }
@@ -330,7 +321,7 @@ fn post_a(
     hand_over(alloc, end, posted, sent)
 }
 
-/// A hands over what waits, which its link takes. All memory is there before anything changes.
+/// A passes on what waits, which its link takes. All memory is there before anything changes.
 fn hand_over(
     alloc: Global,
     end: &mut AskingEnd,
@@ -360,10 +351,10 @@ fn hand_over(
     }
 }
 
-/// B hands over what waits.
+/// B passes on what waits.
 fn post_b(end: &mut ServingEnd, posted: &mut usize) -> Result<Step, WorldFault>
     requires running { end.old.port.link.failed ≡ false }
-    requires short { AreShort end.old.port.link.setup.max_message end.old.port.outbox }
+    requires short { AreWithinLimit end.old.port.link.setup.max_message end.old.port.outbox }
     requires few { posted.old ≤ most_segments }
     ensures ok { IfOk result (λ answer. PostedSo end.old.port.outbox posted.old posted.new answer) }
     ensures handed { OnOk result (HandsOver end.old end.new (length end.old.port.outbox)) }

@@ -1,13 +1,13 @@
 //! The two ends.
 
 ghost use Rattle.std.specs.Prelude.{◌≡◌};
-ghost use Rattle.dap_world.specs.Machine.{other};
+ghost use Rattle.dap_world.specs.Machine.{other_end};
 
 use dap_events::End;
 
 /// The other end.
 pub(crate) fn other_end(end: End) -> End
-    ensures { result ≡ other end }
+    ensures { result ≡ other_end end }
 {
     match end {
         End::A => End::B,

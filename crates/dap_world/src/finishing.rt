@@ -24,7 +24,7 @@ impl World {
     ghost use Rattle.dap_world.specs.Runs.{Runs};
     ghost use Rattle.dap_events.specs.declared.event.Event.{Event as TheEvent};
     ghost use Rattle.dap_world.specs.Inner.Worlds.{IsWorld};
-    ghost use Rattle.dap_world.specs.Settling.{AllDone, Finished, FinishFault, IsEmpty, IsFinished, IsFresh, IsPostDue, RanBy, StopsAtRequest, unacked};
+    ghost use Rattle.dap_world.specs.Settling.{AllDone, Finished, FinishFault, IsEmpty, IsFinished, IsUnused, IsPostDue, RanBy, StopsAtRequest, unacked};
     ghost use Rattle.dap_world.specs.Inner.Settling.{AreEmpty, AreSettled, Brought, BroughtAll, Emptied, Halts, IsOneDue, IsQuiet, IsServed, NothingSent, PostedAll, RanTo, ReadEvery, ReadPart, RunsTo, SameBut, SentBoth, ServedEvery, SettledBoth};
     ghost use Rattle.dap_events.specs.declared.event.End.TheVariants.{A, B};
     ghost use Rattle.dap_events.specs.declared.event.WorldFault.TheVariants.{NoMemory};
@@ -87,7 +87,7 @@ impl World {
         }
     }
 
-    /// Hands over what waits at an end, if anything does; how many events that was.
+    /// Passes on what waits at an end, if anything does; how many events that was.
     fn post_waiting(&mut self, end: End) -> Result<usize, WorldFault>
         requires world { IsWorld self.old }
         requires due { IsPostDue self.old end }
@@ -106,7 +106,7 @@ impl World {
         }
     }
 
-    /// Hands over what waits at an end, and brings all to the other.
+    /// Passes on what waits at an end, and brings all to the other.
     fn send_waiting(&mut self, end: End) -> Result<usize, WorldFault>
         requires world { IsWorld self.old }
         requires due { IsPostDue self.old end }
@@ -247,7 +247,7 @@ impl World {
         }
     }
 
-    /// Settles both ends, and then hands over, sends, delivers, acknowledges, serves and reads until nothing is
+    /// Settles both ends, and then passes on, sends, delivers, acknowledges, serves and reads until nothing is
     /// left to do: every request then has its report, whatever was lost before. How many events that were, 0 where
     /// there was nothing to do, which takes no memory. Refused if memory is refused, or where a direction would
     /// have more than 2^40 segments, as the last event that wasn't refused left the world: no report was
@@ -270,7 +270,7 @@ impl World {
     /// Each request to its report, in turn.
     fn direct_all(&mut self, requests: &[Request]) -> Result<(), (usize, WorldFault)>
         requires world { IsWorld self.old }
-        requires fresh { IsFresh self.old }
+        requires fresh { IsUnused self.old }
         requires quiet { IsQuiet self.old }
         ensures ok { OnOk result (AllDone requests.now self.new) }
         ensures err { IfErr result (λ stop. StopsAtRequest requests.now self.new stop) }
@@ -296,7 +296,7 @@ impl World {
     /// memory or the numbers ran out, which is admissible: the reports are then those of the requests before it.
     /// The empty list takes no memory.
     pub fn direct(&mut self, requests: &[Request]) -> Result<(), (usize, WorldFault)>
-        requires { IsFresh self.old }
+        requires { IsUnused self.old }
         ensures ok { OnOk result (AllDone requests.now self.new) }
         ensures err { IfErr result (λ stop. StopsAtRequest requests.now self.new stop) }
         ensures ran { (events : List TheEvent) × Runs self.old events self.new }

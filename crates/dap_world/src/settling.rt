@@ -6,13 +6,14 @@ use dap_events::{End, Event, WorldFault};
 
 impl World {
     ghost use Rattle.std.specs.Prelude.{◌≡◌, ◌<◌, ◌≤◌, ◌+◌, ◌-◌, IfOk, IfErr, IsOk, OnOk, OnErr, length, ℕ};
-    ghost use Rattle.dap_world.specs.Machine.{end_of, other};
+    ghost use Rattle.dap_world.specs.Machine.{end_of, other_end};
     ghost use Rattle.dap_world.specs.Inner.Worlds.{IsWorld};
     ghost use Rattle.dap_world.specs.Settling.{RanBy, Settled, unacked, work};
     ghost use Rattle.dap_world.specs.Inner.Settling.{AllResent, AreThere, AllCame, NothingSent, RanTo};
     ghost use Rattle.dap_world.specs.Headline.{HeadlineOf};
     ghost use Rattle.dap_events.specs.declared.event.End.{End};
     ghost use Rattle.dap_events.specs.declared.event.WorldFault.TheVariants.{NoMemory};
+    ghost use Rattle.nsp_link.specs.Limits.{largest_window};
 
     /// Writes the first segments of an end that aren't acknowledged again, in order.
     fn resend_all(&mut self, end: End, count: usize) -> Result<(), WorldFault>
@@ -55,7 +56,7 @@ impl World {
     /// The other end, which took all segments, acknowledges them.
     pub(crate) fn acknowledge(&mut self, end: End) -> Result<(), WorldFault>
         requires world { IsWorld self.old }
-        requires taken { (end_of self.old end).sent ≤ (end_of self.old (other end)).taken }
+        requires taken { (end_of self.old end).sent ≤ (end_of self.old (other_end end)).taken }
         ensures ok { OnOk result (RanBy self.old self.new 2 × (unacked self.new end ≡ 0)) }
         ensures rest { NothingSent self.old self.new }
         ensures world { OnOk result (IsWorld self.new) }
@@ -77,7 +78,7 @@ impl World {
     fn settle_some(&mut self, end: End, count: usize) -> Result<usize, WorldFault>
         requires world { IsWorld self.old }
         requires all { count ≡ unacked self.old end }
-        requires small { count ≤ 2047 }
+        requires small { count ≤ largest_window }
         ensures ok { IfOk result (λ n. RanBy self.old self.new n × (unacked self.new end ≡ 0)
             × (n ≡ (count + count) + 2)) }
         ensures rest { NothingSent self.old self.new }

@@ -2,11 +2,11 @@
 
 ghost use Rattle.std.specs.Prelude.{◌≡◌, IfOk, IfErr, false, true};
 ghost use Rattle.dap_world.specs.Setups.{IsWorldSetup, NewFault};
-ghost use Rattle.dap_world.specs.Wires.{address_of};
-ghost use Rattle.dap_world.specs.Inner.Setups.{link_of};
+ghost use Rattle.dap_world.specs.Wires.{end_address};
+ghost use Rattle.dap_world.specs.Inner.Setups.{link_setup_of};
 ghost use Rattle.dap_world.specs.Machine.{fresh};
 ghost use Rattle.dap_world.specs.Headline.{HeadlineOf};
-ghost use Rattle.dap_world.specs.Settling.{IsFresh};
+ghost use Rattle.dap_world.specs.Settling.{IsUnused};
 ghost use Rattle.nsp_link.specs.declared.fault.LinkFault.TheVariants as link_fault;
 ghost use Rattle.dap_events.specs.declared.event.WorldFault.TheVariants.{BadSetup, NoMemory};
 
@@ -20,7 +20,7 @@ use std::alloc::Global;
 
 /// The address of an end.
 fn address(end: End) -> u16
-    ensures { result ≡ address_of end }
+    ensures { result ≡ end_address end }
 {
     match end {
         End::A => 0x0101,
@@ -30,7 +30,7 @@ fn address(end: End) -> u16
 
 /// The limits of an end's link.
 fn link_setup(setup: &WorldSetup, end: End) -> LinkSetup
-    ensures { result ≡ link_of setup.now end }
+    ensures { result ≡ link_setup_of setup.now end }
 {
     LinkSetup {
         local: address(end),
@@ -89,8 +89,8 @@ impl World {
 
     /// Nothing was asked, and no packet was written.
     pub fn is_fresh(&self) -> bool
-        ensures yes { result ≡ true → IsFresh self.now }
-        ensures no { result ≡ false → IsFresh self.now → ⊥ }
+        ensures yes { result ≡ true → IsUnused self.now }
+        ensures no { result ≡ false → IsUnused self.now → ⊥ }
     {
         self.requests.is_empty() && self.wire_a.is_empty() && self.wire_b.is_empty()
     }

@@ -8,7 +8,7 @@ ghost use Rattle.nsp_link.specs.Sending.{WritesSent, may_queue, ack_packet_of};
 ghost use Rattle.nsp_link.specs.declared.fault.LinkFault.TheVariants.{NoSuchSegment};
 ghost use Rattle.nsp_link.specs.declared.fault.LinkFault.TheVariants as link_fault;
 ghost use Rattle.dap_world.specs.Machine.{is_old};
-ghost use Rattle.dap_world.specs.Inner.Sides.{AreShort, EmitFault, PostFault, ResendFault, WroteOne};
+ghost use Rattle.dap_world.specs.Inner.Sides.{AreWithinLimit, EmitFault, PostFault, ResendFault, WroteWired};
 ghost use Rattle.dap_world.specs.Inner.Ways.{NotDue, is_old_segment, is_old_wired};
 ghost use Rattle.dap_events.specs.declared.event.WorldFault.TheVariants.{NoMemory};
 ghost use Rattle.dap_events.specs.declared.event.Step.TheVariants as step;
@@ -73,7 +73,7 @@ pub(crate) fn again(
     requires memory { place < link.now.sent - link.now.acked
         → IfErr packet (λ f. f ≡ link_fault.NoMemory) }
     ensures ok { IfOk result (λ answer. (place < link.now.sent - link.now.acked)
-        × WroteOne link.now wire.old.items wire.new.items (Some (link.now.acked + 1 + place))
+        × WroteWired link.now wire.old.items wire.new.items (Some (link.now.acked + 1 + place))
         answer) }
     ensures err { IfErr result (λ f. (wire.new.items ≡ wire.old.items)
         × ResendFault link.now place f) }
@@ -96,7 +96,7 @@ pub(crate) fn acknowledge(
 ) -> Result<Step, WorldFault>
     requires { IfOk packet (λ v. IsSpelling (ack_packet_of link.now) v.items) }
     ensures ok { IfOk result
-        (λ answer. WroteOne link.now wire.old.items wire.new.items None answer) }
+        (λ answer. WroteWired link.now wire.old.items wire.new.items None answer) }
     ensures err { IfErr result (λ f. (wire.new.items ≡ wire.old.items) × (f ≡ NoMemory)) }
 {
     let Ok(packet) = packet else {
@@ -151,10 +151,10 @@ pub(crate) fn due<'a>(link: &LinkEnd, wire: &'a [Wired], j: usize) -> Result<&'a
     }
 }
 
-/// Whether what waits may be handed over.
+/// Whether what waits may be passed on.
 pub(crate) fn may_post(link: &LinkEnd, waiting: &[Vec<u8>]) -> Result<(), WorldFault>
     requires running { link.now.failed ≡ false }
-    requires short { AreShort link.now.setup.max_message (bodies waiting.now) }
+    requires short { AreWithinLimit link.now.setup.max_message (bodies waiting.now) }
     ensures some { OnOk result (0 < length waiting.now) }
     ensures may { OnOk result (IsTrue (may_queue link.now (bodies waiting.now))) }
     ensures err { IfErr result (λ f. (f ≢ NoMemory)

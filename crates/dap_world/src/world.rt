@@ -34,22 +34,22 @@ impl Model for World {
 
     ghost Value = { State };
 
-    ghost use Rattle.dap_world.specs.Inner.WorldView.{world_view, IsSound};
+    ghost use Rattle.dap_world.specs.Inner.WorldView.{world_view, IsSoundWorld};
 
     ghost view = { world_view };
 
-    ghost invariant = { IsSound };
+    ghost invariant = { IsSoundWorld };
 }
 
 impl World {
     ghost use Rattle.std.specs.Prelude.{◌≡◌, ◌-◌, ◌++◌, OnOk, IfErr, Some, map, max, slice_get, true, false};
     ghost use Rattle.dap_msg.specs.Blocked.{all_joined, bodies};
     ghost use Rattle.dap_msg.specs.Canon.{canon};
-    ghost use Rattle.dap_world.specs.Machine.{MayEmit, files_of, reported, end_of, other, sent_by, taken_of};
+    ghost use Rattle.dap_world.specs.Machine.{MayEmit, files_of, reported, end_of, other_end, sent_by, taken_of};
     ghost use Rattle.dap_world.specs.Runs.{Runs, StopsAt, Went};
     ghost use Rattle.dap_world.specs.Inner.Worlds.{IsWorld};
     ghost use Rattle.dap_world.specs.Links.{came_to, coming_to, left_link};
-    ghost use Rattle.dap_world.specs.Wires.{IsOnWire, address_of, sending_of};
+    ghost use Rattle.dap_world.specs.Wires.{IsOnWire, end_address, sending_of};
     ghost use Rattle.std.specs.List.{AllByRecursion};
     ghost use Rattle.std.specs.Map.{keys_of};
     ghost use Rattle.nsp_link.specs.Link.{Sends};
@@ -203,8 +203,8 @@ impl World {
 
     /// The link of an end.
     pub fn link(&self, end: End) -> &LinkEnd
-        ensures way { (result.now.setup.local ≡ address_of end)
-            × (result.now.setup.remote ≡ address_of (other end)) }
+        ensures way { (result.now.setup.local ≡ end_address end)
+            × (result.now.setup.remote ≡ end_address (other_end end)) }
         ensures size { result.now.setup.seg_size ≡ self.now.seg_size }
         ensures window { result.now.setup.window ≡ self.now.window }
         ensures limit { result.now.setup.max_message ≡ max self.now.own_a self.now.own_b }

@@ -99,7 +99,7 @@ fn other(end: End) -> End {
     }
 }
 
-/// The place of one of the last packets of a wire that has so many.
+/// The place of one of the last packets of a wire that has this many.
 fn draw_packet(written: usize, seed: &mut u32) -> usize {
     written.saturating_sub(draw(seed, 6).saturating_add(1))
 }
@@ -175,7 +175,7 @@ fn clean(alloc: Global, turns: &[Told]) -> Result<World, WorldFault> {
     }
 }
 
-/// Whether a world, once it is finished, is what so many requests over a clean network come to.
+/// Whether a world, once it is finished, is what this many requests over a clean network come to.
 fn comes_clean(alloc: Global, world: &mut World, asked: usize) -> Result<bool, WorldFault> {
     let _events = world.finish()?;
     let turns = TURNS.get(..asked).unwrap_or(TURNS);

@@ -6,7 +6,7 @@ use Rattle.byteorder.specs.Numbers.{little_from-lt}
 use Rattle.dap_fields.specs.Spelling.{AreBytes}
 use Rattle.dap_listing.specs.Listing.{packet_limit}
 use Rattle.capture_file.specs.Meanings.{Record}
-use Rattle.decnet_frames.specs.Frames.{Packet, and_then, counted, data_of, fitting, is_node, is_tag, long_of, message_of, packet_of, routed, short_of, typed, unpadded, untagged, word_at}
+use Rattle.decnet_frames.specs.Frames.{Packet, and_then, counted, data_of, fitting, is_node, is_tag, long_of, routing_message, nsp_packet_of, routed, short_of, typed, unpadded, untagged, number_at}
 use Rattle.decnet_frames.specs.Lines.{packet_in}
 use Rattle.decnet_frames.specs.declared.packet.Passed.{Passed}
 
@@ -63,7 +63,7 @@ typed_bytes (a ∷ []) are = tt
 typed_bytes (a ∷ b ∷ rest) are =
     cond_both {A = Result (List ℕ) Passed} (a == 0x60 && b == 0x03) _ _ OkBytes (λ _. counted_bytes rest (bytes_drop 2 (a ∷ b ∷ rest) are)) (λ _. tt)
 
-message_bytes : (xs : List ℕ) → AreBytes xs → OkBytes (message_of xs)
+message_bytes : (xs : List ℕ) → AreBytes xs → OkBytes (routing_message xs)
 message_bytes xs are =
     cond_both {A = Result (List ℕ) Passed} (nat_lt (length xs) 12) _ _ OkBytes (λ _. tt)
     (λ _. typed_bytes (untagged (drop 12 xs)) (untagged_bytes (drop 12 xs) (bytes_drop 12 xs are)))
@@ -74,8 +74,8 @@ unpadded_bytes (x ∷ xs) are =
     cond_both {A = Result (List ℕ) Passed} (nat_lt x 0x80) _ _ OkBytes (λ _. are)
     (λ _. cond_both {A = Result (List ℕ) Passed} (nat_le (length (x ∷ xs)) (x - 0x80)) _ _ OkBytes (λ _. tt) (λ _. bytes_drop (x - 0x80) (x ∷ xs) are))
 
-word_small : (at : ℕ) (m : List ℕ) → AreBytes m → word_at at m < 65536
-word_small at m are = let fits : word_at at m < 256 ^ 2 = little_from-lt 0 2 (drop at m) (bytes_drop at m are) in omega (arith, fits)
+word_small : (at : ℕ) (m : List ℕ) → AreBytes m → number_at at m < 65536
+word_small at m are = let fits : number_at at m < 256 ^ 2 = little_from-lt 0 2 (drop at m) (bytes_drop at m are) in omega (arith, fits)
 
 long_packet : (m : List ℕ) → AreBytes m → OkPacket (long_of m)
 long_packet m are =
@@ -109,9 +109,9 @@ fit_on : (r : Result Packet Passed) → OkPacket r → OkPacket (and_then r fitt
 fit_on (Ok p) is = fitting_packet p is
 fit_on (Err e) is = tt
 
-pub packet_bytes : (frame : List ℕ) → AreBytes frame → OkPacket (packet_of frame)
+pub packet_bytes : (frame : List ℕ) → AreBytes frame → OkPacket (nsp_packet_of frame)
 packet_bytes frame are =
-    fit_on (data_of frame) (read_on (message_of frame) (λ message. and_then (unpadded message) routed) (message_bytes frame are)
+    fit_on (data_of frame) (read_on (routing_message frame) (λ message. and_then (unpadded message) routed) (message_bytes frame are)
     (λ message are. read_on (unpadded message) routed (unpadded_bytes message are) routed_packet))
 
 pub packet_in_bytes : (r : Record) → AreBytes r.bytes → OkPacket (packet_in r)

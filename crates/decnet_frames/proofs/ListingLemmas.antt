@@ -3,7 +3,7 @@ use Rattle.std.proofs.Common.{◌≡◌, ℕ, suc, ◌+◌, ◌-◌, ◌≤◌, 
 use Rattle.std.specs.Prelude.{IfSome}
 use Rattle.std.specs.Io.KnownBytes.{Appends, Consumes, IsAtEnd, Keeps}
 use Rattle.std.proofs.KnownBytes.{Appends-kept, Appends-nil, Appends-trans, Consumes-nil, Consumes-trans, Consumes-whole}
-use Rattle.capture_file.specs.Files.{IsCut, IsWhole, Stops, clamped}
+use Rattle.capture_file.specs.Files.{IsCutShort, IsWhole, Stops, clamped}
 use Rattle.capture_file.proofs.ForCallers.{none_more}
 use Rattle.capture_file.specs.declared.reading.Reading.{Reading}
 use Rattle.capture_file.specs.declared.fault.FaultKind.{FaultKind}
@@ -11,9 +11,9 @@ use Rattle.capture_file.specs.declared.fault.FaultKind.TheVariants.{CutShort}
 use Rattle.capture_file.specs.Meanings.{Record}
 use Rattle.capture_file.specs.Reading.{HasRead}
 use Rattle.capture_file.specs.declared.fault.FileFault.{FileFault}
-use Rattle.decnet_frames.specs.Lines.{counts_of, ends_after, lines_from, packets_from, record_packets, record_text, taken_with, Sent}
+use Rattle.decnet_frames.specs.Lines.{counts_of, ends_after, frame_lines, packets_from, record_packets, record_text, taken_with, Sent}
 use Rattle.decnet_frames.specs.Inner.Progress.{HasListed, HasStopped, IsAt, IsEnded, StepFails, count_all, ends_all}
-use Rattle.decnet_frames.specs.Listed.{HasCome, IsListed, IsListedTo}
+use Rattle.decnet_frames.specs.Listed.{HasRecords, IsListed, IsListedTo}
 use Rattle.linewise.specs.Output.{WritesFront}
 use Rattle.std.proofs.Math.Seq.{take-append-add}
 use Rattle.decnet_frames.specs.declared.run.FramesFault.{FramesFault}
@@ -69,11 +69,11 @@ taken_more ends records r taken e =
     ∙ (taken_is (length (packets_from ends records)) (record_packets (ends_all ends records) r) ∙ ap clamped (sym long))
 
 pub lines_more : (ends : Option Ends) (count : ℕ) (records : List Record) (r : Record)
-    → lines_from ends count (records ++ r ∷ []) ≡ lines_from ends count records ++ record_text (ends_all ends records) (clamped (count_all count records + 1)) r
+    → frame_lines ends count (records ++ r ∷ []) ≡ frame_lines ends count records ++ record_text (ends_all ends records) (clamped (count_all count records + 1)) r
 lines_more ends count [] r = append-nil (record_text ends (clamped (count + 1)) r)
 lines_more ends count (x ∷ records) r =
     ap (λ text. record_text ends (clamped (count + 1)) x ++ text) (lines_more (ends_after ends x) (clamped (count + 1)) records r)
-    ∙ sym (append_assoc (record_text ends (clamped (count + 1)) x) (lines_from (ends_after ends x) (clamped (count + 1)) records) (record_text (ends_all (ends_after ends x) records) (clamped (count_all (clamped (count + 1)) records + 1)) r))
+    ∙ sym (append_assoc (record_text ends (clamped (count + 1)) x) (frame_lines (ends_after ends x) (clamped (count + 1)) records) (record_text (ends_all (ends_after ends x) records) (clamped (count_all (clamped (count + 1)) records + 1)) r))
 
 -- no frame came
 pub listed_none : (ends : Option Ends) (old new : Frames) (bytes part written : List ℕ) (h : HasListed ends old bytes written)
@@ -103,8 +103,8 @@ listed_more ends old new bytes part written r h read ends_are counted taken text
   taken = taken ∙ (ap (λ e. taken_with old.listing.taken (record_packets e r)) h.ends_are ∙ taken_more ends h.records r old.listing.taken h.taken);
   text_is = ap (λ t. written ++ t) text ∙ (sym (append_assoc written old.text.items (record_text old.listing.ends (clamped (old.listing.count + 1)) r))
       ∙ (ap (λ t. t ++ record_text old.listing.ends (clamped (old.listing.count + 1)) r) h.text_is
-      ∙ (ap (λ e. lines_from ends 0 h.records ++ record_text e (clamped (old.listing.count + 1)) r) h.ends_are
-      ∙ (ap (λ n. lines_from ends 0 h.records ++ record_text (ends_all ends h.records) (clamped (n + 1)) r) h.counted
+      ∙ (ap (λ e. frame_lines ends 0 h.records ++ record_text e (clamped (old.listing.count + 1)) r) h.ends_are
+      ∙ (ap (λ n. frame_lines ends 0 h.records ++ record_text (ends_all ends h.records) (clamped (n + 1)) r) h.counted
       ∙ sym (lines_more ends 0 h.records r)))));
 }
 
@@ -114,7 +114,7 @@ known_front None b bs P c h = tt
 known_front (Some xs) None bs P c h = absurd c
 known_front (Some xs) (Some ys) bs P c h = subst P (sym c) (h ys)
 
--- a fault behind more bytes
+-- a fault after more bytes
 pub stops_more : (bytes more : List ℕ) (records : List Record) (kind : FaultKind) (at : ℕ) → Stops bytes records kind at → Stops (bytes ++ more) records kind at
 stops_more bytes more records kind at s = record {
   front = s.front;
@@ -182,7 +182,7 @@ pub listed_whole : (ends : Option Ends) (f : Frames) (input unread left first ho
     → IfSome input (λ bytes. IsListed ends bytes first holds counts)
 listed_whole ends f input unread left first holds piece counts a consumed none over whole taken passed =
     let h = a.listed in
-    let text : a.text ≡ lines_from ends 0 h.records = sym (append-nil a.text) ∙ (ap (λ t. a.text ++ t) (sym a.none_left) ∙ h.text_is) in
+    let text : a.text ≡ frame_lines ends 0 h.records = sym (append-nil a.text) ∙ (ap (λ t. a.text ++ t) (sym a.none_left) ∙ h.text_is) in
     let all : Consumes input left a.came = subst (λ (xs : List ℕ). Consumes input left xs) (ap (λ xs. a.came ++ xs) none ∙ append-nil a.came)
     (Consumes-trans input unread left a.came piece a.consumed consumed) in
     Consumes-whole input left a.came (λ bytes. IsListed ends bytes first holds counts) all over (
@@ -195,12 +195,12 @@ listed_whole ends f input unread left first holds piece counts a consumed none o
 -- it ends too soon
 pub listed_cut : (ends : Option Ends) (f : Frames) (input unread left first holds : Option (List ℕ)) (piece : List ℕ) (fault : FileFault) (counts : Counts)
     → IsAt ends f input unread first holds → Consumes unread left piece → piece ≡ [] → IsAtEnd left → fault.kind ≡ CutShort
-    → ((bytes : List ℕ) (records : List Record) → HasRead f.reading bytes records → IsCut bytes records fault.at)
+    → ((bytes : List ℕ) (records : List Record) → HasRead f.reading bytes records → IsCutShort bytes records fault.at)
     → counts.taken ≡ f.listing.taken → counts.passed ≡ f.listing.count - f.listing.taken
     → IfSome input (λ bytes. IsListedTo ends bytes first holds (File fault counts))
 listed_cut ends f input unread left first holds piece fault counts a consumed none over kind cut taken passed =
     let h = a.listed in
-    let text : a.text ≡ lines_from ends 0 h.records = sym (append-nil a.text) ∙ (ap (λ t. a.text ++ t) (sym a.none_left) ∙ h.text_is) in
+    let text : a.text ≡ frame_lines ends 0 h.records = sym (append-nil a.text) ∙ (ap (λ t. a.text ++ t) (sym a.none_left) ∙ h.text_is) in
     let all : Consumes input left a.came = subst (λ (xs : List ℕ). Consumes input left xs) (ap (λ xs. a.came ++ xs) none ∙ append-nil a.came)
     (Consumes-trans input unread left a.came piece a.consumed consumed) in
     Consumes-whole input left a.came (λ bytes. IsListedTo ends bytes first holds (File fault counts)) all over (
@@ -212,11 +212,11 @@ listed_cut ends f input unread left first holds piece fault counts a consumed no
 
 -- the reader fails
 pub listed_so_far : (ends : Option Ends) (f : Frames) (input left first holds : Option (List ℕ)) → IsAt ends f input left first holds
-    → IfSome input (λ bytes. (records : List Record) × HasCome bytes records × Appends first holds (lines_from ends 0 records))
+    → IfSome input (λ bytes. (records : List Record) × HasRecords bytes records × Appends first holds (frame_lines ends 0 records))
 listed_so_far ends f input left first holds a =
     let h = a.listed in
-    let text : a.text ≡ lines_from ends 0 h.records = sym (append-nil a.text) ∙ (ap (λ t. a.text ++ t) (sym a.none_left) ∙ h.text_is) in
-    known_front input left a.came (λ bytes. (records : List Record) × HasCome bytes records × Appends first holds (lines_from ends 0 records)) a.consumed
+    let text : a.text ≡ frame_lines ends 0 h.records = sym (append-nil a.text) ∙ (ap (λ t. a.text ++ t) (sym a.none_left) ∙ h.text_is) in
+    known_front input left a.came (λ bytes. (records : List Record) × HasRecords bytes records × Appends first holds (frame_lines ends 0 records)) a.consumed
     (λ more. (
       h.records,
       record {
@@ -230,7 +230,7 @@ listed_so_far ends f input left first holds a =
       subst (λ (t : List ℕ). Appends first holds t) text a.appended,
     ))
 
--- the writer fails behind what was written
+-- the writer fails after what was written
 front_more : (a b c : Option (List ℕ)) (front text all : List ℕ) → Appends a b front → WritesFront b c text → front ++ text ≡ all → WritesFront a c all
 front_more a b c front text all appended writes same =
     let count : writes.0 ≤ length text = writes.1 in
@@ -258,7 +258,7 @@ listed_front ends old mid input unread left first written holds piece a consumed
         joined = ap (λ xs. xs ++ more) h.read.joined ∙ append_assoc h.read.front h.read.rest more;
         units = h.read.units;
       },
-      front_more first written holds a.text mid.text.items (lines_from ends 0 h.records) a.appended writes h.text_is,
+      front_more first written holds a.text mid.text.items (frame_lines ends 0 h.records) a.appended writes h.text_is,
     ))
 
 -- it is at fault
@@ -298,7 +298,7 @@ listed_to ends old mid input unread left first written holds piece fault counts 
                       joined = ap (λ xs. xs ++ rest) s.stops.joined ∙ append_assoc s.stops.front s.stops.rest rest;
                       units = s.stops.units;
                     },
-                    front_more first written holds a.text mid.text.items (lines_from ends 0 s.records) a.appended front.1 s.text_is,
+                    front_more first written holds a.text mid.text.items (frame_lines ends 0 s.records) a.appended front.1 s.text_is,
                   )))
             ]
       ]

@@ -19,14 +19,14 @@ use Rattle.dap_text.specs.Text.{line_feed}
 use Rattle.dap_text.specs.Words.{is_hex_text}
 use Rattle.dap_listing.specs.Lines.{Capture, line_of}
 use Rattle.dap_listing.specs.Listing.{arrow_text, captures, faults_from, packet_limit}
-use Rattle.dap_listing.specs.declared.fault.CaptureFault.{CaptureFault}
+use Rattle.linewise.specs.declared.fault.CaptureFault.{CaptureFault}
 use Rattle.dap_listing.specs.declared.lines.Direction.{Direction}
 use Rattle.dap_listing.specs.declared.lines.Direction.TheVariants.{Right, Left}
 use Rattle.capture_file.specs.Files.{clamped}
 use Rattle.capture_file.specs.Meanings.{Record}
 use Rattle.capture_file.specs.declared.meaning.Time.{Time}
 use Rattle.decnet_frames.specs.Frames.{Packet}
-use Rattle.decnet_frames.specs.Lines.{Sent, captured, data_text, digits_after_first, ends_after, ends_with, heading_text, lines_from, node_text, packet_in, packets_from, parts_in_second, record_packets, record_text, seconds_text, seen_packets, seen_text, shown_parts, time_text, way_of, way_packets, way_text}
+use Rattle.decnet_frames.specs.Lines.{Sent, captured, data_text, digits_after_first, ends_after, ends_with, heading_text, frame_lines, node_text, packet_in, packets_from, parts_in_second, record_packets, record_text, seconds_text, seen_packets, seen_text, shown_parts, time_text, way_of, way_packets, way_text}
 use Rattle.decnet_frames.specs.declared.packet.Passed.{Passed}
 use Rattle.decnet_frames.specs.declared.text.Ends.{Ends}
 use Rattle.std.proofs.lemmas.Nat.{mod_below}
@@ -236,19 +236,19 @@ counted_small : (count : ℕ) → clamped (count + 1) < 2 ^ 64
 counted_small count = omega arith
 
 pub lines_read : (ends : Option Ends) (count : ℕ) (records : List Record) → AllByRecursion (λ r. AreBytes r.bytes) records
-    → captures packet_limit (lines_from ends count records) ≡ map captured (packets_from ends records)
+    → captures packet_limit (frame_lines ends count records) ≡ map captured (packets_from ends records)
 lines_read ends count [] are = refl
 lines_read ends count (r ∷ records) are =
     let number = clamped (count + 1) in
-    let one = record_reads ends number r (lines_from (ends_after ends r) number records) (counted_small count) are.0 in
+    let one = record_reads ends number r (frame_lines (ends_after ends r) number records) (counted_small count) are.0 in
     one.captures_are ∙ (ap (λ cs. map captured (record_packets ends r) ++ cs) (lines_read (ends_after ends r) number records are.1)
     ∙ sym (map-append captured (record_packets ends r) (packets_from (ends_after ends r) records)))
 
 pub lines_clean : (ends : Option Ends) (count from : ℕ) (records : List Record) → AllByRecursion (λ r. AreBytes r.bytes) records
-    → faults_from packet_limit from (lines_from ends count records) ≡ []
+    → faults_from packet_limit from (frame_lines ends count records) ≡ []
 lines_clean ends count from [] are = refl
 lines_clean ends count from (r ∷ records) are =
     let number = clamped (count + 1) in
-    let one = record_reads ends number r (lines_from (ends_after ends r) number records) (counted_small count) are.0 in
+    let one = record_reads ends number r (frame_lines (ends_after ends r) number records) (counted_small count) are.0 in
     let next = one.clean from in
     next.1 ∙ lines_clean (ends_after ends r) number next.0 records are.1

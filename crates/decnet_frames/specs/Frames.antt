@@ -17,7 +17,7 @@ abbrev pub untagged : List ℕ → List ℕ
 untagged (high ∷ low ∷ one ∷ other ∷ rest) = if is_tag high low then untagged rest else high ∷ low ∷ one ∷ other ∷ rest
 untagged bytes = bytes
 
--- two bytes of length, the least first, and so many bytes; what follows fills the frame
+-- two bytes of length, the lowest first, and that many bytes; what follows fills the frame
 abbrev pub counted : List ℕ → Result (List ℕ) Passed
 counted (low ∷ high ∷ rest) =
     if (low + 256 * high == 0) || nat_lt (length rest) (low + 256 * high) then Err CutShort else Ok (take (low + 256 * high) rest)
@@ -29,8 +29,8 @@ typed (high ∷ low ∷ rest) = if high == 0x60 && low == 0x03 then counted rest
 typed bytes = Err OtherFrame
 
 -- the routing message of a frame
-abbrev pub message_of : List ℕ → Result (List ℕ) Passed
-message_of frame = if nat_lt (length frame) 12 then Err OtherFrame else typed (untagged (drop 12 frame))
+abbrev pub routing_message : List ℕ → Result (List ℕ) Passed
+routing_message frame = if nat_lt (length frame) 12 then Err OtherFrame else typed (untagged (drop 12 frame))
 
 -- ---- the message: padding, a routing header, and an NSP packet
 
@@ -53,21 +53,21 @@ abbrev pub is_node : ℕ → List ℕ → Bool
 is_node at m = slice_index m at == 0xAA && slice_index m (at + 1) == 0 && slice_index m (at + 2) == 4 && slice_index m (at + 3) == 0
 
 -- the number of two bytes at an offset
-abbrev pub word_at : ℕ → List ℕ → ℕ
-word_at at m = little_number 2 (drop at m)
+abbrev pub number_at : ℕ → List ℕ → ℕ
+number_at at m = little_number 2 (drop at m)
 
 -- long: flags, area and subarea of the destination, its address, which ends with its number, the same of the source, and four bytes
 abbrev pub long_of : List ℕ → Result Packet Passed
 long_of m =
     if nat_lt (length m) 22 then Err CutShort
-    else if is_node 3 m && is_node 11 m then Ok (record { source = word_at 15 m; destination = word_at 7 m; packet = drop 21 m })
+    else if is_node 3 m && is_node 11 m then Ok (record { source = number_at 15 m; destination = number_at 7 m; packet = drop 21 m })
     else Err OtherMessage
 
 -- short: flags, the numbers of destination and source, and one byte
 abbrev pub short_of : List ℕ → Result Packet Passed
 short_of m =
     if nat_lt (length m) 7 then Err CutShort
-    else Ok (record { source = word_at 3 m; destination = word_at 1 m; packet = drop 6 m })
+    else Ok (record { source = number_at 3 m; destination = number_at 1 m; packet = drop 6 m })
 
 -- the lower three bits of the flags tell the header of data; bit 7 is for padding alone
 abbrev pub routed : List ℕ → Result Packet Passed
@@ -85,7 +85,7 @@ and_then (Err e) f = Err e
 
 -- what a frame has after the padding and the routing header
 abbrev pub data_of : List ℕ → Result Packet Passed
-data_of frame = and_then (message_of frame) (λ message. and_then (unpadded message) routed)
+data_of frame = and_then (routing_message frame) (λ message. and_then (unpadded message) routed)
 
 -- a packet that a line may have, between two nodes
 abbrev pub fitting : Packet → Result Packet Passed
@@ -95,14 +95,14 @@ fitting p =
     else Ok p
 
 -- the NSP packet in a frame
-abbrev pub packet_of : List ℕ → Result Packet Passed
-packet_of frame = and_then (data_of frame) fitting
+abbrev pub nsp_packet_of : List ℕ → Result Packet Passed
+nsp_packet_of frame = and_then (data_of frame) fitting
 
 -- a packet of the program
 abbrev pub carried_of : Carried → Packet
 carried_of c = record { source = c.source; destination = c.destination; packet = c.packet.now }
 
 -- what a function returned, seen as the definitions see it, is what is read
-abbrev pub Gives : {X Y : Type 0} → (X → Y) → Result X Passed → Result Y Passed → Type 0
-Gives view (Ok x) read = read ≡ Ok (view x)
-Gives view (Err e) read = read ≡ Err e
+abbrev pub FindsAs : {X Y : Type 0} → (X → Y) → Result X Passed → Result Y Passed → Type 0
+FindsAs view (Ok x) read = read ≡ Ok (view x)
+FindsAs view (Err e) read = read ≡ Err e

@@ -11,7 +11,7 @@ use Rattle.dap_listing.specs.declared.lines.Direction.TheVariants.{Right, Left}
 use Rattle.capture_file.specs.Files.{clamped}
 use Rattle.capture_file.specs.Meanings.{Record}
 use Rattle.capture_file.specs.declared.meaning.Time.{Time}
-use Rattle.decnet_frames.specs.Frames.{Packet, packet_of}
+use Rattle.decnet_frames.specs.Frames.{Packet, nsp_packet_of}
 use Rattle.decnet_frames.specs.declared.packet.Passed.{Passed}
 use Rattle.decnet_frames.specs.declared.packet.Passed.TheVariants.{OtherFrame}
 use Rattle.decnet_frames.specs.declared.text.Ends.{Ends}
@@ -88,7 +88,7 @@ way_packets (Some way) p = (way, p.packet) ∷ []
 
 -- the NSP packet of a captured frame
 abbrev pub packet_in : Record → Result Packet Passed
-packet_in r = if r.is_ethernet then packet_of r.bytes else Err OtherFrame
+packet_in r = if r.is_ethernet then nsp_packet_of r.bytes else Err OtherFrame
 
 -- the lines of what was read of a frame
 abbrev pub seen_text : Option Ends → ℕ → Option Time → Result Packet Passed → List ℕ
@@ -119,10 +119,10 @@ record_packets ends r = seen_packets ends (packet_in r)
 
 -- ---- captured frames
 
--- their lines, after so many frames
-abbrev pub lines_from : Option Ends → ℕ → List Record → List ℕ
-lines_from ends count [] = []
-lines_from ends count (r ∷ records) = record_text ends (clamped (count + 1)) r ++ lines_from (ends_after ends r) (clamped (count + 1)) records
+-- their lines, after this many frames
+abbrev pub frame_lines : Option Ends → ℕ → List Record → List ℕ
+frame_lines ends count [] = []
+frame_lines ends count (r ∷ records) = record_text ends (clamped (count + 1)) r ++ frame_lines (ends_after ends r) (clamped (count + 1)) records
 
 -- their packets that are listed
 abbrev pub packets_from : Option Ends → List Record → List Sent

@@ -4,7 +4,8 @@ ghost use Rattle.std.specs.Prelude.{◌≡◌, ◌≤◌, ◌<◌, ◌+◌, IfSo
 ghost use Rattle.dap_text.specs.Words.{decimal_of};
 ghost use Rattle.decnet_frames.specs.Nodes.{node_by as the_node, node_of};
 
-use dap_text::{find_byte, read_number};
+use dap_text::read_number;
+use linewise::find_byte;
 
 /// The highest area, and the highest number in one (DECnet Phase IV, routing layer 2.0.0).
 const MAX_AREA: u32 = 63;

@@ -1,8 +1,8 @@
 //! The NSP packet in a frame.
 
 ghost use Rattle.std.specs.Prelude.{◌≡◌, ◌≤◌, ◌+◌, length};
-ghost use Rattle.decnet_frames.specs.Frames.{carried_of, counted, data_of, fitting, is_node as the_node, is_tag as the_tag, long_of, message_of, packet_of, routed, short_of, typed, unpadded as the_unpadded, untagged as the_untagged};
-ghost use Rattle.decnet_frames.specs.Frames.{Gives};
+ghost use Rattle.decnet_frames.specs.Frames.{carried_of, counted, data_of, fitting, is_node as the_node, is_tag as the_tag, long_of, routing_message, nsp_packet_of, routed, short_of, typed, unpadded as the_unpadded, untagged as the_untagged};
+ghost use Rattle.decnet_frames.specs.Frames.{FindsAs};
 
 use byteorder::{ByteOrder, LittleEndian};
 use dap_listing::PACKET_LIMIT;
@@ -69,7 +69,7 @@ fn untagged(bytes: &[u8]) -> &[u8]
 
 /// As many bytes as the first two say, the least significant first.
 fn take_counted(bytes: &[u8]) -> Result<&[u8], Passed>
-    ensures { Gives (λ x. x.now) result (counted bytes.now) }
+    ensures { FindsAs (λ x. x.now) result (counted bytes.now) }
 {
     if bytes.len() < 2 {
         return Err(Passed::CutShort);
@@ -85,7 +85,7 @@ fn take_counted(bytes: &[u8]) -> Result<&[u8], Passed>
 
 /// The routing message after a type.
 fn behind_type(bytes: &[u8]) -> Result<&[u8], Passed>
-    ensures { Gives (λ x. x.now) result (typed bytes.now) }
+    ensures { FindsAs (λ x. x.now) result (typed bytes.now) }
 {
     let [high, low, rest @ ..] = bytes else {
         return Err(Passed::OtherFrame);
@@ -98,7 +98,7 @@ fn behind_type(bytes: &[u8]) -> Result<&[u8], Passed>
 
 /// The routing message of a frame.
 fn message(frame: &[u8]) -> Result<&[u8], Passed>
-    ensures { Gives (λ x. x.now) result (message_of frame.now) }
+    ensures { FindsAs (λ x. x.now) result (routing_message frame.now) }
 {
     if frame.len() < STATIONS {
         return Err(Passed::OtherFrame);
@@ -109,7 +109,7 @@ fn message(frame: &[u8]) -> Result<&[u8], Passed>
 
 /// A message without the padding before it, whose first byte has bit 7 and the count.
 fn unpadded(message: &[u8]) -> Result<&[u8], Passed>
-    ensures { Gives (λ x. x.now) result (the_unpadded message.now) }
+    ensures { FindsAs (λ x. x.now) result (the_unpadded message.now) }
 {
     let Some(first) = message.first() else {
         return Err(Passed::CutShort);
@@ -135,7 +135,7 @@ fn is_node(message: &[u8], at: usize) -> bool
 
 /// What is after a long header.
 fn long(message: &[u8]) -> Result<Carried<'_>, Passed>
-    ensures { Gives carried_of result (long_of message.now) }
+    ensures { FindsAs carried_of result (long_of message.now) }
 {
     if message.len() <= LONG_HEADER {
         return Err(Passed::CutShort);
@@ -152,7 +152,7 @@ fn long(message: &[u8]) -> Result<Carried<'_>, Passed>
 
 /// What is after a short header.
 fn short(message: &[u8]) -> Result<Carried<'_>, Passed>
-    ensures { Gives carried_of result (short_of message.now) }
+    ensures { FindsAs carried_of result (short_of message.now) }
 {
     if message.len() <= SHORT_HEADER {
         return Err(Passed::CutShort);
@@ -166,7 +166,7 @@ fn short(message: &[u8]) -> Result<Carried<'_>, Passed>
 
 /// What is after the routing header.
 fn routed_message(message: &[u8]) -> Result<Carried<'_>, Passed>
-    ensures { Gives carried_of result (routed message.now) }
+    ensures { FindsAs carried_of result (routed message.now) }
 {
     let Some(flags) = message.first() else {
         return Err(Passed::CutShort);
@@ -183,7 +183,7 @@ fn routed_message(message: &[u8]) -> Result<Carried<'_>, Passed>
 
 /// A packet, if it is one that a line may have, between two nodes.
 fn fit<'a>(carried: Carried<'a>) -> Result<Carried<'a>, Passed>
-    ensures { Gives carried_of result (fitting (carried_of carried.entry)) }
+    ensures { FindsAs carried_of result (fitting (carried_of carried.entry)) }
 {
     if carried.packet.len() > PACKET_LIMIT {
         return Err(Passed::TooLong);
@@ -196,7 +196,7 @@ fn fit<'a>(carried: Carried<'a>) -> Result<Carried<'a>, Passed>
 
 /// The data in a frame: what is after the padding and the routing header.
 fn read_data(frame: &[u8]) -> Result<Carried<'_>, Passed>
-    ensures { Gives carried_of result (data_of frame.now) }
+    ensures { FindsAs carried_of result (data_of frame.now) }
 {
     let padded = match message(frame) {
         Ok(padded) => padded,
@@ -211,7 +211,7 @@ fn read_data(frame: &[u8]) -> Result<Carried<'_>, Passed>
 /// The NSP packet in an Ethernet frame (DECnet Phase IV, routing layer 2.0.0), of at most `PACKET_LIMIT` bytes and between two
 /// nodes; or why there is none. It takes no memory.
 pub fn read_frame(frame: &[u8]) -> Result<Carried<'_>, Passed>
-    ensures { Gives carried_of result (packet_of frame.now) }
+    ensures { FindsAs carried_of result (nsp_packet_of frame.now) }
 {
     match read_data(frame) {
         Ok(carried) => fit(carried),

@@ -9,7 +9,7 @@ ghost use Rattle.decnet_frames.specs.declared.text.Ends.{Ends as TheEnds};
 
 use crate::text::{Counts, Ends, Listing};
 use capture_file::{FaultKind, FileFault, Reading};
-use dap_listing::write_text;
+use linewise::{CHUNK, write_text};
 use std::alloc::Global;
 use std::io::{Read, Write};
 use thiserror::Error;
@@ -17,7 +17,7 @@ use thiserror::Error;
 /// Why a capture file isn't listed to its end.
 #[derive(Clone, Copy, Debug, PartialEq, Eq, Error)]
 pub enum FramesFault {
-    /// The file is at fault, after so many frames.
+    /// The file is at fault, after this many frames.
     #[error("{0}")]
     File(FileFault, Counts),
     #[error("read failed")]
@@ -27,9 +27,6 @@ pub enum FramesFault {
     #[error("no memory")]
     NoMemory,
 }
-
-/// How many bytes are read at a time.
-const CHUNK: usize = 65_536;
 
 /// A file as far as it came, and its listing.
 #[derive(Drop)]

@@ -8,7 +8,7 @@ use std::io;
 use std::io::{ErrorKind, Read};
 use std::test::Fail;
 
-/// A reader that gives so many bytes at a time, and fails after the last.
+/// A reader that gives this many bytes at a time, and fails after the last.
 #[derive(Drop)]
 struct Pieces<'a> {
     left: &'a [u8],
@@ -47,7 +47,7 @@ fn ends(row: &Row) -> Option<Ends> {
     }
 }
 
-/// Whether a row holds where so many bytes come at a time.
+/// Whether a row holds where this many bytes come at a time.
 fn holds(alloc: Global, row: &Row, most: usize) -> bool {
     let mut reader = Pieces {
         left: row.2,

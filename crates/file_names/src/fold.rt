@@ -42,7 +42,7 @@ fn are_digits(bytes: &[u8]) -> bool
     bytes.iter().all(|byte| byte.is_ascii_digit())
 }
 
-/// Without a version behind a second dot: nothing, or digits.
+/// Without a version after a second dot: nothing, or digits.
 fn without_version(name: &[u8]) -> &[u8]
     ensures { result.now ≡ without_version name.now }
 {
@@ -70,7 +70,7 @@ fn without_dot(name: &[u8]) -> &[u8]
 }
 
 /// The part of a name that counts, before it is written in capitals: what stands after the last `:`, `]` or `>`, before the
-/// first `;`, without a version of digits behind a second dot, and without a dot at the end. It may be empty.
+/// first `;`, without a version of digits after a second dot, and without a dot at the end. It may be empty.
 pub fn stem(name: &[u8]) -> &[u8]
     ensures { result.now ≡ stem name.now }
 {

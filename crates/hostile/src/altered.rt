@@ -182,7 +182,7 @@ impl Taking for Served {
     }
 }
 
-/// Alters each message that an end is sent, behind those before it.
+/// Alters each message that an end is sent, after those before it.
 pub fn alter_served(alloc: Global) -> Result<Counts, Trouble> {
     let mut counts = Counts::new();
     for session in [RECORDS, STORING] {
@@ -243,7 +243,7 @@ impl Taking for Heard {
     }
 }
 
-/// Alters each answer that an end hears, behind those before it.
+/// Alters each answer that an end hears, after those before it.
 pub fn alter_heard(alloc: Global) -> Result<Counts, Trouble> {
     let mut counts = Counts::new();
     for session in [ASKED_RECORDS, ASKED_STORING] {

@@ -96,7 +96,7 @@ pub const STORING: &[&[u8]] = &[
     CONFIG, FIVE, CREATE, CONNECT, STORE, DATA_A, DATA_SIX, DATA_C, END_STREAM,
 ];
 
-/// A record is found, updated and found again; what has no place is refused.
+/// A record is found, updated and found again; what is out of sequence is refused.
 pub const UPDATING: &[&[u8]] = &[
     CONFIG, FIVE, CREATE_ALL, CONNECT, PUT, DATA_A, GET, UPDATE, DATA_C, REWIND, GET, FETCH, CLOSE,
     OPEN, PURGE, BAD_FLAGS,

@@ -8,7 +8,7 @@ use std::alloc::Global;
 use std::io;
 use std::io::Read;
 
-/// A pcap file: an acknowledgement from node 1.1 to 1.2 behind a short header, and one back behind a tag, padding and a long
+/// A pcap file: an acknowledgement from node 1.1 to 1.2 after a short header, and one back after a tag, padding and a long
 /// header.
 const PCAP: &[u8] = &[
     0xd4, 0xc3, 0xb2, 0xa1, 2, 0, 4, 0, 0, 0, 0, 0, 0, 0, 0, 0, 0, 0, 4, 0, 1, 0, 0, 0, // header
@@ -40,7 +40,7 @@ const PCAPNG: &[u8] = &[
 /// How many bytes of a file come at a time, the first time that it is read.
 const STEP: usize = 7;
 
-/// A reader that gives so many bytes at a time.
+/// A reader that gives this many bytes at a time.
 #[derive(Drop)]
 struct Pieces<'a> {
     left: &'a [u8],

@@ -2,7 +2,7 @@
 
 use crate::growing::Trouble;
 use crate::listings::{End, Row, run};
-use dap_listing::CaptureFault;
+use linewise::CaptureFault;
 use std::alloc::Global;
 use std::io;
 use std::io::{ErrorKind, Read, Write};
@@ -142,7 +142,7 @@ fn reads_without_end(alloc: Global, row: Row, step: usize) -> Result<(), Trouble
     wants(ended, &writer, unread(row, CaptureFault::TooLarge))
 }
 
-/// Runs an engine with a writer, and wants a failed write behind a front of the text, where it fails.
+/// Runs an engine with a writer, and wants a failed write after a front of the text, where it fails.
 fn writes(
     alloc: Global,
     row: Row,

@@ -28,7 +28,7 @@ pub const IN_ORDER: &[Act] = &[
     Act::Update(b"FIVE"),
 ];
 
-/// On a relative file: pages of 64 records before, between and behind those that are there.
+/// On a relative file: pages of 64 records before, between and after those that are there.
 pub const BY_NUMBER: &[Act] = &[
     Act::Place(300, b"three hundred"),
     Act::Place(301, b""),

@@ -29,7 +29,7 @@ pub enum Trouble {
 }
 
 impl Trouble {
-    /// What is told behind the call that was made again.
+    /// What is told after the call that was made again.
     fn text(self) -> &'static str {
         match self {
             Trouble::Wants => ": Wants",
@@ -160,7 +160,7 @@ pub enum Ending {
 }
 
 impl Ending {
-    /// What is told behind the call.
+    /// What is told after the call.
     fn text(self) -> &'static str {
         match self {
             Ending::Twice => " wanted memory twice, and changed nothing",

@@ -4,7 +4,8 @@ use crate::growing::{Growing, Trouble, at};
 use crate::texts::Text;
 use dap_capture::schedule;
 use dap_cli::run_words;
-use dap_listing::{CaptureFault, Outcome, messages, show};
+use dap_listing::{messages, show};
+use linewise::{CaptureFault, Outcome};
 use std::alloc::{AllocError, Global};
 use std::io::{Read, Write};
 
@@ -14,7 +15,7 @@ pub enum Engine {
     Show,
     Msg,
     Run,
-    /// The program, with this word behind its name.
+    /// The program, with this word after its name.
     Word(&'static str),
 }
 

@@ -8,7 +8,7 @@ use crate::texts::Text;
 use dap_accessed::AddFault;
 use dap_accessing::{ReadFault, Report};
 use dap_end::{AskingEnd, EndFault, Heard, ServingEnd, TakeFault};
-use nsp_link::{LinkFault, LinkSetup};
+use nsp_link::{LARGEST_LIMIT, LinkFault, LinkSetup};
 use rec_file::{Refusal, Shape};
 use std::alloc::Global;
 
@@ -109,7 +109,7 @@ const ASKING: LinkSetup = LinkSetup {
     remote: 0x0202,
     seg_size: 8,
     window: 8,
-    max_message: 65_535,
+    max_message: LARGEST_LIMIT,
 };
 
 const SERVING: LinkSetup = LinkSetup {
@@ -118,7 +118,7 @@ const SERVING: LinkSetup = LinkSetup {
     ..ASKING
 };
 
-/// What is left to do where memory was wanted behind a part of the way.
+/// What is left to do where memory was wanted after a part of the way.
 fn stopped(is_memory: bool) -> Trouble {
     if is_memory {
         Trouble::Stopped

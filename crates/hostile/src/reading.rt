@@ -76,7 +76,7 @@ fn look_at_opened(org: u8, rfm: u8, mrs: u16, mrn: u32, seen: &mut Text) {
     seen.show(&mrn);
 }
 
-/// A word in a line of its own, and what is behind it.
+/// A word in a line of its own, and what is after it.
 fn look_at<T: Debug>(word: &[u8], value: &T, seen: &mut Text) {
     seen.put(b"\n ");
     seen.put(word);

@@ -60,13 +60,13 @@ impl Text {
         self.keep(written);
     }
 
-    /// Appends a value behind a space.
+    /// Appends a value after a space.
     pub fn show<T: Debug>(&mut self, value: &T) {
         self.put(b" ");
         self.value(value);
     }
 
-    /// Appends a number behind its word.
+    /// Appends a number after its word.
     pub fn note(&mut self, word: &str, number: u64) {
         self.put(b" ");
         self.put(word.as_bytes());
@@ -74,7 +74,7 @@ impl Text {
         self.value(&number);
     }
 
-    /// Appends bytes in hex behind their word.
+    /// Appends bytes in hex after their word.
     pub fn note_bytes(&mut self, word: &str, bytes: &[u8]) {
         self.put(b"\n  ");
         self.put(word.as_bytes());
@@ -84,7 +84,7 @@ impl Text {
         }
     }
 
-    /// Appends each of the list in hex behind the word.
+    /// Appends each of the list in hex after the word.
     pub fn note_all(&mut self, word: &str, list: &[Vec<u8>]) {
         for bytes in list {
             self.note_bytes(word, bytes);

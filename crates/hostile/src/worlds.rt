@@ -79,7 +79,7 @@ pub const LOST: Script = &[
     SEND, SERVE, ANSWER, READ, PUT_LOST,
 ];
 
-/// A transfer that stops at a record which is longer than A takes, and goes on behind it.
+/// A transfer that stops at a record which is longer than A takes, and goes on after it.
 pub const STOPPING: Script = &[
     HELLO,
     SEND,

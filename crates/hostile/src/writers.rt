@@ -8,7 +8,7 @@ use dap_msg::{append_blocked, decode, encode, fits};
 use nsp_seg::{decode_packet, encode_packet};
 use std::alloc::{AllocError, Global};
 
-/// What stands in front of all that is written.
+/// What precedes all that is written.
 const FRONT: &[u8] = b"front";
 
 /// The texts that were written.
@@ -73,7 +73,7 @@ fn write(place: usize, out: &mut Vec<u8>) -> Result<(), Trouble> {
     }
 }
 
-/// Writes what has this place behind the front, which stays where it is refused.
+/// Writes what has this place after the front, which stays where it is refused.
 fn write_behind(place: usize, out: &mut Vec<u8>) -> Result<(), Trouble> {
     let written = write(place, out);
     if written.is_err() && out.as_slice() != FRONT {

@@ -1,48 +1,77 @@
--- Where a line ends, and what of it is kept.
-use Rattle.std.proofs.Common.{◌≡◌, ◌≢◌, ◌<◌, ◌+◌, ◌-◌, ◌++◌, ℕ, true, List, [], All, length, take, length-append, arith, refl, sym, ap, ◌∙◌, eqb, eq-eqb, subst, Option, Some, None, IfSome}
-use Rattle.std.proofs.lemmas.List.{get_or-take, length-take-le}
-use Rattle.std.proofs.lemmas.List.Elements.{All-from_get_or}
-use Rattle.memchr.specs.Find.{IsFirstByte, is_byte}
-use Rattle.std.specs.Io.KnownBytes.{IsAtEnd}
-use Rattle.std.specs.Io.BufRead.{first_line, drop_through}
-use Rattle.std.proofs.BufReadLemmas.{take_through-nil, take_through_nonempty}
-use Rattle.linewise.specs.declared.input.Kept.{Kept}
-use Rattle.linewise.specs.declared.input.Kept.TheVariants.{All as whole, TooLong, NoMemory}
-use Rattle.linewise.specs.declared.input.Line.{Line}
-use Rattle.linewise.specs.Inner.Kept.{Holds, HoldsAs, HasRead, without_end}
+-- What was taken of a reader.
+use Rattle.std.proofs.Common.{◌≡◌, ◌≤◌, ◌+◌, ◌∙◌, sym, ap, ℕ, List, [], ◌++◌, length, Option, Result, Ok, Err, refl, arith, length-append}
+use Rattle.std.specs.Io.KnownBytes.{Consumes}
+use Rattle.std.proofs.KnownBytes.{Consumes-nil, Consumes-trans}
+use Rattle.linewise.specs.Talks.{longest}
+use Rattle.linewise.specs.Gives.{TakesAnInput, TakesWithinLimit}
+use Rattle.linewise.specs.Input.{TakesBehind, TakesUpTo}
 
-is_it : (x : ℕ) → x ≡ 10 → eqb x 10 ≡ true
-is_it x same = eq-eqb x 10 same
+-- this many of the known bytes, from the front
+unfoldable pub HasTaken : ℕ → Option (List ℕ) → Option (List ℕ) → Type 0
+HasTaken count old now = (taken : List ℕ) × (count ≡ length taken) × Consumes old now taken
 
--- no byte before the first line feed is one
-pub none_before : (bytes : List ℕ) (place : ℕ) → IsFirstByte (is_byte 10) bytes (Some place) → All (λ byte. byte ≢ 10) (take (place + 1 - 1) bytes)
-none_before bytes place first =
-    All-from_get_or (λ byte. byte ≢ 10) (take (place + 1 - 1) bytes) 0 (λ i inside same.
-    let within : i < place = omega (arith, inside, length-take-le (place + 1 - 1) bytes (omega (arith, first.0.high))) in
-    first.0.before i (omega arith) within (is_it _ (sym (get_or-take (place + 1 - 1) bytes i 0 (omega (arith, within))) ∙ same)))
+pub taken_none : (known : Option (List ℕ)) → HasTaken 0 known known
+unfolding HasTaken
+taken_none known = ([], refl, Consumes-nil known)
 
--- nor one of all, where there is none
-pub none_at_all : (bytes : List ℕ) → IsFirstByte (is_byte 10) bytes None → All (λ byte. byte ≢ 10) (take (length bytes - 1) bytes)
-none_at_all bytes nowhere =
-    All-from_get_or (λ byte. byte ≢ 10) (take (length bytes - 1) bytes) 0 (λ i inside same.
-    let within : i < length bytes - 1 = omega (arith, inside, length-take-le (length bytes - 1) bytes (omega arith)) in
-    nowhere i (omega arith) (omega (arith, within)) (is_it _ (sym (get_or-take (length bytes - 1) bytes i 0 within) ∙ same)))
+pub taken_more : (count later : ℕ) (old now new : Option (List ℕ)) (came : List ℕ) → HasTaken count old now → Consumes now new came
+    → count + length came ≡ later → HasTaken later old new
+unfolding HasTaken
+taken_more count later old now new came before read counted =
+    (before.0 ++ came, omega (arith, before.1, counted, length-append before.0 came), Consumes-trans old now new before.0 came before.2 read)
 
--- more of a line
-pub longer : (kept : Kept) (bytes read more : List ℕ) → kept ≢ whole → HoldsAs kept bytes read → HoldsAs kept bytes (read ++ more)
-longer whole bytes read more other holds = absurd (other refl)
-longer TooLong bytes read more other holds = omega (arith, holds, length-append read more)
-longer NoMemory bytes read more other holds = omega (arith, holds, length-append read more)
+pub taken_within : (count : ℕ) (old now : Option (List ℕ)) → HasTaken count old now → count ≤ longest + 1 → TakesWithinLimit old now
+unfolding HasTaken
+taken_within count old now before within = (before.0, before.2, omega (arith, before.1, within))
 
--- no line was read: there was none
-pub over : (unread left : Option (List ℕ)) (line : Line) → HasRead unread left line → ((read : List ℕ) → Holds line read → read ≡ []) → IsAtEnd unread
-over None left line came nothing = tt
-over (Some rest) left line came nothing = take_through-nil 10 rest (ap length (sym came.2 ∙ nothing came.0 came.1))
+pub takes_none : (count : ℕ) (known : Option (List ℕ)) → count ≤ longest → TakesBehind count known known
+unfolding TakesBehind
+takes_none count known within = ([], Consumes-nil known, omega (arith, within))
 
--- what holds of the line that was read holds of the first one
-pub of_first : (unread left : Option (List ℕ)) (line : Line) (P : List ℕ → Type 0) → HasRead unread left line
-    → ((read : List ℕ) → Holds line read → 0 < length read) → ((read : List ℕ) → Holds line read → P (without_end read))
-    → IfSome unread (λ rest. (0 < length rest) × (left ≡ Some (drop_through 10 rest)) × P (first_line rest))
-of_first None left line P came some says = tt
-of_first (Some rest) left line P came some says =
-    (take_through_nonempty 10 rest (rw came.2 at (some came.0 came.1)), came.3, subst (λ read. P (without_end read)) came.2 (says came.0 came.1))
+-- with what is taken after it
+pub taken_behind : (count : ℕ) (old now new : Option (List ℕ)) → HasTaken count old now → TakesBehind count now new → TakesWithinLimit old new
+unfolding HasTaken TakesBehind
+taken_behind count old now new before behind =
+    (before.0 ++ behind.0, Consumes-trans old now new before.0 behind.0 before.2 behind.1, omega (arith, before.1, behind.2, length-append before.0 behind.0))
+
+-- after what was taken before
+pub takes_more : (count later : ℕ) (old now new : Option (List ℕ)) (taken : List ℕ) → later ≡ count + length taken → Consumes old now taken
+    → TakesBehind later now new → TakesBehind count old new
+unfolding TakesBehind
+takes_more count later old now new taken counted before more =
+    (taken ++ more.0, Consumes-trans old now new taken more.0 before more.1, omega (arith, counted, more.2, length-append taken more.0))
+
+-- ---- No more than an input may have.
+
+pub up_none : (count : ℕ) (known : Option (List ℕ)) → count ≤ longest → TakesUpTo count known known
+unfolding TakesUpTo
+up_none count known within = ([], Consumes-nil known, omega (arith, within))
+
+pub up_more : (count later : ℕ) (old now new : Option (List ℕ)) (taken : List ℕ) → later ≡ count + length taken → Consumes old now taken
+    → TakesUpTo later now new → TakesUpTo count old new
+unfolding TakesUpTo
+up_more count later old now new taken counted before more =
+    (taken ++ more.0, Consumes-trans old now new taken more.0 before more.1, omega (arith, counted, more.2, length-append taken more.0))
+
+pub up_behind : (count : ℕ) (old now new : Option (List ℕ)) → HasTaken count old now → TakesUpTo count now new → TakesAnInput old new
+unfolding HasTaken TakesUpTo
+up_behind count old now new before behind =
+    (before.0 ++ behind.0, Consumes-trans old now new before.0 behind.0 before.2 behind.1, omega (arith, before.1, behind.2, length-append before.0 behind.0))
+
+pub up_within : (count : ℕ) (old now : Option (List ℕ)) → HasTaken count old now → count ≤ longest → TakesAnInput old now
+unfolding HasTaken
+up_within count old now before within = (before.0, before.2, omega (arith, before.1, within))
+
+-- this many, where they are these
+pub has_taken : (count : ℕ) (old now : Option (List ℕ)) (taken : List ℕ) → count ≡ length taken → Consumes old now taken → HasTaken count old now
+unfolding HasTaken
+has_taken count old now taken counted before = (taken, counted, before)
+
+-- ---- What was read is no fault.
+
+abbrev tag : {T E : Type 0} → Result T E → ℕ
+tag (Ok x) = 0
+tag (Err e) = 1
+
+pub ok_apart : {T E : Type 0} (r : Result T E) (x : T) (e : E) → r ≡ Ok x → r ≡ Err e → ⊥
+ok_apart {T} {E} r x e good bad = let no : 0 ≡ 1 = ap (λ (s : Result T E). tag s) (sym good ∙ bad) in omega (arith, no)

@@ -1,7 +1,10 @@
-mod InputLemmas
+pub mod InputLemmas
+pub mod LineLemmas
+mod PlaceLemmas
+mod ReadingLemmas
 mod OutputLemmas
 pub mod PieceLemmas
-mod SliceLemmas
+pub mod SliceLemmas
 pub mod OneText
 pub mod ForCallers
 mod TalkLemmas

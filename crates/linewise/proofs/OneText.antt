@@ -42,7 +42,7 @@ module _ {E : Type 0} (answered : Answering E) (waiting : E → Option ℕ) wher
       let each = parts before (became ∷ []) never in
       behind old now new input left said more before became (from_front old now input left said before talked each.0) some each.1.0 says
 
-  -- the same ends give one answer to a line, and are the same behind it
+  -- the same ends give one answer to a line, and are the same after it
   abbrev pub OneAnswer : (E → E → Type 0) → Type 0
   OneAnswer AreSame =
       (one other new end : E) (line said more : List ℕ) (b c : Option Became) → AreSame one other → b ≢ Some NoMemory → c ≢ Some NoMemory

@@ -7,11 +7,11 @@ use Rattle.std.specs.Io.BufRead.{first_line, drop_through}
 use Rattle.std.proofs.KnownBytes.{Appends-nil, Appends-trans, Appends-kept, Keeps-refl}
 use Rattle.linewise.specs.declared.talking.Became.{Became}
 use Rattle.linewise.specs.declared.talking.Became.TheVariants.{NoMemory}
-use Rattle.linewise.specs.declared.talking.TalkFault.{TalkFault}
-use Rattle.linewise.specs.declared.talking.TalkFault.TheVariants.{ReadFailed, WriteFailed, NoMemory as OutOfMemory}
+use Rattle.linewise.specs.declared.fault.CaptureFault.{CaptureFault}
+use Rattle.linewise.specs.declared.fault.CaptureFault.TheVariants.{BadLine, TooLarge, ReadFailed, WriteFailed, NoMemory as OutOfMemory}
 use Rattle.linewise.specs.declared.talking.Next.TheVariants.{Over, Line}
 use Rattle.linewise.specs.Talks.{Answering, Fails, IsUnbroken, Talked, is_bad}
-use Rattle.linewise.specs.Inner.Steps.{HasTalked, Breaks, Goes, Ends}
+use Rattle.linewise.specs.Inner.Steps.{HasTalked, Breaks, TurnGoes, TalkEnds}
 
 or_none : (b : Bool) → (b || false) ≡ b
 or_none true = refl
@@ -34,7 +34,7 @@ module _ {E : Type 0} (answered : Answering E) (waiting : E → Option ℕ) wher
   -- one line more was answered
   pub goes_on : (old now next : E) (unread written left holds later_left later_holds : Option (List ℕ)) (bad : Bool) (became : Option Became)
       → HasTalked answered waiting old unread written now left holds bad
-      → Goes answered waiting now next left later_left holds later_holds (Line became)
+      → TurnGoes answered waiting now next left later_left holds later_holds (Line became)
       → (waiting next ≡ None → became ≢ Some NoMemory)
       → HasTalked answered waiting old unread written next later_left later_holds (bad || is_bad became)
   goes_on old now next None written left holds later_left later_holds bad became before line going = _
@@ -54,7 +54,7 @@ module _ {E : Type 0} (answered : Answering E) (waiting : E → Option ℕ) wher
   at_end left rest is over = rw is at over
 
   pub ends : (old now next : E) (unread written left later holds last : Option (List ℕ)) (bad : Bool)
-      → HasTalked answered waiting old unread written now left holds bad → Goes answered waiting now next left later holds last Over
+      → HasTalked answered waiting old unread written now left holds bad → TurnGoes answered waiting now next left later holds last Over
       → IfSome unread (λ input. (text : List ℕ) × (lines : List (Option Became)) × Talked answered waiting old input next [] text lines × Appends written last text × (bad ≡ list_any is_bad lines)
       × IsUnbroken waiting lines)
   ends old now next None written left later holds last bad before over = _
@@ -68,15 +68,17 @@ module _ {E : Type 0} (answered : Answering E) (waiting : E → Option ℕ) wher
     before.7,
   )
 
-  pub fails : (old now next : E) (unread written left holds last : Option (List ℕ)) (bad : Bool) (f : TalkFault)
+  pub fails : (old now next : E) (unread written left holds last : Option (List ℕ)) (bad : Bool) (f : CaptureFault)
       → HasTalked answered waiting old unread written now left holds bad
-      → Ends answered waiting now next left holds last f
+      → TalkEnds answered waiting now next left holds last f
       → IfSome unread (λ input. Fails answered waiting old input next written last f)
   fails old now next None written left holds last bad f before end = _
   fails old now next (Some input) written left holds last bad WriteFailed before end =
       let broke : Breaks answered waiting now (first_line before.0) next holds last = rw before.3 at end in
       (now, holds, before.0, before.1, broke.1, before.2, broke.0, before.5, before.4, broke.2, broke.3, before.7)
   fails old now next (Some input) written left holds last bad OutOfMemory before end = absurd end
+  fails old now next (Some input) written left holds last bad TooLarge before end = absurd end
+  fails old now next (Some input) written left holds last bad (BadLine number) before end = absurd end
   fails old now next (Some input) written left holds last bad ReadFailed before end = (
     before.0,
     before.1,
@@ -89,7 +91,7 @@ module _ {E : Type 0} (answered : Answering E) (waiting : E → Option ℕ) wher
   -- memory was refused to a line
   pub stops : (old now next : E) (unread written left holds later_left later_holds : Option (List ℕ)) (bad : Bool) (became : Option Became)
       → HasTalked answered waiting old unread written now left holds bad
-      → Goes answered waiting now next left later_left holds later_holds (Line became) → became ≡ Some NoMemory → waiting next ≡ None
+      → TurnGoes answered waiting now next left later_left holds later_holds (Line became) → became ≡ Some NoMemory → waiting next ≡ None
       → IfSome unread (λ input. Fails answered waiting old input next written later_holds OutOfMemory)
   stops old now next None written left holds later_left later_holds bad became before line memory none = _
   stops old now next (Some input) written left holds later_left later_holds bad became before line memory none =

@@ -9,8 +9,8 @@ use Rattle.linewise.specs.declared.talking.Became.{Became}
 use Rattle.linewise.specs.declared.talking.Became.TheVariants.{Done, BadLine, NoMemory}
 use Rattle.linewise.specs.declared.talking.Answer.{Answer}
 use Rattle.linewise.specs.declared.talking.Answer.TheVariants.{Whole, Begun}
-use Rattle.linewise.specs.declared.talking.TalkFault.{TalkFault}
-use Rattle.linewise.specs.declared.talking.TalkFault.TheVariants.{ReadFailed, WriteFailed, NoMemory as OutOfMemory}
+use Rattle.linewise.specs.declared.fault.CaptureFault.{CaptureFault}
+use Rattle.linewise.specs.declared.fault.CaptureFault.TheVariants.{ReadFailed, WriteFailed, NoMemory as OutOfMemory}
 
 -- ---- A line.
 
@@ -117,8 +117,8 @@ HaveOneText answered waiting AreSame =
 
 -- What was written where a conversation ended before its input. The reader failed: the answers to all lines before.
 -- The writer failed: these, and a prefix of the next answer. Memory was refused to an answer that has no ending to say so: all
--- answers with that one.
-abbrev pub Fails : {E : Type 0} → Answering E → (E → Option ℕ) → E → List ℕ → E → Option (List ℕ) → Option (List ℕ) → TalkFault → Type 0
+-- answers with that one. A conversation ends with no other fault.
+abbrev pub Fails : {E : Type 0} → Answering E → (E → Option ℕ) → E → List ℕ → E → Option (List ℕ) → Option (List ℕ) → CaptureFault → Type 0
 Fails answered waiting old input new written holds ReadFailed =
     (rest said : List ℕ) × (lines : List (Option Became)) × Talked answered waiting old input new rest said lines × Appends written holds said
     × IsUnbroken waiting lines
@@ -129,3 +129,4 @@ Fails {E} answered waiting old input new written holds WriteFailed =
     (now : E) × (held : Option (List ℕ)) × (rest said more : List ℕ) × (lines : List (Option Became)) × (became : Option Became)
     × Talked answered waiting old input now rest said lines × Appends written held said
     × SaysTo answered waiting now (first_line rest) new more became × WritesFront held holds more × IsUnbroken waiting lines
+Fails answered waiting old input new written holds _ = ⊥

@@ -1,124 +1,122 @@
-//! Reading one line.
-
-ghost use Rattle.std.specs.Prelude.{◌≡◌, ◌≢◌, ◌≤◌, ◌<◌, ◌-◌, ◌++◌, [], ℕ, List, All, length, take, true, false, Ok, IfOk, OnOk, IfSome, OnSome};
-ghost use Rattle.std.specs.Io.{StopsAt, IsEmptyOrEndsWith};
+//! Reading a whole input.
+ghost use Rattle.std.specs.Prelude.{◌≡◌, ◌≤◌, ◌<◌, ◌+◌, ◌⊎◌, IfOk, IfErr, IsErrOf, OnOk, IfSome, length, take, true};
 ghost use Rattle.std.specs.Io.KnownBytes.{Consumes, IsAtEnd};
-ghost use Rattle.linewise.specs.Inner.Kept.{Holds, HoldsMore, HasRead, Passes};
+ghost use Rattle.linewise.specs.Talks.{longest};
+ghost use Rattle.linewise.specs.Gives.{TakesAnInput, TakesWithinLimit};
+ghost use Rattle.linewise.specs.declared.fault.CaptureFault.TheVariants.{NoMemory, ReadFailed, TooLarge};
+ghost use Rattle.linewise.specs.Input.{IsFaultAfter, TakesBehind, TakesUpTo};
 
-use memchr::memchr;
+use crate::CaptureFault;
+use crate::reading::LONGEST;
 use std::alloc::Global;
-use std::io::{BufRead, Error, ErrorKind, Result};
+use std::io::Read;
 
-/// The most bytes of a line, without its end.
-pub const LONGEST: usize = 16_777_216;
+/// The most bytes that an input may have: those of the longest line.
+pub const INPUT_LIMIT: usize = LONGEST;
 
-/// A carriage return and a line feed.
-const END: usize = 2;
+/// How many bytes are read at a time.
+pub const CHUNK: usize = 65_536;
 
-/// Room that a line has from the start, so that a short one takes no memory.
-const ROOM: usize = 4_096;
-
-/// What is kept of a line.
-#[derive(Clone, Copy, PartialEq, Eq)]
-pub(crate) enum Kept {
-    All,
-    /// It is longer than a line may be.
-    TooLong,
-    /// Memory was refused.
-    NoMemory,
-}
-
-/// A line, as far as it was read.
-#[derive(Drop)]
-pub(crate) struct Line {
-    pub(crate) bytes: Vec<u8>,
-    pub(crate) kept: Kept,
-}
-
-impl Line {
-    /// A line of which nothing was read yet.
-    pub(crate) fn new(alloc: Global) -> Line
-        ensures { Holds result [] }
-    {
-        let mut bytes = Vec::new(alloc);
-        // Where it is refused, the line may ask again.
-        let _ = bytes.reserve(ROOM);
-        Line {
-            bytes,
-            kept: Kept::All,
-        }
-    }
-
-    /// Nothing of the next line was read yet.
-    fn begin(&mut self)
-        ensures { Holds self.new [] }
-    {
-        self.bytes.clear();
-        self.kept = Kept::All;
-    }
-
-    /// Whether nothing was read, so that there is no line.
-    pub(crate) fn is_over(&self) -> bool
-        ensures over { result ≡ true → (read : List ℕ) → Holds self.now read → read ≡ [] }
-        ensures more { result ≡ false → (read : List ℕ) → Holds self.now read → 0 < length read }
-    {
-        self.kept == Kept::All && self.bytes.is_empty()
-    }
-
-    /// Keeps more of the line.
-    fn keep(&mut self, more: &[u8])
-        ensures { HoldsMore self.old self.new more.now }
-    {
-        if self.kept != Kept::All || more.is_empty() {
-            return;
-        }
-        if self.bytes.len() + more.len() > LONGEST + END {
-            self.kept = Kept::TooLong;
-            return;
-        }
-        if self.bytes.extend_from_slice(more).is_err() {
-            self.kept = Kept::NoMemory;
-        }
-    }
-}
-
-/// How many bytes are up to and with the first line feed, or how many there are.
-fn len_through(bytes: &[u8]) -> usize
-    ensures bound { result ≤ length bytes.now }
-    ensures some { 0 < length bytes.now → 0 < result }
-    ensures before { All (λ byte. byte ≢ 10) (take (result - 1) bytes.now) }
+/// Reads on into the front of the chunk, no further than the byte that breaks the limit, and answers how many bytes
+/// came: 0 at the end. The count is of the bytes that were read before.
+#[tactic(auto, unfolding(crate::specs::Input::TakesBehind, crate::specs::Input::TakesUpTo))]
+pub fn read_some<R: Read>(
+    reader: &mut R,
+    chunk: &mut [u8],
+    count: &mut usize,
+) -> Result<usize, CaptureFault>
+    requires chunk { 0 < length chunk.old }
+    requires count { count.old ≤ INPUT_LIMIT }
+    ensures chunk { length chunk.new ≡ length chunk.old }
+    ensures came { IfOk result (λ came. came ≤ length chunk.new) }
+    ensures count { IfOk result (λ came. count.new ≡ count.old + came) }
+    ensures small { OnOk result (count.new ≤ INPUT_LIMIT) }
+    ensures bytes { IfOk result (λ came.
+        Consumes (R.remaining reader.old) (R.remaining reader.new) (take came chunk.new)) }
+    ensures end { IfOk result (λ came. came ≡ 0 → IsAtEnd (R.remaining reader.new)) }
+    ensures taken { TakesBehind count.old (R.remaining reader.old) (R.remaining reader.new) }
+    ensures within { (IsErrOf result TooLarge → ⊥)
+        → TakesUpTo count.old (R.remaining reader.old) (R.remaining reader.new) }
+    ensures fault { IfErr result (IsFaultAfter count.old (R.remaining reader.old)) }
 {
-    match memchr(b'\n', bytes) {
-        Some(place) => place + 1,
-        None => bytes.len(),
-    }
-}
-
-/// Takes what the reader shows, no further than the first line feed; whether the line ends there.
-fn take_some<R: BufRead>(reader: &mut R, line: &mut Line) -> Result<bool>
-    ensures { IfOk result (Passes (R.remaining reader.old) (R.remaining reader.new)
-        line.old line.new) }
-{
-    let shown = match reader.fill_buf() {
-        Ok(shown) => shown,
-        Err(error) => return Err(error),
-    };
-    let end = len_through(shown);
-    line.keep(&shown[..end]);
-    let is_done = end == 0 || shown[end - 1] == b'\n';
-    reader.consume(end);
-    Ok(is_done)
-}
-
-/// Reads a line, of which there may be nothing left.
-pub(crate) fn read_line<R: BufRead>(reader: &mut R, line: &mut Line) -> Result<()>
-    ensures { OnOk result (HasRead (R.remaining reader.old) (R.remaining reader.new) line.new) }
-{
-    line.begin();
-    for _ in 0..u64::MAX {
-        if take_some(reader, line)? {
-            return Ok(());
+    let room = chunk.len().min(INPUT_LIMIT + 1 - *count);
+    match reader.read(&mut chunk[..room]) {
+        Ok(came) if *count + came > INPUT_LIMIT => Err(CaptureFault::TooLarge),
+        Ok(came) => {
+            *count += came;
+            Ok(came)
         }
+        Err(_) => Err(CaptureFault::ReadFailed),
     }
-    Err(Error::from(ErrorKind::Other))
+}
+
+/// Reads on to the end. The count is of the bytes that were read before.
+fn skip_rest<R: Read>(
+    reader: &mut R,
+    chunk: &mut [u8],
+    count: &mut usize,
+) -> Result<(), CaptureFault>
+    requires chunk { 0 < length chunk.old }
+    requires count { count.old ≤ INPUT_LIMIT }
+    ensures small { OnOk result (IfSome (R.remaining reader.old)
+        (λ rest. count.old + length rest ≤ longest)) }
+    ensures taken { TakesBehind count.old (R.remaining reader.old) (R.remaining reader.new) }
+    ensures within { (IsErrOf result TooLarge → ⊥)
+        → TakesUpTo count.old (R.remaining reader.old) (R.remaining reader.new) }
+    ensures fault { IfErr result (IsFaultAfter count.old (R.remaining reader.old)) }
+{
+    while read_some(reader, chunk, count)? > 0 {}
+    Ok(())
+}
+
+/// Reads on to the end, unless it was met. The count is of the bytes that were read before.
+pub fn skip_unread<R: Read>(
+    reader: &mut R,
+    chunk: &mut [u8],
+    count: &mut usize,
+    is_met: bool,
+) -> Result<(), CaptureFault>
+    requires chunk { 0 < length chunk.old }
+    requires count { count.old ≤ INPUT_LIMIT }
+    requires met { is_met ≡ true → IsAtEnd (R.remaining reader.old) }
+    ensures small { OnOk result (IfSome (R.remaining reader.old)
+        (λ rest. count.old + length rest ≤ longest)) }
+    ensures taken { TakesBehind count.old (R.remaining reader.old) (R.remaining reader.new) }
+    ensures within { (IsErrOf result TooLarge → ⊥)
+        → TakesUpTo count.old (R.remaining reader.old) (R.remaining reader.new) }
+    ensures fault { IfErr result (IsFaultAfter count.old (R.remaining reader.old)) }
+{
+    if is_met {
+        return Ok(());
+    }
+    skip_rest(reader, chunk, count)
+}
+
+/// All that the reader has left, where it is no more than the limit. No byte past the one that breaks the limit is
+/// read.
+///
+/// `TooLarge`: there is more. `ReadFailed`: the reader failed. `NoMemory`: a growth was refused.
+pub fn read_input<R: Read>(alloc: Global, reader: &mut R) -> Result<Vec<u8>, CaptureFault>
+    ensures whole { IfOk result
+        (λ input. IfSome (R.remaining reader.old) (λ bytes. input.items ≡ bytes)) }
+    ensures end { OnOk result (IsAtEnd (R.remaining reader.new)) }
+    ensures limit { IfOk result (λ input. length input.items ≤ INPUT_LIMIT) }
+    ensures taken { TakesWithinLimit (R.remaining reader.old) (R.remaining reader.new) }
+    ensures within { (IsErrOf result TooLarge → ⊥)
+        → TakesAnInput (R.remaining reader.old) (R.remaining reader.new) }
+    ensures too_large { IsErrOf result TooLarge
+        → IfSome (R.remaining reader.old) (λ bytes. longest < length bytes) }
+    ensures fault { IfErr result
+        (λ fault. (fault ≡ TooLarge) ⊎ ((fault ≡ ReadFailed) ⊎ (fault ≡ NoMemory))) }
+{
+    let mut input = Vec::new(alloc);
+    let mut chunk = [0; CHUNK];
+    let mut count = 0;
+    'chunks: loop {
+        let came = read_some(reader, &mut chunk, &mut count)?;
+        if came == 0 {
+            return Ok(input);
+        }
+        input.extend_from_slice(&chunk[..came])?;
+    }
 }

@@ -3,19 +3,20 @@
 ghost use Rattle.std.specs.Prelude.{◌≡◌, ◌≢◌, ℕ, Bool, List, [], ◌∷◌, ◌++◌, ◌<◌, ◌≤◌, length, true, false, Option, Some, None, IfOk, IfErr, OnOk, OnErr, IfSome};
 ghost use Rattle.std.specs.List.{concat, list_any};
 ghost use Rattle.std.specs.Io.KnownBytes.{Appends, Keeps, IsAtEnd};
-ghost use Rattle.std.specs.Io.BufRead.{first_line, drop_through, strip_last};
+ghost use Rattle.std.specs.Io.BufRead.{first_line, drop_through};
 ghost use Rattle.linewise.specs.Output.{WritesFront};
-ghost use Rattle.linewise.specs.Talks.{ComesIn, Fails, IsUnbroken, Talked, is_bad as is_bad_line, is_given as given_by, is_skipped as says_nothing};
+ghost use Rattle.linewise.specs.Talks.{ComesIn, Fails, IsUnbroken, Talked, is_bad as is_bad_line, is_given as given_by};
 ghost use Rattle.linewise.specs.declared.talking.Answer.{Answer as TheAnswer};
 ghost use Rattle.linewise.specs.declared.talking.Became.{Became as TheBecame};
-ghost use Rattle.linewise.specs.Inner.Kept.{Holds, without_end as ended};
-ghost use Rattle.linewise.specs.Inner.Steps.{BeginsLine, Breaks, Completes, Ends, Goes, Says};
+ghost use Rattle.linewise.specs.Inner.Kept.{HoldsLine, without_end as ended};
+ghost use Rattle.linewise.specs.Inner.Steps.{BeginsLine, Breaks, Completes, TalkEnds, TurnGoes, SaysLine};
 
-use crate::input::{Kept, LONGEST, Line, read_line};
-use crate::output::{write_answer, write_text};
+use crate::CaptureFault;
+use crate::lines::{is_skipped, without_end};
+use crate::output::{write_answer, write_part};
+use crate::reading::{Kept, LONGEST, Line, read_line};
 use std::alloc::{AllocError, Global};
 use std::io::{BufRead, Write};
-use thiserror::Error;
 
 /// What became of a line.
 #[derive(Clone, Copy, PartialEq, Eq)]
@@ -83,59 +84,7 @@ pub trait Answers {
         ensures { result ≡ waiting self.now };
 }
 
-/// Why a conversation ended before its input did.
-#[derive(Clone, Copy, Debug, PartialEq, Eq, Error)]
-#[error("{}", self.text())]
-pub enum TalkFault {
-    ReadFailed,
-    WriteFailed,
-    /// Memory was refused to an answer that has no ending to say so.
-    NoMemory,
-}
-
-impl TalkFault {
-    /// What is printed of it.
-    fn text(self) -> &'static str {
-        match self {
-            TalkFault::ReadFailed => "read failed",
-            TalkFault::WriteFailed => "write failed",
-            TalkFault::NoMemory => "no memory",
-        }
-    }
-}
-
-/// A line without that byte at its end.
-fn without_last(byte: u8, line: &[u8]) -> &[u8]
-    ensures { result.now ≡ strip_last byte line.now }
-{
-    match line {
-        [front @ .., last] if *last == byte => front,
-        _ => line,
-    }
-}
-
-/// A line without its end.
-fn without_end(line: &[u8]) -> &[u8]
-    ensures { result.now ≡ ended line.now }
-{
-    match line {
-        [front @ .., b'\n'] => without_last(b'\r', front),
-        _ => line,
-    }
-}
-
-/// Whether a line says nothing: it is empty, or begins with `#`. An end is given such a line only where its answers have no
-/// ending.
-pub fn is_skipped(line: &[u8]) -> bool
-    ensures { result ≡ says_nothing line.now }
-{
-    match line {
-        [] => true,
-        [first, ..] => *first == b'#',
-    }
-}
-
-/// Whether an end that waits for so many is given a line.
+/// Whether an end is given a line, by the number of packets that it waits for.
 fn is_given(waits: Option<usize>, line: &[u8]) -> bool
     ensures { result ≡ given_by waits line.now }
 {
@@ -175,7 +124,7 @@ fn answer_whole<E: Answers>(
 /// Answers a line that was read, or begins to.
 fn answer_read<E: Answers>(end: &mut E, line: &Line, text: &mut Vec<u8>) -> Option<Answer<E::Place>>
     requires { text.old.items ≡ [] }
-    ensures { (raw : List ℕ) → Holds line.now raw
+    ensures { (raw : List ℕ) → HoldsLine line.now raw
         → BeginsLine E.answered E.waiting E.pieces end.old (ended raw) end.new text.new.items result }
 {
     match line.kept {
@@ -192,18 +141,18 @@ fn write_pieces<E: Answers, W: Write>(
     first: E::Place,
     text: &mut Vec<u8>,
     writer: &mut W,
-) -> Result<Became, TalkFault>
+) -> Result<Became, CaptureFault>
     ensures whole { IfOk result (λ became. (more : List ℕ)
         × ComesIn (E.pieces end.now first) more became
         × Appends (W.contents writer.old) (W.contents writer.new) (text.old.items ++ more)
         × (text.new.items ≡ [])) }
-    ensures fault { IfErr result (λ fault. fault ≡ TalkFault.WriteFailed) }
+    ensures fault { IfErr result (λ fault. fault ≡ CaptureFault.WriteFailed) }
     ensures front { OnErr result (WritesFront (W.contents writer.old) (W.contents writer.new)
         (text.old.items ++ concat (E.pieces end.now first))) }
 {
     let mut place = first;
     loop {
-        write_text(text, writer)?;
+        write_part(text, writer)?;
         text.clear();
         match end.more(place, text) {
             Ok(Some(next)) => place = next,
@@ -222,11 +171,11 @@ fn write_begun<E: Answers, W: Write>(
     answer: Answer<E::Place>,
     text: &mut Vec<u8>,
     writer: &mut W,
-) -> Result<Became, TalkFault>
+) -> Result<Became, CaptureFault>
     ensures whole { IfOk result (λ became. (written : List ℕ)
         × Appends (W.contents writer.old) (W.contents writer.new) written
         × Completes (E.pieces end.now) text.old.items answer (written ++ text.new.items) became) }
-    ensures fault { IfErr result (λ fault. fault ≡ TalkFault.WriteFailed) }
+    ensures fault { IfErr result (λ fault. fault ≡ CaptureFault.WriteFailed) }
     ensures front { OnErr result ((whole : List ℕ)
         × Completes (E.pieces end.now) text.old.items answer whole Became.Done
         × WritesFront (W.contents writer.old) (W.contents writer.new) whole) }
@@ -252,14 +201,14 @@ fn say<E: Answers, W: Write, F: Write>(
     text: &mut Vec<u8>,
     writer: &mut W,
     error_writer: &mut F,
-) -> Result<Option<Became>, TalkFault>
-    ensures said { IfOk result (λ became. (raw : List ℕ) → Holds line.now raw
-        → Says E.answered E.waiting end.old (ended raw) end.new (W.contents writer.old)
+) -> Result<Option<Became>, CaptureFault>
+    ensures said { IfOk result (λ became. (raw : List ℕ) → HoldsLine line.now raw
+        → SaysLine E.answered E.waiting end.old (ended raw) end.new (W.contents writer.old)
         (W.contents writer.new) became) }
-    ensures broken { OnErr result ((raw : List ℕ) → Holds line.now raw
+    ensures broken { OnErr result ((raw : List ℕ) → HoldsLine line.now raw
         → Breaks E.answered E.waiting end.old (ended raw) end.new (W.contents writer.old)
         (W.contents writer.new)) }
-    ensures fault { IfErr result (λ fault. fault ≡ TalkFault.WriteFailed) }
+    ensures fault { IfErr result (λ fault. fault ≡ CaptureFault.WriteFailed) }
 {
     text.clear();
     let answer = match answer_read(end, line, text) {
@@ -292,16 +241,16 @@ fn answer_next<E: Answers, R: BufRead, W: Write, F: Write>(
     number: u64,
     line: &mut Line,
     text: &mut Vec<u8>,
-) -> Result<Next, TalkFault>
-    ensures goes { IfOk result (λ next. Goes E.answered E.waiting end.old end.new
+) -> Result<Next, CaptureFault>
+    ensures goes { IfOk result (λ next. TurnGoes E.answered E.waiting end.old end.new
         (R.remaining reader.old) (R.remaining reader.new) (W.contents writer.old)
         (W.contents writer.new) next) }
-    ensures fault { IfErr result (λ fault. Ends E.answered E.waiting end.old end.new
+    ensures fault { IfErr result (λ fault. TalkEnds E.answered E.waiting end.old end.new
         (R.remaining reader.old) (W.contents writer.old) (W.contents writer.new) fault) }
 {
     match read_line(reader, line) {
         Ok(()) => {}
-        Err(_) => return Err(TalkFault::ReadFailed),
+        Err(_) => return Err(CaptureFault::ReadFailed),
     }
     if line.is_over() {
         return Ok(Next::Over);
@@ -344,7 +293,7 @@ pub fn talk<E: Answers, R: BufRead, W: Write, F: Write>(
     reader: &mut R,
     writer: &mut W,
     error_writer: &mut F,
-) -> Result<bool, TalkFault>
+) -> Result<bool, CaptureFault>
     ensures whole { IfOk result (λ bad. IfSome (R.remaining reader.old) (λ input. (text : List ℕ)
         × (lines : List (Option TheBecame))
         × Talked E.answered E.waiting end.old input end.new [] text lines
@@ -369,7 +318,7 @@ pub fn talk<E: Answers, R: BufRead, W: Write, F: Write>(
         ) {
             Ok(Next::Line(became)) => {
                 if ends_talk(end, became) {
-                    return Err(TalkFault::NoMemory);
+                    return Err(CaptureFault::NoMemory);
                 }
                 bad |= is_bad(became);
             }
@@ -377,5 +326,5 @@ pub fn talk<E: Answers, R: BufRead, W: Write, F: Write>(
             Err(fault) => return Err(fault),
         }
     }
-    Err(TalkFault::ReadFailed)
+    Err(CaptureFault::ReadFailed)
 }

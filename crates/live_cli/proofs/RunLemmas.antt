@@ -16,9 +16,8 @@ use Rattle.live_cli.specs.declared.words.Role.{Role}
 use Rattle.live_cli.specs.declared.words.Role.TheVariants.{Serve, Ask}
 use Rattle.live_cli.specs.declared.words.Task.{Task}
 use Rattle.live_cli.specs.declared.words.Task.TheVariants.{End, Follow, Frames, Watch}
-use Rattle.dap_listing.specs.declared.fault.CaptureFault.TheVariants.{NoMemory}
+use Rattle.linewise.specs.declared.fault.CaptureFault.TheVariants.{NoMemory}
 use Rattle.dap_watch.proofs.ForCallers.{nothing_listed}
-use Rattle.linewise.specs.declared.talking.TalkFault.TheVariants.{NoMemory as OutOfMemory}
 use Rattle.decnet_frames.proofs.ForCallers.{nothing_written}
 use Rattle.decnet_frames.specs.declared.run.FramesFault.TheVariants.{NoMemory as Wants}
 use Rattle.live_cli.specs.Running.{TaskGives}
@@ -129,7 +128,7 @@ pub refused : (task : Task) (known old new : Option (List ℕ)) (status : ℕ) �
 refused task None old new status memory = tt
 refused (End options) (Some input) old new status memory = inr (memory.1, memory.0)
 refused (Follow in_words) (Some input) old new status memory = (Err NoMemory, memory.1, memory.0)
-refused (Watch in_words) (Some input) old new status memory = inr (OutOfMemory, nothing_listed in_words input old new memory.1, memory.0)
+refused (Watch in_words) (Some input) old new status memory = inr (NoMemory, nothing_listed in_words input old new memory.1, memory.0)
 refused (Frames ends) (Some input) old new status memory = inr (Wants, nothing_written ends input old new memory.1, memory.0)
 
 -- two things that the words name are one

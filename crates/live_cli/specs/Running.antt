@@ -11,7 +11,8 @@ use Rattle.dap_accessed.specs.declared.setup.Names.TheVariants.{Exact, Folded}
 use Rattle.dap_accessed.specs.declared.setup.ServerSetup.{ServerSetup}
 use Rattle.dap_accessed.specs.Setup.{all_rights}
 use Rattle.dap_follow.specs.Following.{FollowGives}
-use Rattle.dap_listing.specs.Gives.{HasStatus}
+use Rattle.nsp_link.specs.Limits.{largest_limit}
+use Rattle.linewise.specs.Gives.{HasStatus}
 use Rattle.dap_watch.specs.Watched.{WatchFails, WatchGives, is_refused}
 use Rattle.decnet_frames.specs.Listed.{IsListed, IsListedTo}
 use Rattle.decnet_frames.specs.declared.run.FramesFault.{FramesFault}
@@ -20,7 +21,7 @@ use Rattle.decnet_frames.specs.declared.text.Counts.{Counts}
 use Rattle.decnet_frames.specs.declared.text.Ends.{Ends}
 use Rattle.linewise.specs.Talks.{Answering, Talked, Fails, is_bad}
 use Rattle.linewise.specs.declared.talking.Became.{Became}
-use Rattle.linewise.specs.declared.talking.TalkFault.{TalkFault}
+use Rattle.linewise.specs.declared.fault.CaptureFault.{CaptureFault}
 use Rattle.dap_live.specs.declared.node.Node.{Node}
 use Rattle.dap_live.specs.declared.asking.Asking.{Asking}
 use Rattle.dap_live.specs.Node as node
@@ -37,8 +38,8 @@ frames_status (File fault counts) = 1
 frames_status _ = 3
 
 -- how the link is set up
-abbrev pub setup_of : Options → LinkSetup
-setup_of o = record { local = o.local; remote = o.remote; seg_size = o.segment; window = o.window; max_message = 65535 }
+abbrev pub link_setup : Options → LinkSetup
+link_setup o = record { local = o.local; remote = o.remote; seg_size = o.segment; window = o.window; max_message = largest_limit }
 
 -- The end answers all lines of the input, and the status is 1 if some line was bad and 0 otherwise; or the reader or
 -- the writer fails, and it is 3.
@@ -46,7 +47,7 @@ abbrev pub AnswersAll : {E : Type 0} → Answering E → (E → Option ℕ) → 
 AnswersAll {E} answered waiting first input written holds status =
     ((last : E) × (text : List ℕ) × (lines : List (Option Became)) × Talked answered waiting first input last [] text lines
     × Appends written holds text × (status ≡ (if list_any is_bad lines then 1 else 0)))
-    ⊎ ((last : E) × (fault : TalkFault) × Fails answered waiting first input last written holds fault × (status ≡ 3))
+    ⊎ ((last : E) × (fault : CaptureFault) × Fails answered waiting first input last written holds fault × (status ≡ 3))
 
 -- what an end says of itself: the version is that of the definitions
 abbrev pub identity_of : Options → Configuration
@@ -61,22 +62,22 @@ abbrev pub server_of : Options → ServerSetup
 server_of o = record { identity = identity_of o; names = names_by o.folded; most = all_rights }
 
 -- a new server without files answers: its only link is there; or it has room for several, and none is
-abbrev pub Serves : Options → List ℕ → (written holds : Option (List ℕ)) → ℕ → Type 0
-Serves o input written holds status =
-    (first : Node) × node.IsNew (server_of o) o.links (setup_of o) o.waiting first × AnswersAll node.answered node.waiting first input written holds status
+abbrev pub ServesLines : Options → List ℕ → (written holds : Option (List ℕ)) → ℕ → Type 0
+ServesLines o input written holds status =
+    (first : Node) × node.IsNewNode (server_of o) o.links (link_setup o) o.waiting first × AnswersAll node.answered node.waiting first input written holds status
 
 -- a new end with these options, without files, answers
 abbrev pub GivesAs : Role → Options → List ℕ → (written holds : Option (List ℕ)) → ℕ → Type 0
-GivesAs Serve o input written holds status = Serves o input written holds status
+GivesAs Serve o input written holds status = ServesLines o input written holds status
 GivesAs Ask o input written holds status =
-    (first : Asking) × asking.IsNew (setup_of o) (identity_of o) first × AnswersAll asking.answered asking.waiting first input written holds status
+    (first : Asking) × asking.IsNewAsking (link_setup o) (identity_of o) first × AnswersAll asking.answered asking.waiting first input written holds status
 
 -- The listing of all packets is written, and the status is 1 where some line is bad and 0 otherwise; or the reader or the writer fails,
 -- or memory is refused, and it is 3.
 abbrev pub ListsLines : (in_words : Bool) → List ℕ → (written holds : Option (List ℕ)) → ℕ → Type 0
 ListsLines in_words input written holds status =
     (WatchGives in_words input written holds × (status ≡ (if list_any is_refused (lines input) then 1 else 0)))
-    ⊎ ((fault : TalkFault) × WatchFails in_words input written holds fault × (status ≡ 3))
+    ⊎ ((fault : CaptureFault) × WatchFails in_words input written holds fault × (status ≡ 3))
 
 -- The lines of a capture file's frames are written, and the status is 0; or those before a fault of the file, and it is 1; or the
 -- reader or the writer fails, or memory is refused, and it is 3.

@@ -172,14 +172,14 @@ is_word (Some CommandLine) = true
 is_word _ = false
 
 -- the words give an option a value
-abbrev pub is_given : Text → List Row → Bool
-is_given name rows = option_map_or (λ row. is_word row.source) (find (λ row. bytes_eq row.id name) rows) false
+abbrev pub has_value : Text → List Row → Bool
+has_value name rows = option_map_or (λ row. is_word row.source) (find (λ row. bytes_eq row.id name) rows) false
 
 -- the words give the end an address
 abbrev pub has_address : List Row → Bool
-has_address rows = is_given (codes "local") rows || is_given (codes "remote") rows
+has_address rows = has_value (codes "local") rows || has_value (codes "remote") rows
 
--- so many links; several have no address of the words
+-- this many links; several have no address of the words
 abbrev pub links_beside : List Row → ℕ → Option ℕ
 links_beside rows links = if nat_lt 1 links && has_address rows then None else Some links
 

@@ -11,8 +11,8 @@ ghost use Rattle.dap_msg.specs.declared.message.Message.TheVariants.{Config};
 ghost use Rattle.live_cli.specs.declared.words.Task.{Task as TheTask};
 ghost use Rattle.live_cli.specs.declared.words.Role.TheVariants as role;
 ghost use Rattle.live_cli.specs.declared.words.Role.{Role as TheRole};
-ghost use Rattle.live_cli.specs.Running.{AnswersAll, GivesAs, Serves, TaskGives, frames_status, identity_of, names_by, server_of, setup_of};
-ghost use Rattle.live_cli.specs.Inner.CommandLine.{HasRoom};
+ghost use Rattle.live_cli.specs.Running.{AnswersAll, GivesAs, ServesLines, TaskGives, frames_status, identity_of, names_by, server_of, link_setup};
+ghost use Rattle.live_cli.specs.Inner.CommandLine.{HasBufferRoom};
 ghost use Rattle.live_cli.specs.Words.{daplive, task_of, usual};
 
 use crate::words::{Misspelt, Options, Role, Task, read_words};
@@ -32,7 +32,7 @@ use std::io::{BufRead, Write};
 
 /// How the link is set up: the limit of a message is any length that a buffer may have.
 fn link_setup(options: Options) -> LinkSetup
-    ensures { result ≡ setup_of options }
+    ensures { result ≡ link_setup options }
 {
     LinkSetup {
         local: options.local,
@@ -128,7 +128,7 @@ fn serve<R: BufRead, W: Write, E: Write>(
 ) -> u8
     requires room { least_buffer ≤ options.buffer }
     requires syscap { options.syscap < 2 ^ 84 }
-    ensures { IfSome (R.remaining reader.old) (λ input. Serves options input
+    ensures { IfSome (R.remaining reader.old) (λ input. ServesLines options input
         (W.contents writer.old) (W.contents writer.new) result
         ⊎ (Keeps (W.contents writer.old) (W.contents writer.new) × (result ≡ 3))) }
 {
@@ -290,7 +290,7 @@ fn run_task<R: BufRead, W: Write, E: Write>(
     writer: &mut W,
     error_writer: &mut E,
 ) -> u8
-    requires { HasRoom task }
+    requires { HasBufferRoom task }
     ensures { IfSome (R.remaining reader.old) (λ input. TaskGives task input
         (W.contents writer.old) (W.contents writer.new) result) }
 {

@@ -11,8 +11,8 @@ ghost use Rattle.nsp_link.specs.Limits.{largest_segment, largest_window};
 ghost use Rattle.dap_text.specs.Words.{short};
 ghost use Rattle.dap_live.specs.Orders.{address_of};
 ghost use Rattle.decnet_frames.specs.Nodes.{node_of};
-ghost use Rattle.live_cli.specs.Words.{code_of, folded_of, names_of, syscap_of, daplive, ends_of, greatest_waiting, has_address, is_given as is_given_in, is_word as is_in_words, least_waiting, links_of, most_links, option as option_rule, options_of, task_in as task_of_rows, task_of, has_words as words_wanted, waiting_of};
-ghost use Rattle.live_cli.specs.Inner.CommandLine.{HasAddresses, HasCodes, HasIdentity, HasLimits, HasLinks, HasNames, HasRoom, HasSyscap, HasWaiting, IsCommandLine, IsEndLine, IsFollowLine, IsFramesLine, IsServeLine, IsWatchLine};
+ghost use Rattle.live_cli.specs.Words.{code_of, folded_of, names_of, syscap_of, daplive, ends_of, greatest_waiting, has_address, has_value as is_given_in, is_word as is_in_words, least_waiting, links_of, most_links, option as option_rule, options_of, task_in as task_of_rows, task_of, has_words as words_wanted, waiting_of};
+ghost use Rattle.live_cli.specs.Inner.CommandLine.{HasAddresses, HasCodes, HasIdentity, HasLimits, HasLinks, HasNames, HasBufferRoom, HasSyscap, HasWaiting, IsDapliveLine, IsEndLine, IsFollowLine, IsFramesLine, IsServeLine, IsWatchLine};
 ghost use Rattle.live_cli.specs.Inner.Spelling.{IsMisspelt};
 
 use clap::builder::ValueParser;
@@ -21,7 +21,7 @@ use clap::parser::ValueSource;
 use clap::{Arg, ArgAction, ArgMatches, Command, Error, value_parser};
 use dap_live::read_address;
 use dap_msg::{GREATEST_MESSAGE, LEAST_BUFFER};
-use dap_text::{is, read_number};
+use dap_text::{is, read_number, read_short};
 use decnet_frames::{Ends, read_node};
 use nsp_link::{LARGEST_SEGMENT, LARGEST_WINDOW};
 use std::alloc::Global;
@@ -121,7 +121,7 @@ fn option<'a>(
         .default_value(usual)
 }
 
-/// The two addresses of an end.
+/// The words with the two addresses of an end.
 fn with_addresses<'a>(
     alloc: Global,
     command: Command<'a>,
@@ -221,7 +221,7 @@ fn codes_of<'a>() -> ValueParser<'a>
     value_parser!(u16).range(0..=GREATEST_CODE as i64)
 }
 
-/// The codes of a Configuration.
+/// The words with `--ostype` and `--filesys`, the codes of a Configuration.
 fn with_codes<'a>(alloc: Global, command: Command<'a>) -> Result<Command<'a>, Error>
     ensures added { IfOk result (HasCodes command.entry) }
     ensures memory { IfErr result (λ error. kind_of error ≡ ErrorKind.OutOfMemory) }
@@ -246,7 +246,7 @@ fn with_codes<'a>(alloc: Global, command: Command<'a>) -> Result<Command<'a>, Er
     Ok(command)
 }
 
-/// What an end says that it can do.
+/// The words with `--syscap`, what an end says that it can do.
 fn with_syscap<'a>(alloc: Global, command: Command<'a>) -> Result<Command<'a>, Error>
     ensures added { IfOk result (HasSyscap command.entry) }
     ensures memory { IfErr result (λ error. kind_of error ≡ ErrorKind.OutOfMemory) }
@@ -262,7 +262,7 @@ fn with_syscap<'a>(alloc: Global, command: Command<'a>) -> Result<Command<'a>, E
     Ok(command)
 }
 
-/// What an end says of itself.
+/// The words with all that an end says of itself.
 fn with_identity<'a>(alloc: Global, command: Command<'a>) -> Result<Command<'a>, Error>
     ensures added { IfOk result (HasIdentity command.entry) }
     ensures memory { IfErr result (λ error. kind_of error ≡ ErrorKind.OutOfMemory) }
@@ -272,7 +272,7 @@ fn with_identity<'a>(alloc: Global, command: Command<'a>) -> Result<Command<'a>,
     Ok(command)
 }
 
-/// How many bytes may wait, an option that only the server has.
+/// The words with `--waiting`, how many bytes may wait, which only the server has.
 fn with_waiting<'a>(alloc: Global, command: Command<'a>) -> Result<Command<'a>, Error>
     ensures added { IfOk result (HasWaiting command.entry) }
     ensures memory { IfErr result (λ error. kind_of error ≡ ErrorKind.OutOfMemory) }
@@ -289,7 +289,7 @@ fn with_waiting<'a>(alloc: Global, command: Command<'a>) -> Result<Command<'a>, 
     Ok(command)
 }
 
-/// How many links there is room for, an option that only the server has.
+/// The words with `--links`, how many links there is room for, which only the server has.
 fn with_links<'a>(alloc: Global, command: Command<'a>) -> Result<Command<'a>, Error>
     ensures added { IfOk result (HasLinks command.entry) }
     ensures memory { IfErr result (λ error. kind_of error ≡ ErrorKind.OutOfMemory) }
@@ -306,7 +306,7 @@ fn with_links<'a>(alloc: Global, command: Command<'a>) -> Result<Command<'a>, Er
     Ok(command)
 }
 
-/// How names are compared, an option that only the server has.
+/// The words with `--names`, how names are compared, which only the server has.
 fn with_names<'a>(alloc: Global, command: Command<'a>) -> Result<Command<'a>, Error>
     ensures added { IfOk result (HasNames command.entry) }
     ensures memory { IfErr result (λ error. kind_of error ≡ ErrorKind.OutOfMemory) }
@@ -322,7 +322,7 @@ fn with_names<'a>(alloc: Global, command: Command<'a>) -> Result<Command<'a>, Er
     Ok(command)
 }
 
-/// The limits of an end.
+/// The words with the limits of an end.
 fn with_limits<'a>(alloc: Global, command: Command<'a>) -> Result<Command<'a>, Error>
     ensures added { IfOk result (HasLimits command.entry) }
     ensures memory { IfErr result (λ error. kind_of error ≡ ErrorKind.OutOfMemory) }
@@ -429,7 +429,7 @@ fn frames_command<'a>(alloc: Global) -> Result<Command<'a>, Error>
 
 /// The program's command line.
 fn command_line<'a>(alloc: Global) -> Result<Command<'a>, Error>
-    ensures line { IfOk result IsCommandLine }
+    ensures line { IfOk result IsDapliveLine }
     ensures memory { IfErr result (λ error. kind_of error ≡ ErrorKind.OutOfMemory) }
 {
     let command = Command::new(alloc, "daplive")
@@ -574,7 +574,7 @@ fn number_in<'a>(matches: &ArgMatches<'a>, name: &'static str) -> Result<u16, Mi
     ensures misspelt { IfErr result (IsMisspelt (rows_of (found_of matches.now))) }
 {
     let value = text_in(matches, name).unwrap_or("");
-    match read_short(value) {
+    match read_short(value.as_bytes()) {
         Some(number) => Ok(number),
         None => {
             Err(Misspelt {
@@ -584,14 +584,6 @@ fn number_in<'a>(matches: &ArgMatches<'a>, name: &'static str) -> Result<u16, Mi
             })
         }
     }
-}
-
-/// A number of 16 bits.
-fn read_short(text: &str) -> Option<u16>
-    ensures { result ≡ short text.now }
-{
-    let number = read_number(text.as_bytes(), 65535)?;
-    Some(number as u16)
 }
 
 /// A code of a Configuration.
@@ -888,7 +880,7 @@ fn has_words(matches: &ArgMatches<'_>) -> bool
 /// What a word and those after it name.
 fn task_in<'a>(name: &str, matches: &ArgMatches<'a>) -> Result<Task, Misspelt<'a>>
     ensures task { result_ok result ≡ task_of_rows (name.now, rows_of (found_of matches.now)) }
-    ensures room { IfOk result HasRoom }
+    ensures room { IfOk result HasBufferRoom }
     ensures misspelt { IfErr result (IsMisspelt (rows_of (found_of matches.now))) }
 {
     if is(name.as_bytes(), "serve") {
@@ -915,7 +907,7 @@ pub(crate) fn read_words<'a>(
 ) -> Result<Result<Task, Misspelt<'a>>, Error>
     ensures task { IfOk result
         (λ named. result_ok named ≡ task_of (map string_bytes words.entry.now)) }
-    ensures room { IfOk result (λ named. IfOk named HasRoom) }
+    ensures room { IfOk result (λ named. IfOk named HasBufferRoom) }
     ensures misspelt { IfOk result (λ named. IfErr named
         (λ m. IfSome (subcommand_of daplive (map string_bytes words.entry.now))
         (λ found. IsMisspelt found.1 m))) }

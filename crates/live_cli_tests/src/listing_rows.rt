@@ -7,7 +7,7 @@ const PCAP: &[u8] = b"bad line 1\ndaplive: line 1: a pcap file; daplive frames t
 for dapnsp show and daplive follow\n";
 
 pub(crate) const LISTING_ROWS: &[Row] = &[
-    // A message of three segments, the second one twice and behind the third.
+    // A message of three segments, the second one twice and after the third.
     (
         &["follow"],
         b"> 20020201010100010001020a\n\
@@ -147,7 +147,7 @@ part > dst=0202 src=0101 seg=3..3 len=5\n",
 \x20 data recnum=- body=41 ; \"A\"\n",
         b"",
     ),
-    // A line at fault, behind which nothing is written.
+    // A line at fault, after which nothing is written.
     (
         &["follow"],
         b"> 6002\n> 6\n",
@@ -305,7 +305,7 @@ part > dst=0202 src=0101 seg=3..3 len=5\n",
         b"1 > bad truncated at=1\n2 > ack dst=0202 src=0101 acks=0:1\n",
         b"bad line 2\nbad line 3\n",
     ),
-    // The same in words; and a frame that a bad line is behind, which tells of no packet.
+    // The same in words; and a frame that a bad line is after, which tells of no packet.
     (
         &["watch", "--words"],
         b"# frame 12 1600000000.123456 1.1 -> 1.2\n\

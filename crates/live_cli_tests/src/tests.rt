@@ -9,7 +9,7 @@ use std::io;
 use std::io::{BufRead, ErrorKind, Read};
 use std::test::Fail;
 
-/// The program's name, and words behind it.
+/// The program's name, and words after it.
 fn words_of(alloc: Global, words: &[&str]) -> Result<Vec<String>, Fail> {
     let mut list = Vec::new(alloc);
     list.push(String::from_str(alloc, "daplive")?)?;

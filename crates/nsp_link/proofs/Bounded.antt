@@ -8,7 +8,7 @@ use Rattle.nsp_link.specs.declared.link.Got.{Got}
 use Rattle.nsp_link.specs.declared.fault.LinkFault.{LinkFault}
 use Rattle.nsp_link.specs.Link.{LinkValue, IsLink, Sends, first_ack, piece_of}
 use Rattle.nsp_link.specs.Due.{IsDue}
-use Rattle.nsp_link.specs.Receiving.{Received, Bounded, LetsGo, is_oversize, segment_of, stopped}
+use Rattle.nsp_link.specs.Receiving.{Received, Bounded, LetsGo, is_oversize, segment_number, stopped}
 use Rattle.nsp_link.proofs.Taken.{piece_short}
 use Rattle.nsp_link.proofs.Writing.{sends_received, sends_acked, sends_stopped}
 

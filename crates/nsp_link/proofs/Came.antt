@@ -9,19 +9,19 @@ use Rattle.nsp_seg.specs.declared.packet.SegmentFields.{SegmentFields}
 use Rattle.nsp_link.specs.declared.link.Got.{Got}
 use Rattle.nsp_link.specs.declared.fault.LinkFault.{LinkFault}
 use Rattle.nsp_link.specs.declared.fault.LinkFault.TheVariants.{BadSequence, Exhausted, NoMemory}
-use Rattle.nsp_link.specs.Coming.{Coming, taken_all, RefusesAll}
+use Rattle.nsp_link.specs.Coming.{Coming, with_all_taken, RefusesAll}
 use Rattle.nsp_link.specs.Cutting.{Piece}
 use Rattle.nsp_link.specs.Holding.{following}
 use Rattle.nsp_link.specs.Limits.{most_segments}
-use Rattle.nsp_link.specs.Link.{LinkValue, IsLink, Stands, Keeps, got_of, held_after, piece_of, forgotten}
-use Rattle.nsp_link.specs.Receiving.{segment_of, taking_in, run, Received, Receives}
+use Rattle.nsp_link.specs.Link.{LinkValue, IsLink, Stands, KeepsEarly, got_of, held_after, piece_of, with_acked}
+use Rattle.nsp_link.specs.Receiving.{segment_number, taking_in, run, Received, Receives}
 use Rattle.nsp_link.specs.Due.{IsDue, Delivered, MayRefuse, taken_after}
 use Rattle.nsp_link.proofs.Taking.{received-all}
 use Rattle.nsp_link.proofs.Delivering.{segment_found, Due, due_received}
 
 -- an end that took in this, holds these early segments, and forgot what is acknowledged
 delivered_with : (old : LinkValue) (c : Coming) (held : List (ℕ × Piece)) (count : ℕ) (k : Option ℕ) (a : ℕ) (p : Piece) → count ≡ max old.acked a - old.acked → c.received ≡ taken_after old k → held ≡ held_after old k p
-    → Delivered old (forgotten (record old { coming = c; held = held }) count) k a
+    → Delivered old (with_acked (record old { coming = c; held = held }) count) k a
 delivered_with old c held count k a p e on keeps =
     let same : count ≡ a - old.acked = omega arith in
     record {
@@ -34,9 +34,9 @@ delivered_with old c held count k a p e on keeps =
       failed = refl;
     }
 
-delivered_in : (old : LinkValue) (p : Piece) (count k a : ℕ) → count ≡ max old.acked a - old.acked → Delivered old (forgotten (taking_in old k p) count) (Some k) a
+delivered_in : (old : LinkValue) (p : Piece) (count k a : ℕ) → count ≡ max old.acked a - old.acked → Delivered old (with_acked (taking_in old k p) count) (Some k) a
 delivered_in old p count k a e =
-    let c : Coming = cond (k == old.coming.received + 1) (taken_all old.coming (run old p)) old.coming in
+    let c : Coming = cond (k == old.coming.received + 1) (with_all_taken old.coming (run old p)) old.coming in
     let on : c.received ≡ taken_after old (Some k) = elim (cases_eq k (old.coming.received + 1)) [
       | inl next ↦
           let same : following (old.coming.received + 1) old.held ≡ following k old.held = ap (λ (n : ℕ). following n old.held) (sym next) in
@@ -45,13 +45,13 @@ delivered_in old p count k a e =
     ] in
     delivered_with old c (held_after old (Some k) p) count (Some k) a p e on refl
 
-found : (old : LinkValue) (size : ℕ) (messages given : List (List ℕ)) (s : SegmentFields) (n a : ℕ) → IsDue old size messages given (Segment s) (Some n) a → segment_of old s.number ≡ n
+found : (old : LinkValue) (size : ℕ) (messages given : List (List ℕ)) (s : SegmentFields) (n a : ℕ) → IsDue old size messages given (Segment s) (Some n) a → segment_number old s.number ≡ n
 found old size messages given s n a due = rw due.2.carries.2 (segment_found old n due.2.fresh.0 due.2.near)
 
 -- it was taken in
 took : (old new : LinkValue) (got : Got) (size : ℕ) (messages given : List (List ℕ)) (p : Packet) (k : Option ℕ) (a : ℕ) → IsDue old size messages given p k a → new.acked ≡ max old.acked a → Received old p (Ok got) new → Delivered old new k a
 took old new got size messages given (Segment s) (Some n) a due acked (_, (same, _, (count, newly, e))) =
-    let left : new ≡ forgotten (taking_in old n (piece_of s)) count = e ∙ ap (λ (k : ℕ). forgotten (taking_in old k (piece_of s)) count) (found old size messages given s n a due) in
+    let left : new ≡ with_acked (taking_in old n (piece_of s)) count = e ∙ ap (λ (k : ℕ). with_acked (taking_in old k (piece_of s)) count) (found old size messages given s n a due) in
     let moved : new.acked ≡ old.acked + count = ap (λ (v : LinkValue). v.acked) e in
     rw left (delivered_in old (piece_of s) count n a (omega (arith, moved, acked)))
 took old new got size messages given (DataAck s) None a due acked (_, (same, (count, newly, e))) =
@@ -85,7 +85,7 @@ refused old new e size messages given (Segment s) k a due few why (inr (_, inl (
 refused old new e size messages given (Segment s) (Some n) a due few why (inr (_, inr (_, inl (next, out))), _) =
     refused_next old (piece_of s) n e (sym (found old size messages given s n a due) ∙ next) why out
 refused old new e size messages given (Segment s) (Some n) a due few why (inr (_, inr (_, inr (keeps, memory))), _) =
-    let kept = subst (λ (k : ℕ). Keeps old k) (found old size messages given s n a due) keeps in
+    let kept = subst (λ (k : ℕ). KeepsEarly old k) (found old size messages given s n a due) keeps in
     inl (memory, inr kept, rw (ne_eqb n (old.coming.received + 1) (λ x. omega (arith, kept.0, x))) few)
 refused old new e size messages given (Segment s) None a due few why (inr (_, inr _), _) = absurd due.2.carries
 

@@ -9,7 +9,7 @@ use Rattle.std.proofs.lemmas.List.Elements.{All-cons, All-nil}
 use Rattle.nsp_link.specs.Link.{LinkValue, AreShort}
 use Rattle.std.specs.List.{range_with_len}
 use Rattle.nsp_link.specs.Inner.Pieces.{Segment}
-use Rattle.nsp_link.specs.Inner.Pieces.{piece, pieces}
+use Rattle.nsp_link.specs.Inner.Pieces.{piece, piece_values}
 use Rattle.nsp_link.specs.Cutting.{Piece, count_of, piece_at, cut_message, cut}
 
 -- each segment begins within the message
@@ -32,8 +32,8 @@ piece_payload size i start end message s e le =
 
 -- one more segment is queued
 pub queued_more : (size : ℕ) (message : List ℕ) (i : ℕ) (before : List Piece) (items after : List Segment) (s : Segment)
-    → after ≡ items ++ s ∷ [] → pieces items ≡ before ++ map (piece_at size message) (range_with_len 0 i) → piece s ≡ piece_at size message i
-    → pieces after ≡ before ++ map (piece_at size message) (range_with_len 0 (i + 1))
+    → after ≡ items ++ s ∷ [] → piece_values items ≡ before ++ map (piece_at size message) (range_with_len 0 i) → piece s ≡ piece_at size message i
+    → piece_values after ≡ before ++ map (piece_at size message) (range_with_len 0 (i + 1))
 queued_more size message i before items after s is had same =
     rw (is, map-append piece items (s ∷ []), had, same, map-range_with_len_more (piece_at size message) 0 i i (omega arith)) (append_assoc before (map (piece_at size message) (range_with_len 0 i)) (piece_at size message i ∷ []))
 

@@ -13,12 +13,12 @@ use Rattle.nsp_link.specs.declared.link.Got.{Got}
 use Rattle.nsp_seg.specs.declared.packet.SegFault.{SegFault}
 use Rattle.nsp_link.specs.Cutting.{cut}
 use Rattle.std.specs.List.{AllByRecursion}
-use Rattle.nsp_link.specs.Coming.{taken_all, AllFit, RefusesAll}
+use Rattle.nsp_link.specs.Coming.{with_all_taken, AllFitInOrder, RefusesAll}
 use Rattle.nsp_link.specs.Holding.{following}
-use Rattle.nsp_link.specs.Link.{LinkValue, IsLink, Stands, got_of, piece_of, forgotten}
+use Rattle.nsp_link.specs.Link.{LinkValue, IsLink, Stands, got_of, piece_of, with_acked}
 use Rattle.nsp_link.specs.Due.{IsDue}
 use Rattle.nsp_link.specs.Inner.Whole.{HasTaken}
-use Rattle.nsp_link.specs.Receiving.{newly_acked, segment_of, taking_in, run, stopped, Received}
+use Rattle.nsp_link.specs.Receiving.{newly_acked, segment_number, taking_in, run, stopped, Received}
 use Rattle.nsp_link.proofs.Taking.{AreNext, fits_all, refuses-all}
 use Rattle.nsp_link.proofs.Taken.{taken_more, whole_of}
 use Rattle.nsp_link.proofs.Held.{inserted, following_next, all_drop, all_inserted}
@@ -32,7 +32,7 @@ pub behind : (x y : ℕ) → x < y → y ≤ x + 4096 → residue (residue x + 4
 unfolding residue
 behind x y lt le = omega arith
 
--- of the first a, so many are acknowledged anew
+-- of the first a, this many are acknowledged anew
 pub newly_acked-of : (v : LinkValue) (a : ℕ) → v.acked ≤ v.sent → v.sent ≤ v.acked + 2047 → a ≤ v.sent → v.acked ≤ a + 2047 → newly_acked v (Some (residue a)) ≡ Some (max v.acked a - v.acked)
 newly_acked-of v a ordered window believable fresh =
     elim (cases_lt a v.acked) [
@@ -45,14 +45,14 @@ newly_acked-of v a ordered window believable fresh =
     ]
 
 -- a number less than 2,048 from the next one's says which segment it is
-pub segment_found : (v : LinkValue) (k : ℕ) → v.coming.received + 1 ≤ k + 2047 → k ≤ v.coming.received + 2047 → segment_of v (residue k) ≡ k
+pub segment_found : (v : LinkValue) (k : ℕ) → v.coming.received + 1 ≤ k + 2047 → k ≤ v.coming.received + 2047 → segment_number v (residue k) ≡ k
 segment_found v k fresh near =
     elim (cases_lt k (v.coming.received + 1)) [
       | inl lt ↦ rw (behind k (v.coming.received + 1) lt (omega arith), le-ltb (4096 - (v.coming.received + 1 - k)) 2048 (omega arith)) (omega arith)
       | inr le ↦ rw (ahead k (v.coming.received + 1) le (omega arith), lt-ltb (k - (v.coming.received + 1)) 2048 (omega arith)) (omega arith)
     ]
 
-stands_forgotten : (v : LinkValue) (count size : ℕ) (messages given : List (List ℕ)) → Stands v size messages given → Stands (forgotten v count) size messages given
+stands_forgotten : (v : LinkValue) (count size : ℕ) (messages given : List (List ℕ)) → Stands v size messages given → Stands (with_acked v count) size messages given
 stands_forgotten v count size messages given st = record { taken = st.taken; held = st.held }
 
 -- what the definition says of a packet that is due
@@ -80,11 +80,11 @@ due_ack old new (Err e) size messages given s a link due (inl (out, _), _) = abs
 due_ack old new (Err e) size messages given s a link due (inr (_, (none, _)), _) = absurd (count_some old size messages given (DataAck s) None a _ link due due.2.carries none)
 
 module _ (old : LinkValue) (size : ℕ) (messages given : List (List ℕ)) (s : SegmentFields) (n a : ℕ) (link : IsLink old) (due : IsDue old size messages given (Segment s) (Some n) a) where
-  found : segment_of old s.number ≡ n
+  found : segment_number old s.number ≡ n
   found = rw due.2.carries.2 (segment_found old n due.2.fresh.0 due.2.near)
 
   -- the next segment and all that follow it are segments of the messages
-  next_taken : n ≡ old.coming.received + 1 → AllFit old.setup.max_message old.coming (run old (piece_of s)) × HasTaken (taken_all old.coming (run old (piece_of s))) size messages given
+  next_taken : n ≡ old.coming.received + 1 → AllFitInOrder old.setup.max_message old.coming (run old (piece_of s)) × HasTaken (with_all_taken old.coming (run old (piece_of s))) size messages given
   unfolding AreNext
   next_taken e =
       let back : n - 1 ≡ old.coming.received = omega arith in
@@ -119,7 +119,7 @@ module _ (old : LinkValue) (size : ℕ) (messages given : List (List ℕ)) (s : 
   due_segment : (new : LinkValue) (r : Result Got LinkFault) → Received old (Segment s) r new → Due old new r size messages given (Some n) a
   due_segment new (Ok got) (_, (same, _, (count, newly, e))) =
       let is = count_is old size messages given (Segment s) (Some n) a count _ link due due.2.carries.3 newly in
-      let left : new ≡ forgotten (taking_in old n (piece_of s)) count = e ∙ ap (λ (k : ℕ). forgotten (taking_in old k (piece_of s)) count) found in
+      let left : new ≡ with_acked (taking_in old n (piece_of s)) count = e ∙ ap (λ (k : ℕ). with_acked (taking_in old k (piece_of s)) count) found in
       (same ∙ ap (λ (k : ℕ). got_of old.coming.received (Some k)) found, ap (λ (v : LinkValue). v.acked) e ∙ omega (arith, is), rw left (stands_forgotten (taking_in old n (piece_of s)) count size messages given stands_in))
   due_segment new (Err e) (inl (out, _), _) = absurd (out due.2.way)
   due_segment new (Err e) (inr (_, inl (none, _)), _) = absurd (count_some old size messages given (Segment s) (Some n) a _ link due due.2.carries.3 none)

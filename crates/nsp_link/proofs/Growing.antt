@@ -8,8 +8,8 @@ use Rattle.nsp_seg.specs.declared.packet.Packet.TheVariants.{Segment, DataAck}
 use Rattle.nsp_link.specs.Cutting.{Piece, cut, part_after}
 use Rattle.std.specs.List.{AllByRecursion}
 use Rattle.nsp_link.specs.declared.link.LinkSetup.{LinkSetup}
-use Rattle.nsp_link.specs.Coming.{nothing_came, taken_all}
-use Rattle.nsp_link.specs.Link.{LinkValue, Carries, IsWritten, Writes, Stands, Sends, new_link, with_inbox}
+use Rattle.nsp_link.specs.Coming.{nothing_came, with_all_taken}
+use Rattle.nsp_link.specs.Link.{LinkValue, Carries, IsWrittenPacket, Writes, Stands, Sends, new_link, with_inbox}
 use Rattle.nsp_link.specs.Sending.{queued_link}
 use Rattle.nsp_link.proofs.Taking.{cut-append}
 use Rattle.nsp_link.proofs.Taken.{taken_few, taken_given}
@@ -27,7 +27,7 @@ carries_more (Segment s) size ms more None a c = c
 carries_more (DataAck s) size ms more None a c = c
 carries_more (DataAck s) size ms more (Some k) a c = c
 
-pub written_longer : (src dst : ℕ) (pieces more : List Piece) (k : Option ℕ) (a : ℕ) (bytes : List ℕ) → IsWritten src dst pieces k a bytes → IsWritten src dst (pieces ++ more) k a bytes
+pub written_longer : (src dst : ℕ) (pieces more : List Piece) (k : Option ℕ) (a : ℕ) (bytes : List ℕ) → IsWrittenPacket src dst pieces k a bytes → IsWrittenPacket src dst (pieces ++ more) k a bytes
 written_longer src dst pieces more (Some k) a bytes (p, is, spells) = (p, (is.0, is.1, kept_place pieces more (k - 1) is.0 is.2, is.3), spells)
 written_longer src dst pieces more None a bytes w = w
 
@@ -43,13 +43,13 @@ stands_more v size ms more given st =
     let joined = cut-append size ms more in
     let few = taken_few v.coming size ms given st.taken in
     record {
-      taken = ap (taken_all nothing_came) (ap (take v.coming.received) joined ∙ take-append-le v.coming.received (cut size ms) (cut size more) few) ∙ st.taken;
+      taken = ap (with_all_taken nothing_came) (ap (take v.coming.received) joined ∙ take-append-le v.coming.received (cut size ms) (cut size more) few) ∙ st.taken;
       held = rw joined (held_more (cut size ms) (cut size more) v.held st.held);
     }
 
 -- a new end stands before any messages
 pub stands_new : (s : LinkSetup) (size : ℕ) (ms : List (List ℕ)) → Stands (new_link s) size ms []
-unfolding taken_all
+unfolding with_all_taken
 stands_new s size ms = record { taken = refl; held = tt }
 
 pub sends_new : (s : LinkSetup) → Sends (new_link s) []

@@ -61,7 +61,7 @@ held_more_free n m [] = held_free n m
 held_more_free n m (None ∷ places) = held_more_free (n + 1) m places
 held_more_free n m (Some h ∷ places) = ap (λ (hs : List (ℕ × Piece)). (n, held_piece h) ∷ hs) (held_more_free (n + 1) m places)
 
--- the place behind those that follow is free, or behind the last
+-- the place after those that follow is free, or after the last
 pub leading_ends : (places : List (Option Held)) (m : ℕ) → 0 < m → slice_get (drop (length (leading places)) places ++ replicate m None) 0 ≡ Some None
 unfolding leading
 leading_ends [] zero lt = elim lt [ ]
@@ -125,7 +125,7 @@ ring_follows n [] at = absurd (cc)
 ring_follows n (None ∷ places) at = leading_follow n places
 ring_follows n (Some h ∷ places) at = absurd (cc)
 
--- the places once so many went on
+-- the places once this many went on
 pub ring_closed : (n m : ℕ) (places : List (Option Held)) → slice_get places 0 ≡ Some None → m ≡ 1 + length (leading (drop 1 places))
     → drop (length (following n (held_from n places))) (held_from n places) ≡ held_from (n + m) (drop m places ++ replicate m None)
 unfolding held_from
@@ -216,7 +216,7 @@ inserted k p held = insert_key (λ a b. nat_cmp a.0 b.0) held (k, p)
 abbrev Lacks : ℕ → List (ℕ × Piece) → Type 0
 Lacks k held = AllByRecursion (λ h. h.0 ≢ k) held
 
--- what is held above a number comes behind it
+-- what is held above a number comes after it
 inserted_low : (k low high : ℕ) (p : Piece) (held : List (ℕ × Piece)) → k ≤ low → AreHeld low high held → inserted k p held ≡ (k, p) ∷ held
 unfolding AreHeld
 inserted_low k low high p [] le all = refl

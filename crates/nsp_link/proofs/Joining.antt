@@ -1,10 +1,10 @@
--- What is taken in aside and put behind what stands is what would have been taken in there.
+-- What is taken in aside and put after what stands is what would have been taken in there.
 use Rattle.std.proofs.Common.{◌≡◌, ℕ, List, [], ◌∷◌, ◌++◌, Option, Some, None, refl, sym, ap, ◌∙◌, Bool, true, false, append_assoc}
 use Rattle.std.specs.Prelude.{unwrap_or}
 use Rattle.std.proofs.lemmas.List.{append-nil}
 use Rattle.nsp_link.specs.Cutting.{Piece}
-use Rattle.nsp_link.specs.Coming.{Coming, taken, taken_all}
-use Rattle.nsp_link.specs.Inner.Joining.{joined, emptied_of}
+use Rattle.nsp_link.specs.Coming.{Coming, with_taken, with_all_taken}
+use Rattle.nsp_link.specs.Inner.Joining.{with_begun, emptied_of}
 
 pub coming_same : (c d : Coming) → c.received ≡ d.received → c.partial ≡ d.partial → c.inbox ≡ d.inbox → c ≡ d
 coming_same c d r p i =
@@ -21,7 +21,7 @@ HasOldest (Some body) (m ∷ ms) partial = Unit {0}
 
 stays : (begun : Option (List ℕ)) (received : ℕ) (partial : Option (List ℕ)) (came : List (List ℕ)) (first last : Bool) (payload : List ℕ) → HasOldest begun came partial
     → let aside : Coming = record { received = received; partial = partial; inbox = came } in let p : Piece = record { first = first; last = last; payload = payload } in
-    HasOldest begun (taken aside p).inbox (taken aside p).partial
+    HasOldest begun (with_taken aside p).inbox (with_taken aside p).partial
 stays None received partial came first last payload has = tt
 stays (Some body) received partial [] first true payload has = tt
 stays (Some body) received partial [] first false payload has = tt
@@ -31,7 +31,7 @@ stays (Some body) received partial (m ∷ ms) first false payload has = tt
 one_more : (n : ℕ) (begun : Option (List ℕ)) (inbox : List (List ℕ)) (received : ℕ) (partial : Option (List ℕ)) (came : List (List ℕ)) (first last : Bool) (payload : List ℕ) → HasOldest begun came partial
     → let before : Coming = record { received = n; partial = begun; inbox = inbox } in let aside : Coming = record { received = received; partial = partial; inbox = came } in
     let p : Piece = record { first = first; last = last; payload = payload } in
-    joined before (taken aside p) ≡ taken (joined before aside) p
+    with_begun before (with_taken aside p) ≡ with_taken (with_begun before aside) p
 one_more n None inbox received partial came first true payload has = coming_same _ _ refl refl (sym (append_assoc inbox came ((unwrap_or partial [] ++ payload) ∷ [])))
 one_more n None inbox received partial came first false payload has = refl
 one_more n (Some body) inbox received None [] first last payload has = absurd has
@@ -43,14 +43,14 @@ one_more n (Some body) inbox received partial (m ∷ ms) first true payload has 
     coming_same _ _ refl refl (sym (append_assoc inbox ((body ++ m) ∷ ms) ((unwrap_or partial [] ++ payload) ∷ [])))
 one_more n (Some body) inbox received partial (m ∷ ms) first false payload has = refl
 
-joined_all : (before aside : Coming) (ps : List Piece) → HasOldest before.partial aside.inbox aside.partial → joined before (taken_all aside ps) ≡ taken_all (joined before aside) ps
-unfolding taken_all
+joined_all : (before aside : Coming) (ps : List Piece) → HasOldest before.partial aside.inbox aside.partial → with_begun before (with_all_taken aside ps) ≡ with_all_taken (with_begun before aside) ps
+unfolding with_all_taken
 joined_all before aside [] has = refl
 joined_all before aside (p ∷ ps) has =
-    joined_all before (taken aside p) ps (stays before.partial aside.received aside.partial aside.inbox p.first p.last p.payload has)
-    ∙ ap (λ (c : Coming). taken_all c ps) (one_more before.received before.partial before.inbox aside.received aside.partial aside.inbox p.first p.last p.payload has)
+    joined_all before (with_taken aside p) ps (stays before.partial aside.received aside.partial aside.inbox p.first p.last p.payload has)
+    ∙ ap (λ (c : Coming). with_all_taken c ps) (one_more before.received before.partial before.inbox aside.received aside.partial aside.inbox p.first p.last p.payload has)
 
-starts : (n : ℕ) (begun : Option (List ℕ)) (inbox : List (List ℕ)) → let before : Coming = record { received = n; partial = begun; inbox = inbox } in joined before (emptied_of before) ≡ before
+starts : (n : ℕ) (begun : Option (List ℕ)) (inbox : List (List ℕ)) → let before : Coming = record { received = n; partial = begun; inbox = inbox } in with_begun before (emptied_of before) ≡ before
 starts n None inbox = coming_same _ _ refl refl (append-nil inbox)
 starts n (Some body) inbox = coming_same _ _ refl (ap (λ (x : List ℕ). Some x) (append-nil body)) (append-nil inbox)
 
@@ -58,7 +58,7 @@ has_oldest : (begun : Option (List ℕ)) (n : ℕ) (inbox : List (List ℕ)) →
 has_oldest None n inbox = tt
 has_oldest (Some body) n inbox = tt
 
-pub joined_run : (before : Coming) (ps : List Piece) → joined before (taken_all (emptied_of before) ps) ≡ taken_all before ps
+pub joined_run : (before : Coming) (ps : List Piece) → with_begun before (with_all_taken (emptied_of before) ps) ≡ with_all_taken before ps
 joined_run before ps =
     joined_all before (emptied_of before) ps (has_oldest before.partial before.received before.inbox)
-    ∙ ap (λ (c : Coming). taken_all c ps) (starts before.received before.partial before.inbox)
+    ∙ ap (λ (c : Coming). with_all_taken c ps) (starts before.received before.partial before.inbox)

@@ -5,9 +5,9 @@ use Rattle.std.proofs.lemmas.Bool.{cases_lt, lt-ltb, le-ltb, eq-eqb, ne_eqb}
 use Rattle.std.proofs.lemmas.Option.{slice_get_within, slice_get-get_or}
 use Rattle.nsp_link.specs.Inner.Pieces.{Held}
 use Rattle.nsp_link.specs.Cutting.{Piece}
-use Rattle.nsp_link.specs.Coming.{Coming, taken_all, AllFit, RefusesAll}
+use Rattle.nsp_link.specs.Coming.{Coming, with_all_taken, AllFitInOrder, RefusesAll}
 use Rattle.nsp_link.specs.Holding.{following}
-use Rattle.nsp_link.specs.Link.{LinkValue, Keeps}
+use Rattle.nsp_link.specs.Link.{LinkValue, KeepsEarly}
 use Rattle.nsp_link.specs.Inner.Pieces.{held_from, held_piece, leading}
 use Rattle.nsp_link.specs.Receiving.{run, taking_in}
 use Rattle.nsp_link.proofs.Held.{inserted, held_put, held_there, held_lacks, ring_follows, ring_closed}
@@ -43,7 +43,7 @@ module _ (v : LinkValue) (places : List (Option Held)) (held-is : v.held ≡ hel
       | inr le ↦ rw (other, above, le-ltb (v.coming.received + 1 + place) (v.coming.received + 1 + v.setup.window) (omega (arith, le, full))) refl
     ]
 
-    pub keeps_free : slice_get places place ≡ Some None → Keeps v (v.coming.received + 1 + place)
+    pub keeps_free : slice_get places place ≡ Some None → KeepsEarly v (v.coming.received + 1 + place)
     keeps_free at =
         let lt = slice_get_within places place None at in
         (omega (arith, some), omega (arith, lt, full), rw held-is (held_lacks (v.coming.received + 1) place places at))
@@ -52,16 +52,16 @@ module _ (v : LinkValue) (places : List (Option Held)) (held-is : v.held ≡ hel
     run_is : run v p ≡ p ∷ leading (drop 1 places)
     run_is = ap (λ (ps : List Piece). p ∷ ps) (ap (λ (hs : List (ℕ × Piece)). following (v.coming.received + 1) hs) held-is ∙ ring_follows (v.coming.received + 1) places free)
 
-    pub run_fit : (limit : ℕ) → AllFit limit v.coming (p ∷ leading (drop 1 places)) → AllFit limit v.coming (run v p)
-    run_fit limit fit = subst (λ (ps : List Piece). AllFit limit v.coming ps) (sym run_is) fit
+    pub run_fit : (limit : ℕ) → AllFitInOrder limit v.coming (p ∷ leading (drop 1 places)) → AllFitInOrder limit v.coming (run v p)
+    run_fit limit fit = subst (λ (ps : List Piece). AllFitInOrder limit v.coming ps) (sym run_is) fit
 
     pub run_refuses : (limit : ℕ) (e : _) → RefusesAll limit v.coming (p ∷ leading (drop 1 places)) e → RefusesAll limit v.coming (run v p) e
     run_refuses limit e out = subst (λ (ps : List Piece). RefusesAll limit v.coming ps e) (sym run_is) out
 
-    pub closed_is : (new : Coming) (m : ℕ) (ring : List (Option Held)) → new ≡ taken_all v.coming (p ∷ leading (drop 1 places)) → m ≡ 1 + length (leading (drop 1 places)) → new.received ≡ v.coming.received + m → ring ≡ drop m places ++ replicate m None
+    pub closed_is : (new : Coming) (m : ℕ) (ring : List (Option Held)) → new ≡ with_all_taken v.coming (p ∷ leading (drop 1 places)) → m ≡ 1 + length (leading (drop 1 places)) → new.received ≡ v.coming.received + m → ring ≡ drop m places ++ replicate m None
         → coming_link v new (held_from (new.received + 1) ring) ≡ taking_in v (v.coming.received + 1) p
     closed_is new m ring is count on moved =
-        let all : new ≡ taken_all v.coming (run v p) = is ∙ ap (λ (ps : List Piece). taken_all v.coming ps) (sym run_is) in
+        let all : new ≡ with_all_taken v.coming (run v p) = is ∙ ap (λ (ps : List Piece). with_all_taken v.coming ps) (sym run_is) in
         let number : new.received + 1 ≡ v.coming.received + 1 + m = omega arith in
         let left : held_from (new.received + 1) ring ≡ drop (length (following (v.coming.received + 1) v.held)) v.held =
         ap (λ (n : ℕ). held_from n ring) number ∙ ap (λ (xs : List (Option Held)). held_from (v.coming.received + 1 + m) xs) moved

@@ -11,14 +11,14 @@ use Rattle.nsp_seg.specs.declared.packet.Packet.TheVariants as packet
 use Rattle.nsp_link.specs.Link.{LinkValue, IsSpelling, acknowledging}
 use Rattle.nsp_link.specs.Sending.{segment_packet}
 use Rattle.nsp_link.specs.Cutting.{Piece}
-use Rattle.nsp_link.specs.Inner.Pieces.{piece, pieces}
+use Rattle.nsp_link.specs.Inner.Pieces.{piece, piece_values}
 
 pub if_ok_map : {X E : Type 0} (r : Result X E) (P Q : X → Type 0) → IfOk r P → ((x : X) → P x → Q x) → IfOk r Q
 if_ok_map (Ok x) P Q h f = f x h
 if_ok_map (Err e) P Q h f = h
 
 -- what is read at a place of the queue
-pub piece_read : (items : List Segment) (place : ℕ) (s : Segment) (p : Piece) → place < length items → s ≡ get_or items place s → slice_get (pieces items) place ≡ Some p → piece s ≡ p
+pub piece_read : (items : List Segment) (place : ℕ) (s : Segment) (p : Piece) → place < length items → s ≡ get_or items place s → slice_get (piece_values items) place ≡ Some p → piece s ≡ p
 piece_read items place s p lt read at =
     let got : slice_get items place ≡ Some s = slice_get_read items (length items) place s refl lt read in
     let mapped = slice_get-map piece items place in

@@ -12,22 +12,22 @@ use Rattle.nsp_link.specs.declared.fault.LinkFault.{LinkFault}
 use Rattle.nsp_link.specs.declared.fault.LinkFault.TheVariants.{Malformed, WrongLink, BadSequence, MessageTooLong, Exhausted, NoMemory}
 use Rattle.nsp_link.specs.Cutting.{Piece}
 use Rattle.nsp_link.specs.Limits.{most_segments}
-use Rattle.nsp_link.specs.Coming.{Coming, taken, taken_all, FitsBehind, AllFit, Misfits, MisfitsOne, RefusesAll}
-use Rattle.nsp_link.specs.Link.{LinkValue, IsBetween, first_ack, got_of, piece_of, forgotten}
-use Rattle.nsp_link.specs.Receiving.{newly_acked, Received, Refuses, Acknowledges, segment_of, taking_in, run, stopped, ReceivedBytes, LetsGo, Bounded, BoundedBytes, Receives}
+use Rattle.nsp_link.specs.Coming.{Coming, with_taken, with_all_taken, FitsNext, AllFitInOrder, Misfits, MisfitsOne, RefusesAll}
+use Rattle.nsp_link.specs.Link.{LinkValue, IsBetween, first_ack, got_of, piece_of, with_acked}
+use Rattle.nsp_link.specs.Receiving.{newly_acked, Received, Refuses, Acknowledges, segment_number, taking_in, run, stopped, ReceivedBytes, LetsGo, Bounded, BoundedBytes, Receives}
 
 -- ---- Segments that follow one another.
 
-one_apart : (limit : ℕ) (c : Coming) (p : Piece) (e : LinkFault) → Misfits limit c p e → FitsBehind limit c p → ⊥
+one_apart : (limit : ℕ) (c : Coming) (p : Piece) (e : LinkFault) → Misfits limit c p e → FitsNext limit c p → ⊥
 one_apart limit c p BadSequence m a = m a.0
 one_apart limit c p MessageTooLong m a = omega (arith, m.1, a.1)
 one_apart limit c p e m a = absurd m
 
-all_apart : (limit : ℕ) (c : Coming) (ps : List Piece) (e : LinkFault) → MisfitsOne limit c ps e → AllFit limit c ps → ⊥
-unfolding MisfitsOne AllFit
+all_apart : (limit : ℕ) (c : Coming) (ps : List Piece) (e : LinkFault) → MisfitsOne limit c ps e → AllFitInOrder limit c ps → ⊥
+unfolding MisfitsOne AllFitInOrder
 all_apart limit c [] e m a = m
 all_apart limit c (p ∷ ps) e (inl m) a = one_apart limit c p e m a.0
-all_apart limit c (p ∷ ps) e (inr m) a = all_apart limit (taken c p) ps e m.1 a.1
+all_apart limit c (p ∷ ps) e (inr m) a = all_apart limit (with_taken c p) ps e m.1 a.1
 
 one_reason : (limit : ℕ) (c : Coming) (p : Piece) (e f : LinkFault) → Misfits limit c p e → Misfits limit c p f → e ≡ f
 one_reason limit c p BadSequence BadSequence m n = refl
@@ -44,7 +44,7 @@ first_reason limit c [] e f m n = absurd m
 first_reason limit c (p ∷ ps) e f (inl m) (inl n) = one_reason limit c p e f m n
 first_reason limit c (p ∷ ps) e f (inl m) (inr n) = absurd (one_apart limit c p e m n.0)
 first_reason limit c (p ∷ ps) e f (inr m) (inl n) = absurd (one_apart limit c p f n m.0)
-first_reason limit c (p ∷ ps) e f (inr m) (inr n) = first_reason limit (taken c p) ps e f m.1 n.1
+first_reason limit c (p ∷ ps) e f (inr m) (inr n) = first_reason limit (with_taken c p) ps e f m.1 n.1
 
 refuses_one : (limit : ℕ) (c : Coming) (ps : List Piece) (e f : LinkFault) → e ≢ NoMemory → f ≢ NoMemory → RefusesAll limit c ps e → RefusesAll limit c ps f → e ≡ f
 refuses_one limit c ps BadSequence BadSequence ne nf a b = refl
@@ -66,13 +66,13 @@ refuses_one limit c ps NoMemory f ne nf a b = absurd (ne refl)
 refuses_one limit c ps e f ne nf a b = absurd a
 
 -- how many were taken then
-pub taken_count : (c : Coming) (ps : List Piece) → (taken_all c ps).received ≡ c.received + length ps
-unfolding taken_all
+pub taken_count : (c : Coming) (ps : List Piece) → (with_all_taken c ps).received ≡ c.received + length ps
+unfolding with_all_taken
 taken_count c [] = omega arith
-taken_count c (p ∷ ps) = omega (arith, taken_count (taken c p) ps)
+taken_count c (p ∷ ps) = omega (arith, taken_count (with_taken c p) ps)
 
 -- segments that were taken aren't refused
-taken_apart : (limit : ℕ) (c : Coming) (ps : List Piece) (e : LinkFault) → e ≢ NoMemory → AllFit limit c ps → (taken_all c ps).received ≤ most_segments → RefusesAll limit c ps e → ⊥
+taken_apart : (limit : ℕ) (c : Coming) (ps : List Piece) (e : LinkFault) → e ≢ NoMemory → AllFitInOrder limit c ps → (with_all_taken c ps).received ≤ most_segments → RefusesAll limit c ps e → ⊥
 taken_apart limit c ps BadSequence ne a few b = all_apart limit c ps BadSequence b a
 taken_apart limit c ps MessageTooLong ne a few b = all_apart limit c ps MessageTooLong b a
 taken_apart limit c ps Exhausted ne a few b = omega (arith, taken_count c ps, few, b.1)
@@ -84,20 +84,20 @@ taken_apart limit c ps e ne a few b = absurd b
 acks_one : (old mid one two : LinkValue) (number : Option ℕ) → Acknowledges old number mid one → Acknowledges old number mid two → one ≡ two
 acks_one old mid one two number a b =
     let counts : a.0 ≡ b.0 = (let both = sym a.1 ∙ b.1 in cc) in
-    a.2 ∙ ap (forgotten mid) counts ∙ sym b.2
+    a.2 ∙ ap (with_acked mid) counts ∙ sym b.2
 
 received_one : (old one two : LinkValue) (p : Packet) (g h : Got) → Received old p (Ok g) one → Received old p (Ok h) two → (g ≡ h) × (one ≡ two)
 received_one old one two (Segment s) g h (_, (a, _, acks)) (_, (b, _, others)) =
-    (a ∙ sym b, acks_one old (taking_in old (segment_of old s.number) (piece_of s)) one two (first_ack s.ack1 s.ack2) acks others)
+    (a ∙ sym b, acks_one old (taking_in old (segment_number old s.number) (piece_of s)) one two (first_ack s.ack1 s.ack2) acks others)
 received_one old one two (DataAck s) g h (_, (a, acks)) (_, (b, others)) = (a ∙ sym b, acks_one old old one two (first_ack (Some s.ack1) s.ack2) acks others)
 
 -- the next segment and those that follow it aren't refused where they were taken
 next_apart : (old one : LinkValue) (k : ℕ) (p : Piece) (g : Got) (e : LinkFault) (count : ℕ) → e ≢ NoMemory → one.coming.received ≤ most_segments → k ≡ old.coming.received + 1
-    → g ≡ got_of old.coming.received (Some k) → (g ≡ Accepted → AllFit old.setup.max_message old.coming (run old p)) → one ≡ forgotten (taking_in old k p) count → RefusesAll old.setup.max_message old.coming (run old p) e → ⊥
+    → g ≡ got_of old.coming.received (Some k) → (g ≡ Accepted → AllFitInOrder old.setup.max_message old.coming (run old p)) → one ≡ with_acked (taking_in old k p) count → RefusesAll old.setup.max_message old.coming (run old p) e → ⊥
 next_apart old one k p g e count ne few next same fits left out =
     let test : (k == old.coming.received + 1) ≡ true = eq-eqb k (old.coming.received + 1) next in
     let got : got_of old.coming.received (Some k) ≡ Accepted = rw test refl in
-    let all : (taking_in old k p).coming.received ≡ (taken_all old.coming (run old p)).received = rw test refl in
+    let all : (taking_in old k p).coming.received ≡ (with_all_taken old.coming (run old p)).received = rw test refl in
     taken_apart old.setup.max_message old.coming (run old p) e ne (fits (same ∙ got)) (subst (λ (n : ℕ). n ≤ most_segments) (ap (λ (v : LinkValue). v.coming.received) left ∙ all) few) out
 
 -- a packet that was taken isn't refused
@@ -105,7 +105,7 @@ taken_or_not : (old one two : LinkValue) (p : Packet) (g : Got) (e : LinkFault) 
 taken_or_not old one two (Segment s) g e ne few a (inl (out, _), _) = out a.0
 taken_or_not old one two (Segment s) g e ne few (_, (_, _, acks)) (inr (_, inl (none, _)), _) = let none-is : ⊥ = (let both = sym none ∙ acks.1 in cc) in none-is
 taken_or_not old one two (Segment s) g e ne few (_, (same, fits, acks)) (inr (_, inr (_, inl (next, out))), _) =
-    next_apart old one (segment_of old s.number) (piece_of s) g e acks.0 ne few next same fits acks.2 out
+    next_apart old one (segment_number old s.number) (piece_of s) g e acks.0 ne few next same fits acks.2 out
 taken_or_not old one two (Segment s) g e ne few a (inr (_, inr (_, inr (_, memory))), _) = ne memory
 taken_or_not old one two (DataAck s) g e ne few a (inl (out, _), _) = out a.0
 taken_or_not old one two (DataAck s) g e ne few (_, (_, acks)) (inr (_, (none, _)), _) = let none-is : ⊥ = (let both = sym none ∙ acks.1 in cc) in none-is
@@ -154,7 +154,7 @@ packet_same old one two p (Err e) (Err f) nr ns few less a b =
 abbrev AreBytes : List ℕ → Type 0
 AreBytes bytes = (i : ℕ) → slice_index bytes i < 256
 
--- what any end does that hasn't failed is determined, want of memory aside
+-- what any end does that hasn't failed is determined, out of memory aside
 pub bytes_same : (old one two : LinkValue) (bytes : List ℕ) (r s : Result Got LinkFault) → AreBytes bytes → r ≢ Err NoMemory → s ≢ Err NoMemory → one.coming.received ≤ most_segments → two.coming.received ≤ most_segments
     → ReceivedBytes old one bytes r → ReceivedBytes old two bytes s → (r ≡ s) × (one ≡ two)
 bytes_same old one two bytes r s fits nr ns few less (inl a) (inl b) =
@@ -208,6 +208,6 @@ receives_by : (failed : Bool) (old one two : LinkValue) (bytes : List ℕ) (r s 
 receives_by true old one two bytes r s e fits nr ns a b = ((a.failed e).0 ∙ sym (b.failed e).0, (a.failed e).1 ∙ sym (b.failed e).1)
 receives_by false old one two bytes r s e fits nr ns a b = bounded_bytes_same old one two bytes r s fits nr ns a.few b.few (a.any e) (b.any e)
 
--- what taking a packet in comes to, want of memory aside
+-- what taking a packet in comes to, out of memory aside
 pub receives_same : (old one two : LinkValue) (bytes : List ℕ) (r s : Result Got LinkFault) → AreBytes bytes → r ≢ Err NoMemory → s ≢ Err NoMemory → Receives old one bytes r → Receives old two bytes s → (r ≡ s) × (one ≡ two)
 receives_same old one two bytes r s fits nr ns a b = receives_by old.failed old one two bytes r s refl fits nr ns a b

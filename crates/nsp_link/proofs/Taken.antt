@@ -5,29 +5,29 @@ use Rattle.std.proofs.lemmas.Bool.{cases_lt}
 use Rattle.std.proofs.lemmas.List.{take_more, take-take, take-append-drop, length-append, length-take, append-nil}
 use Rattle.std.proofs.lemmas.Option.{slice_get_within, get_or_from_slice_get, slice_get-get_or}
 use Rattle.nsp_link.specs.Cutting.{Piece, cut}
-use Rattle.nsp_link.specs.Coming.{Coming, nothing_came, taken, taken_all}
-use Rattle.nsp_link.specs.Inner.Joining.{behind}
-use Rattle.nsp_link.specs.Inner.Whole.{HasTaken, IsWhole, begun, HasWhole}
+use Rattle.nsp_link.specs.Coming.{Coming, nothing_came, with_taken, with_all_taken}
+use Rattle.nsp_link.specs.Inner.Joining.{coming_after}
+use Rattle.nsp_link.specs.Inner.Whole.{HasTaken, AreWholeIn, begun_bytes, HasWhole}
 use Rattle.nsp_link.proofs.Joining.{coming_same}
 use Rattle.nsp_link.proofs.Taking.{AreNext, received-all, stands_next, takes_next, cut-append, length-cut-more, count-positive}
 
 -- ---- More are taken.
 
-taken_on : (c : Coming) (ps qs : List Piece) → taken_all c (ps ++ qs) ≡ taken_all (taken_all c ps) qs
-unfolding taken_all
+taken_on : (c : Coming) (ps qs : List Piece) → with_all_taken c (ps ++ qs) ≡ with_all_taken (with_all_taken c ps) qs
+unfolding with_all_taken
 taken_on c [] qs = refl
-taken_on c (p ∷ ps) qs = taken_on (taken c p) ps qs
+taken_on c (p ∷ ps) qs = taken_on (with_taken c p) ps qs
 
--- what was handed out stands in front of what comes
+-- what was handed out stands before what comes
 one_behind : (given : List (List ℕ)) (received : ℕ) (partial : Option (List ℕ)) (inbox : List (List ℕ)) (first last : Bool) (payload : List ℕ) → let c : Coming = record { received = received; partial = partial; inbox = inbox } in
-    let p : Piece = record { first = first; last = last; payload = payload } in taken (behind given c) p ≡ behind given (taken c p)
+    let p : Piece = record { first = first; last = last; payload = payload } in with_taken (coming_after given c) p ≡ coming_after given (with_taken c p)
 one_behind given received partial inbox first true payload = coming_same _ _ refl refl (append_assoc given inbox ((unwrap_or partial [] ++ payload) ∷ []))
 one_behind given received partial inbox first false payload = refl
 
-all_behind : (given : List (List ℕ)) (c : Coming) (ps : List Piece) → taken_all (behind given c) ps ≡ behind given (taken_all c ps)
-unfolding taken_all
+all_behind : (given : List (List ℕ)) (c : Coming) (ps : List Piece) → with_all_taken (coming_after given c) ps ≡ coming_after given (with_all_taken c ps)
+unfolding with_all_taken
 all_behind given c [] = refl
-all_behind given c (p ∷ ps) = ap (λ (x : Coming). taken_all x ps) (one_behind given c.received c.partial c.inbox p.first p.last p.payload) ∙ all_behind given (taken c p) ps
+all_behind given c (p ∷ ps) = ap (λ (x : Coming). with_all_taken x ps) (one_behind given c.received c.partial c.inbox p.first p.last p.payload) ∙ all_behind given (with_taken c p) ps
 
 next_front : (xs ps : List Piece) (r : ℕ) → AreNext xs r ps → take (r + length ps) xs ≡ take r xs ++ ps
 unfolding AreNext
@@ -39,13 +39,13 @@ next_front xs (p ∷ ps) r are =
     let goes : r + length (p ∷ ps) ≡ r + 1 + length ps = omega arith in
     ap (λ (n : ℕ). take n xs) goes ∙ next_front xs ps (r + 1) are.1 ∙ ap (λ (l : List Piece). l ++ ps) one ∙ append_assoc (take r xs) (p ∷ []) ps
 
-pub taken_more : (c : Coming) (size : ℕ) (messages given : List (List ℕ)) (ps : List Piece) → HasTaken c size messages given → AreNext (cut size messages) c.received ps → HasTaken (taken_all c ps) size messages given
+pub taken_more : (c : Coming) (size : ℕ) (messages given : List (List ℕ)) (ps : List Piece) → HasTaken c size messages given → AreNext (cut size messages) c.received ps → HasTaken (with_all_taken c ps) size messages given
 taken_more c size messages given ps h are =
     let xs = cut size messages in
-    ap (λ (n : ℕ). taken_all nothing_came (take n xs)) (received-all c ps)
-    ∙ ap (taken_all nothing_came) (next_front xs ps c.received are)
+    ap (λ (n : ℕ). with_all_taken nothing_came (take n xs)) (received-all c ps)
+    ∙ ap (with_all_taken nothing_came) (next_front xs ps c.received are)
     ∙ taken_on nothing_came (take c.received xs) ps
-    ∙ ap (λ (x : Coming). taken_all x ps) h
+    ∙ ap (λ (x : Coming). with_all_taken x ps) h
     ∙ all_behind given c ps
 
 -- no more are taken than there are
@@ -73,25 +73,25 @@ none_whole size messages = record {
 no_piece : Piece
 no_piece = record { first = false; last = false; payload = [] }
 
-front_received : (xs : List Piece) (r : ℕ) → r ≤ length xs → (taken_all nothing_came (take r xs)).received ≡ r
+front_received : (xs : List Piece) (r : ℕ) → r ≤ length xs → (with_all_taken nothing_came (take r xs)).received ≡ r
 front_received xs r le = omega (arith, received-all nothing_came (take r xs), length-take r xs)
 
-front_more : (xs : List Piece) (r : ℕ) (p : Piece) → slice_get xs r ≡ Some p → taken_all nothing_came (take (r + 1) xs) ≡ taken (taken_all nothing_came (take r xs)) p
-unfolding taken_all
+front_more : (xs : List Piece) (r : ℕ) (p : Piece) → slice_get xs r ≡ Some p → with_all_taken nothing_came (take (r + 1) xs) ≡ with_taken (with_all_taken nothing_came (take r xs)) p
+unfolding with_all_taken
 front_more xs r p at =
-    ap (taken_all nothing_came) (take_more xs r p (slice_get_within xs r p at) ∙ ap (λ (q : Piece). take r xs ++ q ∷ []) (get_or_from_slice_get xs r p p at)) ∙ taken_on nothing_came (take r xs) (p ∷ [])
+    ap (with_all_taken nothing_came) (take_more xs r p (slice_get_within xs r p at) ∙ ap (λ (q : Piece). take r xs ++ q ∷ []) (get_or_from_slice_get xs r p p at)) ∙ taken_on nothing_came (take r xs) (p ∷ [])
 
-front_whole : (size : ℕ) (messages : List (List ℕ)) (r : ℕ) → 0 < size → r ≤ length (cut size messages) → HasWhole (taken_all nothing_came (take r (cut size messages))) size messages []
-unfolding taken_all
+front_whole : (size : ℕ) (messages : List (List ℕ)) (r : ℕ) → 0 < size → r ≤ length (cut size messages) → HasWhole (with_all_taken nothing_came (take r (cut size messages))) size messages []
+unfolding with_all_taken
 front_whole size messages zero pos le = none_whole size messages
 front_whole size messages (suc r) pos le =
     let xs = cut size messages in
     let p = get_or xs r no_piece in
     let at : slice_get xs r ≡ Some p = slice_get-get_or xs r no_piece (omega arith) in
-    let before = taken_all nothing_came (take r xs) in
+    let before = with_all_taken nothing_came (take r xs) in
     let here : slice_get xs before.received ≡ Some p = ap (slice_get xs) (front_received xs r (omega arith)) ∙ at in
     let next : r + 1 ≡ suc r = omega arith in
-    subst (λ (c : Coming). HasWhole c size messages []) (sym (front_more xs r p at) ∙ ap (λ (n : ℕ). taken_all nothing_came (take n xs)) next)
+    subst (λ (c : Coming). HasWhole c size messages []) (sym (front_more xs r p at) ∙ ap (λ (n : ℕ). with_all_taken nothing_came (take n xs)) next)
     (stands_next before size messages [] p pos (front_whole size messages r pos (omega arith)) here)
 
 -- no segment of short messages is longer than the longest of them
@@ -99,7 +99,7 @@ pub piece_short : (size limit : ℕ) (messages : List (List ℕ)) (r : ℕ) (p :
 piece_short size limit messages r p pos short at =
     let xs = cut size messages in
     let le : r ≤ length xs = omega (arith, slice_get_within xs r p at) in
-    let before = taken_all nothing_came (take r xs) in
+    let before = with_all_taken nothing_came (take r xs) in
     let here : slice_get xs before.received ≡ Some p = ap (slice_get xs) (front_received xs r le) ∙ at in
     let next = takes_next before size messages [] p limit pos short (front_whole size messages r pos le) here in
     omega (arith, next.short, length-append (unwrap_or before.partial []) p.payload)
@@ -109,7 +109,7 @@ whole_of c size messages given pos h =
     let w = subst (λ (x : Coming). HasWhole x size messages []) h (front_whole size messages c.received pos (taken_few c size messages given h)) in
     record { count = w.count; whole = w.whole; inbox = w.inbox; partial = w.partial }
 
--- and back: so many messages are whole, and no other number of them
+-- and back: this many messages are whole, and no other number of them
 cuts_grow : (size : ℕ) (messages : List (List ℕ)) (n m : ℕ) → n ≤ m → length (cut size (take n messages)) ≤ length (cut size (take m messages))
 cuts_grow size messages n m le =
     let front : take n (take m messages) ≡ take n messages = take-take n m messages le in
@@ -117,11 +117,11 @@ cuts_grow size messages n m le =
     ap (λ (ms : List (List ℕ)). length (cut size ms)) (ap (λ (ms : List (List ℕ)). ms ++ drop n (take m messages)) (sym front) ∙ take-append-drop n (take m messages)) in
     omega (arith, parts, ap length (cut-append size (take n messages) (drop n (take m messages))), length-append (cut size (take n messages)) (cut size (drop n (take m messages))))
 
-no_more_whole : (size : ℕ) (messages : List (List ℕ)) (r n m : ℕ) → IsWhole size messages r n → IsWhole size messages r m → n < m → ⊥
+no_more_whole : (size : ℕ) (messages : List (List ℕ)) (r n m : ℕ) → AreWholeIn size messages r n → AreWholeIn size messages r m → n < m → ⊥
 no_more_whole size messages r n m one two lt =
     absurd (omega (arith, one.next (omega (arith, two.some)), cuts_grow size messages (n + 1) m (omega arith), two.whole))
 
-whole_one : (size : ℕ) (messages : List (List ℕ)) (r n m : ℕ) → IsWhole size messages r n → IsWhole size messages r m → n ≡ m
+whole_one : (size : ℕ) (messages : List (List ℕ)) (r n m : ℕ) → AreWholeIn size messages r n → AreWholeIn size messages r m → n ≡ m
 whole_one size messages r n m one two =
     elim (cases_lt n m) [
       | inl lt ↦ absurd (no_more_whole size messages r n m one two lt)
@@ -136,7 +136,7 @@ taken_of c size messages given pos h =
     let all = h.whole.all in
     let f = front_whole size messages c.received pos all in
     let came = front_received (cut size messages) c.received all in
-    let same : f.count ≡ h.count = whole_one size messages c.received f.count h.count (subst (λ (r : ℕ). IsWhole size messages r f.count) came f.whole) h.whole in
+    let same : f.count ≡ h.count = whole_one size messages c.received f.count h.count (subst (λ (r : ℕ). AreWholeIn size messages r f.count) came f.whole) h.whole in
     coming_same _ _ came
-    (f.partial ∙ ap (λ (r : ℕ). begun size messages r f.count) came ∙ ap (λ (n : ℕ). begun size messages c.received n) same ∙ sym h.partial)
+    (f.partial ∙ ap (λ (r : ℕ). begun_bytes size messages r f.count) came ∙ ap (λ (n : ℕ). begun_bytes size messages c.received n) same ∙ sym h.partial)
     (f.inbox ∙ ap (λ (n : ℕ). take n messages) same ∙ sym h.inbox)

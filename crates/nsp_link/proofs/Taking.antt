@@ -11,8 +11,8 @@ use Rattle.std.proofs.lemmas.List.Elements.{All-get_or}
 use Rattle.std.proofs.lemmas.List.FromFn.{get_or-map-range_with_len}
 use Rattle.std.proofs.lemmas.Option.{slice_get_within, get_or_from_slice_get}
 use Rattle.nsp_link.specs.Cutting.{Piece, count_of, piece_at, cut_message, cut}
-use Rattle.nsp_link.specs.Inner.Whole.{IsWhole, HasWhole, begun}
-use Rattle.nsp_link.specs.Coming.{Coming, body_with, taken, taken_all, AllFit, Misfits, MisfitsOne, RefusesAll, FitsBehind}
+use Rattle.nsp_link.specs.Inner.Whole.{AreWholeIn, HasWhole, begun_bytes}
+use Rattle.nsp_link.specs.Coming.{Coming, body_with, with_taken, with_all_taken, AllFitInOrder, Misfits, MisfitsOne, RefusesAll, FitsNext}
 use Rattle.nsp_link.specs.declared.fault.LinkFault.{LinkFault}
 use Rattle.nsp_link.specs.declared.fault.LinkFault.TheVariants.{BadSetup, Malformed, WrongLink, BadSequence, MessageTooLong, Failed, Exhausted, NoSuchSegment, NoMemory}
 use Rattle.nsp_link.specs.Limits.{most_segments}
@@ -70,7 +70,7 @@ pub record NextIs (size : ℕ) (messages : List (List ℕ)) (r n : ℕ) (p : Pie
   pub within : over < count_of size (length (get_or messages n []))
   pub piece : p ≡ piece_at size (get_or messages n []) over
 
-pub next_is : (size : ℕ) (messages : List (List ℕ)) (r n : ℕ) (p : Piece) → IsWhole size messages r n → slice_get (cut size messages) r ≡ Some p → NextIs size messages r n p
+pub next_is : (size : ℕ) (messages : List (List ℕ)) (r n : ℕ) (p : Piece) → AreWholeIn size messages r n → slice_get (cut size messages) r ≡ Some p → NextIs size messages r n p
 next_is size messages r n p w at =
     let inside : r < length (cut size messages) = slice_get_within (cut size messages) r p at in
     let all_of : (length messages ≤ n) → ⊥ = λ h.
@@ -87,7 +87,7 @@ next_is size messages r n p w at =
     let small : over < count_of size (length (get_or messages n [])) = omega arith in
     record { more = more; over = over; place = place; within = small; piece = cut-at size messages n over p more small (rw (← place) at) }
 
-begun_is : (size : ℕ) (messages : List (List ℕ)) (r n over : ℕ) → r ≡ length (cut size (take n messages)) + over → begun size messages r n ≡ cond (over == 0) None (Some (take (size * over) (get_or messages n [])))
+begun_is : (size : ℕ) (messages : List (List ℕ)) (r n over : ℕ) → r ≡ length (cut size (take n messages)) + over → begun_bytes size messages r n ≡ cond (over == 0) None (Some (take (size * over) (get_or messages n [])))
 begun_is size messages r n over place =
     let e : r - length (cut size (take n messages)) ≡ over = omega arith in
     rw e refl
@@ -105,7 +105,7 @@ opens (suc over) xs = rw (ne_eqb (suc over) 0 (λ e. omega arith)) refl
 pub record TakesNext (v : Coming) (size : ℕ) (messages given : List (List ℕ)) (s : Piece) (limit : ℕ) : Type 0 where
   pub mark : s.first ≡ is_none v.partial
   pub short : length (body_with v s.payload) ≤ limit
-  pub stands : HasWhole (taken v s) size messages given
+  pub stands : HasWhole (with_taken v s) size messages given
 
 module _ (v : Coming) (size : ℕ) (messages given : List (List ℕ)) (s : Piece) (pos : 0 < size) (st : HasWhole v size messages given)
     (at : slice_get (cut size messages) v.received ≡ Some s) (nx : NextIs size messages v.received st.count s) where
@@ -172,7 +172,7 @@ module _ (v : Coming) (size : ℕ) (messages given : List (List ℕ)) (s : Piece
         partial = sym (begun_is size messages (v.received + 1) (st.count + 1) 0 next);
       }
 
-pub stands_next : (v : Coming) (size : ℕ) (messages given : List (List ℕ)) (s : Piece) → 0 < size → HasWhole v size messages given → slice_get (cut size messages) v.received ≡ Some s → HasWhole (taken v s) size messages given
+pub stands_next : (v : Coming) (size : ℕ) (messages given : List (List ℕ)) (s : Piece) → 0 < size → HasWhole v size messages given → slice_get (cut size messages) v.received ≡ Some s → HasWhole (with_taken v s) size messages given
 stands_next v size messages given s pos st at =
     let nx = next_is size messages v.received st.count s st.whole at in
     let m = get_or messages st.count [] in
@@ -201,19 +201,19 @@ unfoldable pub AreNext : List Piece → ℕ → List Piece → Type 0
 AreNext segments r [] = Unit {0}
 AreNext segments r (p ∷ ps) = (slice_get segments r ≡ Some p) × AreNext segments (r + 1) ps
 
-pub fits_all : (c : Coming) (size : ℕ) (messages given : List (List ℕ)) (ps : List Piece) (limit : ℕ) → 0 < size → All (λ m. length m ≤ limit) messages → HasWhole c size messages given → AreNext (cut size messages) c.received ps → AllFit limit c ps
-unfolding AreNext AllFit
+pub fits_all : (c : Coming) (size : ℕ) (messages given : List (List ℕ)) (ps : List Piece) (limit : ℕ) → 0 < size → All (λ m. length m ≤ limit) messages → HasWhole c size messages given → AreNext (cut size messages) c.received ps → AllFitInOrder limit c ps
+unfolding AreNext AllFitInOrder
 fits_all c size messages given [] limit pos short st are = tt
 fits_all c size messages given (p ∷ ps) limit pos short st are =
     let one = takes_next c size messages given p limit pos short st are.0 in
-    ((one.mark, one.short), fits_all (taken c p) size messages given ps limit pos short one.stands are.1)
+    ((one.mark, one.short), fits_all (with_taken c p) size messages given ps limit pos short one.stands are.1)
 
-pub received-all : (c : Coming) (ps : List Piece) → (taken_all c ps).received ≡ c.received + length ps
-unfolding taken_all
+pub received-all : (c : Coming) (ps : List Piece) → (with_all_taken c ps).received ≡ c.received + length ps
+unfolding with_all_taken
 received-all c [] = omega arith
-received-all c (p ∷ ps) = received-all (taken c p) ps ∙ omega arith
+received-all c (p ∷ ps) = received-all (with_taken c p) ps ∙ omega arith
 
-fits-not : (limit : ℕ) (c : Coming) (p : Piece) (e : LinkFault) → FitsBehind limit c p → Misfits limit c p e → ⊥
+fits-not : (limit : ℕ) (c : Coming) (p : Piece) (e : LinkFault) → FitsNext limit c p → Misfits limit c p e → ⊥
 fits-not limit c p BadSequence fits out = out fits.0
 fits-not limit c p MessageTooLong fits out = absurd (omega (arith, fits.1, out.1))
 fits-not limit c p Exhausted fits out = out
@@ -224,14 +224,14 @@ fits-not limit c p WrongLink fits out = out
 fits-not limit c p Failed fits out = out
 fits-not limit c p NoSuchSegment fits out = out
 
-fit-not : (limit : ℕ) (c : Coming) (ps : List Piece) (e : LinkFault) → AllFit limit c ps → MisfitsOne limit c ps e → ⊥
-unfolding AllFit MisfitsOne
+fit-not : (limit : ℕ) (c : Coming) (ps : List Piece) (e : LinkFault) → AllFitInOrder limit c ps → MisfitsOne limit c ps e → ⊥
+unfolding AllFitInOrder MisfitsOne
 fit-not limit c [] e fit out = out
 fit-not limit c (p ∷ ps) e fit (inl out) = fits-not limit c p e fit.0 out
-fit-not limit c (p ∷ ps) e fit (inr out) = fit-not limit (taken c p) ps e fit.1 out.1
+fit-not limit c (p ∷ ps) e fit (inr out) = fit-not limit (with_taken c p) ps e fit.1 out.1
 
 -- segments that fit are refused for want of numbers or memory alone
-pub refuses-all : (limit : ℕ) (c : Coming) (ps : List Piece) (e : LinkFault) → AllFit limit c ps → RefusesAll limit c ps e
+pub refuses-all : (limit : ℕ) (c : Coming) (ps : List Piece) (e : LinkFault) → AllFitInOrder limit c ps → RefusesAll limit c ps e
     → ((e ≡ NoMemory) × (c.received + length ps ≤ most_segments)) ⊎ ((e ≡ Exhausted) × (most_segments < c.received + length ps))
 refuses-all limit c ps BadSequence fit out = absurd (fit-not limit c ps BadSequence fit out)
 refuses-all limit c ps MessageTooLong fit out = absurd (fit-not limit c ps MessageTooLong fit out)

@@ -11,14 +11,14 @@ use Rattle.std.proofs.lemmas.Bool.{cases_lt, ne_eqb}
 use Rattle.std.proofs.lemmas.List.Sums.{sum_by-append, sum_by_push, sum_by-cons, sum_by-le}
 use Rattle.std.proofs.lemmas.List.FromFn.{map-range_with_len_more, take-map-range_with_len}
 use Rattle.nsp_link.specs.Limits.{largest_limit}
-use Rattle.nsp_link.specs.Inner.Pieces.{Segment, piece, pieces}
+use Rattle.nsp_link.specs.Inner.Pieces.{Segment, piece, piece_values}
 use Rattle.nsp_link.specs.Cutting.{Piece, count_of, piece_at, cut_message, cut, total_length, bytes_in, part_after}
 use Rattle.nsp_seg.specs.declared.packet.Packet.{Packet}
 use Rattle.nsp_seg.specs.declared.packet.Packet.TheVariants.{Segment as ASegment, DataAck}
 use Rattle.nsp_link.specs.declared.fault.LinkFault.{LinkFault}
 use Rattle.nsp_link.specs.declared.link.Got.{Got}
-use Rattle.nsp_link.specs.Link.{LinkValue, AreUnfinished, Sends, failed_link, first_ack, forgotten, piece_of, waiting_bytes}
-use Rattle.nsp_link.specs.Receiving.{Acknowledges, Received, LetsGo, Bounded, BoundedBytes, Receives, is_end, segment_of, taking_in}
+use Rattle.nsp_link.specs.Link.{LinkValue, AreUnfinished, Sends, failed_link, first_ack, with_acked, piece_of, waiting_bytes}
+use Rattle.nsp_link.specs.Receiving.{Acknowledges, Received, LetsGo, Bounded, BoundedBytes, Receives, ends_link, segment_number, taking_in}
 use Rattle.nsp_link.specs.Sending.{queued_link}
 use Rattle.nsp_link.proofs.Counts.{length-cut_message, length-cut-one}
 use Rattle.nsp_link.proofs.Several.{cut-none}
@@ -88,14 +88,14 @@ part-one before p = refl
 
 -- one segment leaves the front of those that are left
 pub dropped_one : (before : ℕ) (items left now : List Segment) (i : ℕ) (s : Segment) → i < length items → left ≡ drop i items → left ≡ s ∷ now
-    → (now ≡ drop (i + 1) items) × (part_after before (pieces (take (i + 1) items)) ≡ cond s.last 0 (part_after before (pieces (take i items)) + length s.payload))
+    → (now ≡ drop (i + 1) items) × (part_after before (piece_values (take (i + 1) items)) ≡ cond s.last 0 (part_after before (piece_values (take i items)) + length s.payload))
 dropped_one before items left now i s lt is front =
     let more = drop_more items i s lt in
     let same : s ∷ now ≡ get_or items i s ∷ drop (i + 1) items = sym front ∙ is ∙ more in
     let here : s ≡ get_or items i s = ap (λ (l : List Segment). get_or l 0 s) same in
-    let taken : pieces (take (i + 1) items) ≡ pieces (take i items) ++ piece s ∷ [] =
-    ap pieces (take_more items i s lt) ∙ map-append piece (take i items) (get_or items i s ∷ []) ∙ ap (λ (x : Segment). pieces (take i items) ++ piece x ∷ []) (sym here) in
-    (ap (drop 1) same, ap (part_after before) taken ∙ part-append before (pieces (take i items)) (piece s ∷ []) ∙ part-one (part_after before (pieces (take i items))) (piece s))
+    let taken : piece_values (take (i + 1) items) ≡ piece_values (take i items) ++ piece s ∷ [] =
+    ap piece_values (take_more items i s lt) ∙ map-append piece (take i items) (get_or items i s ∷ []) ∙ ap (λ (x : Segment). piece_values (take i items) ++ piece x ∷ []) (sym here) in
+    (ap (drop 1) same, ap (part_after before) taken ∙ part-append before (piece_values (take i items)) (piece s ∷ []) ∙ part-one (part_after before (piece_values (take i items))) (piece s))
 
 pub last_dropped : (before now : ℕ) (s : Segment) → s.last ≡ true → now ≡ cond s.last 0 (before + length s.payload) → now ≡ 0
 last_dropped before now s last is = is ∙ ap (λ (b : Bool). cond b 0 (before + length s.payload)) last
@@ -104,8 +104,8 @@ pub inner_dropped : (before now : ℕ) (s : Segment) → s.last ≡ false → no
 inner_dropped before now s last is = is ∙ ap (λ (b : Bool). cond b 0 (before + length s.payload)) last
 
 -- and its bytes are no longer among those that are left
-pub bytes_dropped : (left now : List Segment) (s : Segment) → left ≡ s ∷ now → bytes_in (pieces left) ≡ length s.payload + bytes_in (pieces now)
-bytes_dropped left now s front = ap (λ (l : List Segment). bytes_in (pieces l)) front ∙ sum_by-cons (λ (p : Piece). length p.payload) (piece s) (pieces now)
+pub bytes_dropped : (left now : List Segment) (s : Segment) → left ≡ s ∷ now → bytes_in (piece_values left) ≡ length s.payload + bytes_in (piece_values now)
+bytes_dropped left now s front = ap (λ (l : List Segment). bytes_in (piece_values l)) front ∙ sum_by-cons (λ (p : Piece). length p.payload) (piece s) (piece_values now)
 
 pub long_enough : (items left now : List Segment) (i : ℕ) (s : Segment) → left ≡ drop i items → left ≡ s ∷ now → i < length items
 long_enough items left now i s is front = omega (arith, ap length is, ap length front, length-drop i items)
@@ -133,7 +133,7 @@ front_waits before (p ∷ ps) =
     omega (arith, sum, on, here)
 
 -- no more bytes wait once some are acknowledged
-forgotten_waits : (v : LinkValue) (count : ℕ) → waiting_bytes (forgotten v count) ≤ waiting_bytes v
+forgotten_waits : (v : LinkValue) (count : ℕ) → waiting_bytes (with_acked v count) ≤ waiting_bytes v
 forgotten_waits v count =
     let front = front_waits v.part (take count v.queue) in
     let both = bytes-append (take count v.queue) (drop count v.queue) in
@@ -153,13 +153,13 @@ stopped_waits true v = refl
 stopped_waits false v = refl
 
 received_waits : (old new : LinkValue) (p : Packet) (r : Result Got LinkFault) → Received old p r new → waiting_bytes new ≤ waiting_bytes old
-received_waits old new (ASegment s) (Ok got) (_, (_, _, acks)) = acked_waits old (taking_in old (segment_of old s.number) (piece_of s)) new (first_ack s.ack1 s.ack2) refl acks
+received_waits old new (ASegment s) (Ok got) (_, (_, _, acks)) = acked_waits old (taking_in old (segment_number old s.number) (piece_of s)) new (first_ack s.ack1 s.ack2) refl acks
 received_waits old new (DataAck s) (Ok got) (_, (_, acks)) = acked_waits old old new (first_ack (Some s.ack1) s.ack2) refl acks
-received_waits old new p (Err e) (_, left) = let is = ap (λ (v : LinkValue). waiting_bytes v) left in omega (arith, is, stopped_waits (is_end e) old)
+received_waits old new p (Err e) (_, left) = let is = ap (λ (v : LinkValue). waiting_bytes v) left in omega (arith, is, stopped_waits (ends_link e) old)
 
 let_go_waits : (old new : LinkValue) (p : Packet) (r : Result Got LinkFault) → LetsGo old p r new → waiting_bytes new ≤ waiting_bytes old
 let_go_waits old new (ASegment s) (Ok got) (_, _, acks) = acked_waits old old new (first_ack s.ack1 s.ack2) refl acks
-let_go_waits old new (ASegment s) (Err e) (_, left) = let is = ap (λ (v : LinkValue). waiting_bytes v) left in omega (arith, is, stopped_waits (is_end e) old)
+let_go_waits old new (ASegment s) (Err e) (_, left) = let is = ap (λ (v : LinkValue). waiting_bytes v) left in omega (arith, is, stopped_waits (ends_link e) old)
 let_go_waits old new (DataAck s) r h = absurd h
 
 bounded_waits : (old new : LinkValue) (p : Packet) (r : Result Got LinkFault) → Bounded old p r new → waiting_bytes new ≤ waiting_bytes old

@@ -6,7 +6,7 @@ use Rattle.std.proofs.lemmas.List.{length-drop, get_or-drop, drop-drop}
 use Rattle.std.proofs.lemmas.Option.{slice_get-get_or}
 use Rattle.nsp_link.specs.Cutting.{Piece, cut, part_after}
 use Rattle.nsp_link.proofs.Waiting.{part-append}
-use Rattle.nsp_link.specs.Link.{LinkValue, Sends, Writes, forgotten}
+use Rattle.nsp_link.specs.Link.{LinkValue, Sends, Writes, with_acked}
 use Rattle.std.proofs.Common.{Result, Ok, Err, inl, inr}
 use Rattle.std.proofs.lemmas.Bool.{cases_lt, lt-ltb, le-ltb}
 use Rattle.nsp_seg.specs.Numbers.{residue}
@@ -15,7 +15,7 @@ use Rattle.nsp_seg.specs.declared.packet.Packet.TheVariants.{Segment, DataAck}
 use Rattle.nsp_link.specs.declared.fault.LinkFault.{LinkFault}
 use Rattle.nsp_link.specs.declared.link.Got.{Got}
 use Rattle.nsp_link.specs.Link.{IsLink, failed_link, first_ack, piece_of}
-use Rattle.nsp_link.specs.Receiving.{newly_acked, Acknowledges, Received, segment_of, taking_in, stopped, is_end}
+use Rattle.nsp_link.specs.Receiving.{newly_acked, Acknowledges, Received, segment_number, taking_in, stopped, ends_link}
 use Rattle.nsp_link.specs.Sending.{WritesQueued, segment_packet}
 
 pub writes_segment : (v : LinkValue) (messages : List (List ℕ)) (bytes : List ℕ) (place : ℕ) → place < length v.queue
@@ -32,7 +32,7 @@ writes_segment v messages bytes place lt spelled sends =
     (segment_packet v p (v.acked + 1 + place), (p, omega arith, there, refl), spelled p at)
 
 -- what is acknowledged is forgotten
-pub sends_forgotten : (v : LinkValue) (messages : List (List ℕ)) (count : ℕ) → count ≤ length v.queue → Sends v messages → Sends (forgotten v count) messages
+pub sends_forgotten : (v : LinkValue) (messages : List (List ℕ)) (count : ℕ) → count ≤ length v.queue → Sends v messages → Sends (with_acked v count) messages
 sends_forgotten v messages count few sends =
     let pieces = cut v.setup.seg_size messages in
     let front : take (v.acked + count) pieces ≡ take v.acked pieces ++ take count v.queue =
@@ -71,13 +71,13 @@ sends_failed : (v : LinkValue) (messages : List (List ℕ)) → Sends v messages
 sends_failed v messages sends = record { queue = sends.queue; acked = sends.acked; part = sends.part }
 
 pub sends_stopped : (v : LinkValue) (e : LinkFault) (messages : List (List ℕ)) → Sends v messages → Sends (stopped e v) messages
-sends_stopped v e messages sends = elim (is_end e) as (λ b. Sends (cond b (failed_link v) v) messages) [
+sends_stopped v e messages sends = elim (ends_link e) as (λ b. Sends (cond b (failed_link v) v) messages) [
   | true ↦ sends_failed v messages sends
   | false ↦ sends
 ]
 
 -- whatever comes, the messages sent stay
 pub sends_received : (old new : LinkValue) (p : Packet) (r : Result Got LinkFault) (messages : List (List ℕ)) → IsLink old → Received old p r new → Sends old messages → Sends new messages
-sends_received old new (Segment s) (Ok got) messages link (_, (_, _, acks)) sends = sends_acked old (taking_in old (segment_of old s.number) (piece_of s)) new (first_ack s.ack1 s.ack2) messages link refl refl refl refl acks sends
+sends_received old new (Segment s) (Ok got) messages link (_, (_, _, acks)) sends = sends_acked old (taking_in old (segment_number old s.number) (piece_of s)) new (first_ack s.ack1 s.ack2) messages link refl refl refl refl acks sends
 sends_received old new (DataAck s) (Ok got) messages link (_, (_, acks)) sends = sends_acked old old new (first_ack (Some s.ack1) s.ack2) messages link refl refl refl refl acks sends
 sends_received old new p (Err e) messages link (_, left) sends = rw left (sends_stopped old e messages sends)

@@ -16,7 +16,7 @@ use Rattle.nsp_link.specs.declared.link.Got.TheVariants.{Accepted, Repeat, Early
 use Rattle.nsp_link.specs.declared.fault.LinkFault.{LinkFault}
 use Rattle.nsp_link.specs.declared.fault.LinkFault.TheVariants.{BadSetup, NoMemory}
 use Rattle.nsp_link.specs.Cutting.{Piece, cut, bytes_in, part_after}
-use Rattle.nsp_link.specs.Coming.{Coming, nothing_came, taken_all}
+use Rattle.nsp_link.specs.Coming.{Coming, nothing_came, with_all_taken}
 use Rattle.nsp_link.specs.Holding.{AreHeld, following}
 use Rattle.nsp_link.specs.Limits.{largest_segment, largest_window, greatest_age, least_limit, largest_limit, most_segments}
 
@@ -174,25 +174,25 @@ abbrev pub IsSpelling : Packet → List ℕ → Type 0
 IsSpelling p bytes = FitsFields p × (bytes ≡ spelling p)
 
 -- The bytes are those of that one packet: addresses, segments, k and a determine each bit.
-abbrev pub IsWritten : ℕ → ℕ → List Piece → Option ℕ → ℕ → List ℕ → Type 0
-IsWritten src dst pieces k a bytes =
+abbrev pub IsWrittenPacket : ℕ → ℕ → List Piece → Option ℕ → ℕ → List ℕ → Type 0
+IsWrittenPacket src dst pieces k a bytes =
     (p : Packet) × IsPacketOf src dst pieces k a p × IsSpelling p bytes
 
 -- what this end writes of the k-th segment of the messages sent, or of none, and of the first a
 abbrev pub Writes : LinkValue → List (List ℕ) → Option ℕ → ℕ → List ℕ → Type 0
-Writes v messages k a bytes = IsWritten v.setup.local v.setup.remote (cut v.setup.seg_size messages) k a bytes
+Writes v messages k a bytes = IsWrittenPacket v.setup.local v.setup.remote (cut v.setup.seg_size messages) k a bytes
 
 -- ---- taking
 
 -- An end that has taken the first segments of these messages, cut by this size, and holds others of them. The
--- messages in the segments taken are those handed out, those that wait, and one that is begun. By the law
--- `whole_messages_are_taken` the messages handed out and those that wait are the first messages, as many as are whole
+-- messages in the segments taken are those returned, those that wait, and one that is begun. By the law
+-- `whole_messages_are_taken` the messages returned and those that wait are the first messages, as many as are whole
 -- in the segments taken.
 pub record Stands (v : LinkValue) (size : ℕ) (messages given : List (List ℕ)) : Type 0 where
-  pub taken : taken_all nothing_came (take v.coming.received (cut size messages)) ≡ record v.coming { inbox = given ++ v.coming.inbox }
+  pub taken : with_all_taken nothing_came (take v.coming.received (cut size messages)) ≡ record v.coming { inbox = given ++ v.coming.inbox }
   pub held : AllByRecursion (λ h. slice_get (cut size messages) (h.0 - 1) ≡ Some h.1) v.held
 
--- whatever was taken and handed out before, the same is afterwards
+-- whatever was taken and returned before, the same is afterwards
 abbrev pub StandsStill : LinkValue → LinkValue → Type 0
 StandsStill old new = (size : ℕ) (messages given : List (List ℕ)) → Stands old size messages given → Stands new size messages given
 
@@ -200,7 +200,7 @@ StandsStill old new = (size : ℕ) (messages given : List (List ℕ)) → Stands
 abbrev pub with_inbox : LinkValue → List (List ℕ) → LinkValue
 with_inbox v inbox = record v { coming = record v.coming { inbox = inbox } }
 
--- the oldest whole message was handed out
+-- the oldest whole message was returned
 abbrev pub HandsOut : LinkValue → LinkValue → List ℕ → Type 0
 HandsOut old new message = (old.coming.inbox ≡ message ∷ new.coming.inbox) × (new ≡ with_inbox old new.coming.inbox)
 
@@ -215,8 +215,8 @@ got_of received None = AckOnly
 got_of received (Some k) = if k == received + 1 then Accepted else (if nat_lt received k then Early else Repeat)
 
 -- the end keeps the k-th segment, which is early, for later
-abbrev pub Keeps : LinkValue → ℕ → Type 0
-Keeps v k = (v.coming.received + 1 < k) × (k < v.coming.received + 1 + v.setup.window) × AllByRecursion (λ h. h.0 ≢ k) v.held
+abbrev pub KeepsEarly : LinkValue → ℕ → Type 0
+KeepsEarly v k = (v.coming.received + 1 < k) × (k < v.coming.received + 1 + v.setup.window) × AllByRecursion (λ h. h.0 ≢ k) v.held
 
 -- What is held once the k-th segment came, which says this: what follows it without a hole is taken with it, and an
 -- early one within the window is held, the first copy of it.
@@ -227,8 +227,8 @@ held_after v (Some k) p =
     (if nat_lt v.coming.received k && nat_lt k (v.coming.received + 1 + v.setup.window) then insert_key (λ a b. nat_cmp a.0 b.0) v.held (k, p) else v.held)
 
 -- an end whose oldest segments are acknowledged
-abbrev pub forgotten : LinkValue → ℕ → LinkValue
-forgotten v count =
+abbrev pub with_acked : LinkValue → ℕ → LinkValue
+with_acked v count =
     record v { acked = v.acked + count; queue = drop count v.queue; part = part_after v.part (take count v.queue) }
 
 -- A packet of a peer, which cuts these messages, none longer than this end takes, by this size: the k-th of their segments

@@ -11,10 +11,10 @@ use Rattle.nsp_seg.specs.declared.packet.Packet.TheVariants.{Segment, DataAck}
 use Rattle.nsp_link.specs.declared.link.Got.{Got}
 use Rattle.nsp_link.specs.declared.link.Got.TheVariants.{Accepted, Early, AckOnly}
 use Rattle.nsp_link.specs.Cutting.{Piece}
-use Rattle.nsp_link.specs.Coming.{taken_all, AllFit, RefusesAll}
+use Rattle.nsp_link.specs.Coming.{with_all_taken, AllFitInOrder, RefusesAll}
 use Rattle.nsp_link.specs.Holding.{following}
 use Rattle.nsp_link.specs.Limits.{most_segments}
-use Rattle.nsp_link.specs.Link.{LinkValue, got_of, held_after, Stands, SendsStill, failed_link, first_ack, piece_of, IsBetween, Keeps, forgotten}
+use Rattle.nsp_link.specs.Link.{LinkValue, got_of, held_after, Stands, SendsStill, failed_link, first_ack, piece_of, IsBetween, KeepsEarly, with_acked}
 use Rattle.nsp_link.specs.Due.{IsDue, Delivered, MayRefuse}
 
 -- How many segments a field acknowledges anew. A number that is 2,048 or more ahead is old, and acknowledges none;
@@ -31,48 +31,48 @@ abbrev pub run : LinkValue → Piece → List Piece
 run v p = p ∷ following (v.coming.received + 1) v.held
 
 -- The segment that has a number: less than 2,048 ahead of the next one, or else before it.
-abbrev pub segment_of : LinkValue → ℕ → ℕ
-segment_of v number =
+abbrev pub segment_number : LinkValue → ℕ → ℕ
+segment_number v number =
     let ahead = residue (number + 4096 - residue (v.coming.received + 1)) in
     if nat_lt ahead 2048 then v.coming.received + 1 + ahead else v.coming.received + 1 + ahead - 4096
 
 -- an end that took in the k-th segment: the next one with all that follow it, or an early one that it keeps
 abbrev pub taking_in : LinkValue → ℕ → Piece → LinkValue
 taking_in v k p =
-    let c = if k == v.coming.received + 1 then taken_all v.coming (run v p) else v.coming in
+    let c = if k == v.coming.received + 1 then with_all_taken v.coming (run v p) else v.coming in
     record v { coming = c; held = held_after v (Some k) p }
 
 -- the refusals after which the end has failed
-abbrev pub is_end : LinkFault → Bool
-is_end BadSequence = true
-is_end MessageTooLong = true
-is_end _ = false
+abbrev pub ends_link : LinkFault → Bool
+ends_link BadSequence = true
+ends_link MessageTooLong = true
+ends_link _ = false
 
 -- the end after a refusal
 abbrev pub stopped : LinkFault → LinkValue → LinkValue
-stopped e v = if is_end e then failed_link v else v
+stopped e v = if ends_link e then failed_link v else v
 
 -- what an acknowledgement takes from an end
 abbrev pub Acknowledges : LinkValue → Option ℕ → LinkValue → LinkValue → Type 0
-Acknowledges old number mid new = (count : ℕ) × (newly_acked old number ≡ Some count) × (new ≡ forgotten mid count)
+Acknowledges old number mid new = (count : ℕ) × (newly_acked old number ≡ Some count) × (new ≡ with_acked mid count)
 
 -- why the k-th segment isn't taken: the next one and those that follow it misfit; or memory is refused to an early
 -- one
 abbrev pub NotTaken : LinkValue → ℕ → Piece → LinkFault → Type 0
-NotTaken v k p e = ((k ≡ v.coming.received + 1) × RefusesAll v.setup.max_message v.coming (run v p) e) ⊎ (Keeps v k × (e ≡ NoMemory))
+NotTaken v k p e = ((k ≡ v.coming.received + 1) × RefusesAll v.setup.max_message v.coming (run v p) e) ⊎ (KeepsEarly v k × (e ≡ NoMemory))
 
 -- why a packet from the other end is refused: its acknowledgement comes before its segment
 abbrev pub Refuses : LinkValue → Packet → LinkFault → Type 0
 Refuses v (Segment s) e =
     ((newly_acked v (first_ack s.ack1 s.ack2) ≡ None) × (e ≡ BadSequence))
-    ⊎ ((newly_acked v (first_ack s.ack1 s.ack2) ≢ None) × NotTaken v (segment_of v s.number) (piece_of s) e)
+    ⊎ ((newly_acked v (first_ack s.ack1 s.ack2) ≢ None) × NotTaken v (segment_number v s.number) (piece_of s) e)
 Refuses v (DataAck s) e = (newly_acked v (first_ack (Some s.ack1) s.ack2) ≡ None) × (e ≡ BadSequence)
 
 -- how a packet from the other end is answered, and what the end is afterwards
 abbrev pub Takes : LinkValue → Packet → Got → LinkValue → Type 0
 Takes old (Segment s) got new =
-    let k = segment_of old s.number in
-    (got ≡ got_of old.coming.received (Some k)) × (got ≡ Accepted → AllFit old.setup.max_message old.coming (run old (piece_of s)))
+    let k = segment_number old s.number in
+    (got ≡ got_of old.coming.received (Some k)) × (got ≡ Accepted → AllFitInOrder old.setup.max_message old.coming (run old (piece_of s)))
     × Acknowledges old (first_ack s.ack1 s.ack2) (taking_in old k (piece_of s)) new
 Takes old (DataAck s) got new = (got ≡ AckOnly) × Acknowledges old (first_ack (Some s.ack1) s.ack2) old new
 
@@ -93,7 +93,7 @@ ReceivedBytes old new bytes result =
 
 -- A packet that is due. The answer follows from the number k of its segment and the number of segments taken. The
 -- counts and what is held move as `Delivered` says. The end has still taken the first segments of the same messages,
--- so it hands out exactly those whose last segment it has taken, each once and in order. Only a refused allocation,
+-- so it returns exactly those whose last segment it has taken, each once and in order. Only a refused allocation,
 -- or the limit of 2^40 segments, refuses it, and then nothing changes.
 abbrev pub ReceivedDue : (old new : LinkValue) → List ℕ → Result Got LinkFault → Type 0
 ReceivedDue old new bytes result =
@@ -113,7 +113,7 @@ UnrefusedDue old bytes result =
 
 -- an early segment that belongs to no message of this end: it has more bytes than the longest one
 abbrev pub is_oversize : LinkValue → Packet → Bool
-is_oversize v (Segment s) = nat_lt (v.coming.received + 1) (segment_of v s.number) && nat_lt v.setup.max_message (length s.payload)
+is_oversize v (Segment s) = nat_lt (v.coming.received + 1) (segment_number v s.number) && nat_lt v.setup.max_message (length s.payload)
 is_oversize v (DataAck s) = false
 
 -- it is answered as early and isn't held: its acknowledgement alone is taken

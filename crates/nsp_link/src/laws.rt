@@ -34,7 +34,7 @@ pub fn messages_only_grow()
     ensures new_sends { (s : LinkSetup) → Sends (new_link s) [] }
 {}
 
-/// What an end is after are whole messages, each once and in order: those that it handed out, and then those that
+/// What an end is after are whole messages, each once and in order: those that it returned, and then those that
 /// wait, are the first of the messages, as many as are whole in the segments that it took.
 pub fn whole_messages_are_taken()
     ensures { (v : LinkValue) (size : ℕ) (messages given : List (List ℕ)) → 0 < size

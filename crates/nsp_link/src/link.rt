@@ -56,8 +56,8 @@ const LEAST_LIMIT: usize = 64;
 /// The bytes of a message at most.
 pub const LARGEST_LIMIT: usize = 65535;
 
-/// One end of an open link (NSP 4.0.0, data segments and their acknowledgement). What it hands out is a part from
-/// the front of the messages that the other end sent, each once and in order, and no acknowledgement moves it beyond
+/// One end of an open link (NSP 4.0.0, data segments and their acknowledgement). What it returns is a prefix of
+/// the messages that the other end sent, each once and in order, and no acknowledgement moves it beyond
 /// what it sent.
 #[derive(Drop)]
 pub struct LinkEnd {
@@ -81,11 +81,11 @@ impl Model for LinkEnd {
 
     ghost Value = { LinkValue };
 
-    ghost use Rattle.nsp_link.specs.Inner.View.{link_view, IsEnd};
+    ghost use Rattle.nsp_link.specs.Inner.View.{link_view, IsLinkInside};
 
     ghost view = { link_view };
 
-    ghost invariant = { IsEnd };
+    ghost invariant = { IsLinkInside };
 }
 
 impl LinkEnd {

@@ -7,11 +7,11 @@ ghost use Rattle.nsp_seg.specs.declared.packet.Packet.TheVariants.{Segment as AS
 ghost use Rattle.nsp_seg.specs.Packets.{Spells, HasFault};
 ghost use Rattle.nsp_link.specs.declared.fault.LinkFault.TheVariants.{BadSequence, Failed, NoMemory, WrongLink, Malformed};
 ghost use Rattle.nsp_link.specs.declared.link.Got.TheVariants.{Accepted};
-ghost use Rattle.nsp_link.specs.Coming.{AllFit, RefusesAll};
+ghost use Rattle.nsp_link.specs.Coming.{AllFitInOrder, RefusesAll};
 ghost use Rattle.nsp_link.specs.Cutting.{bytes_in, part_after};
-ghost use Rattle.nsp_link.specs.Link.{Stands, SendsStill, HandsOut, Keeps, got_of, first_ack, plain_ack, forgotten};
-ghost use Rattle.nsp_link.specs.Receiving.{newly_acked, run, segment_of, taking_in, is_end, is_oversize, stopped, NotTaken, Received, ReceivedBytes, ReceivedDue, UnrefusedDue, LetsGo, Bounded, BoundedBytes};
-ghost use Rattle.nsp_link.specs.Inner.Pieces.{lent_piece, pieces};
+ghost use Rattle.nsp_link.specs.Link.{Stands, SendsStill, HandsOut, KeepsEarly, got_of, first_ack, plain_ack, with_acked};
+ghost use Rattle.nsp_link.specs.Receiving.{newly_acked, run, segment_number, taking_in, ends_link, is_oversize, stopped, NotTaken, Received, ReceivedBytes, ReceivedDue, UnrefusedDue, LetsGo, Bounded, BoundedBytes};
+ghost use Rattle.nsp_link.specs.Inner.Pieces.{lent_piece, piece_values};
 
 use crate::fault::LinkFault;
 use crate::incoming::take_run;
@@ -47,7 +47,7 @@ impl LinkEnd {
     ///
     /// Refused, in this order: `Failed`; `Malformed`; `WrongLink`, where it isn't from the other end to this one;
     /// `BadSequence`, where it acknowledges what wasn't sent; of the next segment, or of the first at fault of
-    /// those that follow it, `BadSequence`, where a first mark is elsewhere than in front of a message, or
+    /// those that follow it, `BadSequence`, where a first mark is elsewhere than at the start of a message, or
     /// `MessageTooLong`, above `max_message`; `Exhausted`, where all of these would be more than 2^40 segments;
     /// `NoMemory`. After `BadSequence` and `MessageTooLong` nothing of the packet was taken and every later call
     /// that can refuse answers `Failed`; every other refusal changes nothing.
@@ -230,7 +230,7 @@ impl LinkEnd {
     /// Drops the oldest segments, which are acknowledged.
     fn forget(&mut self, count: usize)
         requires { self.old.acked + count ≤ self.old.sent }
-        ensures { self.new ≡ forgotten self.old count }
+        ensures { self.new ≡ with_acked self.old count }
     {
         let (part, waiting) = drop_front(&mut self.queue, self.part, self.waiting, count);
         self.part = part;
@@ -241,14 +241,14 @@ impl LinkEnd {
     /// Takes in a segment from the other end; where it is refused, nothing changes.
     fn take_segment(&mut self, number: Seq12, piece: &Piece<&[u8]>) -> Result<Got, LinkFault>
         ensures got { IfOk result
-            (λ got. got ≡ got_of self.old.coming.received (Some (segment_of self.old number))) }
+            (λ got. got ≡ got_of self.old.coming.received (Some (segment_number self.old number))) }
         ensures fit { IfOk result (λ got. got ≡ Accepted
-            → AllFit self.old.setup.max_message self.old.coming
+            → AllFitInOrder self.old.setup.max_message self.old.coming
             (run self.old (lent_piece piece.now))) }
         ensures taken { OnOk result (self.new
-            ≡ taking_in self.old (segment_of self.old number) (lent_piece piece.now)) }
+            ≡ taking_in self.old (segment_number self.old number) (lent_piece piece.now)) }
         ensures err { IfErr result (λ e. (self.new ≡ self.old)
-            × NotTaken self.old (segment_of self.old number) (lent_piece piece.now) e) }
+            × NotTaken self.old (segment_number self.old number) (lent_piece piece.now) e) }
     {
         let ahead = number.ahead_of(Seq12::of(self.incoming.received + 1));
         if ahead == 0 {
@@ -264,7 +264,7 @@ impl LinkEnd {
 
     /// Takes in the next segment and all that follow it, or none of them.
     fn take_next(&mut self, piece: &Piece<&[u8]>) -> Result<(), LinkFault>
-        ensures ok { OnOk result (AllFit self.old.setup.max_message self.old.coming
+        ensures ok { OnOk result (AllFitInOrder self.old.setup.max_message self.old.coming
             (run self.old (lent_piece piece.now))) }
         ensures taken { OnOk result
             (self.new ≡ taking_in self.old (self.old.coming.received + 1) (lent_piece piece.now)) }
@@ -285,7 +285,7 @@ impl LinkEnd {
         ensures ok { OnOk result (self.new
             ≡ taking_in self.old (self.old.coming.received + 1 + place) (lent_piece piece.now)) }
         ensures err { IfErr result (λ e. (e ≡ NoMemory)
-            × Keeps self.old (self.old.coming.received + 1 + place) × (self.new ≡ self.old)) }
+            × KeepsEarly self.old (self.old.coming.received + 1 + place) × (self.new ≡ self.old)) }
     {
         if is_free(&self.held, place) {
             let payload = Vec::from_slice(self.alloc, piece.payload)?;
@@ -303,7 +303,7 @@ impl LinkEnd {
 
 /// Whether the two ends have lost each other.
 fn ends_link(fault: LinkFault) -> bool
-    ensures { result ≡ is_end fault }
+    ensures { result ≡ ends_link fault }
 {
     matches!(fault, LinkFault::BadSequence | LinkFault::MessageTooLong)
 }
@@ -312,10 +312,10 @@ fn ends_link(fault: LinkFault) -> bool
 /// gone, and how many bytes wait then, where these were this many.
 fn drop_front(queue: &mut VecDeque<Segment>, part: u64, waiting: u64, count: usize) -> (u64, u64)
     requires few { count ≤ length queue.old.items }
-    requires counted { waiting ≡ part + bytes_in (pieces queue.old.items) }
+    requires counted { waiting ≡ part + bytes_in (piece_values queue.old.items) }
     ensures queue { queue.new.items ≡ drop count queue.old.items }
-    ensures part { result.0 ≡ part_after part (take count (pieces queue.old.items)) }
-    ensures counted { result.1 ≡ result.0 + bytes_in (pieces queue.new.items) }
+    ensures part { result.0 ≡ part_after part (take count (piece_values queue.old.items)) }
+    ensures counted { result.1 ≡ result.0 + bytes_in (piece_values queue.new.items) }
     ensures fewer { result.1 ≤ waiting }
 {
     let mut part = part;

@@ -9,7 +9,7 @@ use std::alloc::{AllocError, Global};
 
 pub(crate) type Ring = HeapCircularBuffer<Option<Held>>;
 
-/// So many free places.
+/// This many free places.
 pub(crate) fn free_places(alloc: Global, count: usize) -> Result<Ring, AllocError>
     ensures items { IfOk result (λ r. r.items ≡ replicate count None) }
     ensures capacity { IfOk result (λ r. r.capacity ≡ count) }

@@ -2,7 +2,7 @@
 use Rattle.std.proofs.Common.{◌≡◌, ◌⊎◌, ℕ, ◌<◌, List, Result, Ok, Err, get_or, refl, arith, inl, inr}
 use Rattle.nsp_seg.specs.declared.packet.SegFault.{SegFault}
 use Rattle.nsp_seg.specs.Packets.{Packet, Spells, FitsFields, HasFault, spelling}
-use Rattle.nsp_seg.specs.Inner.Reading.{read}
+use Rattle.nsp_seg.specs.Inner.Reading.{read_packet}
 use Rattle.nsp_seg.proofs.Spelled.{read-spelled}
 use Rattle.nsp_seg.proofs.Found.{read_found}
 use Rattle.nsp_seg.proofs.Faults.{read_fault, IsBytes}
@@ -14,12 +14,12 @@ spells-one p q bytes a b =
     let y = read-spelled q bytes b in
     (cc)
 
-either : (bytes : List ℕ) (r : Result Packet SegFault) → IsBytes bytes → read bytes ≡ r → ((p : Packet) × Spells p bytes) ⊎ ((f : SegFault) × HasFault f bytes)
+either : (bytes : List ℕ) (r : Result Packet SegFault) → IsBytes bytes → read_packet bytes ≡ r → ((p : Packet) × Spells p bytes) ⊎ ((f : SegFault) × HasFault f bytes)
 either bytes (Ok p) fits e = inl (p, read_found bytes p fits e)
 either bytes (Err f) fits e = inr (f, read_fault bytes f fits e)
 
 pub spells_or_fault : (bytes : List ℕ) → ((i : ℕ) → get_or bytes i 0 < 256) → ((p : Packet) × Spells p bytes) ⊎ ((f : SegFault) × HasFault f bytes)
-spells_or_fault bytes fits = either bytes (read bytes) fits refl
+spells_or_fault bytes fits = either bytes (read_packet bytes) fits refl
 
 pub spells-written : (p : Packet) → FitsFields p → Spells p (spelling p)
 spells-written p fits = record { fits = fits; free = 0; few = omega arith; spelled = refl }

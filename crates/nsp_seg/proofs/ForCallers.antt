@@ -3,7 +3,7 @@ use Rattle.std.proofs.Common.{◌≡◌, ℕ, ◌<◌, List, get_or}
 use Rattle.nsp_seg.specs.declared.packet.SegFault.{SegFault}
 use Rattle.nsp_seg.specs.Packets.{Packet, Spells, FitsFields, HasFault, spelling}
 use Rattle.nsp_seg.proofs.Exactness as exactness
--- a segment's payload may be any other, behind 11 bytes at most; and these tell an acknowledgement and each fault
+-- a segment's payload may be any other, after 11 bytes at most; and these tell an acknowledgement and each fault
 pub use Rattle.nsp_seg.proofs.Payloads.{carrying, other_payload, head_few, other_ack, other_fault}
 
 -- bytes spell one packet at most

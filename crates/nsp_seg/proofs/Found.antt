@@ -7,7 +7,7 @@ use Rattle.nsp_seg.specs.declared.packet.AckField.{AckField}
 use Rattle.nsp_seg.specs.declared.packet.SegFault.{SegFault}
 use Rattle.nsp_seg.specs.Numbers.{residue}
 use Rattle.nsp_seg.specs.Packets.{Packet, Spells, AckFits, Beside, optional_ack, marks}
-use Rattle.nsp_seg.specs.Inner.Reading.{◌>>=◌, tail_of, segment_of, second_of, data_ack_of, read, Gives}
+use Rattle.nsp_seg.specs.Inner.Reading.{◌>>=◌, tail_of, read_segment, second_of, data_ack_of, read_packet, ReadsPacketAs}
 use Rattle.nsp_seg.proofs.Faults.{IsBytes, IsSegmentFlag, high_word, low_word, is_segment, used_of, of_segment}
 
 low_cell : (low high : ℕ) → low < 256 → high < 256 → (low + 256 * high) % 256 ≡ low
@@ -117,8 +117,8 @@ residue-small : (n : ℕ) → residue n < 4096
 unfolding residue
 residue-small n = omega arith
 
-segment_found : (flag : ℕ) (bytes : List ℕ) (p : Packet) → IsSegmentFlag flag → IsBytes bytes → segment_of flag bytes ≡ Ok p → Spells p (flag ∷ bytes)
-unfolding segment_of
+segment_found : (flag : ℕ) (bytes : List ℕ) (p : Packet) → IsSegmentFlag flag → IsBytes bytes → read_segment flag bytes ≡ Ok p → Spells p (flag ∷ bytes)
+unfolding read_segment
 segment_found flag [] p used fits e = absurd cc
 segment_found flag (x ∷ []) p used fits e = absurd cc
 segment_found flag (d0 ∷ d1 ∷ []) p used fits e = absurd cc
@@ -175,8 +175,8 @@ ack_found (d0 ∷ d1 ∷ s0 ∷ s1 ∷ a0 ∷ a1 ∷ rest) p fits e =
           })
     ]
 
-pub read_found : (bytes : List ℕ) (p : Packet) → IsBytes bytes → read bytes ≡ Ok p → Spells p bytes
-unfolding read
+pub read_found : (bytes : List ℕ) (p : Packet) → IsBytes bytes → read_packet bytes ≡ Ok p → Spells p bytes
+unfolding read_packet
 read_found [] p fits e = absurd cc
 read_found (flag ∷ rest) p fits e =
     elim (cases_Bool (is_segment flag)) [
@@ -187,6 +187,6 @@ read_found (flag ∷ rest) p fits e =
       ]
     ]
 
-pub given-found : (r : Result Packet SegFault) (bytes : List ℕ) → IsBytes bytes → r ≡ read bytes → IfOk r (λ p. Spells p bytes)
+pub given-found : (r : Result Packet SegFault) (bytes : List ℕ) → IsBytes bytes → r ≡ read_packet bytes → IfOk r (λ p. Spells p bytes)
 given-found (Ok p) bytes fits g = read_found bytes p fits (sym g)
 given-found (Err f) bytes fits g = tt

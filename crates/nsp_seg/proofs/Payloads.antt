@@ -7,7 +7,7 @@ use Rattle.nsp_seg.specs.declared.packet.SegFault.{SegFault}
 use Rattle.nsp_seg.specs.declared.packet.SegFault.TheVariants.{Truncated, Trailing, NotHere, BadNumber, NoMemory}
 use Rattle.nsp_seg.specs.declared.packet.AckFields.{AckFields}
 use Rattle.nsp_seg.specs.declared.packet.Packet.TheVariants.{Segment, DataAck}
-use Rattle.nsp_seg.specs.Packets.{SegmentFields, marks, optional_ack, Spells, HasFault, IsFieldDue, IsShort, MayNotFollow, MayNotBeNumber}
+use Rattle.nsp_seg.specs.Packets.{SegmentFields, marks, optional_ack, Spells, HasFault, IsFieldDue, IsCutField, MayNotFollow, MayNotBeNumber}
 
 -- the segment with another payload
 abbrev pub carrying : SegmentFields → List ℕ → SegmentFields
@@ -22,7 +22,7 @@ carrying s payload = record {
   payload = payload;
 }
 
--- what stands in front of the payload
+-- what stands before the payload
 abbrev head_with : ℕ → SegmentFields → List ℕ
 head_with free s =
     marks s.first s.last ∷ [] ++ little_bytes 2 s.dst ++ little_bytes 2 s.src ++ optional_ack s.ack1 ++ optional_ack s.ack2
@@ -53,7 +53,7 @@ ack_few : (a : Option AckField) → length (optional_ack a) ≤ 2
 ack_few None = omega arith
 ack_few (Some a) = omega arith
 
--- at most 11 bytes stand in front of a payload
+-- at most 11 bytes stand before a payload
 pub head_few : (s : SegmentFields) (one : List ℕ) → Spells (Segment s) one → length one ≤ 11 + length s.payload
 head_few s one h =
     let one : List ℕ = optional_ack s.ack1 in
@@ -79,7 +79,7 @@ other_ack a one two h same = rw (same_short 11 one two (omega (arith, ap length 
 
 -- ---- Faults.
 
--- bytes that are the same up to so many behind a front begin with it, and go on the same
+-- bytes that are the same up to this many after a front begin with it, and go on the same
 same_front : (n place : ℕ) (front rest two : List ℕ) → place ≡ length front + n → take place two ≡ take place (front ++ rest)
     → (other : List ℕ) × (two ≡ front ++ other) × (take n other ≡ take n rest)
 same_front n place [] rest two at same = let e : place ≡ n = omega (arith, at) in (two, refl, rw e at same)
@@ -89,7 +89,7 @@ same_front n (suc place) (x ∷ front) rest (y ∷ two) at same =
     let more = same_front n place front rest two (omega (arith, at)) cc in
     (more.0, cc (more.1, same), more.2)
 
--- a fault's front has at most 9 bytes, and two behind it tell the fault
+-- a fault's front has at most 9 bytes, and two after it tell the fault
 behind : (front rest one two : List ℕ) → length front ≤ 9 → one ≡ front ++ rest → take 11 two ≡ take 11 one
     → (other : List ℕ) × (two ≡ front ++ other) × (take 2 other ≡ take 2 rest)
 behind front rest one two few whole same =
@@ -112,7 +112,7 @@ few P none (a ∷ b ∷ c ∷ d ∷ e ∷ f ∷ g ∷ h ∷ i ∷ []) p = omega 
 few P none (a ∷ b ∷ c ∷ d ∷ e ∷ f ∷ g ∷ h ∷ i ∷ j ∷ l) p = absurd (none a b c d e f g h i j l p)
 
 -- what goes on the same for two bytes is short where the other is, and may not follow where the other may not
-short_other : (front rest other : List ℕ) → IsShort front rest → take 2 other ≡ take 2 rest → IsShort front other
+short_other : (front rest other : List ℕ) → IsCutField front rest → take 2 other ≡ take 2 rest → IsCutField front other
 short_other [] [] [] short same = refl
 short_other [] [] (y ∷ other) short same = absurd cc
 short_other [] (x ∷ rest) other short same = absurd cc

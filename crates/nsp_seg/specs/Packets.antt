@@ -91,9 +91,9 @@ IsFieldDue (flag ∷ _ ∷ _ ∷ _ ∷ _ ∷ _ ∷ high1 ∷ _ ∷ high2 ∷ [])
 IsFieldDue _ = ⊥
 
 -- The field isn't whole: there is no first byte, or fewer than two bytes of any other field.
-abbrev pub IsShort : List ℕ → List ℕ → Type 0
-IsShort [] rest = rest ≡ []
-IsShort (_ ∷ _) rest = length rest < 2
+abbrev pub IsCutField : List ℕ → List ℕ → Type 0
+IsCutField [] rest = rest ≡ []
+IsCutField (_ ∷ _) rest = length rest < 2
 
 -- The bytes are a data acknowledgement, and the others may not follow it (Trailing): after its first field a single
 -- byte or a number with bit 15 clear, and after its second field any byte.
@@ -114,7 +114,7 @@ MayNotBeNumber _ _ = ⊥
 -- before the addresses. Bytes are never out of memory.
 abbrev pub HasFault : SegFault → List ℕ → Type 0
 HasFault (Truncated at) bytes =
-    (front rest : List ℕ) × (bytes ≡ front ++ rest) × (length front ≡ at) × IsFieldDue front × IsShort front rest
+    (front rest : List ℕ) × (bytes ≡ front ++ rest) × (length front ≡ at) × IsFieldDue front × IsCutField front rest
 HasFault (Trailing at) bytes =
     (front rest : List ℕ) × (bytes ≡ front ++ rest) × (length front ≡ at) × MayNotFollow front rest
 HasFault (NotHere flag) bytes = (rest : List ℕ) × (bytes ≡ flag ∷ rest) × (IsUsedFlag flag → ⊥)

@@ -7,8 +7,8 @@ use Rattle.nsp_seg.specs.declared.packet.SegFault.{SegFault}
 use Rattle.nsp_seg.specs.Packets.{Packet as PacketValue}
 
 -- the value with the same fields
-abbrev pub value_of : Packet → PacketValue
-value_of (packet.Segment first last dst src ack1 ack2 number payload) = Segment (record {
+abbrev pub packet_value : Packet → PacketValue
+packet_value (packet.Segment first last dst src ack1 ack2 number payload) = Segment (record {
   first = first;
   last = last;
   dst = dst;
@@ -18,9 +18,9 @@ value_of (packet.Segment first last dst src ack1 ack2 number payload) = Segment 
   number = number;
   payload = payload.now;
 })
-value_of (packet.DataAck dst src ack1 ack2) = DataAck (record { dst = dst; src = src; ack1 = ack1; ack2 = ack2 })
+packet_value (packet.DataAck dst src ack1 ack2) = DataAck (record { dst = dst; src = src; ack1 = ack1; ack2 = ack2 })
 
 -- the same of an answer of `decode_packet`
-abbrev pub value_of_answer : Result Packet SegFault → Result PacketValue SegFault
-value_of_answer (Ok packet) = Ok (value_of packet)
-value_of_answer (Err fault) = Err fault
+abbrev pub packet_answer_value : Result Packet SegFault → Result PacketValue SegFault
+packet_answer_value (Ok packet) = Ok (packet_value packet)
+packet_answer_value (Err fault) = Err fault

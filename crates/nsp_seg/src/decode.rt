@@ -2,7 +2,7 @@
 
 ghost use Rattle.std.specs.Prelude.{◌≡◌, Ok, Err, IfOk, IfErr};
 ghost use Rattle.nsp_seg.specs.Packets.{Packet, Spells, HasFault};
-ghost use Rattle.nsp_seg.specs.Inner.Reading.{Gives, word_at, ack_of, tail_of, segment_of, second_of, data_ack_of, read};
+ghost use Rattle.nsp_seg.specs.Inner.Reading.{ReadsPacketAs, read_word, ack_of, tail_of, read_segment, second_of, data_ack_of, read_packet};
 
 use crate::packet::{
     ACK_FIELD, ACK_FIELD_HIGH, AckField, AckFields, FIRST, FlagKind, LAST, Packet, Payload,
@@ -13,7 +13,7 @@ use byteorder::{ByteOrder, LittleEndian};
 
 /// The two-byte number in front, which is at the offset `at` of the packet, and what follows it.
 fn take_word(bytes: &[u8], at: usize) -> Result<(u16, &[u8]), SegFault>
-    ensures { Gives (λ x. (x.0, x.1.now)) result (word_at at bytes.now) }
+    ensures { ReadsPacketAs (λ x. (x.0, x.1.now)) result (read_word at bytes.now) }
 {
     if bytes.len() < 2 {
         return Err(SegFault::Truncated(at));
@@ -42,7 +42,7 @@ type Tail<'a> = (Option<AckField>, Option<AckField>, u16, &'a [u8]);
 /// What a segment has from offset 5 on.
 #[tactic(auto, unfolding(crate::specs::Inner::Reading::tail_of))]
 fn take_tail(bytes: &[u8]) -> Result<Tail<'_>, SegFault>
-    ensures { Gives (λ t. (t.0, t.1, t.2, t.3.now)) result (tail_of bytes.now) }
+    ensures { ReadsPacketAs (λ t. (t.0, t.1, t.2, t.3.now)) result (tail_of bytes.now) }
 {
     let (one, rest) = take_word(bytes, 5)?;
     if one < ACK_FIELD {
@@ -59,10 +59,10 @@ fn take_tail(bytes: &[u8]) -> Result<Tail<'_>, SegFault>
     Err(SegFault::BadNumber(9))
 }
 
-/// The segment with this flag byte in front of these bytes.
-#[tactic(auto, unfolding(crate::specs::Inner::Reading::segment_of))]
+/// The segment with this flag byte before these bytes.
+#[tactic(auto, unfolding(crate::specs::Inner::Reading::read_segment))]
 fn segment(flag: u8, bytes: &[u8]) -> Result<Packet<'_>, SegFault>
-    ensures { result ≡ segment_of flag bytes.now }
+    ensures { result ≡ read_segment flag bytes.now }
 {
     let (dst, rest) = take_word(bytes, 1)?;
     let (src, rest) = take_word(rest, 3)?;
@@ -85,7 +85,7 @@ fn segment(flag: u8, bytes: &[u8]) -> Result<Packet<'_>, SegFault>
 /// What follows the first field of an acknowledgement, from offset 7 on.
 #[tactic(auto, unfolding(crate::specs::Inner::Reading::second_of))]
 fn second_ack(bytes: &[u8]) -> Result<Option<AckField>, SegFault>
-    ensures { Gives (λ a. a) result (second_of bytes.now) }
+    ensures { ReadsPacketAs (λ a. a) result (second_of bytes.now) }
 {
     match bytes {
         [] => Ok(None),
@@ -117,9 +117,9 @@ fn data_ack(bytes: &[u8]) -> Result<Packet<'_>, SegFault>
 }
 
 /// The packet that the bytes spell, or their fault.
-#[tactic(auto, unfolding(crate::specs::Inner::Reading::read))]
+#[tactic(auto, unfolding(crate::specs::Inner::Reading::read_packet))]
 fn packet(bytes: &[u8]) -> Result<Packet<'_>, SegFault>
-    ensures { result ≡ read bytes.now }
+    ensures { result ≡ read_packet bytes.now }
 {
     match bytes {
         [] => Err(SegFault::Truncated(0)),

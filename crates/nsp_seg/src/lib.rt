@@ -20,4 +20,4 @@ pub use packet::{
     AckField, AckFields, FlagKind, Packet as PacketValue, Payload, SegFault, SegmentFields,
     flag_kind,
 };
-pub use seq12::Seq12;
+pub use seq12::{MODULUS, Seq12};

@@ -3,7 +3,7 @@
 ghost use Rattle.std.specs.Prelude.{◌≡◌, ◌≤◌, ◌+◌, ◌++◌, length, Ok, Err, IfOk, IfErr, IsOk, IsOkUnless, OnOk, OnErr, vec_len, vec_capacity};
 ghost use Rattle.nsp_seg.specs.declared.packet.SegFault.TheVariants.{NoMemory};
 ghost use Rattle.nsp_seg.specs.Packets.{Packet as PacketValue, FitsFields, HasFault, IsWritable, Spells, spelling};
-ghost use Rattle.nsp_seg.specs.Values.{value_of, value_of_answer};
+ghost use Rattle.nsp_seg.specs.Values.{packet_value, packet_answer_value};
 
 use crate::decode::decode_value;
 use crate::encode::encode_value;
@@ -49,7 +49,7 @@ pub enum Packet<'a> {
 impl<'a> Packet<'a> {
     /// The value of the packet. Made into a packet again it has the same fields.
     pub fn to_value(&self) -> PacketValue<'a>
-        ensures { result ≡ value_of self.now }
+        ensures { result ≡ packet_value self.now }
     {
         match *self {
             Packet::Segment {
@@ -87,7 +87,7 @@ impl<'a> Packet<'a> {
 
     /// The packet that has this value.
     pub fn from_value(value: PacketValue<'a>) -> Packet<'a>
-        ensures { value_of result ≡ value.entry }
+        ensures { packet_value result ≡ value.entry }
     {
         match value {
             PacketValue::Segment(segment) => Packet::Segment {
@@ -115,8 +115,8 @@ impl<'a> Packet<'a> {
 /// message; other messages are not read here).
 pub fn decode_packet(bytes: &[u8]) -> Result<Packet<'_>, SegFault>
     // What is spelled is read, and what is read is spelled.
-    ensures only { (p : PacketValue) → Spells p bytes.now → value_of_answer result ≡ Ok p }
-    ensures found { IfOk result (λ p. Spells (value_of p) bytes.now) }
+    ensures only { (p : PacketValue) → Spells p bytes.now → packet_answer_value result ≡ Ok p }
+    ensures found { IfOk result (λ p. Spells (packet_value p) bytes.now) }
     // A fault of the bytes is told, and what is told is a fault of the bytes.
     ensures fault_found { (f : SegFault) → HasFault f bytes.now → result ≡ Err f }
     ensures fault { IfErr result (λ f. HasFault f bytes.now) }
@@ -132,12 +132,12 @@ pub fn decode_packet(bytes: &[u8]) -> Result<Packet<'_>, SegFault>
 /// is refused, which leaves `out` as it was, and never where `out` has the room already; no room is given back (NSP
 /// 4.0.0, data segment message and data acknowledgement message).
 pub fn encode_packet(packet: &Packet<'_>, out: &mut Vec<u8>) -> Result<(), SegFault>
-    requires { IsWritable (value_of packet.now) }
-    ensures ok { OnOk result (out.new.items ≡ out.old.items ++ spelling (value_of packet.now)) }
-    ensures fits { OnOk result (FitsFields (value_of packet.now)) }
+    requires { IsWritable (packet_value packet.now) }
+    ensures ok { OnOk result (out.new.items ≡ out.old.items ++ spelling (packet_value packet.now)) }
+    ensures fits { OnOk result (FitsFields (packet_value packet.now)) }
     ensures err { OnErr result (out.new.items ≡ out.old.items) }
     ensures fault { IsOkUnless result NoMemory }
-    ensures room { vec_len out.old + length (spelling (value_of packet.now)) ≤ vec_capacity out.old
+    ensures room { vec_len out.old + length (spelling (packet_value packet.now)) ≤ vec_capacity out.old
         → IsOk result }
     ensures capacity { vec_capacity out.old ≤ vec_capacity out.new }
 {

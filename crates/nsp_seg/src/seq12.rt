@@ -9,8 +9,8 @@ use std::marker::Model;
 #[derive(Clone, Copy, PartialEq, Eq)]
 pub struct Seq12(u16);
 
-/// So many numbers there are.
-const ROUND: u16 = 4096;
+/// This many numbers of segments there are: they go round at this one (NSP 4.0.0, segment numbers).
+pub const MODULUS: u16 = 4096;
 
 impl Model for Seq12 {
     ghost use Rattle.std.specs.Prelude.{ℕ, ◌<◌};
@@ -30,7 +30,7 @@ impl Seq12 {
     pub fn of(number: u64) -> Seq12
         ensures { result ≡ residue number }
     {
-        Seq12((number % u64::from(ROUND)) as u16)
+        Seq12((number % u64::from(MODULUS)) as u16)
     }
 
     /// The number itself, below 4,096 (NSP 4.0.0, segment numbers).
@@ -46,7 +46,7 @@ impl Seq12 {
     pub fn after(self) -> Seq12
         ensures { result ≡ residue (self + 1) }
     {
-        Seq12((self.0 + 1) % ROUND)
+        Seq12((self.0 + 1) % MODULUS)
     }
 
     /// How far this number is ahead of the other, going round: this one minus the other, modulo 4,096.
@@ -55,6 +55,6 @@ impl Seq12 {
         ensures ahead { result ≡ residue (self + 4096 - other) }
         ensures small { result < 4096 }
     {
-        (self.0 + ROUND - other.0) % ROUND
+        (self.0 + MODULUS - other.0) % MODULUS
     }
 }

@@ -8,7 +8,7 @@ use Rattle.std.specs.FinMap.{get, insert, remove, get-insert, get-remove, get-em
 use Rattle.std.proofs.lemmas.Bool.Decides.{nat_tests}
 use Rattle.rec_file.specs.declared.shapes.Shape.{Shape}
 use Rattle.rec_file.specs.Limits.{greatest_number, longest_record}
-use Rattle.rec_file.specs.Shapes.{is_shape, has_length, is_seq, limit_of, allows_length}
+use Rattle.rec_file.specs.Shapes.{is_shape, has_length, is_seq, max_number, allows_length}
 use Rattle.rec_file.specs.Files.{FileVal, IsFile, Records, highest_of, stored, removed}
 use Rattle.rec_file.proofs.Rising.{same_or_not}
 use Rattle.rec_file.proofs.RecordsLaws.{is_highest, highest_is}
@@ -41,13 +41,13 @@ no_zero file h = none_unless _ (λ some. let least = h.above 0 some in omega ari
 
 -- a new record, in a sequential file after the last
 pub IsFile-placed :
-    (file : FileVal) (n : ℕ) (body : List ℕ) → IsFile file → 1 ≤ n → n ≤ limit_of file.shape
+    (file : FileVal) (n : ℕ) (body : List ℕ) → IsFile file → 1 ≤ n → n ≤ max_number file.shape
     → (IsTrue (is_seq file.shape.org) → n ≡ highest_of file.records + 1)
     → IsTrue (allows_length file.shape (length body)) → IsFile (stored file n body)
 IsFile-placed file n body h least most next allowed = record {
   shape = h.shape;
   above = λ q some. elim (same_or_not q n) [ inl same ↦ omega arith | inr other ↦ h.above q (subst IsSome (get_stored_other file.records n body q other) some) ];
-  within = λ q some. elim (same_or_not q n) [ inl same ↦ subst (λ k. k ≤ limit_of file.shape) (sym same) most | inr other ↦ h.within q (subst IsSome (get_stored_other file.records n body q other) some) ];
+  within = λ q some. elim (same_or_not q n) [ inl same ↦ subst (λ k. k ≤ max_number file.shape) (sym same) most | inr other ↦ h.within q (subst IsSome (get_stored_other file.records n body q other) some) ];
   dense = λ seq q ge le.
       let top = is_highest file.records in
       let new : highest_of (insert file.records n body) ≡ n =
@@ -127,7 +127,7 @@ third : (a b c d : Bool) → (((a && b) && c) && d) ≡ true → c ≡ true
 third a b c d h = and_second (a && b) c (and_first ((a && b) && c) d h)
 
 -- no limit is above the greatest number
-pub limit_le : (s : Shape) → IsTrue (is_shape s) → limit_of s ≤ greatest_number
+pub limit_le : (s : Shape) → IsTrue (is_shape s) → max_number s ≤ greatest_number
 limit_le s h =
     let fits : nat_le s.mrn greatest_number ≡ true = third (has_length s.format s.mrs) (nat_le s.mrs longest_record) (nat_le s.mrn greatest_number) (not (is_seq s.org) || nat_eq s.mrn 0) h in
     grind (arith, nat_tests)

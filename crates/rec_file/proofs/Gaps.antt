@@ -7,7 +7,7 @@ use Rattle.std.proofs.lemmas.Cmp.{ranked}
 use Rattle.std.proofs.lemmas.Bool.Decides.{nat_tests}
 use Rattle.std.proofs.lemmas.List.{length-map}
 use Rattle.std.proofs.lemmas.Option.{same_Some}
-use Rattle.rec_file.specs.Inner.Sorted.{IsInOrder, IsPlaceOf, IsGapFor}
+use Rattle.rec_file.specs.Inner.Sorted.{IsInOrder, IsIndexOf, IsGapFor}
 use Rattle.rec_file.proofs.Rising.{at, AllAbove, IsRising, at_below, at_tail, at_first, same_or_not}
 
 -- what holds of an element at each default holds of it among the results of f
@@ -36,7 +36,7 @@ module _ {X : Type 0} (f : X → ℕ) (l : List X) (ordered : IsInOrder (map f l
       grind (arith, nat_tests)
 
   -- a binary search by number ends at the number, or at the gap for it
-  pub searched : (r : Result ℕ ℕ) → IsSearchInRange r (length l) → IsBinarySearchResult (λ x. nat_cmp (f x) k) l r → record { found : IfOk r (IsPlaceOf (map f l) k); gap : IfErr r (IsGapFor (map f l) k) }
+  pub searched : (r : Result ℕ ℕ) → IsSearchInRange r (length l) → IsBinarySearchResult (λ x. nat_cmp (f x) k) l r → record { found : IfOk r (IsIndexOf (map f l) k); gap : IfErr r (IsGapFor (map f l) k) }
   searched (Ok i) in_range equal = record {
     found = record { in_range = subst (λ n. i < n) (sym (length-map l f)) in_range; same = at_map f l i (λ n. n ≡ k) in_range (λ d. ranked _ k _ (sym (equal d))) };
     gap = tt;

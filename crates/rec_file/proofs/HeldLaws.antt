@@ -11,7 +11,7 @@ use Rattle.std.proofs.lemmas.Option.{same_Some}
 use Rattle.slab.specs.Slab.{Slab, get}
 use Rattle.rec_file.specs.Inner.Pages.{Cells, page_cell}
 use Rattle.rec_file.specs.Inner.Sorted.{IsGapFor}
-use Rattle.rec_file.specs.Inner.Places.{group_of, listed, bare, HavePages, IsGroup, AreGroups, AreOf, IsLastPlace, Clears, Emptied, place_of, places_from, with_place}
+use Rattle.rec_file.specs.Inner.Places.{group_of, listed, bare, HavePages, IsGroup, ArePageGroups, AreOfGroup, IsLastSlot, Clears, HasEmptied, slot_of, slots_from, with_slot}
 use Rattle.rec_file.proofs.Rising.{at, IsRising, same_or_not, at_first, at_tail}
 use Rattle.rec_file.proofs.Keyed.{lookup_is_at, behind, at-written, is_there, is_elsewhere, value_at, all-written, all-inserted, all-removed, rising-written, rising-inserted, rising-removed}
 use Rattle.rec_file.proofs.Gaps.{numbers, ordered, at-gap, at-place, number_at}
@@ -81,15 +81,15 @@ bare-behind g (e ∷ es) = elim (is_le (nat_cmp g e.0) && true) as (λ b. bare (
   | false ↦ bare-behind g es
 ]
 
-are-behind : (n : ℕ) (gs : List (ℕ × List (ℕ × ℕ))) → AreGroups gs → AreGroups (behind n gs)
+are-behind : (n : ℕ) (gs : List (ℕ × List (ℕ × ℕ))) → ArePageGroups gs → ArePageGroups (behind n gs)
 are-behind n [] are = tt
-are-behind n (g ∷ gs) are = elim (is_le (nat_cmp n g.0) && true) as (λ b. AreGroups (cond b (g ∷ behind n gs) (behind n gs))) [ true ↦ (are.0, are-behind n gs are.1) | false ↦ are-behind n gs are.1 ]
+are-behind n (g ∷ gs) are = elim (is_le (nat_cmp n g.0) && true) as (λ b. ArePageGroups (cond b (g ∷ behind n gs) (behind n gs))) [ true ↦ (are.0, are-behind n gs are.1) | false ↦ are-behind n gs are.1 ]
 
 have-behind : (n : ℕ) (gs : List (ℕ × List (ℕ × ℕ))) → HavePages gs → HavePages (behind n gs)
 have-behind n [] have = tt
 have-behind n (g ∷ gs) have = elim (is_le (nat_cmp n g.0) && true) as (λ b. HavePages (cond b (g ∷ behind n gs) (behind n gs))) [ true ↦ (have.0, have-behind n gs have.1) | false ↦ have-behind n gs have.1 ]
 
-own-at : (g : ℕ) (v : List (ℕ × ℕ)) → AreOf g v → (p i : ℕ) → at v p ≡ Some i → group_of p ≡ g
+own-at : (g : ℕ) (v : List (ℕ × ℕ)) → AreOfGroup g v → (p i : ℕ) → at v p ≡ Some i → group_of p ≡ g
 own-at g [] own p i is = cc
 own-at g (e ∷ v) own p i is = elim (same_or_not p e.0) [
   | inl same ↦ ap group_of same ∙ own.0
@@ -116,7 +116,7 @@ past_last v s i e is last j lt =
 -- a tree of groups as it is kept
 pub record Holds (es : Kept) : Type 0 where
   pub sorted : is_sorted nat_cmp (bare es) ≡ true
-  pub are : AreGroups (bare es)
+  pub are : ArePageGroups (bare es)
   pub have : HavePages (bare es)
 
 abbrev Some_page : List (ℕ × ℕ) → Type 0
@@ -143,7 +143,7 @@ module _ (es : Kept) (holds : Holds es) (m : List (ℕ × ℕ)) (view : listed (
   at-places : (p : ℕ) → at m p ≡ in_group (at gs (group_of p)) p
   at-places p = ap (λ l. at l p) (sym view) ∙ at-listed gs r holds.are p
 
-  pub get-none : (p : ℕ) → lookup (is_at (nat_cmp (group_of p))) es ≡ None → None ≡ place_of m p
+  pub get-none : (p : ℕ) → lookup (is_at (nat_cmp (group_of p))) es ≡ None → None ≡ slot_of m p
   get-none p none = sym (lookup_is_at m p ∙ at-places p ∙ ap (λ o. in_group o p) (at-bare es (group_of p) ∙ ap (option_map (λ v. v.items)) (sym (lookup_is_at es (group_of p)) ∙ none)))
 
   module _ (p : ℕ) (v : Vec (ℕ × ℕ)) (is : lookup (is_at (nat_cmp (group_of p))) es ≡ Some v) where
@@ -156,7 +156,7 @@ module _ (es : Kept) (holds : Holds es) (m : List (ℕ × ℕ)) (view : listed (
     pub group-sorted : is_sorted nat_cmp v.items ≡ true
     group-sorted = group.sorted
 
-    pub get-some : place_of v.items p ≡ place_of m p
+    pub get-some : slot_of v.items p ≡ slot_of m p
     get-some = lookup_is_at v.items p ∙ sym (lookup_is_at m p ∙ at-places p ∙ ap (λ o. in_group o p) here)
 
     -- another vector in the group's place
@@ -167,7 +167,7 @@ module _ (es : Kept) (holds : Holds es) (m : List (ℕ × ℕ)) (view : listed (
       pub holds-written : IsGroup (group_of p) w.items → Some_page w.items → Holds es'
       holds-written own some = record {
         sorted = subst (λ l. is_sorted nat_cmp l ≡ true) (sym made') (sorted-of _ (rising-written (is_at (nat_cmp (group_of p))) gs w.items r));
-        are = subst AreGroups (sym made') (are-written gs (group_of p) w.items holds.are own);
+        are = subst ArePageGroups (sym made') (are-written gs (group_of p) w.items holds.are own);
         have = subst HavePages (sym made') (all-written Some_page (is_at (nat_cmp (group_of p))) gs w.items holds.have some);
       }
 
@@ -177,10 +177,10 @@ module _ (es : Kept) (holds : Holds es) (m : List (ℕ × ℕ)) (view : listed (
         holds-written (subst (IsGroup (group_of p)) (sym same) group) (subst Some_page (sym same) (value_at Some_page gs (group_of p) v.items holds.have here)),
       )
 
-      pub put-some : (i : ℕ) → w.items ≡ with_place v.items p i → (listed (bare es') ≡ with_place m p i) × Holds es'
-      put-some i same = by (place_of v.items p) refl same
+      pub put-some : (i : ℕ) → w.items ≡ with_slot v.items p i → (listed (bare es') ≡ with_slot m p i) × Holds es'
+      put-some i same = by (slot_of v.items p) refl same
         where
-          by : (o : Option ℕ) → place_of v.items p ≡ o → w.items ≡ cond (is_some o) v.items (insert_entry nat_cmp v.items p i) → (listed (bare es') ≡ with_place m p i) × Holds es'
+          by : (o : Option ℕ) → slot_of v.items p ≡ o → w.items ≡ cond (is_some o) v.items (insert_entry nat_cmp v.items p i) → (listed (bare es') ≡ with_slot m p i) × Holds es'
           by (Some j) there same =
               let kept = put-same same in
               (kept.0 ∙ sym (ap (λ o. cond (is_some o) m (insert_entry nat_cmp m p i)) (sym get-some ∙ there)), kept.1)
@@ -192,7 +192,7 @@ module _ (es : Kept) (holds : Holds es) (m : List (ℕ × ℕ)) (view : listed (
 
   -- a group more
   pub put-none : (p i : ℕ) (w : Vec (ℕ × ℕ)) (es' : Kept) → lookup (is_at (nat_cmp (group_of p))) es ≡ None → es' ≡ insert_entry nat_cmp es (group_of p) w → w.items ≡ (p, i) ∷ []
-      → (listed (bare es') ≡ with_place m p i) × Holds es'
+      → (listed (bare es') ≡ with_slot m p i) × Holds es'
   put-none p i w es' none made is =
       let there : at gs (group_of p) ≡ None = at-bare es (group_of p) ∙ ap (option_map (λ v. v.items)) (sym (lookup_is_at es (group_of p)) ∙ none) in
       let made' : bare es' ≡ insert_entry nat_cmp gs (group_of p) ((p, i) ∷ []) = ap bare made ∙ bare-inserted es (group_of p) w ∙ ap (insert_entry nat_cmp gs (group_of p)) is in (
@@ -200,7 +200,7 @@ module _ (es : Kept) (holds : Holds es) (m : List (ℕ × ℕ)) (view : listed (
             ∙ ap (λ o. cond (is_some o) m (insert_entry nat_cmp m p i)) (get-none p none),
         record {
           sorted = subst (λ l. is_sorted nat_cmp l ≡ true) (sym made') (sorted-of _ (rising-inserted gs (group_of p) ((p, i) ∷ []) r));
-          are = subst AreGroups (sym made') (are-inserted gs (group_of p) ((p, i) ∷ []) holds.are (record { own = (refl, tt); sorted = refl }));
+          are = subst ArePageGroups (sym made') (are-inserted gs (group_of p) ((p, i) ∷ []) holds.are (record { own = (refl, tt); sorted = refl }));
           have = subst HavePages (sym made') (all-inserted Some_page gs (group_of p) ((p, i) ∷ []) holds.have (λ is. cc));
         },
       )
@@ -232,7 +232,7 @@ module _ (es : Kept) (holds : Holds es) (m : List (ℕ × ℕ)) (view : listed (
           ap listed dropped' ∙ drop-empty (bare es') (group_of p) there ∙ less-listed,
           record {
             sorted = subst (λ l. is_sorted nat_cmp l ≡ true) (sym short) (sorted-of _ (rising-removed t gs r));
-            are = subst AreGroups (sym short) (are-removed t gs holds.are);
+            are = subst ArePageGroups (sym short) (are-removed t gs holds.are);
             have = subst HavePages (sym short) (all-removed Some_page t gs holds.have);
           },
         )
@@ -240,7 +240,7 @@ module _ (es : Kept) (holds : Holds es) (m : List (ℕ × ℕ)) (view : listed (
   -- a cell of a page is emptied
   module _ (p : ℕ) (v : Vec (ℕ × ℕ)) (is : lookup (is_at (nat_cmp (group_of p))) es ≡ Some v) (w : Vec (ℕ × ℕ)) (es' : Kept)
       (made : es' ≡ set_value (is_at (nat_cmp (group_of p))) es w) (pages pages' : Slab Cells) (k : ℕ) where
-    abbrev its-page : Emptied v.items pages p k → Emptied m pages p k
+    abbrev its-page : HasEmptied v.items pages p k → HasEmptied m pages p k
     its-page e = record { place = e.place; has = sym (get-some p v is) ∙ e.has; cells = e.cells; there = e.there; occupied = e.occupied }
 
     pub clear-some : (b : Bool) → Clears v.items w.items pages pages' p k b → w.items ≢ [] → Clears m (listed (bare es')) pages pages' p k b × Holds es'
@@ -268,7 +268,7 @@ module _ (es : Kept) (holds : Holds es) (m : List (ℕ × ℕ)) (view : listed (
     there : at gs g ≡ Some v.items
     there = at-bare es g ∙ ap (option_map (λ v. v.items)) (sym (lookup_is_at es g) ∙ is)
 
-    pub last-page : (e : ℕ × ℕ) (i : ℕ) → slice_get v.items i ≡ Some e → i + 1 ≡ length v.items → IsLastPlace m e
+    pub last-page : (e : ℕ × ℕ) (i : ℕ) → slice_get v.items i ≡ Some e → i + 1 ≡ length v.items → IsLastSlot m e
     last-page e i at_i end =
         let its = group-at gs g v.items holds.are there in
         let s = rising-of v.items its.sorted in
@@ -287,12 +287,12 @@ module _ (es : Kept) (holds : Holds es) (m : List (ℕ × ℕ)) (view : listed (
 
   -- the pages from one on
   module _ (p : ℕ) where
-    pub from-none : behind (group_of p) es ≡ [] → [] ≡ places_from p m
-    from-none none = sym (ap (places_from p) (sym view) ∙ from-listed p gs r holds.are ∙ ap (rest_of p) (sym (bare-behind (group_of p) es) ∙ ap bare none))
+    pub from-none : behind (group_of p) es ≡ [] → [] ≡ slots_from p m
+    from-none none = sym (ap (slots_from p) (sym view) ∙ from-listed p gs r holds.are ∙ ap (rest_of p) (sym (bare-behind (group_of p) es) ∙ ap bare none))
 
     module _ (g : ℕ) (v : Vec (ℕ × ℕ)) (t : Kept) (first : behind (group_of p) es ≡ (g, v) ∷ t) where
-      are-first : AreGroups ((g, v.items) ∷ bare t)
-      are-first = subst AreGroups (sym (bare-behind (group_of p) es) ∙ ap bare first) (are-behind (group_of p) gs holds.are)
+      are-first : ArePageGroups ((g, v.items) ∷ bare t)
+      are-first = subst ArePageGroups (sym (bare-behind (group_of p) es) ∙ ap bare first) (are-behind (group_of p) gs holds.are)
 
       pub first-sorted : is_sorted nat_cmp v.items ≡ true
       first-sorted = are-first.0.sorted
@@ -300,11 +300,11 @@ module _ (es : Kept) (holds : Holds es) (m : List (ℕ × ℕ)) (view : listed (
       pub have-rest : HavePages (bare t)
       have-rest = (subst HavePages (sym (bare-behind (group_of p) es) ∙ ap bare first) (have-behind (group_of p) gs holds.have)).1
 
-      whole-from : cond (eqb g (group_of p)) (places_from p v.items) v.items ++ listed (bare t) ≡ places_from p m
-      whole-from = sym (ap (places_from p) (sym view) ∙ from-listed p gs r holds.are ∙ ap (rest_of p) (sym (bare-behind (group_of p) es) ∙ ap bare first))
+      whole-from : cond (eqb g (group_of p)) (slots_from p v.items) v.items ++ listed (bare t) ≡ slots_from p m
+      whole-from = sym (ap (slots_from p) (sym view) ∙ from-listed p gs r holds.are ∙ ap (rest_of p) (sym (bare-behind (group_of p) es) ∙ ap bare first))
 
-      pub from-own : g ≡ group_of p → (rest : List (ℕ × ℕ)) → rest ≡ places_from p v.items → rest ++ listed (bare t) ≡ places_from p m
-      from-own same rest is = ap (λ l. l ++ listed (bare t)) (is ∙ sym (ap (λ b. cond b (places_from p v.items) v.items) (yes g (group_of p) same))) ∙ whole-from
+      pub from-own : g ≡ group_of p → (rest : List (ℕ × ℕ)) → rest ≡ slots_from p v.items → rest ++ listed (bare t) ≡ slots_from p m
+      from-own same rest is = ap (λ l. l ++ listed (bare t)) (is ∙ sym (ap (λ b. cond b (slots_from p v.items) v.items) (yes g (group_of p) same))) ∙ whole-from
 
-      pub from-other : g ≢ group_of p → (rest : List (ℕ × ℕ)) → rest ≡ v.items → rest ++ listed (bare t) ≡ places_from p m
-      from-other other rest is = ap (λ l. l ++ listed (bare t)) (is ∙ sym (ap (λ b. cond b (places_from p v.items) v.items) (no g (group_of p) other))) ∙ whole-from
+      pub from-other : g ≢ group_of p → (rest : List (ℕ × ℕ)) → rest ≡ v.items → rest ++ listed (bare t) ≡ slots_from p m
+      from-other other rest is = ap (λ l. l ++ listed (bare t)) (is ∙ sym (ap (λ b. cond b (slots_from p v.items) v.items) (no g (group_of p) other))) ∙ whole-from

@@ -11,25 +11,25 @@ use Rattle.std.proofs.lemmas.Simd.{ones-mask_l, ones-mask_l_cons}
 use Rattle.std.proofs.lemmas.Bool.Decides.{nat_tests}
 use Rattle.std.proofs.lemmas.List.{take-map, drop-map, map-append, map-set, length-map}
 use Rattle.std.proofs.lemmas.Option.{slice_get_read, slice_get-map}
-use Rattle.rec_file.specs.Inner.Pages.{Cells, cell, MasksCells, bodies_of, occupied_below, cells_from, cells_of, IsPacked, empty_cells}
+use Rattle.rec_file.specs.Inner.Pages.{Cells, cell, MasksCells, cell_bodies, occupied_below, cells_from, cells_of, IsPacked, empty_cells}
 use Rattle.rec_file.proofs.PageLaws.{le_lt, masks-put, masks-replaced, masks-clear, masks_nothing, length_nothing}
 
 -- the record of an occupied cell stands at its place
-pub body_there : (cs : Cells) (k : ℕ) → IsSome (cell cs k) → slice_get (bodies_of cs) (occupied_below cs k) ≡ cell cs k
+pub body_there : (cs : Cells) (k : ℕ) → IsSome (cell cs k) → slice_get (cell_bodies cs) (occupied_below cs k) ≡ cell cs k
 body_there [] k h = cc
 body_there (None ∷ cs) zero h = cc
 body_there (Some b ∷ cs) zero h = refl
 body_there (None ∷ cs) (suc k) h = body_there cs k h
 body_there (Some b ∷ cs) (suc k) h = body_there cs k h
 
-pub place_most : (cs : Cells) (k : ℕ) → occupied_below cs k ≤ length (bodies_of cs)
+pub place_most : (cs : Cells) (k : ℕ) → occupied_below cs k ≤ length (cell_bodies cs)
 place_most [] zero = omega arith
 place_most [] (suc k) = omega arith
 place_most (c ∷ cs) zero = omega arith
 place_most (None ∷ cs) (suc k) = place_most cs k
 place_most (Some b ∷ cs) (suc k) = let r = place_most cs k in omega arith
 
-pub place_within : (cs : Cells) (k : ℕ) → IsSome (cell cs k) → occupied_below cs k < length (bodies_of cs)
+pub place_within : (cs : Cells) (k : ℕ) → IsSome (cell cs k) → occupied_below cs k < length (cell_bodies cs)
 place_within [] k h = cc
 place_within (None ∷ cs) zero h = cc
 place_within (Some b ∷ cs) zero h = omega arith
@@ -37,21 +37,21 @@ place_within (None ∷ cs) (suc k) h = place_within cs k h
 place_within (Some b ∷ cs) (suc k) h = let r = place_within cs k h in omega arith
 
 -- a record more, another record, and a record less
-pub bodies-put : (cs : Cells) (k : ℕ) (b : List ℕ) → k < length cs → cell cs k ≡ None → bodies_of (set cs k (Some b)) ≡ insert (bodies_of cs) (occupied_below cs k) b
+pub bodies-put : (cs : Cells) (k : ℕ) (b : List ℕ) → k < length cs → cell cs k ≡ None → cell_bodies (set cs k (Some b)) ≡ insert (cell_bodies cs) (occupied_below cs k) b
 bodies-put [] k b lt h = absurd (omega arith)
 bodies-put (None ∷ cs) zero b lt h = refl
 bodies-put (Some a ∷ cs) zero b lt h = cc
 bodies-put (None ∷ cs) (suc k) b lt h = bodies-put cs k b (omega arith) h
 bodies-put (Some a ∷ cs) (suc k) b lt h = ap (λ bs. a ∷ bs) (bodies-put cs k b (omega arith) h)
 
-pub bodies-replaced : (cs : Cells) (k : ℕ) (b : List ℕ) → IsSome (cell cs k) → bodies_of (set cs k (Some b)) ≡ set (bodies_of cs) (occupied_below cs k) b
+pub bodies-replaced : (cs : Cells) (k : ℕ) (b : List ℕ) → IsSome (cell cs k) → cell_bodies (set cs k (Some b)) ≡ set (cell_bodies cs) (occupied_below cs k) b
 bodies-replaced [] k b h = cc
 bodies-replaced (None ∷ cs) zero b h = cc
 bodies-replaced (Some a ∷ cs) zero b h = refl
 bodies-replaced (None ∷ cs) (suc k) b h = bodies-replaced cs k b h
 bodies-replaced (Some a ∷ cs) (suc k) b h = ap (λ bs. a ∷ bs) (bodies-replaced cs k b h)
 
-pub bodies-cleared : (cs : Cells) (k : ℕ) → IsSome (cell cs k) → bodies_of (set cs k None) ≡ remove (bodies_of cs) (occupied_below cs k)
+pub bodies-cleared : (cs : Cells) (k : ℕ) → IsSome (cell cs k) → cell_bodies (set cs k None) ≡ remove (cell_bodies cs) (occupied_below cs k)
 bodies-cleared [] k h = cc
 bodies-cleared (None ∷ cs) zero h = cc
 bodies-cleared (Some a ∷ cs) zero h = refl
@@ -82,7 +82,7 @@ length-cells_from mask k (suc many) bodies = grind (arith, nat_tests, length-cel
 -- cells are made again by their mask and their records
 cells_from-bodies :
     (mask k : ℕ) (cs : Cells) → ((j : ℕ) → j < length cs → bit_at mask (k + j) ≡ cond (is_some (cell cs j)) 1 0)
-    → cells_from mask k (length cs) (bodies_of cs) ≡ cs
+    → cells_from mask k (length cs) (cell_bodies cs) ≡ cs
 unfolding cells_from
 cells_from-bodies mask k [] bits = refl
 cells_from-bodies mask k (None ∷ cs) bits = let clear = bits 0 (omega arith) in let rest = cells_from-bodies mask (k + 1) cs (λ j lt. let b = bits (suc j) (omega arith) in ap (bit_at mask) (omega arith) ∙ b) in grind (arith, nat_tests)
@@ -92,7 +92,7 @@ cells_from-bodies mask k (Some b ∷ cs) bits = let clear = bits 0 (omega arith)
 pub record Packs (mask : ℕ) (bodies : List (List ℕ)) (cells : Cells) : Type 0 where
   pub fits : mask < 2 ^ 64
   pub bits : MasksCells mask cells
-  pub records : bodies ≡ bodies_of cells
+  pub records : bodies ≡ cell_bodies cells
   pub size : length cells ≡ 64
 
 pub opened : {mask : ℕ} {bodies : List (List ℕ)} {cells : Cells} → IsPacked mask bodies → cells_of mask bodies ≡ cells → Packs mask bodies cells
@@ -100,7 +100,7 @@ opened {mask} {bodies} h is = rw (sym is) (record { fits = h.fits; bits = h.bits
 
 pub made : {mask : ℕ} {bodies : List (List ℕ)} {cells : Cells} → Packs mask bodies cells → cells_of mask bodies ≡ cells
 made {mask} {bodies} {cells} p =
-    ap (cells_of mask) p.records ∙ ap (λ n. cells_from mask 0 n (bodies_of cells)) (sym p.size)
+    ap (cells_of mask) p.records ∙ ap (λ n. cells_from mask 0 n (cell_bodies cells)) (sym p.size)
     ∙ cells_from-bodies mask 0 cells (λ j lt. let here : 0 + j ≡ j = omega arith in ap (bit_at mask) here ∙ p.bits j (omega (arith, p.size)))
 
 pub closed : {mask : ℕ} {bodies : List (List ℕ)} {cells : Cells} → Packs mask bodies cells → IsPacked mask bodies
@@ -156,7 +156,7 @@ low_bits m (c ∷ cs) (suc k) le bits =
     let next : suc k ≡ k + 1 = omega arith in
     ap (λ e. m % 2 ^ e) next ∙ (let split = mod-pow-add m k 1 in omega arith)
 
-ones-bodies : (cs : Cells) → count_ones (mask_l (map is_some cs)) ≡ length (bodies_of cs)
+ones-bodies : (cs : Cells) → count_ones (mask_l (map is_some cs)) ≡ length (cell_bodies cs)
 ones-bodies [] = ones-mask_l (is_some {T = List ℕ}) []
 ones-bodies (None ∷ cs) = ones-mask_l_cons false (map is_some cs) ∙ (let r = ones-bodies cs in omega arith)
 ones-bodies (Some b ∷ cs) = ones-mask_l_cons true (map is_some cs) ∙ (let r = ones-bodies cs in omega arith)
@@ -174,11 +174,11 @@ some_of false is h = absurd (h is)
 pub occupied : {mask : ℕ} {bodies : List (List ℕ)} {cells : Cells} → Packs mask bodies cells → (at : ℕ) → at < 64 → bit_and (mask / 2 ^ at) 1 ≢ 0 → IsSome (cell cells at)
 occupied {mask} p at lt bit = some_of (is_some (cell _ at)) (shr_and_one mask at ∙ p.bits at lt) bit
 
-no_bodies : (n : ℕ) → bodies_of (replicate n None) ≡ []
+no_bodies : (n : ℕ) → cell_bodies (replicate n None) ≡ []
 no_bodies zero = refl
 no_bodies (suc n) = no_bodies n
 
-one_body : (n k : ℕ) (b : List ℕ) → k < n → bodies_of (set (replicate n None) k (Some b)) ≡ b ∷ []
+one_body : (n k : ℕ) (b : List ℕ) → k < n → cell_bodies (set (replicate n None) k (Some b)) ≡ b ∷ []
 one_body zero k b lt = absurd (omega arith)
 one_body (suc n) zero b lt = ap (λ bs. b ∷ bs) (no_bodies n)
 one_body (suc n) (suc k) b lt = one_body n k b (omega arith)

@@ -13,7 +13,7 @@ use Rattle.std.specs.Map.{lookup, set_value, remove_entry}
 use Rattle.std.specs.BTreeMap.{is_at, insert_entry}
 use Rattle.slab.specs.Slab.{Slab, get, slab_len, with_value, Updates}
 use Rattle.slab.proofs.SlabLemmas.{Updates-with_value}
-use Rattle.rec_file.specs.Inner.Pages.{Cells, pages_at, NoneAt, HaveOwnPlaces, empty_cells, put_entry}
+use Rattle.rec_file.specs.Inner.Pages.{Cells, pages_at, NoneAt, HaveOwnSlots, empty_cells, put_entry}
 use Rattle.rec_file.proofs.Rising.{at, AllAbove, IsRising, at_tail, at_first, same_or_not}
 use Rattle.rec_file.proofs.PlacesLaws.{rising-of, same-entries}
 use Rattle.rec_file.proofs.Keyed.{at-written, at-inserted, rising-written, rising-inserted, behind, is_there, is_elsewhere, lookup_is_at}
@@ -83,7 +83,7 @@ module _ (kept now : ℕ → Option Cells) (i : ℕ) (others : (j : ℕ) → j �
       ap (λ o. (e.0, unwrap_or o []) ∷ pages_at now es) (others e.1 none.0) ∙ ap (λ l. (e.0, unwrap_or (kept e.1) []) ∷ l) (same_pages es none.1)
 
   -- another page at a number's place
-  pub written : (cells : Cells) (es : List (ℕ × ℕ)) (p : ℕ) → now i ≡ Some cells → HaveOwnPlaces es → at es p ≡ Some i → pages_at now es ≡ set_value (is_at (nat_cmp p)) (pages_at kept es) cells
+  pub written : (cells : Cells) (es : List (ℕ × ℕ)) (p : ℕ) → now i ≡ Some cells → HaveOwnSlots es → at es p ≡ Some i → pages_at now es ≡ set_value (is_at (nat_cmp p)) (pages_at kept es) cells
   written cells [] p new own is = cc
   written cells (e ∷ es) p new own is = elim (same_or_not p e.0) [
     | inl same ↦
@@ -99,7 +99,7 @@ module _ (kept now : ℕ → Option Cells) (i : ℕ) (others : (j : ℕ) → j �
   ]
 
   -- the same, as an insertion
-  pub written-in : (cells : Cells) (es : List (ℕ × ℕ)) (p : ℕ) → now i ≡ Some cells → HaveOwnPlaces es → IsRising es → at es p ≡ Some i → pages_at now es ≡ insert_entry nat_cmp (pages_at kept es) p cells
+  pub written-in : (cells : Cells) (es : List (ℕ × ℕ)) (p : ℕ) → now i ≡ Some cells → HaveOwnSlots es → IsRising es → at es p ≡ Some i → pages_at now es ≡ insert_entry nat_cmp (pages_at kept es) p cells
   written-in cells es p new own r is =
       let rp = rising-pages kept es r in
       let some : IsSome (at (pages_at kept es) p) = subst IsSome (sym (at-pages kept es p ∙ ap (option_map (λ i. unwrap_or (kept i) [])) is)) refl in
@@ -120,7 +120,7 @@ module _ (kept now : ℕ → Option Cells) (i : ℕ) (others : (j : ℕ) → j �
       ]
 
   -- a number and its place less
-  pub taken : (es : List (ℕ × ℕ)) (p : ℕ) → HaveOwnPlaces es → at es p ≡ Some i → pages_at now (remove_entry (is_at (nat_cmp p)) es) ≡ remove_entry (is_at (nat_cmp p)) (pages_at kept es)
+  pub taken : (es : List (ℕ × ℕ)) (p : ℕ) → HaveOwnSlots es → at es p ≡ Some i → pages_at now (remove_entry (is_at (nat_cmp p)) es) ≡ remove_entry (is_at (nat_cmp p)) (pages_at kept es)
   taken [] p own is = cc
   taken (e ∷ es) p own is = elim (same_or_not p e.0) [
     | inl same ↦
@@ -146,9 +146,9 @@ none-inserted i (e ∷ es) p j none other = elim (nat_cmp p e.0) as (λ o. NoneA
   | Greater ↦ (none.0, none-inserted i es p j none.1 other)
 ]
 
-pub own-inserted : (es : List (ℕ × ℕ)) (p i : ℕ) → HaveOwnPlaces es → NoneAt i es → HaveOwnPlaces (insert_entry nat_cmp es p i)
+pub own-inserted : (es : List (ℕ × ℕ)) (p i : ℕ) → HaveOwnSlots es → NoneAt i es → HaveOwnSlots (insert_entry nat_cmp es p i)
 own-inserted [] p i own none = (tt, tt)
-own-inserted (e ∷ es) p i own none = elim (nat_cmp p e.0) as (λ o. HaveOwnPlaces (match_ordering o ((p, i) ∷ e ∷ es) ((e.0, i) ∷ es) (e ∷ insert_entry nat_cmp es p i))) [
+own-inserted (e ∷ es) p i own none = elim (nat_cmp p e.0) as (λ o. HaveOwnSlots (match_ordering o ((p, i) ∷ e ∷ es) ((e.0, i) ∷ es) (e ∷ insert_entry nat_cmp es p i))) [
   | Less ↦ (none, own)
   | Equal ↦ (none.1, own.1)
   | Greater ↦ (none-inserted e.1 es p i own.0 (λ same. none.0 (sym same)), own-inserted es p i own.1 none.1)
@@ -158,9 +158,9 @@ none-removed : (i : ℕ) (t : ℕ → Bool) (es : List (ℕ × ℕ)) → NoneAt 
 none-removed i t [] none = tt
 none-removed i t (e ∷ es) none = elim (t e.0) as (λ b. NoneAt i (cond b es (e ∷ remove_entry t es))) [ true ↦ none.1 | false ↦ (none.0, none-removed i t es none.1) ]
 
-pub own-removed : (t : ℕ → Bool) (es : List (ℕ × ℕ)) → HaveOwnPlaces es → HaveOwnPlaces (remove_entry t es)
+pub own-removed : (t : ℕ → Bool) (es : List (ℕ × ℕ)) → HaveOwnSlots es → HaveOwnSlots (remove_entry t es)
 own-removed t [] own = tt
-own-removed t (e ∷ es) own = elim (t e.0) as (λ b. HaveOwnPlaces (cond b es (e ∷ remove_entry t es))) [ true ↦ own.1 | false ↦ (none-removed e.1 t es own.0, own-removed t es own.1) ]
+own-removed t (e ∷ es) own = elim (t e.0) as (λ b. HaveOwnSlots (cond b es (e ∷ remove_entry t es))) [ true ↦ own.1 | false ↦ (none-removed e.1 t es own.0, own-removed t es own.1) ]
 
 pub on-ok : {A E P Q : Type 0} (r : Result A E) → (P → Q) → OnOk r P → OnOk r Q
 on-ok (Ok a) f h = f h
@@ -168,7 +168,7 @@ on-ok (Err e) f h = tt
 
 -- a record more in a page that is kept
 pub put-kept :
-    (s : Slab Cells) (es now : List (ℕ × ℕ)) (p i k : ℕ) (old new : Cells) (body : List ℕ) → now ≡ es → is_sorted nat_cmp es ≡ true → HaveOwnPlaces es
+    (s : Slab Cells) (es now : List (ℕ × ℕ)) (p i k : ℕ) (old new : Cells) (body : List ℕ) → now ≡ es → is_sorted nat_cmp es ≡ true → HaveOwnSlots es
     → lookup (is_at (nat_cmp p)) es ≡ Some i → get s i ≡ Some old → new ≡ set old k (Some body) → pages_at (get (with_value s i new)) now ≡ put_entry (pages_at (get s) es) p k body
 put-kept s es now p i k old new body same sorted own is there made =
     let u = Updates-with_value s i new (ap is_some there) in
@@ -187,11 +187,11 @@ put-new s s' es now p i k new body same all none free u made =
     ∙ inserted (get s) (get s') i u.others new es p u.changed (fresh (get s) es i all free)
     ∙ ap (insert_entry nat_cmp (pages_at (get s) es) p) (made ∙ ap (λ o. set (unwrap_or o empty_cells) k (Some body)) (sym page))
 
-pub own-new : (s : Slab Cells) (es now : List (ℕ × ℕ)) (p i : ℕ) → now ≡ insert_entry nat_cmp es p i → AllPages (pages_at (get s) es) → get s i ≡ None → HaveOwnPlaces es → HaveOwnPlaces now
-own-new s es now p i same all free own = subst HaveOwnPlaces (sym same) (own-inserted es p i own (fresh (get s) es i all free))
+pub own-new : (s : Slab Cells) (es now : List (ℕ × ℕ)) (p i : ℕ) → now ≡ insert_entry nat_cmp es p i → AllPages (pages_at (get s) es) → get s i ≡ None → HaveOwnSlots es → HaveOwnSlots now
+own-new s es now p i same all free own = subst HaveOwnSlots (sym same) (own-inserted es p i own (fresh (get s) es i all free))
 
 -- another page in the place of one that is kept
-pub page-written : (s : Slab Cells) (es : List (ℕ × ℕ)) (p i : ℕ) (old new made : Cells) → HaveOwnPlaces es → lookup (is_at (nat_cmp p)) es ≡ Some i → get s i ≡ Some old → new ≡ made
+pub page-written : (s : Slab Cells) (es : List (ℕ × ℕ)) (p i : ℕ) (old new made : Cells) → HaveOwnSlots es → lookup (is_at (nat_cmp p)) es ≡ Some i → get s i ≡ Some old → new ≡ made
     → pages_at (get (with_value s i new)) es ≡ set_value (is_at (nat_cmp p)) (pages_at (get s) es) made
 page-written s es p i old new made own is there same =
     let u = Updates-with_value s i new (ap is_some there) in
@@ -206,14 +206,14 @@ page-same s es i old is = ap (λ t. pages_at (get t) es) (with-same s i old is)
 
 -- a page that was written and then removed
 pub page-removed :
-    (s s' : Slab Cells) (es now : List (ℕ × ℕ)) (p i : ℕ) (old new : Cells) → HaveOwnPlaces es → lookup (is_at (nat_cmp p)) es ≡ Some i → get s i ≡ Some old → Updates (with_value s i new) s' i None
+    (s s' : Slab Cells) (es now : List (ℕ × ℕ)) (p i : ℕ) (old new : Cells) → HaveOwnSlots es → lookup (is_at (nat_cmp p)) es ≡ Some i → get s i ≡ Some old → Updates (with_value s i new) s' i None
     → now ≡ remove_entry (is_at (nat_cmp p)) es → pages_at (get s') now ≡ remove_entry (is_at (nat_cmp p)) (pages_at (get s) es)
 page-removed s s' es now p i old new own is there less same =
     let u = Updates-with_value s i new (ap is_some there) in
     ap (pages_at (get s')) same ∙ taken (get s) (get s') i (λ j other. less.others j other ∙ u.others j other) es p own (sym (lookup_is_at es p) ∙ is)
 
-pub own-less : (es now : List (ℕ × ℕ)) (t : ℕ → Bool) → now ≡ remove_entry t es → HaveOwnPlaces es → HaveOwnPlaces now
-own-less es now t same own = subst HaveOwnPlaces (sym same) (own-removed t es own)
+pub own-less : (es now : List (ℕ × ℕ)) (t : ℕ → Bool) → now ≡ remove_entry t es → HaveOwnSlots es → HaveOwnSlots now
+own-less es now t same own = subst HaveOwnSlots (sym same) (own-removed t es own)
 
 -- the pages from a number on, by their places
 none-behind : (i p : ℕ) (es : List (ℕ × ℕ)) → NoneAt i es → NoneAt i (behind p es)

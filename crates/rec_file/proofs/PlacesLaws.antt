@@ -8,7 +8,7 @@ use Rattle.std.specs.FinMap.{is_sorted}
 use Rattle.std.proofs.lemmas.Bool.{cases_lt}
 use Rattle.std.proofs.lemmas.Bool.Decides.{nat_tests}
 use Rattle.std.proofs.lemmas.Option.{same_Some}
-use Rattle.rec_file.specs.Inner.Places.{group_of, listed, AreOf, IsGroup, AreGroups, places_from}
+use Rattle.rec_file.specs.Inner.Places.{group_of, listed, AreOfGroup, IsGroup, ArePageGroups, slots_from}
 use Rattle.rec_file.proofs.Rising.{at, AllAbove, IsRising, at_below, at_tail, at_first, same_or_not, rising_from_sorted, sorted_from_rising}
 use Rattle.rec_file.proofs.Keyed.{at-written, rising-written, at-inserted, rising-inserted, at-removed, rising-removed, is_there, is_elsewhere, behind}
 
@@ -74,7 +74,7 @@ pub no : (a b : ℕ) → a ≢ b → eqb a b ≡ false
 no a b other = grind (arith, nat_tests)
 
 -- nothing stands in a group at a page of another
-not-own : (g : ℕ) (es : List (ℕ × ℕ)) → AreOf g es → (q : ℕ) → group_of q ≢ g → at es q ≡ None
+not-own : (g : ℕ) (es : List (ℕ × ℕ)) → AreOfGroup g es → (q : ℕ) → group_of q ≢ g → at es q ≡ None
 not-own g [] own q other = refl
 not-own g (e ∷ es) own q other = at_tail e es q (λ same. other (ap group_of same ∙ own.0)) ∙ not-own g es own.1 q other
 
@@ -86,7 +86,7 @@ in_group (Some es) q = at es q
 abbrev Groups : Type 0
 Groups = List (ℕ × List (ℕ × ℕ))
 
-pub at-listed : (gs : Groups) → IsRising gs → AreGroups gs → (q : ℕ) → at (listed gs) q ≡ in_group (at gs (group_of q)) q
+pub at-listed : (gs : Groups) → IsRising gs → ArePageGroups gs → (q : ℕ) → at (listed gs) q ≡ in_group (at gs (group_of q)) q
 at-listed [] r are q = refl
 at-listed (g ∷ gs) r are q = elim (same_or_not (group_of q) g.0) [
   | inl same ↦
@@ -99,27 +99,27 @@ at-listed (g ∷ gs) r are q = elim (same_or_not (group_of q) g.0) [
 later : (x y : ℕ) → group_of x < group_of y → x < y
 later x y lt = omega arith
 
-above-group : (x g : ℕ) (es : List (ℕ × ℕ)) → group_of x < g → AreOf g es → AllAbove x es
+above-group : (x g : ℕ) (es : List (ℕ × ℕ)) → group_of x < g → AreOfGroup g es → AllAbove x es
 above-group x g [] lt own = tt
 above-group x g (e ∷ es) lt own = (later x e.0 (subst (λ h. group_of x < h) (sym own.0) lt), above-group x g es lt own.1)
 
-above-listed : (x : ℕ) (gs : Groups) → AllAbove (group_of x) gs → AreGroups gs → AllAbove x (listed gs)
+above-listed : (x : ℕ) (gs : Groups) → AllAbove (group_of x) gs → ArePageGroups gs → AllAbove x (listed gs)
 above-listed x [] above are = tt
 above-listed x (g ∷ gs) above are = above-both x g.1 (listed gs) (above-group x g.0 g.1 above.0 are.0.own) (above-listed x gs above.1 are.1)
 
-rising-both : (g : ℕ) (es : List (ℕ × ℕ)) (gs : Groups) → AreOf g es → IsRising es → AllAbove g gs → AreGroups gs → IsRising (listed gs) → IsRising (es ++ listed gs)
+rising-both : (g : ℕ) (es : List (ℕ × ℕ)) (gs : Groups) → AreOfGroup g es → IsRising es → AllAbove g gs → ArePageGroups gs → IsRising (listed gs) → IsRising (es ++ listed gs)
 rising-both g [] gs own r above are rest = rest
 rising-both g (e ∷ es) gs own r above are rest = (
   above-both e.0 es (listed gs) r.0 (above-listed e.0 gs (subst (λ h. AllAbove h gs) (sym own.0) above) are),
   rising-both g es gs own.1 r.1 above are rest,
 )
 
-pub rising-listed : (gs : Groups) → IsRising gs → AreGroups gs → IsRising (listed gs)
+pub rising-listed : (gs : Groups) → IsRising gs → ArePageGroups gs → IsRising (listed gs)
 rising-listed [] r are = tt
 rising-listed (g ∷ gs) r are = rising-both g.0 g.1 gs are.0.own (rising-of g.1 are.0.sorted) r.0 are.1 (rising-listed gs r.1 are.1)
 
 -- the group at a number
-pub group-at : (gs : Groups) (g : ℕ) (es : List (ℕ × ℕ)) → AreGroups gs → at gs g ≡ Some es → IsGroup g es
+pub group-at : (gs : Groups) (g : ℕ) (es : List (ℕ × ℕ)) → ArePageGroups gs → at gs g ≡ Some es → IsGroup g es
 group-at [] g es are is = cc
 group-at (h ∷ gs) g es are is = elim (same_or_not g h.0) [
   | inl same ↦ subst (λ k. IsGroup k es) (sym same) (subst (IsGroup h.0) (same_Some h.1 es (sym (at_first h gs g same) ∙ is)) are.0)
@@ -127,32 +127,32 @@ group-at (h ∷ gs) g es are is = elim (same_or_not g h.0) [
 ]
 
 -- another group in the place of one, a group more, and one less
-pub are-written : (gs : Groups) (g : ℕ) (es : List (ℕ × ℕ)) → AreGroups gs → IsGroup g es → AreGroups (set_value (is_at (nat_cmp g)) gs es)
+pub are-written : (gs : Groups) (g : ℕ) (es : List (ℕ × ℕ)) → ArePageGroups gs → IsGroup g es → ArePageGroups (set_value (is_at (nat_cmp g)) gs es)
 are-written [] g es are is = tt
 are-written (h ∷ gs) g es are is = elim (same_or_not g h.0) [
-  | inl same ↦ subst (λ b. AreGroups (cond b ((h.0, es) ∷ gs) (h ∷ set_value (is_at (nat_cmp g)) gs es))) (sym (is_there g h.0 same)) (subst (λ k. IsGroup k es) same is, are.1)
-  | inr other ↦ subst (λ b. AreGroups (cond b ((h.0, es) ∷ gs) (h ∷ set_value (is_at (nat_cmp g)) gs es))) (sym (is_elsewhere g h.0 other)) (are.0, are-written gs g es are.1 is)
+  | inl same ↦ subst (λ b. ArePageGroups (cond b ((h.0, es) ∷ gs) (h ∷ set_value (is_at (nat_cmp g)) gs es))) (sym (is_there g h.0 same)) (subst (λ k. IsGroup k es) same is, are.1)
+  | inr other ↦ subst (λ b. ArePageGroups (cond b ((h.0, es) ∷ gs) (h ∷ set_value (is_at (nat_cmp g)) gs es))) (sym (is_elsewhere g h.0 other)) (are.0, are-written gs g es are.1 is)
 ]
 
 is_equal : (p k : ℕ) → nat_cmp p k ≡ Equal → p ≡ k
 is_equal p k same = grind (arith, nat_tests)
 
-pub are-inserted : (gs : Groups) (g : ℕ) (es : List (ℕ × ℕ)) → AreGroups gs → IsGroup g es → AreGroups (insert_entry nat_cmp gs g es)
+pub are-inserted : (gs : Groups) (g : ℕ) (es : List (ℕ × ℕ)) → ArePageGroups gs → IsGroup g es → ArePageGroups (insert_entry nat_cmp gs g es)
 are-inserted [] g es are is = (is, tt)
-are-inserted (h ∷ gs) g es are is = elim (nat_cmp g h.0) as (λ o. nat_cmp g h.0 ≡ o → AreGroups (match_ordering o ((g, es) ∷ h ∷ gs) ((h.0, es) ∷ gs) (h ∷ insert_entry nat_cmp gs g es))) [
+are-inserted (h ∷ gs) g es are is = elim (nat_cmp g h.0) as (λ o. nat_cmp g h.0 ≡ o → ArePageGroups (match_ordering o ((g, es) ∷ h ∷ gs) ((h.0, es) ∷ gs) (h ∷ insert_entry nat_cmp gs g es))) [
   | Less ↦ λ q. (is, are)
   | Equal ↦ λ q. (subst (λ k. IsGroup k es) (is_equal g h.0 q) is, are.1)
   | Greater ↦ λ q. (are.0, are-inserted gs g es are.1 is)
 ] refl
 
-pub are-removed : (t : ℕ → Bool) (gs : Groups) → AreGroups gs → AreGroups (remove_entry t gs)
+pub are-removed : (t : ℕ → Bool) (gs : Groups) → ArePageGroups gs → ArePageGroups (remove_entry t gs)
 are-removed t [] are = tt
-are-removed t (h ∷ gs) are = elim (t h.0) as (λ b. AreGroups (cond b gs (h ∷ remove_entry t gs))) [ true ↦ are.1 | false ↦ (are.0, are-removed t gs are.1) ]
+are-removed t (h ∷ gs) are = elim (t h.0) as (λ b. ArePageGroups (cond b gs (h ∷ remove_entry t gs))) [ true ↦ are.1 | false ↦ (are.0, are-removed t gs are.1) ]
 
 -- a page and its place more in a group
-own-inserted : (g : ℕ) (es : List (ℕ × ℕ)) (p i : ℕ) → AreOf g es → group_of p ≡ g → AreOf g (insert_entry nat_cmp es p i)
+own-inserted : (g : ℕ) (es : List (ℕ × ℕ)) (p i : ℕ) → AreOfGroup g es → group_of p ≡ g → AreOfGroup g (insert_entry nat_cmp es p i)
 own-inserted g [] p i own is = (is, tt)
-own-inserted g (e ∷ es) p i own is = elim (nat_cmp p e.0) as (λ o. AreOf g (match_ordering o ((p, i) ∷ e ∷ es) ((e.0, i) ∷ es) (e ∷ insert_entry nat_cmp es p i))) [
+own-inserted g (e ∷ es) p i own is = elim (nat_cmp p e.0) as (λ o. AreOfGroup g (match_ordering o ((p, i) ∷ e ∷ es) ((e.0, i) ∷ es) (e ∷ insert_entry nat_cmp es p i))) [
   | Less ↦ (is, own)
   | Equal ↦ own
   | Greater ↦ (own.0, own-inserted g es p i own.1 is)
@@ -161,14 +161,14 @@ own-inserted g (e ∷ es) p i own is = elim (nat_cmp p e.0) as (λ o. AreOf g (m
 pub group-inserted : (g : ℕ) (es : List (ℕ × ℕ)) (p i : ℕ) → IsGroup g es → group_of p ≡ g → IsGroup g (insert_entry nat_cmp es p i)
 group-inserted g es p i is own = record { own = own-inserted g es p i is.own own; sorted = sorted-of _ (rising-inserted es p i (rising-of es is.sorted)) }
 
-own-removed : (g : ℕ) (t : ℕ → Bool) (es : List (ℕ × ℕ)) → AreOf g es → AreOf g (remove_entry t es)
+own-removed : (g : ℕ) (t : ℕ → Bool) (es : List (ℕ × ℕ)) → AreOfGroup g es → AreOfGroup g (remove_entry t es)
 own-removed g t [] own = tt
-own-removed g t (e ∷ es) own = elim (t e.0) as (λ b. AreOf g (cond b es (e ∷ remove_entry t es))) [ true ↦ own.1 | false ↦ (own.0, own-removed g t es own.1) ]
+own-removed g t (e ∷ es) own = elim (t e.0) as (λ b. AreOfGroup g (cond b es (e ∷ remove_entry t es))) [ true ↦ own.1 | false ↦ (own.0, own-removed g t es own.1) ]
 
 pub group-removed : (g : ℕ) (t : ℕ → Bool) (es : List (ℕ × ℕ)) → IsGroup g es → IsGroup g (remove_entry t es)
 group-removed g t es is = record { own = own-removed g t es is.own; sorted = sorted-of _ (rising-removed t es (rising-of es is.sorted)) }
 
-module _ (gs : Groups) (r : IsRising gs) (are : AreGroups gs) where
+module _ (gs : Groups) (r : IsRising gs) (are : ArePageGroups gs) where
   whole : IsRising (listed gs)
   whole = rising-listed gs r are
 
@@ -256,34 +256,34 @@ drop-empty (h ∷ gs) g is = elim (same_or_not g h.0) [
 
 -- the places of the pages from one on, group by group
 module _ (p : ℕ) where
-  from_both : (a b : List (ℕ × ℕ)) → places_from p (a ++ b) ≡ places_from p a ++ places_from p b
+  from_both : (a b : List (ℕ × ℕ)) → slots_from p (a ++ b) ≡ slots_from p a ++ slots_from p b
   from_both [] b = refl
-  from_both (e ∷ a) b = elim (is_le (nat_cmp p e.0)) as (λ t. cond t (e ∷ places_from p (a ++ b)) (places_from p (a ++ b)) ≡ cond t (e ∷ places_from p a) (places_from p a) ++ places_from p b) [
+  from_both (e ∷ a) b = elim (is_le (nat_cmp p e.0)) as (λ t. cond t (e ∷ slots_from p (a ++ b)) (slots_from p (a ++ b)) ≡ cond t (e ∷ slots_from p a) (slots_from p a) ++ slots_from p b) [
     | true ↦ ap (λ l. e ∷ l) (from_both a b)
     | false ↦ from_both a b
   ]
 
-  all-from : (x : ℕ) (es : List (ℕ × ℕ)) → AllAbove x es → p ≤ x → places_from p es ≡ es
+  all-from : (x : ℕ) (es : List (ℕ × ℕ)) → AllAbove x es → p ≤ x → slots_from p es ≡ es
   all-from x [] above le = refl
   all-from x (e ∷ es) above le =
       let yes : is_le (nat_cmp p e.0) ≡ true = (let lt = above.0 in grind (arith, nat_tests)) in
-      ap (λ t. cond t (e ∷ places_from p es) (places_from p es)) yes ∙ ap (λ l. e ∷ l) (all-from x es above.1 le)
+      ap (λ t. cond t (e ∷ slots_from p es) (slots_from p es)) yes ∙ ap (λ l. e ∷ l) (all-from x es above.1 le)
 
-  none-from : (g : ℕ) (es : List (ℕ × ℕ)) → AreOf g es → g < group_of p → places_from p es ≡ []
+  none-from : (g : ℕ) (es : List (ℕ × ℕ)) → AreOfGroup g es → g < group_of p → slots_from p es ≡ []
   none-from g [] own lt = refl
   none-from g (e ∷ es) own lt =
       let before : e.0 < p = later e.0 p (subst (λ h. h < group_of p) (sym own.0) lt) in
       let no : is_le (nat_cmp p e.0) ≡ false = grind (arith, nat_tests) in
-      ap (λ t. cond t (e ∷ places_from p es) (places_from p es)) no ∙ none-from g es own.1 lt
+      ap (λ t. cond t (e ∷ slots_from p es) (slots_from p es)) no ∙ none-from g es own.1 lt
 
-  own-from : (g : ℕ) (es : List (ℕ × ℕ)) → AreOf g es → group_of p < g → places_from p es ≡ es
+  own-from : (g : ℕ) (es : List (ℕ × ℕ)) → AreOfGroup g es → group_of p < g → slots_from p es ≡ es
   own-from g [] own lt = refl
   own-from g (e ∷ es) own lt =
       let after : p < e.0 = later p e.0 (subst (λ h. group_of p < h) (sym own.0) lt) in
       let yes : is_le (nat_cmp p e.0) ≡ true = grind (arith, nat_tests) in
-      ap (λ t. cond t (e ∷ places_from p es) (places_from p es)) yes ∙ ap (λ l. e ∷ l) (own-from g es own.1 lt)
+      ap (λ t. cond t (e ∷ slots_from p es) (slots_from p es)) yes ∙ ap (λ l. e ∷ l) (own-from g es own.1 lt)
 
-  later-from : (gs : Groups) → AllAbove (group_of p) gs → AreGroups gs → places_from p (listed gs) ≡ listed gs
+  later-from : (gs : Groups) → AllAbove (group_of p) gs → ArePageGroups gs → slots_from p (listed gs) ≡ listed gs
   later-from gs above are = all-from p (listed gs) (above-listed p gs above are) (omega arith)
 
   abbrev pub groups_from : Groups → Groups
@@ -302,32 +302,32 @@ module _ (p : ℕ) where
   -- what is left of the first group, and all that follow
   abbrev pub rest_of : Groups → List (ℕ × ℕ)
   rest_of [] = []
-  rest_of (g ∷ gs) = cond (eqb g.0 (group_of p)) (places_from p g.1) g.1 ++ listed gs
+  rest_of (g ∷ gs) = cond (eqb g.0 (group_of p)) (slots_from p g.1) g.1 ++ listed gs
 
-  pub from-listed : (gs : Groups) → IsRising gs → AreGroups gs → places_from p (listed gs) ≡ rest_of (groups_from gs)
+  pub from-listed : (gs : Groups) → IsRising gs → ArePageGroups gs → slots_from p (listed gs) ≡ rest_of (groups_from gs)
   from-listed [] r are = refl
   from-listed (g ∷ gs) r are = elim (cases_lt g.0 (group_of p)) [
     | inl before ↦
         let out : (is_le (nat_cmp (group_of p) g.0) && true) ≡ false = grind (arith, nat_tests) in
-        from_both g.1 (listed gs) ∙ ap (λ l. l ++ places_from p (listed gs)) (none-from g.0 g.1 are.0.own before) ∙ from-listed gs r.1 are.1
+        from_both g.1 (listed gs) ∙ ap (λ l. l ++ slots_from p (listed gs)) (none-from g.0 g.1 are.0.own before) ∙ from-listed gs r.1 are.1
         ∙ sym (ap (λ t. rest_of (cond t (g ∷ groups_from gs) (groups_from gs))) out)
     | inr from ↦
         let inside : (is_le (nat_cmp (group_of p) g.0) && true) ≡ true = grind (arith, nat_tests) in
         let above = above-trans g.0 gs r.0 from in
-        from_both g.1 (listed gs) ∙ ap (λ l. places_from p g.1 ++ l) (later-from gs above are.1)
+        from_both g.1 (listed gs) ∙ ap (λ l. slots_from p g.1 ++ l) (later-from gs above are.1)
         ∙ ap (λ l. l ++ listed gs) (first from)
-        ∙ sym (ap (λ t. rest_of (cond t (g ∷ groups_from gs) (groups_from gs))) inside ∙ ap (λ l. cond (eqb g.0 (group_of p)) (places_from p g.1) g.1 ++ listed l) (groups-later gs above))
+        ∙ sym (ap (λ t. rest_of (cond t (g ∷ groups_from gs) (groups_from gs))) inside ∙ ap (λ l. cond (eqb g.0 (group_of p)) (slots_from p g.1) g.1 ++ listed l) (groups-later gs above))
   ]
     where
-      first : group_of p ≤ g.0 → places_from p g.1 ≡ cond (eqb g.0 (group_of p)) (places_from p g.1) g.1
+      first : group_of p ≤ g.0 → slots_from p g.1 ≡ cond (eqb g.0 (group_of p)) (slots_from p g.1) g.1
       first from = elim (same_or_not g.0 (group_of p)) [
-        | inl same ↦ sym (ap (λ b. cond b (places_from p g.1) g.1) (yes g.0 (group_of p) same))
-        | inr other ↦ own-from g.0 g.1 are.0.own (omega arith) ∙ sym (ap (λ b. cond b (places_from p g.1) g.1) (no g.0 (group_of p) other))
+        | inl same ↦ sym (ap (λ b. cond b (slots_from p g.1) g.1) (yes g.0 (group_of p) same))
+        | inr other ↦ own-from g.0 g.1 are.0.own (omega arith) ∙ sym (ap (λ b. cond b (slots_from p g.1) g.1) (no g.0 (group_of p) other))
       ]
 
-pub from-behind : (p : ℕ) (es : List (ℕ × ℕ)) → behind p es ≡ places_from p es
+pub from-behind : (p : ℕ) (es : List (ℕ × ℕ)) → behind p es ≡ slots_from p es
 from-behind p [] = refl
-from-behind p (e ∷ es) = ap (λ l. cond (is_le (nat_cmp p e.0) && true) (e ∷ l) l) (from-behind p es) ∙ ap (λ b. cond b (e ∷ places_from p es) (places_from p es)) (drop-true (is_le (nat_cmp p e.0)))
+from-behind p (e ∷ es) = ap (λ l. cond (is_le (nat_cmp p e.0) && true) (e ∷ l) l) (from-behind p es) ∙ ap (λ b. cond b (e ∷ slots_from p es) (slots_from p es)) (drop-true (is_le (nat_cmp p e.0)))
   where
     drop-true : (b : Bool) → (b && true) ≡ b
     drop-true true = refl

@@ -56,6 +56,6 @@ no_records m n none = from_none (entries m) n none
 pub lowest_occupied : (m : Records) (n k : ℕ) → lowest_from m n ≡ Some k → get m k ≡ None → ⊥
 lowest_occupied m n k lowest none = first_there (entries m) n k (rising m) lowest (sym (get_is_at m k) ∙ none)
 
--- behind the highest number nothing is occupied
+-- after the highest number nothing is occupied
 pub next_is_none : (m : Records) (n : ℕ) → n ≡ highest_of m + 1 → get m n ≡ None
 next_is_none m n is = (is_highest m).none_above n (omega arith)

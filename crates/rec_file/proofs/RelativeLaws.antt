@@ -168,7 +168,7 @@ module _ (s : Shape) (ps : List (ℕ × Cells)) (f : FileVal) (h : HoldsFile s p
     abbrev pub IsPassed : ℕ → Type 0
     IsPassed p = (j : ℕ) → q ≤ j → page_of j < p → get f.records j ≡ None
 
-    -- the lowest number from n on is the first in the page behind those that are passed
+    -- the lowest number from n on is the first in the page after those that are passed
     pub lowest_in_page : (p : ℕ) (cells : Cells) (from m : ℕ) → at ps p ≡ Some cells → page_of q ≤ p → ((j : ℕ) → q ≤ j → page_of j ≡ p → from ≤ cell_of j) → (page_of q ≡ p → cell_of q ≤ from)
         → IsPassed p → IsFile f → 1 ≤ m → page_of m ≡ p → IsFirstIn cells from (cell_of m) → IsSpot f n m cells
     lowest_in_page p cells from m is high cells_from own passed file pos same first =
@@ -247,7 +247,7 @@ module _ (s : Shape) (ps : List (ℕ × Cells)) (f : FileVal) (h : HoldsFile s p
           | inr low ↦ none_there j le (omega arith)
         ])
 
-        -- else the first in the page behind it
+        -- else the first in the page after it
         module _ (p' : ℕ) (cells' : Cells) (t' : List (ℕ × Cells)) (next : t ≡ (p', cells') ∷ t') where
           higher : p < p'
           higher = (subst (λ l. AllAbove p l) next up.0).0

@@ -171,7 +171,7 @@ module _ {X : Type 0} where
     ]
   ]
 
-  -- and behind it stand those from the next number on
+  -- and after it stand those from the next number on
   pub from_some : (es : List (ℕ × X)) (n k : ℕ) (v : X) → IsRising es → first_in (filter (leb n) (map (λ e. e.0) es)) ≡ Some k → at es k ≡ Some v
       → filter (λ e. leb n e.0) es ≡ (k, v) ∷ filter (λ e. leb (k + 1) e.0) es
   from_some [] n k v r is here = cc

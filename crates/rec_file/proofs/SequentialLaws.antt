@@ -6,17 +6,17 @@ use Rattle.rec_file.specs.declared.shapes.Shape.{Shape}
 use Rattle.rec_file.specs.Limits.{greatest_number}
 use Rattle.rec_file.specs.Shapes.{is_seq}
 use Rattle.rec_file.specs.Files.{FileVal, IsFile, lowest_from, highest_of, stored}
-use Rattle.rec_file.specs.Inner.Numbered.{numbered, sequential_file}
+use Rattle.rec_file.specs.Inner.Numbered.{numbered_records, sequential_file}
 use Rattle.rec_file.proofs.FileLaws.{limit_le, same_records}
 use Rattle.std.proofs.lemmas.List.{length-map, map-append, map-set}
 use Rattle.std.proofs.lemmas.Option.{slice_get-map, slice_get_read}
 use Rattle.rec_file.proofs.NumberedLaws.{get-numbered, get_zero-numbered, some-numbered, none-numbered, within-numbered, highest-numbered, lowest-numbered, no_lowest-numbered, numbered-push, numbered-set}
 
-empty_at : (q : ℕ) → get (numbered []) q ≡ get (empty {X = List ℕ} {R = nat_cmp}) q
+empty_at : (q : ℕ) → get (numbered_records []) q ≡ get (empty {X = List ℕ} {R = nat_cmp}) q
 empty_at zero = get_zero-numbered [] ∙ sym (get-empty {X = List ℕ} nat_cmp 0)
 empty_at (suc q) = get-numbered [] (suc q) (omega arith) ∙ sym (get-empty {X = List ℕ} nat_cmp (suc q))
 
-pub numbered-empty : numbered [] ≡ empty
+pub numbered-empty : numbered_records [] ≡ empty
 numbered-empty = same_records _ _ empty_at
 
 -- a file holds no more records than there are numbers
@@ -29,7 +29,7 @@ abbrev pub bodies : List (Vec ℕ Global) → List (List ℕ)
 bodies vs = map (λ v. v.items) vs
 
 module _ (s : Shape) (vs : List (Vec ℕ Global)) (f : FileVal) (e : sequential_file s (bodies vs) ≡ f) where
-  records_are : numbered (bodies vs) ≡ f.records
+  records_are : numbered_records (bodies vs) ≡ f.records
   records_are = ap (λ g. g.records) e
 
   size : length (bodies vs) ≡ length vs

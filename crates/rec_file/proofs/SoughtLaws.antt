@@ -10,8 +10,8 @@ use Rattle.std.proofs.lemmas.Bool.{cases_lt}
 use Rattle.std.proofs.lemmas.Bool.Decides.{nat_tests}
 use Rattle.std.proofs.lemmas.List.{length-map, length-drop, length-take-le}
 use Rattle.std.proofs.lemmas.Option.{slice_get-get_or, slice_get_read}
-use Rattle.rec_file.specs.Inner.Sorted.{IsInOrder, IsPlaceOf, IsGapFor}
-use Rattle.rec_file.specs.Inner.Places.{place_of, with_place, places_from}
+use Rattle.rec_file.specs.Inner.Sorted.{IsInOrder, IsIndexOf, IsGapFor}
+use Rattle.rec_file.specs.Inner.Places.{slot_of, with_slot, slots_from}
 use Rattle.rec_file.proofs.Rising.{at, IsRising, same_or_not}
 use Rattle.rec_file.proofs.Keyed.{lookup_is_at, at-inserted, rising-inserted, at-removed, rising-removed}
 use Rattle.rec_file.proofs.Gaps.{numbers, ordered, at-gap, at-place, at-insert, at-remove, rising-insert, rising-remove, number_at}
@@ -25,7 +25,7 @@ module _ (es : List (ℕ × ℕ)) (sorted : is_sorted nat_cmp es ≡ true) (p i 
   searchable = ordered es r
 
   -- it stands where it was found
-  module _ (found : IsPlaceOf (numbers es) p i) where
+  module _ (found : IsIndexOf (numbers es) p i) where
     within : i < length es
     within = subst (λ n. i < n) (length-map es (λ (e : ℕ × ℕ). e.0)) found.in_range
 
@@ -38,13 +38,13 @@ module _ (es : List (ℕ × ℕ)) (sorted : is_sorted nat_cmp es ≡ true) (p i 
     at-found : at es p ≡ Some (get_or es i (0, 0)).1
     at-found = subst (λ n. at es n ≡ Some (get_or es i (0, 0)).1) number (at-place es i (get_or es i (0, 0)) r entry)
 
-    pub found-place : Some (get_or es i (0, 0)).1 ≡ place_of es p
+    pub found-place : Some (get_or es i (0, 0)).1 ≡ slot_of es p
     found-place = sym (lookup_is_at es p ∙ at-found)
 
-    pub read-place : (e : ℕ × ℕ) → e ≡ get_or es i e → Some e.1 ≡ place_of es p
+    pub read-place : (e : ℕ × ℕ) → e ≡ get_or es i e → Some e.1 ≡ slot_of es p
     read-place e is = let there = slice_get_read es (length es) i e refl within is in sym (lookup_is_at es p ∙ subst (λ n. at es n ≡ Some e.1) (sym (number_at es i e there) ∙ found.same) (at-place es i e r there))
 
-    pub with-found : (j : ℕ) → es ≡ with_place es p j
+    pub with-found : (j : ℕ) → es ≡ with_slot es p j
     with-found j = sym (ap (λ o. cond (is_some o) es (insert_entry nat_cmp es p j)) (sym found-place))
 
     pub taken-found : remove es i ≡ remove_entry (is_at (nat_cmp p)) es
@@ -54,10 +54,10 @@ module _ (es : List (ℕ × ℕ)) (sorted : is_sorted nat_cmp es ≡ true) (p i 
 
   -- nothing stands where a gap was found
   module _ (gap : IsGapFor (numbers es) p i) where
-    pub gap-place : None ≡ place_of es p
+    pub gap-place : None ≡ slot_of es p
     gap-place = sym (lookup_is_at es p ∙ at-gap es p i gap)
 
-    pub with-gap : (j : ℕ) → insert es i (p, j) ≡ with_place es p j
+    pub with-gap : (j : ℕ) → insert es i (p, j) ≡ with_slot es p j
     with-gap j =
         same-entries (insert es i (p, j)) (insert_entry nat_cmp es p j) (rising-insert es p i j r gap) (rising-inserted es p j r)
         (λ q. at-insert es p i j gap q ∙ sym (at-inserted es p j q))
@@ -69,27 +69,27 @@ record Parts (ns : List ℕ) (p i : ℕ) : Type 0 where
   before : (j : ℕ) → j < i → get_or ns j 0 < p
   after : (j : ℕ) → i ≤ j → j < length ns → p ≤ get_or ns j 0
 
-parted : (p : ℕ) (es : List (ℕ × ℕ)) (i : ℕ) → Parts (numbers es) p i → drop i es ≡ places_from p es
+parted : (p : ℕ) (es : List (ℕ × ℕ)) (i : ℕ) → Parts (numbers es) p i → drop i es ≡ slots_from p es
 parted p [] zero h = refl
 parted p [] (suc i) h = refl
 parted p (e ∷ es) zero h =
     let le : p ≤ e.0 = h.after 0 (omega arith) (omega arith) in
     let yes : is_le (nat_cmp p e.0) ≡ true = grind (arith, nat_tests) in
     ap (λ l. e ∷ l) (parted p es 0 (record { in_range = omega arith; before = λ j lt. absurd (omega arith); after = λ j from lt. h.after (suc j) (omega arith) (omega arith) }))
-    ∙ sym (ap (λ t. cond t (e ∷ places_from p es) (places_from p es)) yes)
+    ∙ sym (ap (λ t. cond t (e ∷ slots_from p es) (slots_from p es)) yes)
 parted p (e ∷ es) (suc i) h =
     let lt : e.0 < p = h.before 0 (omega arith) in
     let no : is_le (nat_cmp p e.0) ≡ false = grind (arith, nat_tests) in
     parted p es i (record { in_range = (let n = h.in_range in omega arith); before = λ j lt. h.before (suc j) (omega arith); after = λ j from lt. h.after (suc j) (omega arith) (omega arith) })
-    ∙ sym (ap (λ t. cond t (e ∷ places_from p es) (places_from p es)) no)
+    ∙ sym (ap (λ t. cond t (e ∷ slots_from p es) (slots_from p es)) no)
 
 rest : (es : List (ℕ × ℕ)) (i : ℕ) → take (length es - i) (drop i es) ≡ drop i es
 rest es i = ap (λ n. take n (drop i es)) (sym (length-drop i es)) ∙ take-length (drop i es)
 
-pub rest-gap : (es : List (ℕ × ℕ)) (p i : ℕ) → IsGapFor (numbers es) p i → take (length es - i) (drop i es) ≡ places_from p es
+pub rest-gap : (es : List (ℕ × ℕ)) (p i : ℕ) → IsGapFor (numbers es) p i → take (length es - i) (drop i es) ≡ slots_from p es
 rest-gap es p i gap = rest es i ∙ parted p es i (record { in_range = gap.in_range; before = gap.smaller_before; after = λ j from lt. let up = gap.greater_after j from lt in omega arith })
 
-pub rest-found : (es : List (ℕ × ℕ)) (p i : ℕ) → is_sorted nat_cmp es ≡ true → IsPlaceOf (numbers es) p i → take (length es - i) (drop i es) ≡ places_from p es
+pub rest-found : (es : List (ℕ × ℕ)) (p i : ℕ) → is_sorted nat_cmp es ≡ true → IsIndexOf (numbers es) p i → take (length es - i) (drop i es) ≡ slots_from p es
 rest-found es p i sorted found =
     let up = ordered es (rising-of es sorted) in
     rest es i
@@ -102,7 +102,7 @@ rest-found es p i sorted found =
       ];
     })
 
--- smaller pages stand before one that is smaller, and greater ones behind one that is greater
+-- smaller pages stand before one that is smaller, and greater ones after one that is greater
 pub before-smaller : (es : List (ℕ × ℕ)) (p k : ℕ) (e : ℕ × ℕ) → IsInOrder (numbers es) → k < length es → e ≡ get_or es k e → e.0 < p → (j : ℕ) → j < k + 1 → get_or (numbers es) j 0 < p
 before-smaller es p k e order within is less j lt =
     let there = number_at es k e (slice_get_read es (length es) k e refl within is) in
@@ -163,7 +163,7 @@ module _ (es : List (ℕ × ℕ)) (p low high : ℕ) (order : IsInOrder (numbers
       let up = order (low + i) (low + j) (omega arith) (omega arith) in
       omega arith
 
-  pub part-found : (i : ℕ) → IsPlaceOf (numbers part) p i → IsPlaceOf (numbers es) p (low + i)
+  pub part-found : (i : ℕ) → IsIndexOf (numbers part) p i → IsIndexOf (numbers es) p (low + i)
   part-found i found =
       let n = size in
       let m = whole-size in

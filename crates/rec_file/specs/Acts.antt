@@ -8,7 +8,7 @@ use Rattle.rec_file.specs.declared.refusals.Refusal.TheVariants.{NotPermitted, N
 use Rattle.rec_file.specs.declared.picks.Rights.{Rights}
 use Rattle.rec_file.specs.declared.picks.Pick.{Pick}
 use Rattle.rec_file.specs.declared.picks.Pick.TheVariants.{Next, Key, Rfa}
-use Rattle.rec_file.specs.Shapes.{is_seq, limit_of, allows_length}
+use Rattle.rec_file.specs.Shapes.{is_seq, max_number, allows_length}
 use Rattle.rec_file.specs.Files.{FileVal, lowest_from, highest_of, stored, removed}
 
 -- a stream: its user's rights, the number from which it reads next, and the number of its current record, or none
@@ -26,15 +26,15 @@ pub data Operation : Type 0 where
 
 -- no record can have the number
 abbrev pub out_of_range : Shape → ℕ → Bool
-out_of_range shape n = nat_eq n 0 || not (nat_le n (limit_of shape))
+out_of_range shape n = nat_eq n 0 || not (nat_le n (max_number shape))
 
 -- no record has the number
-abbrev pub is_free : FileVal → ℕ → Bool
-is_free file n = is_none (get file.records n)
+abbrev pub is_free_number : FileVal → ℕ → Bool
+is_free_number file n = is_none (get file.records n)
 
 -- the number of the current record, where it is occupied
 abbrev pub current_of : FileVal → StreamVal → Option ℕ
-current_of file stream = option_and_then (λ n. if is_free file n then None else Some n) stream.current
+current_of file stream = option_and_then (λ n. if is_free_number file n then None else Some n) stream.current
 
 -- in a sequential file the length stays that of the current record
 abbrev pub keeps_length : FileVal → Option ℕ → List ℕ → Bool
@@ -68,25 +68,25 @@ refusals_of (get_record (Key n)) file stream =
     (not stream.rights.get, NotPermitted)
     ∷ (is_seq file.shape.org, BadAccessMode)
     ∷ (out_of_range file.shape n, NumberOutOfRange)
-    ∷ (is_free file n, RecordNotFound)
+    ∷ (is_free_number file n, RecordNotFound)
     ∷ []
 refusals_of (get_record (Rfa n)) file stream =
     (not stream.rights.get, NotPermitted)
     ∷ (out_of_range file.shape n, NumberOutOfRange)
-    ∷ (is_free file n, RecordNotFound)
+    ∷ (is_free_number file n, RecordNotFound)
     ∷ []
 refusals_of (put_record None body) file stream =
     (not stream.rights.put, NotPermitted)
     ∷ (not (allows_length file.shape (length body)), BadLength)
     ∷ (out_of_range file.shape (free_place file stream), NumberOutOfRange)
-    ∷ (not (is_seq file.shape.org) && not (is_free file (free_place file stream)), RecordExists)
+    ∷ (not (is_seq file.shape.org) && not (is_free_number file (free_place file stream)), RecordExists)
     ∷ []
 refusals_of (put_record (Some n) body) file stream =
     (not stream.rights.put, NotPermitted)
     ∷ (is_seq file.shape.org, BadAccessMode)
     ∷ (not (allows_length file.shape (length body)), BadLength)
     ∷ (out_of_range file.shape n, NumberOutOfRange)
-    ∷ (not (is_free file n), RecordExists)
+    ∷ (not (is_free_number file n), RecordExists)
     ∷ []
 refusals_of (update_record body) file stream =
     (not stream.rights.upd, NotPermitted)
@@ -116,16 +116,16 @@ leaves n file stream next current = record { file = file; stream = record stream
 
 -- What an operation leaves that isn't refused. A get moves the stream after the record and makes it the current one.
 -- A put without a key moves it by one in a relative file. All others leave no current record.
-abbrev pub done : Operation → ℕ → FileVal → StreamVal → Outcome
-done (get_record pick) n file stream = leaves n file stream (n + 1) (Some n)
-done (put_record key body) n file stream =
+abbrev pub effect_of : Operation → ℕ → FileVal → StreamVal → Outcome
+effect_of (get_record pick) n file stream = leaves n file stream (n + 1) (Some n)
+effect_of (put_record key body) n file stream =
     leaves n (stored file n body) stream (option_map_or (λ k. stream.next) key (if is_seq file.shape.org then stream.next else stream.next + 1)) None
-done (update_record body) n file stream = leaves n (stored file n body) stream stream.next None
-done delete_record n file stream = leaves n (removed file n) stream stream.next None
+effect_of (update_record body) n file stream = leaves n (stored file n body) stream stream.next None
+effect_of delete_record n file stream = leaves n (removed file n) stream stream.next None
 
 -- a refused operation leaves the file, and no current record
 abbrev pub outcome_of : Option Refusal → Operation → FileVal → StreamVal → Outcome
-outcome_of None operation file stream = done operation (target_number operation file stream) file stream
+outcome_of None operation file stream = effect_of operation (target_number operation file stream) file stream
 outcome_of (Some refusal) operation file stream = record { file = file; stream = record stream { current = None }; reply = Err refusal }
 
 -- what an operation leaves, and its answer

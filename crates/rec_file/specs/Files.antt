@@ -4,7 +4,7 @@ use Rattle.std.specs.List.{last_or}
 use Rattle.std.specs.Ordering.{nat_cmp}
 use Rattle.std.specs.FinMap.{FinMap, get, keys, entries, insert, remove}
 use Rattle.rec_file.specs.declared.shapes.Shape.{Shape}
-use Rattle.rec_file.specs.Shapes.{is_shape, is_seq, limit_of, allows_length}
+use Rattle.rec_file.specs.Shapes.{is_shape, is_seq, max_number, allows_length}
 
 -- records by their numbers
 abbrev pub Records : Type 0
@@ -32,7 +32,7 @@ records_from m n = filter (λ e. nat_le n e.0) (entries m)
 pub record IsFile (file : FileVal) : Type 0 where
   pub shape : IsTrue (is_shape file.shape)
   pub above : (n : ℕ) → IsSome (get file.records n) → 1 ≤ n
-  pub within : (n : ℕ) → IsSome (get file.records n) → n ≤ limit_of file.shape
+  pub within : (n : ℕ) → IsSome (get file.records n) → n ≤ max_number file.shape
   pub dense : IsTrue (is_seq file.shape.org) → (n : ℕ) → 1 ≤ n → n ≤ highest_of file.records → IsSome (get file.records n)
   pub lengths : (n : ℕ) → IfSome (get file.records n) (λ body. IsTrue (allows_length file.shape (length body)))
 

@@ -2,7 +2,7 @@
 ghost use Rattle.std.specs.Prelude.{◌≡◌, ◌≤◌, ◌+◌, [], ◌∷◌, length, Some, None, false, is_none, is_some, IsTrue, IsSome, IfSome, IfNone, IfOk, OnOk, OnErr, MatchBool};
 ghost use Rattle.std.specs.Option.{option_copied};
 ghost use Rattle.std.specs.FinMap as map;
-ghost use Rattle.rec_file.specs.Shapes.{limit_of, allows_length, is_seq};
+ghost use Rattle.rec_file.specs.Shapes.{max_number, allows_length, is_seq};
 ghost use Rattle.rec_file.specs.Limits.{greatest_number, longest_record};
 ghost use Rattle.rec_file.specs.Files.{FileVal, IsFile, lowest_from, highest_of, records_from, stored, removed};
 
@@ -33,7 +33,7 @@ pub trait OneWalk {
     /// wasn't, nothing has changed. An error is out of memory: the number is free, and nothing has changed.
     fn insert_if_free(&mut self, number: u32, body: &[u8]) -> Result<bool, AllocError>
         requires above { 1 ≤ number }
-        requires within { number ≤ limit_of (value self.old).shape }
+        requires within { number ≤ max_number (value self.old).shape }
         requires next { IsTrue (is_seq (value self.old).shape.org)
             → number ≡ highest_of (value self.old).records + 1 }
         requires length { IsTrue (allows_length (value self.old).shape (length body.now)) }
@@ -100,7 +100,7 @@ pub trait RecordFile: OneWalk {
     /// out of memory: nothing has changed.
     fn place(&mut self, number: u32, body: &[u8]) -> Result<(), AllocError>
         requires above { 1 ≤ number }
-        requires within { number ≤ limit_of (Self.value self.old).shape }
+        requires within { number ≤ max_number (Self.value self.old).shape }
         requires free { map.get (Self.value self.old).records number ≡ None }
         requires next { IsTrue (is_seq (Self.value self.old).shape.org)
             → number ≡ highest_of (Self.value self.old).records + 1 }

@@ -2,9 +2,9 @@
 ghost use Rattle.std.specs.Prelude.{◌≡◌, ◌≤◌, ◌<◌, ℕ, [], ◌∷◌, length, map, slice_index, true, None, IfOk, IfErr, IfSome, IfNone, IsSome, OnErr, OnOk};
 ghost use Rattle.std.specs.Ordering.{nat_cmp};
 ghost use Rattle.std.specs.FinMap.{is_sorted};
-ghost use Rattle.rec_file.specs.Inner.Sorted.{IsGapFor, IsInOrder, IsPlaceOf};
+ghost use Rattle.rec_file.specs.Inner.Sorted.{IsGapFor, IsInOrder, IsIndexOf};
 ghost use Rattle.slab.specs.Slab.{get, HasRoomFor};
-ghost use Rattle.rec_file.specs.Inner.Places.{place_of, places_from, with_place, had_of, Clears, IsBegunWith, IsLastPlace};
+ghost use Rattle.rec_file.specs.Inner.Places.{slot_of, slots_from, with_slot, had_of, Clears, IsBegunWith, IsLastSlot};
 
 use crate::pages::Page;
 use crate::sorted::search;
@@ -27,14 +27,14 @@ impl Model for Places {
     ghost use Rattle.std.specs.Prelude.{◌≡◌, List, ℕ, true};
     ghost use Rattle.std.specs.Ordering.{nat_cmp};
     ghost use Rattle.std.specs.FinMap.{is_sorted};
-    ghost use Rattle.rec_file.specs.Inner.Places.{bare, listed, AreGroups, HavePages};
+    ghost use Rattle.rec_file.specs.Inner.Places.{bare, listed, ArePageGroups, HavePages};
 
     ghost Value = { List (ℕ × ℕ) };
 
     ghost view = { λ a. listed (bare a.groups.entries) };
 
     ghost invariant = { λ a. (is_sorted nat_cmp (bare a.groups.entries) ≡ true)
-        × AreGroups (bare a.groups.entries)
+        × ArePageGroups (bare a.groups.entries)
         × HavePages (bare a.groups.entries) };
 }
 
@@ -67,7 +67,7 @@ fn part(group: &[(u32, usize)], page: u32) -> (usize, usize)
 /// Where a page is in its group, or where it would.
 fn seek(group: &[(u32, usize)], page: u32) -> Result<usize, usize>
     requires { IsInOrder (map (λ e. e.0) group.now) }
-    ensures found { IfOk result (IsPlaceOf (map (λ e. e.0) group.now) page) }
+    ensures found { IfOk result (IsIndexOf (map (λ e. e.0) group.now) page) }
     ensures gap { IfErr result (IsGapFor (map (λ e. e.0) group.now) page) }
 {
     let (low, high) = part(group, page);
@@ -80,7 +80,7 @@ fn seek(group: &[(u32, usize)], page: u32) -> Result<usize, usize>
 /// The place of a page in its group.
 fn place_in(group: &[(u32, usize)], page: u32) -> Option<usize>
     requires { is_sorted nat_cmp group.now ≡ true }
-    ensures { result ≡ place_of group.now page }
+    ensures { result ≡ slot_of group.now page }
 {
     match seek(group, page) {
         Ok(at) => Some(group[at].1),
@@ -113,7 +113,7 @@ fn room_for(
     Ok((pages.vacant_key(), record))
 }
 
-/// Puts a page into its group, where it has no place. An error is a refused allocation: it has no place, and
+/// Puts a page into its group, where it has no slot. An error is a refused allocation: it has no slot, and
 /// nothing has changed.
 fn put_in(
     group: &mut Vec<(u32, usize)>,
@@ -123,14 +123,14 @@ fn put_in(
     body: &[u8],
 ) -> Result<Put, AllocError>
     requires { is_sorted nat_cmp group.old.items ≡ true }
-    ensures had { IfOk result (λ put. had_of put ≡ place_of group.old.items page) }
+    ensures had { IfOk result (λ put. had_of put ≡ slot_of group.old.items page) }
     ensures body { IfOk result (IsBegunWith body.now) }
     ensures room { IfOk result (λ put. IfNone (had_of put) (HasRoomFor pages.new 1)) }
     ensures pages { pages.new ≡ record pages.old { capacity = pages.new.capacity } }
     ensures ok { OnOk result
-        (group.new.items ≡ with_place group.old.items page pages.old.vacant_key) }
+        (group.new.items ≡ with_slot group.old.items page pages.old.vacant_key) }
     ensures err { OnErr result (group.new.items ≡ group.old.items) }
-    ensures wanted { OnErr result (place_of group.old.items page ≡ None) }
+    ensures wanted { OnErr result (slot_of group.old.items page ≡ None) }
 {
     match seek(group, page) {
         Ok(at) => Ok(Put::Kept(group[at].1)),
@@ -146,7 +146,7 @@ fn put_in(
 fn clear_in(group: &mut Vec<(u32, usize)>, page: u32, cell: usize, pages: &mut Slab<Page>) -> bool
     requires sorted { is_sorted nat_cmp group.old.items ≡ true }
     requires within { cell < 64 }
-    requires stands { IfSome (place_of group.old.items page) (λ i. IsSome (get pages.old i)) }
+    requires stands { IfSome (slot_of group.old.items page) (λ i. IsSome (get pages.old i)) }
     ensures { Clears group.old.items group.new.items pages.old pages.new page cell result }
 {
     let Ok(at) = seek(group, page) else {
@@ -170,7 +170,7 @@ fn clear_in(group: &mut Vec<(u32, usize)>, page: u32, cell: usize, pages: &mut S
 /// The pages of a group from one on.
 fn rest_from(group: &[(u32, usize)], page: u32) -> &[(u32, usize)]
     requires { is_sorted nat_cmp group.now ≡ true }
-    ensures { result.now ≡ places_from page group.now }
+    ensures { result.now ≡ slots_from page group.now }
 {
     match seek(group, page) {
         Ok(at) => &group[at..],
@@ -190,13 +190,13 @@ impl Places {
 
     /// The place of a page.
     pub(crate) fn get(&self, page: u32) -> Option<usize>
-        ensures { result ≡ place_of self.now page }
+        ensures { result ≡ slot_of self.now page }
     {
         let group = self.groups.get(&(page / GROUP))?;
         place_in(group, page)
     }
 
-    /// Puts a page, where it has no place. An error is a refused allocation: it has no place, and nothing has
+    /// Puts a page, where it has no slot. An error is a refused allocation: it has no slot, and nothing has
     /// changed.
     pub(crate) fn put(
         &mut self,
@@ -205,13 +205,13 @@ impl Places {
         pages: &mut Slab<Page>,
         body: &[u8],
     ) -> Result<Put, AllocError>
-        ensures had { IfOk result (λ put. had_of put ≡ place_of self.old page) }
+        ensures had { IfOk result (λ put. had_of put ≡ slot_of self.old page) }
         ensures body { IfOk result (IsBegunWith body.now) }
         ensures room { IfOk result (λ put. IfNone (had_of put) (HasRoomFor pages.new 1)) }
         ensures pages { pages.new ≡ record pages.old { capacity = pages.new.capacity } }
-        ensures ok { OnOk result (self.new ≡ with_place self.old page pages.old.vacant_key) }
+        ensures ok { OnOk result (self.new ≡ with_slot self.old page pages.old.vacant_key) }
         ensures err { OnErr result (self.new ≡ self.old) }
-        ensures wanted { OnErr result (place_of self.old page ≡ None) }
+        ensures wanted { OnErr result (slot_of self.old page ≡ None) }
         ensures sorted { is_sorted nat_cmp self.old ≡ true }
     {
         let own = page / GROUP;
@@ -228,7 +228,7 @@ impl Places {
     /// Empties a cell of a page, where it is occupied; a page that has no record then goes. Whether it was.
     pub(crate) fn clear(&mut self, page: u32, cell: usize, pages: &mut Slab<Page>) -> bool
         requires within { cell < 64 }
-        requires stands { IfSome (place_of self.old page) (λ i. IsSome (get pages.old i)) }
+        requires stands { IfSome (slot_of self.old page) (λ i. IsSome (get pages.old i)) }
         ensures { Clears self.old self.new pages.old pages.new page cell result }
     {
         let own = page / GROUP;
@@ -245,7 +245,7 @@ impl Places {
     /// The last page, and its place.
     pub(crate) fn last(&self) -> Option<(u32, usize)>
         ensures none { IfNone result (self.now ≡ []) }
-        ensures some { IfSome result (IsLastPlace self.now) }
+        ensures some { IfSome result (IsLastSlot self.now) }
     {
         let (_own, group) = self.groups.last_key_value()?;
         let Some(last) = group.last() else {
@@ -256,7 +256,7 @@ impl Places {
 
     /// The pages from one on, and their places.
     pub(crate) fn from(&self, page: u32) -> PlacesFrom<'_>
-        ensures { result ≡ places_from page self.now }
+        ensures { result ≡ slots_from page self.now }
     {
         let own = page / GROUP;
         let mut groups = self.groups.range(own..);

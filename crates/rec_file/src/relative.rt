@@ -10,7 +10,7 @@ ghost use Rattle.rec_file.specs.Shapes.{is_shape, is_seq};
 ghost use Rattle.rec_file.specs.Pages.{occupied_pages};
 ghost use Rattle.rec_file.specs.Files.{lowest_from};
 ghost use Rattle.rec_file.specs.Limits.{longest_record};
-ghost use Rattle.rec_file.specs.Inner.Pages.{pages_at, page_cell, put_entry, HaveOwnPlaces, IsPage, IsSpot};
+ghost use Rattle.rec_file.specs.Inner.Pages.{pages_at, page_cell, put_entry, HaveOwnSlots, IsPage, IsSpot};
 
 use crate::files::{OneWalk, RecordFile};
 use crate::pages::{Page, cell_of, first_in, last_in, page_of};
@@ -38,7 +38,7 @@ impl Model for RelFile {
     ghost use Rattle.std.specs.FinMap.{is_sorted};
     ghost use Rattle.slab.specs.Slab.{get, slab_len};
     ghost use Rattle.rec_file.specs.Shapes.{is_seq};
-    ghost use Rattle.rec_file.specs.Inner.Pages.{paged_file, pages_at, HaveOwnPlaces, IsPage};
+    ghost use Rattle.rec_file.specs.Inner.Pages.{paged_file, pages_at, HaveOwnSlots, IsPage};
     ghost use Rattle.rec_file.specs.Files.{FileVal, IsFile};
     ghost use Rattle.rec_file.specs.Stored.{file_code};
 
@@ -52,7 +52,7 @@ impl Model for RelFile {
         × (is_seq a.shape.org ≡ false)
         × (is_sorted nat_cmp (pages_at (get a.pages) a.places) ≡ true)
         × AllByRecursion IsPage (map (λ p. p.1) (pages_at (get a.pages) a.places))
-        × HaveOwnPlaces a.places
+        × HaveOwnSlots a.places
         × (slab_len a.pages ≡ length a.places) };
 }
 
@@ -122,7 +122,7 @@ fn put_in(
     requires within { cell < 64 }
     requires kept { AllByRecursion IsPage (each (λ p. p.1) (pages_at (get pages.old)
         places.old)) }
-    requires own { HaveOwnPlaces places.old }
+    requires own { HaveOwnSlots places.old }
     requires as_many { slab_len pages.old ≡ length places.old }
     ensures empty { IfOk result (λ empty. empty ≡ is_none (page_cell
         (lookup (is_at (nat_cmp at)) (pages_at (get pages.old) places.old)) cell)) }
@@ -133,7 +133,7 @@ fn put_in(
         ≡ pages_at (get pages.old) places.old) }
     ensures wanted { OnErr result (page_cell
         (lookup (is_at (nat_cmp at)) (pages_at (get pages.old) places.old)) cell ≡ None) }
-    ensures own { HaveOwnPlaces places.new }
+    ensures own { HaveOwnSlots places.new }
     ensures as_many { slab_len pages.new ≡ length places.new }
 {
     match places.put(alloc, at, pages, body)? {

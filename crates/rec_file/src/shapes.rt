@@ -1,6 +1,6 @@
 //! The shape of a file: its organization, its record format and its limits.
 ghost use Rattle.std.specs.Prelude.{◌≡◌, IfSome, IsTrue};
-ghost use Rattle.rec_file.specs.Shapes.{checked_shape, is_shape, limit_of, allows_length, is_seq};
+ghost use Rattle.rec_file.specs.Shapes.{checked_shape, is_shape, max_number, allows_length, is_seq};
 
 /// How the numbers of a file's records are given out (in the manner of RMS).
 #[derive(Clone, Copy, Debug, PartialEq, Eq)]
@@ -94,7 +94,7 @@ impl Shape {
 
     /// The greatest number that a record of the file can have: `mrn`, or [`MAX_NUMBER`] where that is 0.
     pub fn limit(&self) -> u32
-        ensures { result ≡ limit_of self.now }
+        ensures { result ≡ max_number self.now }
     {
         if self.mrn == 0 { MAX_NUMBER } else { self.mrn }
     }

@@ -2,10 +2,10 @@
 ghost use Rattle.std.specs.Prelude.{◌≡◌, ◌≤◌, ◌+◌, false, length, Some, Ok, Err, IfErr, IfOk, IsTrue, if◌then◌else◌};
 ghost use Rattle.rec_file.specs.declared.refusals.Refusal.TheVariants.{NoCurrent, RecordExists};
 ghost use Rattle.rec_file.specs.Files.{highest_of};
-ghost use Rattle.rec_file.specs.Shapes.{limit_of, allows_length, is_seq};
+ghost use Rattle.rec_file.specs.Shapes.{max_number, allows_length, is_seq};
 ghost use Rattle.std.specs.FinMap as map;
 ghost use Rattle.rec_file.specs.Limits.{greatest_number, longest_record};
-ghost use Rattle.rec_file.specs.Acts.{act, Acts, IsOutcome, is_free, is_no_memory, get_record, put_record, update_record, delete_record};
+ghost use Rattle.rec_file.specs.Acts.{act, Acts, IsOutcome, is_free_number, is_no_memory, get_record, put_record, update_record, delete_record};
 
 use crate::files::RecordFile;
 use crate::picks::{Pick, Rights};
@@ -220,9 +220,9 @@ impl Stream {
             (act (put_record key body.now) (F.value file.now) self.now).reply ≡ Err refusal) }
         ensures reply { IfOk result (λ n.
             (act (put_record key body.now) (F.value file.now) self.now).reply
-            ≡ (if is_free (F.value file.now) n then Ok n else Err RecordExists)) }
+            ≡ (if is_free_number (F.value file.now) n then Ok n else Err RecordExists)) }
         ensures above { IfOk result (λ n. 1 ≤ n) }
-        ensures within { IfOk result (λ n. n ≤ limit_of (F.value file.now).shape) }
+        ensures within { IfOk result (λ n. n ≤ max_number (F.value file.now).shape) }
         ensures next { IfOk result (λ n. IsTrue (is_seq (F.value file.now).shape.org)
             → n ≡ highest_of (F.value file.now).records + 1) }
         ensures length { IfOk result
@@ -282,7 +282,7 @@ impl Stream {
             (act (update_record body.now) (F.value file.now) self.now).reply ≡ Err refusal) }
         ensures reply { IfOk result (λ n.
             (act (update_record body.now) (F.value file.now) self.now).reply
-            ≡ (if is_free (F.value file.now) n then Err NoCurrent else Ok n)) }
+            ≡ (if is_free_number (F.value file.now) n then Err NoCurrent else Ok n)) }
         ensures length { IfOk result
             (λ _. IsTrue (allows_length (F.value file.now).shape (length body.now))) }
     {

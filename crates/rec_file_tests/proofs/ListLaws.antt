@@ -10,7 +10,7 @@ use Rattle.std.proofs.lemmas.Option.{slice_get_within, slice_get-map, slice_get_
 use Rattle.rec_file.specs.declared.shapes.Shape.{Shape}
 use Rattle.rec_file.specs.Files.{FileVal, lowest_from, highest_of, stored, removed}
 use Rattle.rec_file_tests.specs.Inner.Lists.{list_file}
-use Rattle.rec_file.specs.Inner.Sorted.{IsInOrder, IsPlaceOf, IsGapFor}
+use Rattle.rec_file.specs.Inner.Sorted.{IsInOrder, IsIndexOf, IsGapFor}
 use Rattle.rec_file.proofs.ForCallers.{at, IsRising, find_is_at, sorted_from_rising, rising_from_sorted, same_or_not}
 use Rattle.rec_file.proofs.ForCallers.{lowest_from_some, lowest_from_none, highest_of_some, highest_of_none}
 use Rattle.rec_file.proofs.ForCallers.{get_stored, get_removed, same_records}
@@ -123,13 +123,13 @@ pub read : (vs : List (ℕ × Vec ℕ Global)) (i : ℕ) (v : ℕ × Vec ℕ Glo
 read vs i v lt is = slice_get-map (λ v. (v.0, v.1.items)) vs i ∙ ap (option_map (λ v. (v.0, v.1.items))) (slice_get_read vs (length vs) i v refl lt is)
 
 -- the number of the entry at the place of a number
-pub place_is : (vs : List (ℕ × Vec ℕ Global)) (n i : ℕ) (v : ℕ × Vec ℕ Global) → IsPlaceOf (map (λ v. v.0) vs) n i → v ≡ get_or vs i v → v.0 ≡ n
+pub place_is : (vs : List (ℕ × Vec ℕ Global)) (n i : ℕ) (v : ℕ × Vec ℕ Global) → IsIndexOf (map (λ v. v.0) vs) n i → v ≡ get_or vs i v → v.0 ≡ n
 place_is vs n i v p is =
     let lt : i < length vs = subst (λ m. i < m) (length-map vs _) p.in_range in
     sym (number_at (pairs vs) i (v.0, v.1.items) (read vs i v lt is)) ∙ ap (λ ns. get_or ns i 0) (sym (pairs_numbers vs)) ∙ p.same
 
 -- what stands at the place of a number
-pub pair_at : (vs : List (ℕ × Vec ℕ Global)) (n i : ℕ) → IsPlaceOf (map (λ v. v.0) vs) n i → (body : List ℕ) × (slice_get (pairs vs) i ≡ Some (n, body))
+pub pair_at : (vs : List (ℕ × Vec ℕ Global)) (n i : ℕ) → IsIndexOf (map (λ v. v.0) vs) n i → (body : List ℕ) × (slice_get (pairs vs) i ≡ Some (n, body))
 pair_at [] n i p = absurd (omega (arith, p.in_range))
 pair_at (v ∷ vs) n zero p = (v.1.items, ap (λ k. Some (k, v.1.items)) p.same)
 pair_at (v ∷ vs) n (suc i) p = pair_at vs n i (record { in_range = omega (arith, p.in_range); same = p.same })
@@ -146,7 +146,7 @@ pairs_length [] = refl
 pairs_length (v ∷ vs) = omega (arith, pairs_length vs)
 
 -- where a search in a file's entries ends
-pub place_found : (vs : List (ℕ × Vec ℕ Global)) (n i : ℕ) → IsRising (pairs vs) → IsSearchInRange (Ok i) (length vs) → IsBinarySearchResult (λ v. nat_cmp v.0 n) vs (Ok i) → IsPlaceOf (map (λ v. v.0) vs) n i
+pub place_found : (vs : List (ℕ × Vec ℕ Global)) (n i : ℕ) → IsRising (pairs vs) → IsSearchInRange (Ok i) (length vs) → IsBinarySearchResult (λ v. nat_cmp v.0 n) vs (Ok i) → IsIndexOf (map (λ v. v.0) vs) n i
 place_found vs n i r within found = (searched (λ (v : ℕ × Vec ℕ Global). v.0) vs (searchable vs r) n (Ok i) within found).found
 
 pub gap_found : (vs : List (ℕ × Vec ℕ Global)) (n i : ℕ) → IsRising (pairs vs) → IsSearchInRange (Err i) (length vs) → IsBinarySearchResult (λ v. nat_cmp v.0 n) vs (Err i) → IsGapFor (numbers (pairs vs)) n i

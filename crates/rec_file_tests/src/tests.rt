@@ -148,7 +148,7 @@ fn pick_at(step: u32, number: u32) -> Pick {
     }
 }
 
-/// What one step of the script answers: a put, or a get and the delete or the update behind it.
+/// What one step of the script answers: a put, or a get and the delete or the update after it.
 fn take_step<F: RecordFile>(
     file: &mut F,
     stream: &mut Stream,

@@ -17,9 +17,8 @@ type Asked = Result<Vec<Vec<u8>>, AskFault>;
 
 /// Asks a request in its steps.
 fn ask_in_steps(end: &mut Accessing, request: &Request) -> Asked {
-    let number = request.number();
     end.check(request)?;
-    let prepared = end.prepare(request, &number)?;
+    let prepared = end.prepare(request)?;
     end.ask_prepared(request, prepared)
 }
 

@@ -124,7 +124,7 @@ impl Call {
 
     /// A number of two bytes.
     pub fn short(&mut self) -> u16 {
-        self.number(65_535) as u16
+        self.number(u32::from(u16::MAX)) as u16
     }
 
     /// A number of four bytes.
@@ -161,7 +161,7 @@ impl Call {
         all
     }
 
-    /// The request that the words behind the first one say.
+    /// The request that the words after the first one say.
     pub fn request(&mut self) -> Option<Request> {
         let asked = match self.line.split_once(' ') {
             Some((_name, words)) => request_of(self.alloc, words),

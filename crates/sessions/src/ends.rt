@@ -25,7 +25,7 @@ fn put_sizes(link: &LinkEnd, out: &mut Out) {
     });
 }
 
-/// Behind what an end did: the packets that it wrote, and what it reported.
+/// After what an end did: the packets that it wrote, and what it reported.
 fn put_left(packets: &[Vec<u8>], reports: &[Report], out: &mut Out) {
     out.put(", ");
     out.all(packets);

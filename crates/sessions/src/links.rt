@@ -35,7 +35,7 @@ fn put_sizes(end: &LinkEnd, out: &mut Out) {
     out.number(" held ", end.held_count());
 }
 
-/// So many messages of a byte are sent, and so many packets written.
+/// This many messages of a byte are sent, and this many packets written.
 fn fill(end: &mut LinkEnd, sent: usize, written: usize) -> Result<(), LinkFault> {
     for _ in 0..sent {
         end.send(b"x")?;

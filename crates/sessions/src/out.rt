@@ -45,7 +45,7 @@ impl Out {
         self.keep(appended);
     }
 
-    /// A number behind a word.
+    /// A number after a word.
     pub fn number<I: Integer>(&mut self, word: &str, number: I) {
         let appended = push_number(&mut self.text, word, number);
         self.keep(appended);
@@ -76,7 +76,7 @@ impl Out {
         self.keep(appended);
     }
 
-    /// Records, each behind its number.
+    /// Records, each after its number.
     pub fn records(&mut self, records: &[(u64, Octets)]) {
         for record in records {
             self.number(" ", record.0);
@@ -149,7 +149,7 @@ impl Out {
         }
     }
 
-    /// Where the next message begins, if not behind all.
+    /// Where the next message begins, if not after all.
     pub fn behind(&mut self, next: usize, len: usize) {
         if next != len {
             self.number(" next ", next);

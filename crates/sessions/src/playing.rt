@@ -1,7 +1,7 @@
 //! The lines of a file, one after the other.
 //!
 //! Before the first case stand names (`let NAME TEXT`) and parts (`part NAME`), which are lines that cases have in common. In
-//! a call and in what it comes to, a name stands for its text, and `{PIECE*N}` for so many pieces.
+//! a call and in what it comes to, a name stands for its text, and `{PIECE*N}` for this many pieces.
 
 use crate::call::Call;
 use crate::out::Out;
@@ -13,7 +13,7 @@ use std::io::{Stdout, Write};
 /// What stands between a call and what it comes to.
 const ARROW: &str = " -> ";
 
-/// What stands between the parts before a line and those behind it.
+/// What stands between the parts before a line and those after it.
 const AROUND: &str = " ... ";
 
 /// What answers the calls of a suite.
@@ -95,7 +95,7 @@ impl Script {
         Ok(())
     }
 
-    /// A part begins behind the lines so far.
+    /// A part begins after the lines so far.
     fn begin_part(&mut self, name: &str) -> Result<(), Trouble> {
         let name = String::from_str(self.alloc, name)?;
         self.parts.insert(name, self.lines.len())?;

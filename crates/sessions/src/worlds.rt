@@ -170,7 +170,7 @@ fn take_turn(world: &mut World, request: Request, out: &mut Out) {
     }
 }
 
-/// So many segments of A are written and come to B, with an acknowledgement behind each window.
+/// This many segments of A are written and come to B, with an acknowledgement after each window.
 fn bring(world: &mut World, segments: usize, window: usize) -> Result<(), WorldFault> {
     for sent in 0..segments {
         carry(world, End::A, End::B)?;
@@ -183,7 +183,7 @@ fn bring(world: &mut World, segments: usize, window: usize) -> Result<(), WorldF
     Ok(())
 }
 
-/// So many segments of A are written.
+/// This many segments of A are written.
 fn emit(world: &mut World, segments: usize) -> Result<(), WorldFault> {
     for _ in 0..segments {
         world.apply(&Event::Emit(End::A))?;

@@ -20,14 +20,14 @@ goal_of format (Some extent) seen =
     else (extent.long, true)
 
 -- the units before it are as they were
-pub record Stays (old new : Reading) : Type 0 where
+pub record KeepsUnits (old new : Reading) : Type 0 where
   pub format : new.format ≡ old.format
   pub interfaces : new.interfaces.items ≡ old.interfaces.items
   pub offset : new.offset ≡ old.offset
 
 -- and how long the unit is
 pub record Lies (old new : Reading) : Type 0 where
-  pub stays : Stays old new
+  pub stays : KeepsUnits old new
   pub extent : new.extent ≡ old.extent
 
 -- the frame that a unit has
@@ -36,7 +36,7 @@ given_by (Gives given) = Some given
 given_by _ = None
 
 -- a unit was read to its end
-pub record GoesOn (old new : Reading) (meaning : Meaning) (frame : Option Given) : Type 0 where
+pub record ReadsUnit (old new : Reading) (meaning : Meaning) (frame : Option Given) : Type 0 where
   pub format : new.format ≡ format_after old.format meaning
   pub interfaces : new.interfaces.items ≡ interfaces_after old.interfaces.items meaning
   pub offset : new.offset ≡ clamped (old.offset + old.seen)
@@ -46,7 +46,7 @@ pub record GoesOn (old new : Reading) (meaning : Meaning) (frame : Option Given)
   pub given : frame ≡ given_by meaning
 
 -- after units there are some bytes of a unit, or all of one
-pub record Stands (r : Reading) (bytes : List ℕ) (records : List Record) (rest : List ℕ) : Type 0 where
+pub record IsInUnits (r : Reading) (bytes : List ℕ) (records : List Record) (rest : List ℕ) : Type 0 where
   pub front : List ℕ
   pub joined : bytes ≡ front ++ rest
   pub units : HasUnits front records r.format r.interfaces.items

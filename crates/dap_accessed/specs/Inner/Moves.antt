@@ -19,12 +19,12 @@ use Rattle.dap_accessed.specs.declared.phase.Phase.{Phase}
 use Rattle.dap_accessed.specs.declared.phase.Phase.TheVariants as phases
 use Rattle.dap_accessed.specs.declared.verbs.Verb.{Verb}
 use Rattle.dap_accessed.specs.declared.verbs.Verb.TheVariants as verbs
-use Rattle.dap_accessed.specs.Standing.{Files, place_by, Place, Scene, Effect, enters, Fresh, Ready, Opened, Connected, Store, Stopped}
+use Rattle.dap_accessed.specs.Standing.{Files, index_by, Place, Scene, Effect, enters, Fresh, Ready, Opened, Connected, Store, Stopped}
 use Rattle.dap_msg.specs.BothEnds.{no_attributes}
 use Rattle.dap_accessed.specs.Past.{asked_shape, next_ordinal}
 use Rattle.dap_accessed.specs.Accesses.{refuse_access, open_file, create_file}
 use Rattle.dap_accessed.specs.Replies.{bare_status, too_large}
-use Rattle.dap_accessed.specs.Records.{verb_of, Putting, Updating, refused, uncurrent}
+use Rattle.dap_accessed.specs.Records.{verb_of, Putting, Updating, refused_effect, uncurrent}
 use Rattle.dap_accessed.specs.Transfers.{fetch}
 use Rattle.dap_accessed.specs.Effects.{Turn, Does, Begins, effect_fresh, effect_ready, effect_opened, turn_connected, effect_store, effect_stopped, effect_with}
 use Rattle.dap_accessed.specs.Present.{Present, Memory, phase_at, phase_within}
@@ -168,19 +168,19 @@ abbrev pub opens_nothing : Present → Message → Move
 opens_nothing p status = accesses p (refuse_access (scene_in p) status)
 
 abbrev pub opens : Present → (name : List ℕ) → (fac : ℕ) → Move
-opens p name fac = accesses p (open_file p.setup (scene_in p) fac (place_by p.setup.names name p.files))
+opens p name fac = accesses p (open_file p.setup (scene_in p) fac (index_by p.setup.names name p.files))
 
 abbrev pub creates : Present → (name : List ℕ) → (fac : ℕ) → Move
-creates p name fac = accesses p (create_file p.setup (scene_in p) name fac (place_by p.setup.names name p.files) p.kept)
+creates p name fac = accesses p (create_file p.setup (scene_in p) name fac (index_by p.setup.names name p.files) p.kept)
 
-abbrev pub refuses : Present → OpenFile → StreamVal → Refusal → Move
-refuses p opened stream refusal = does p (refused (scene_in p) opened stream refusal)
+abbrev pub refusal_move : Present → OpenFile → StreamVal → Refusal → Move
+refusal_move p opened stream refusal = does p (refused_effect (scene_in p) opened stream refusal)
 
 -- a record that is longer than the peer takes
 abbrev pub refuses_large : Present → OpenFile → StreamVal → Move
 refuses_large p opened stream = does p (enters (scene_in p) (Connected opened (uncurrent stream)) (too_large ∷ []))
 
--- the phase behind a fetch
+-- the phase after a fetch
 abbrev pub fetched_phase : Present → OpenFile → StreamVal → Phase
 fetched_phase p opened stream = phase_at (fetch (scene_in p) opened stream).place (plain_memory p.kept)
 

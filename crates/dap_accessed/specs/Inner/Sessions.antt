@@ -12,7 +12,7 @@ use Rattle.dap_accessed.specs.declared.phase.Phase.{Phase}
 use Rattle.dap_accessed.specs.Served.{Answered}
 use Rattle.dap_accessed.specs.Sessions.{SessionValue}
 
-pub record IsGood (own : ServerSetup) (limit : ℕ) (kept : Option Shape) : Type 0 where
+pub record IsSession (own : ServerSetup) (limit : ℕ) (kept : Option Shape) : Type 0 where
   pub setup : FieldsFit (Config own.identity)
   pub good : IfSome kept (λ shape. IsTrue (is_shape shape))
   -- every answer but a record goes to the peer

@@ -19,7 +19,7 @@ use Rattle.dap_accessed.specs.Past.{next_ordinal}
 use Rattle.dap_accessed.specs.Records.{Putting, Updating, changed, get_pick, put_key, record_got, settled}
 use Rattle.dap_accessed.specs.Transfers.{fetch, store_one}
 use Rattle.dap_accessed.specs.Present.{Present}
-use Rattle.dap_accessed.specs.Inner.Written.{IsShort, message_of}
+use Rattle.dap_accessed.specs.Inner.Written.{IsShortReply, reply_message}
 use Rattle.dap_accessed.specs.Inner.Moves.{Move, begins, creates, does, is_silent, move_in, opens, opens_nothing, scene_in, settles, store_memory}
 use Rattle.dap_accessed.specs.Sessions.{IsOpenIn}
 
@@ -28,36 +28,36 @@ abbrev pub replies : Present → Message → Phase → Move
 replies p message phase = record { present = record p { phase = phase }; answers = message ∷ [] }
 
 -- what a step leaves, and its answers
-abbrev pub done : Step → Present → Move
-done (steps.Enter phase) p = begins p phase
-done (steps.Reply answer phase) p = replies p (message_of answer) phase
-done (steps.Configure limit) p =
+abbrev pub step_move : Step → Present → Move
+step_move (steps.Enter phase) p = begins p phase
+step_move (steps.Reply answer phase) p = replies p (reply_message answer) phase
+step_move (steps.Configure limit) p =
     record { present = record p { limit = limit; phase = phases.Ready }; answers = Config p.setup.identity ∷ [] }
-done (steps.Keep shape) p = record { present = record p { kept = shape; phase = phases.Ready }; answers = [] }
-done (steps.Access func name fac) p =
+step_move (steps.Keep shape) p = record { present = record p { kept = shape; phase = phases.Ready }; answers = [] }
+step_move (steps.Access func name fac) p =
     if func == codes.accfunc.opening then opens p name.now fac
     else if func == codes.accfunc.creating then creates p name.now fac
     else opens_nothing p (bare_status (codes.unsupported codes.types.access))
-done (steps.Purge opened) p =
+step_move (steps.Purge opened) p =
     record { present = record p { files = purged opened p.files; phase = phases.Ready }; answers = completed ∷ [] }
-done (steps.Get opened stream control) p =
+step_move (steps.Get opened stream control) p =
     does p (record_got (get_pick (the_file p.files opened) stream control) (scene_in p) opened stream)
-done (steps.Fetch opened stream) p = does p (fetch (scene_in p) opened stream)
-done (steps.Expect opened stream control) p =
+step_move (steps.Fetch opened stream) p = does p (fetch (scene_in p) opened stream)
+step_move (steps.Expect opened stream control) p =
     begins p (phases.PutDue opened stream (put_key (the_file p.files opened) stream control))
-done (steps.Put opened stream key body) p =
+step_move (steps.Put opened stream key body) p =
     does p (changed (Putting key) (scene_in p) opened stream body.now)
-done (steps.Update opened stream body) p = does p (changed Updating (scene_in p) opened stream body.now)
-done (steps.Delete opened stream) p =
+step_move (steps.Update opened stream body) p = does p (changed Updating (scene_in p) opened stream body.now)
+step_move (steps.Delete opened stream) p =
     does p (settled (scene_in p) opened (act delete_record (the_file p.files opened) stream))
-done (steps.Store opened stream ordinal body) p =
+step_move (steps.Store opened stream ordinal body) p =
     let e = store_one ordinal (scene_in p) opened stream body.now in
     settles p (store_memory p.kept (nat_lt 0 (length e.answers)) (next_ordinal ordinal)) e
 
 -- what it needs: the file is in the table, and so is that of the phase that is entered
 abbrev pub CanDo : Files → Step → Type 0
 CanDo files (steps.Enter next) = IsOpenIn files next
-CanDo files (steps.Reply answer next) = IsShort answer × IsOpenIn files next
+CanDo files (steps.Reply answer next) = IsShortReply answer × IsOpenIn files next
 CanDo files (steps.Configure limit) = least_buffer ≤ limit
 CanDo files (steps.Keep shape) = IfSome shape (λ s. IsTrue (is_shape s))
 CanDo files (steps.Access func name fac) = Unit {0}
@@ -85,19 +85,19 @@ phase_behind phase = phase
 
 -- the item does what the step says, and the step can be done
 pub record IsFor (phase : Phase) (item : Item) (step : Step) : Type 0 where
-  pub moves : (p : Present) → move_in phase p item ≡ done step p
+  pub moves : (p : Present) → move_in phase p item ≡ step_move step p
   pub can : (files : Files) → IsOpenIn files phase → CanDo files step
   pub quiet : is_silent phase item ≡ is_quiet step
 
 -- it does nothing, but that it ends a group of two, and has a Status with this code
-pub record IsRefused (phase : Phase) (item : Item) (code : ℕ) : Type 0 where
+pub record RefusesItem (phase : Phase) (item : Item) (code : ℕ) : Type 0 where
   pub moves : (p : Present) → move_in phase p item ≡ replies p (bare_status code) (phase_behind phase)
   pub answered : is_silent phase item ≡ false
 
 -- what the item asks for, or how it is refused
-abbrev pub Asks : Phase → Item → Result Step ℕ → Type 0
-Asks phase item (Ok step) = IsFor phase item step
-Asks phase item (Err code) = IsRefused phase item code
+abbrev pub AsksFor : Phase → Item → Result Step ℕ → Type 0
+AsksFor phase item (Ok step) = IsFor phase item step
+AsksFor phase item (Err code) = RefusesItem phase item code
 
 -- the file is open in the phase, and no record is due
 abbrev pub HasOpen : Phase → OpenFile → Type 0

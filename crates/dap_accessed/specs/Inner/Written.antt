@@ -17,28 +17,28 @@ use Rattle.dap_accessed.specs.declared.fault.NoMemory.{NoMemory}
 use Rattle.dap_accessed.specs.Replies.{attributes_for, completed, status, bare_status}
 use Rattle.dap_accessed.specs.Served.{AllAtMost, Answered}
 
-abbrev pub message_of : Answer → Message
-message_of (answer.Config own) = Config own
-message_of (answer.Attributes shape mrn) = attributes_for shape
-message_of answer.Ack = Ack
-message_of answer.Complete = completed
-message_of (answer.Status code) = bare_status code
-message_of (answer.Reason code reason) = status code [] [] reason
-message_of (answer.StoreRefusal reason ordinal) = status codes.stscode.record_refused [] ordinal reason
-message_of (answer.Done number) = status codes.stscode.success number number []
-message_of (answer.Record number body) = Filedata number body.now
+abbrev pub reply_message : Answer → Message
+reply_message (answer.Config own) = Config own
+reply_message (answer.Attributes shape mrn) = attributes_for shape
+reply_message answer.Ack = Ack
+reply_message answer.Complete = completed
+reply_message (answer.Status code) = bare_status code
+reply_message (answer.Reason code reason) = status code [] [] reason
+reply_message (answer.StoreRefusal reason ordinal) = status codes.stscode.record_refused [] ordinal reason
+reply_message (answer.Done number) = status codes.stscode.success number number []
+reply_message (answer.Record number body) = Filedata number body.now
 
 -- its numbers fit, its bytes are those of them, and a record is one that a file may have
-abbrev pub IsWritable : Answer → Type 0
-IsWritable (answer.Config own) = FieldsFit (Config own)
-IsWritable (answer.Attributes shape mrn) = mrn ≡ four_bytes shape.mrn
-IsWritable (answer.Record number body) = length body.now ≤ longest_record
-IsWritable _ = Unit {0}
+abbrev pub IsWritableReply : Answer → Type 0
+IsWritableReply (answer.Config own) = FieldsFit (Config own)
+IsWritableReply (answer.Attributes shape mrn) = mrn ≡ four_bytes shape.mrn
+IsWritableReply (answer.Record number body) = length body.now ≤ longest_record
+IsWritableReply _ = Unit {0}
 
 -- every answer but a record is short
-abbrev pub IsShort : Answer → Type 0
-IsShort (answer.Record number body) = ⊥
-IsShort a = IsWritable a
+abbrev pub IsShortReply : Answer → Type 0
+IsShortReply (answer.Record number body) = ⊥
+IsShortReply a = IsWritableReply a
 
 -- its message has no more bytes than these
 abbrev pub most_bytes : Answer → ℕ
@@ -47,16 +47,16 @@ most_bytes _ = least_buffer
 
 -- the answer can be written, and is no longer than the limit
 abbrev pub FitsIn : ℕ → Answer → Type 0
-FitsIn limit a = IsWritable a × (most_bytes a ≤ limit)
+FitsIn limit a = IsWritableReply a × (most_bytes a ≤ limit)
 
 abbrev pub IsAtMost : ℕ → Message → Type 0
 IsAtMost most m = length (canon m) ≤ most
 
--- where the call answers, the message stands behind those before
+-- where the call answers, the message follows those before
 abbrev pub AddsAnswer : ℕ → Message → Vec (Vec ℕ) → Vec (Vec ℕ) → Result (Unit {0}) NoMemory → Type 0
 AddsAnswer limit m old new result =
     OnOk result ((messages : List Message) → Answered limit messages old → Answered limit (messages ++ m ∷ []) new)
 
--- it is empty, and so many more take no memory
+-- it is empty, and this many more take no memory
 abbrev pub IsEmptyFor : {X : Type 0} → ℕ → Vec X → Type 0
 IsEmptyFor n v = (v.items ≡ []) × (n ≤ vec_capacity v)

@@ -12,7 +12,7 @@ use Rattle.dap_accessing.specs.declared.report.Report.TheVariants as report
 use Rattle.dap_accessing.specs.declared.pending.Pending.{Pending}
 use Rattle.dap_accessing.specs.declared.pending.Pending.TheVariants as pending
 use Rattle.dap_accessing.specs.Told.{Hearing, Reports, Waits, Unexpected, hear_refusal, hear_config, hear_ack, hear_record, hear_done, hear_completed, told_of}
-use Rattle.dap_accessing.specs.Parts.{opened_as, ending_of, completes}
+use Rattle.dap_accessing.specs.Parts.{opened_as, batch_ending, completes}
 
 -- the Ack of an open or a create
 abbrev pub gather_opened : Report → List Item → Hearing
@@ -33,7 +33,7 @@ abbrev pub gather_batch : List (ℕ × List ℕ) → List Item → Hearing
 gather_batch records [] = Waits
 gather_batch records (Whole (Filedata recnum body) ∷ rest) = gather_batch (records ++ (number_of recnum, body) ∷ []) rest
 gather_batch records (Whole (Status status) ∷ rest) =
-    if codes.is_success status.code then Unexpected else Reports (report.Batch records (ending_of status)) rest
+    if codes.is_success status.code then Unexpected else Reports (report.Batch records (batch_ending status)) rest
 gather_batch records (_ ∷ rest) = Unexpected
 
 -- the refusals of a Store, of which the first is kept, and then its end

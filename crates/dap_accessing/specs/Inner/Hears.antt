@@ -16,7 +16,7 @@ use Rattle.dap_accessing.specs.declared.fault.ReadFault.{ReadFault}
 use Rattle.dap_accessing.specs.declared.fault.ReadFault.TheVariants as read_fault
 use Rattle.dap_accessing.specs.Told.{Hearing, Reports, Waits, Unexpected}
 use Rattle.dap_accessing.specs.Phase.{phase_next, limit_next}
-use Rattle.dap_accessing.specs.Present.{Present, failed_after}
+use Rattle.dap_accessing.specs.Present.{ClientState, failed_after}
 use Rattle.dap_accessing.specs.Inner.Gathers.{gather}
 
 -- what is still to come once a request is asked
@@ -40,7 +40,7 @@ pending_of request.Purge = pending.Closed
 abbrev pub refused_as : ℕ → ℕ → Heard
 refused_as code reason = if codes.is_success code then heard.Unexpected else heard.Reports (report.Refused code reason)
 
--- what an answer comes to, with the answers behind it
+-- what an answer comes to, with the answers after it
 abbrev pub heard_as : Heard → List Item → Hearing
 heard_as (heard.Waits pending) rest = gather pending rest
 heard_as (heard.Reports done) rest = Reports done rest
@@ -80,14 +80,14 @@ abbrev pub HasNoPlace : Item → Option Pending → Type 0
 HasNoPlace item None = Unit {0}
 HasNoPlace item (Some p) = (rest : List Item) → gather p (item ∷ rest) ≡ Unexpected
 
--- What the next answer does to an end that works: it waits for more, or reports, or has no place; or there is no memory, and nothing is changed.
-abbrev pub Takes : Item → Present → Present → Result (Option Report) ReadFault → Type 0
-Takes item old new (Ok None) =
+-- What the next answer does to an end that works: it waits for more, or reports, or is out of sequence; or there is no memory, and nothing is changed.
+abbrev pub HearsNext : Item → ClientState → ClientState → Result (Option Report) ReadFault → Type 0
+HearsNext item old new (Ok None) =
     (p : Pending) × (next : Pending) × (old.pending ≡ Some p) × ((rest : List Item) → gather p (item ∷ rest) ≡ gather next rest)
     × (new ≡ record old { pending = Some next })
-Takes item old new (Ok (Some done)) =
+HearsNext item old new (Ok (Some done)) =
     (p : Pending) × (old.pending ≡ Some p) × ((rest : List Item) → gather p (item ∷ rest) ≡ Reports done rest)
     × (new ≡ record old { phase = phase_next old.phase done; limit = limit_next old.limit done; pending = None })
-Takes item old new (Err read_fault.Unexpected) = (new ≡ failed_after old) × HasNoPlace item old.pending
-Takes item old new (Err read_fault.NoMemory) = (new ≡ old) × ((p : Pending) × (old.pending ≡ Some p) × HasPlace p item)
-Takes item old new (Err read_fault.Failed) = ⊥
+HearsNext item old new (Err read_fault.Unexpected) = (new ≡ failed_after old) × HasNoPlace item old.pending
+HearsNext item old new (Err read_fault.NoMemory) = (new ≡ old) × ((p : Pending) × (old.pending ≡ Some p) × HasPlace p item)
+HearsNext item old new (Err read_fault.Failed) = ⊥

@@ -1,8 +1,8 @@
 -- What a check of lines tells.
 use Rattle.std.specs.Prelude.{◌≡◌, ◌⊎◌, List, [], Result, MatchResult}
-use Rattle.dap_listing.specs.Firsts.{IsFirst}
-use Rattle.dap_listing.specs.declared.fault.CaptureFault.{CaptureFault}
-use Rattle.dap_listing.specs.declared.fault.CaptureFault.TheVariants.{NoMemory}
+use Rattle.linewise.specs.Firsts.{IsFirst}
+use Rattle.linewise.specs.declared.fault.CaptureFault.{CaptureFault}
+use Rattle.linewise.specs.declared.fault.CaptureFault.TheVariants.{NoMemory}
 
 -- the first of the faults, where there is one and memory sufficed up to it
 abbrev pub TellsFirstOrWants : {X : Type 0} → Result X CaptureFault → List CaptureFault → Type 0

@@ -6,10 +6,10 @@ use Rattle.dap_events.specs.declared.event.End.{End}
 use Rattle.dap_events.specs.declared.event.Event.{Event}
 use Rattle.dap_events.specs.declared.event.Step.{Step}
 use Rattle.dap_events.specs.declared.event.WorldFault.{WorldFault}
-use Rattle.dap_world.specs.Machine.{State, Sending, Steps, Refuses, end_of}
+use Rattle.dap_world.specs.Machine.{State, Sending, Steps, RefusesEvent, end_of}
 use Rattle.dap_world.specs.Wires.{IsOnWire}
-use Rattle.dap_listing.specs.declared.fault.Outcome.{Outcome}
-use Rattle.dap_listing.specs.declared.fault.Outcome.TheVariants.{Good, Stopped}
+use Rattle.linewise.specs.declared.fault.Outcome.{Outcome}
+use Rattle.linewise.specs.declared.fault.Outcome.TheVariants.{Good, Stopped}
 use Rattle.dap_text.specs.Adding.{Adds}
 use Rattle.dap_orders.specs.Orders.{event_of}
 use Rattle.dap_orders.specs.Schedules.{Numbered}
@@ -31,7 +31,7 @@ PlaysOne number e old new before after Good =
     (answer : Step) × (text : List ℕ) × Steps old e answer new × IsStepText new e answer text
     × (after ≡ before ++ event_line number text)
 PlaysOne number e old new before after Stopped =
-    (f : WorldFault) × (word : List ℕ) × Refuses old e f × (refusal_text f ≡ Some word) × (new ≡ old)
+    (f : WorldFault) × (word : List ℕ) × RefusesEvent old e f × (refusal_text f ≡ Some word) × (new ≡ old)
     × (after ≡ before ++ refusal_line number word)
 
 -- the events of lines

@@ -10,30 +10,30 @@ use Rattle.dap_accessed.specs.Groups.{Answers, After}
 use Rattle.dap_accessing.specs.Asked.{Asked}
 use Rattle.dap_accessing.specs.Told.{Told}
 use Rattle.dap_end.specs.Ports.{new_port}
-use Rattle.dap_end.specs.Done.{ServingValue, Past, nothing_yet, nothing_asked}
+use Rattle.dap_end.specs.Done.{ServingValue, ServerHistory, nothing_yet, nothing_asked}
 use Rattle.dap_end.specs.Serving.{IsAfter}
 use Rattle.dap_end.specs.Asking.{HasAsked}
 use Rattle.dap_end.specs.Writing.{Behind}
 use Rattle.dap_end.specs.Joined.{Pair}
 
 -- What the end did grew into this.
-pub record Grew (past now : Past) (old new : ServingValue) : Type 0 where
+pub record Grew (history now : ServerHistory) (old new : ServingValue) : Type 0 where
   pub is : IsAfter now new
-  pub first : now.first ≡ past.first
-  pub items : (more : List Item) × (now.items ≡ past.items ++ more)
-  pub handed : Behind past.handed now.handed (AreShort old.port.link)
+  pub first : now.first ≡ history.first
+  pub items : (more : List Item) × (now.items ≡ history.items ++ more)
+  pub handed : Behind history.handed now.handed (AreShort old.port.link)
   -- what left the link was served
-  pub given : now.given ++ new.port.link.coming.inbox ≡ past.given ++ old.port.link.coming.inbox
-  pub stands : (size : ℕ) (messages : List (List ℕ)) → Stands old.port.link size messages past.given
+  pub given : now.given ++ new.port.link.coming.inbox ≡ history.given ++ old.port.link.coming.inbox
+  pub stands : (size : ℕ) (messages : List (List ℕ)) → Stands old.port.link size messages history.given
       → Stands new.port.link size messages now.given
 
--- more was served and handed over
+-- more was served and passed on
 pub record ServedMore (old new : ServingValue) : Type 0 where
   -- what came and what is queued may have moved, and nothing else of the link
   pub link : new.port.link ≡ record (with_inbox old.port.link new.port.link.coming.inbox) { queue = new.port.link.queue }
   pub own : new.present.own ≡ old.present.own
   pub setup : new.present.setup ≡ old.present.setup
-  pub past : (past : Past) → IsAfter past old → (now : Past) × Grew past now old new
+  pub past : (history : ServerHistory) → IsAfter history old → (now : ServerHistory) × Grew history now old new
 
 -- the setups of the two ends of one link: but for their segments and windows they differ in the addresses, exchanged
 pub record AreOpposite (s t : LinkSetup) : Type 0 where

@@ -6,7 +6,7 @@ use Rattle.dap_end.specs.Ports.{EndValue, HandsOver}
 use Rattle.dap_end.specs.By.{HaltsBy, PortRests, ServedBy, ServesAt}
 use Rattle.dap_end.specs.Taking.{HasRoom}
 
--- what waited was handed over, and the next item served
+-- what waited was passed on, and the next item served
 pub record ServedOn {P : Type 0} (serves : ServesAt P) (most : ℕ) (old new : EndValue P) : Type 0 where
   pub posted : EndValue P
   pub count : ℕ
@@ -15,7 +15,7 @@ pub record ServedOn {P : Type 0} (serves : ServesAt P) (most : ℕ) (old new : E
   pub answered : ℕ
   pub served : ServedBy serves posted new answered
 
--- what waited was handed over, and no more is served: before that it was so, and is so still
+-- what waited was passed on, and no more is served: before that it was so, and is so still
 pub record Paused {P : Type 0} (most : ℕ) (old new : EndValue P) : Type 0 where
   pub count : ℕ
   pub hands : HandsOver old new count

@@ -6,7 +6,7 @@ use Rattle.dap_text.specs.Adding.{Adds}
 use Rattle.dap_listing.specs.Captured.{Spell}
 use Rattle.dap_listing.specs.Messages.{IsMessagesText}
 use Rattle.dap_follow.specs.Streams.{Placed}
-use Rattle.dap_follow.specs.Joined.{Message, Piece, is_message, messages, payload, pieces}
+use Rattle.dap_follow.specs.Joined.{Message, Fragment, is_message, messages, payload, fragments_of}
 use Rattle.dap_follow.specs.Following.{part_line, piece_text, rest_lines, stream_text}
 use Rattle.dap_follow.specs.Inner.Placing.{counted_value}
 use Rattle.dap_follow.specs.declared.places.Counted.{Counted}
@@ -15,29 +15,29 @@ use Rattle.dap_follow.specs.declared.streams.Stream.{Stream}
 abbrev pub values : List Counted → List Placed
 values cs = map counted_value cs
 
-abbrev pub message_heading : Piece → List ℕ
+abbrev pub message_heading : Fragment → List ℕ
 message_heading p = piece_text (codes "  message") p
 
-abbrev pub part_text : Stream → Piece → List ℕ
+abbrev pub part_text : Stream → Fragment → List ℕ
 part_text stream p = codes "part" ++ piece_text (stream_text stream) p
 
-abbrev pub segments : Piece → List Placed
+abbrev pub segments : Fragment → List Placed
 segments p = p.head ∷ p.others
 
--- the digits of the payloads, one behind the other
-abbrev pub digits_of : List Counted → List ℕ
-digits_of cs = flat_map (λ c. c.payload.now) cs
+-- the digits of the payloads, one after the other
+abbrev pub payload_digits : List Counted → List ℕ
+payload_digits cs = flat_map (λ c. c.payload.now) cs
 
 -- the segments of a piece
-abbrev pub IsPiece : Piece → List Counted → Type 0
+abbrev pub IsPiece : Fragment → List Counted → Type 0
 IsPiece p cs = segments p ≡ values cs
 
 -- the first piece of segments, and the others
 pub record IsCutOff (all piece others : List Counted) : Type 0 where
-  pub first : Piece
+  pub first : Fragment
   pub is : IsPiece first piece
   pub joined : all ≡ piece ++ others
-  pub cut : pieces (values all) ≡ first ∷ pieces (values others)
+  pub cut : fragments_of (values all) ≡ first ∷ fragments_of (values others)
 
 -- the lines of messages, end to end
 pub data AreMessageLines (in_words : Bool) : List Message → List ℕ → Type 0 where
@@ -59,18 +59,18 @@ abbrev pub AreSpelled : List Counted → Type 0
 AreSpelled cs = AllByRecursion (λ c. Spell c.payload.now (length c.payload.now / 2)) cs
 
 -- the message that a piece is, if it is one
-abbrev pub message_at : ℕ → Piece → List Message
-message_at packet p = if is_message p then record { packet = packet; piece = p } ∷ [] else []
+abbrev pub piece_message : ℕ → Fragment → List Message
+piece_message packet p = if is_message p then record { packet = packet; piece = p } ∷ [] else []
 
 -- what is listed of a piece was added: its message under a packet, or a part
-pub record ListsPiece (in_words : Bool) (stream : Stream) (packet : ℕ) (p : Piece) (olds news : List (Vec ℕ)) (old new : Vec ℕ) : Type 0 where
-  pub under : UnderAll in_words (message_at packet p) 1 olds news
+pub record ListsPiece (in_words : Bool) (stream : Stream) (packet : ℕ) (p : Fragment) (olds news : List (Vec ℕ)) (old new : Vec ℕ) : Type 0 where
+  pub under : UnderAll in_words (piece_message packet p) 1 olds news
   pub rest : Adds old new (part_line stream p)
 
 -- what is listed of a stream was added
 pub record ListsStream (in_words : Bool) (stream : Stream) (ordered : List Placed) (olds news : List (Vec ℕ)) (old new : Vec ℕ) : Type 0 where
   pub under : UnderAll in_words (messages ordered) 1 olds news
-  pub rest : Adds old new (rest_lines stream (pieces ordered))
+  pub rest : Adds old new (rest_lines stream (fragments_of ordered))
 
 abbrev pub all_rest_lines : List Stream → List (List Placed) → List ℕ
-all_rest_lines streams ordered = flat_map (λ (stream, placed). rest_lines stream (pieces placed)) (zip streams ordered)
+all_rest_lines streams ordered = flat_map (λ (stream, placed). rest_lines stream (fragments_of placed)) (zip streams ordered)

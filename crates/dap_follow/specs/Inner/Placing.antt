@@ -1,18 +1,18 @@
 -- How the program keeps the segments of a stream in the order of their places.
 use Rattle.std.specs.Prelude.{◌≡◌, ◌<◌, ◌⊎◌, ⊤, List, [], ◌∷◌, ◌++◌}
 use Rattle.std.specs.List.{AllByRecursion}
-use Rattle.dap_listing.specs.Captured.{bytes_of}
+use Rattle.dap_listing.specs.Captured.{digit_bytes}
 use Rattle.dap_follow.specs.Streams.{Placed}
 use Rattle.dap_follow.specs.declared.places.Counted.{Counted}
 
 -- a segment of the program, without where the digits of its payload lie
 abbrev pub counted_value : Counted → Placed
-counted_value c = record { place = c.place; packet = c.packet; first = c.first; last = c.last; payload = bytes_of c.payload.now }
+counted_value c = record { place = c.place; packet = c.packet; first = c.first; last = c.last; payload = digit_bytes c.payload.now }
 
--- each place is below those behind it
-abbrev pub Rises : List Counted → Type 0
-Rises [] = ⊤
-Rises (c ∷ others) = AllByRecursion (λ other. c.place < other.place) others × Rises others
+-- each sequence number is below those after it
+abbrev pub RisesCounted : List Counted → Type 0
+RisesCounted [] = ⊤
+RisesCounted (c ∷ others) = AllByRecursion (λ other. c.place < other.place) others × RisesCounted others
 
 -- A segment stands in the place already, or it is put between those below and those above.
 abbrev pub IsPutIn : List Counted → Counted → List Counted → Type 0

@@ -1,12 +1,12 @@
 -- What was read of a capture.
 use Rattle.std.specs.Prelude.{◌≡◌, ◌+◌, ◌<◌, ◌^◌, ◌⊎◌, ℕ, Bool, List, [], ◌∷◌, ◌++◌, length, map}
 use Rattle.std.specs.List.{AllZip}
-use Rattle.dap_listing.specs.Captured.{bytes_of}
-use Rattle.dap_listing.specs.Firsts.{IsFirst}
+use Rattle.dap_listing.specs.Captured.{digit_bytes}
+use Rattle.linewise.specs.Firsts.{IsFirst}
 use Rattle.dap_listing.specs.Listing.{captures, frames, packet_limit, faults_from}
 use Rattle.dap_listing.specs.Packets.{IsSeen, Seen}
-use Rattle.dap_listing.specs.declared.fault.CaptureFault.{CaptureFault}
-use Rattle.dap_listing.specs.declared.fault.CaptureFault.TheVariants.{NoMemory}
+use Rattle.linewise.specs.declared.fault.CaptureFault.{CaptureFault}
+use Rattle.linewise.specs.declared.fault.CaptureFault.TheVariants.{NoMemory}
 use Rattle.dap_listing.specs.declared.lines.Direction.{Direction}
 use Rattle.dap_follow.specs.Streams.{Captured}
 use Rattle.dap_meanings.specs.Frames.{frame_words}
@@ -20,27 +20,27 @@ line_texts in_words told number [] = []
 line_texts in_words told number (packet ∷ others) = packet_line in_words (frame_of told number) number packet ∷ line_texts in_words told (number + 1) others
 
 -- the lines of packets, and their streams
-pub record Reads (in_words : Bool) (told : List (List (List ℕ))) (packets : List Captured) (r : Reading) : Type 0 where
+pub record ReadsPackets (in_words : Bool) (told : List (List (List ℕ))) (packets : List Captured) (r : Reading) : Type 0 where
   pub lines : map (λ line. line.items) r.lines.items ≡ line_texts in_words told 1 packets
   pub streams : KeepsAll packets r.streams
 
 -- some packets of which there are few
 abbrev pub ReadsFew : (in_words : Bool) → Reading → Type 0
-ReadsFew in_words r = (told : List (List (List ℕ))) × (packets : List Captured) × Reads in_words told packets r × (length packets + 1 < 2 ^ 32)
+ReadsFew in_words r = (told : List (List (List ℕ))) × (packets : List Captured) × ReadsPackets in_words told packets r × (length packets + 1 < 2 ^ 32)
 
--- what the digits spell was read behind each list of packets that was read before
+-- what the digits spell was read after each list of packets that was read before
 abbrev pub ReadsMore : (in_words : Bool) → (before : List ℕ) → Direction → List ℕ → Reading → Reading → Type 0
 ReadsMore in_words before way digits old new =
-    (seen : Seen) × IsSeen seen (bytes_of digits)
+    (seen : Seen) × IsSeen seen (digit_bytes digits)
     × ((told : List (List (List ℕ))) (packets : List Captured) → frame_of told (length packets + 1) ≡ frame_words before
-    → Reads in_words told packets old → Reads in_words told (packets ++ (way, seen) ∷ []) new)
+    → ReadsPackets in_words told packets old → ReadsPackets in_words told (packets ++ (way, seen) ∷ []) new)
 
 -- all packets of an input without a fault were read
-pub record ReadsAll (in_words : Bool) (input : List ℕ) (r : Reading) : Type 0 where
+pub record ReadsInput (in_words : Bool) (input : List ℕ) (r : Reading) : Type 0 where
   pub packets : List Captured
   pub are_seen : AllZip IsCaptured (captures packet_limit input) packets
   pub clean : faults_from packet_limit 1 input ≡ []
-  pub reads : Reads in_words (frames packet_limit input) packets r
+  pub reads : ReadsPackets in_words (frames packet_limit input) packets r
 
 -- memory ran out, or it is the first fault
 abbrev pub WantsOrFirst : List ℕ → CaptureFault → Type 0

@@ -9,7 +9,7 @@ use Rattle.dap_follow.specs.Inner.Listing.{UnderAll, all_rest_lines, values}
 use Rattle.dap_follow.specs.declared.places.Places.{Places}
 use Rattle.dap_follow.specs.declared.streams.Streams.{Streams}
 
--- some packets of which there are so many
+-- this many packets
 abbrev pub KeepsFew : ℕ → Streams → Type 0
 KeepsFew count s = (packets : List Captured) × KeepsAll packets s × (length packets ≡ count)
 
@@ -22,5 +22,5 @@ pub record ListsAll (in_words : Bool) (s : Streams) (olds news : List (Vec ℕ))
   pub under : UnderAll in_words (flat_map messages (ordered_of s.places.items)) 1 olds news
   pub left : rest.items ≡ all_rest_lines s.names.keys (ordered_of s.places.items)
 
-abbrev pub texts_of : List (Vec ℕ) → List ℕ
-texts_of lines = flat_map (λ line. line.items) lines
+abbrev pub joined_texts : List (Vec ℕ) → List ℕ
+joined_texts lines = flat_map (λ line. line.items) lines

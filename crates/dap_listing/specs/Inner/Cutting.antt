@@ -1,21 +1,11 @@
--- Lines that are taken off the front of bytes behind which others may follow.
-use Rattle.std.specs.Prelude.{◌≡◌, ◌++◌, ◌∷◌, ◌==◌, ◌-◌, ℕ, Bool, true, List, [], None, drop, length}
-use Rattle.std.specs.List.{position}
-use Rattle.std.specs.Str.Lines.{lines}
-use Rattle.dap_listing.specs.Listing.{captures, faults_from, limit_of, CaptureLines}
+-- Lines that are taken off the start of bytes after which others may follow.
+use Rattle.std.specs.Prelude.{◌≡◌, ◌++◌, ℕ, Bool, List}
+use Rattle.linewise.specs.Cuts.{MayFollow}
+use Rattle.dap_listing.specs.Listing.{captures, faults_from, line_limit, CaptureLines}
 use Rattle.dap_listing.specs.Lines.{Capture}
-use Rattle.dap_listing.specs.Firsts.{IsFirst}
-use Rattle.dap_listing.specs.declared.fault.CaptureFault.{CaptureFault}
+use Rattle.linewise.specs.Firsts.{IsFirst}
+use Rattle.linewise.specs.declared.fault.CaptureFault.{CaptureFault}
 use Rattle.dap_listing.specs.declared.listing.Listed.{Listed}
-
--- nothing follows the last bytes
-abbrev pub MayFollow : Bool → List ℕ → Type 0
-MayFollow is_last follow = is_last ≡ true → follow ≡ []
-
--- whatever may follow, the first line and the others
-abbrev pub IsCut : Bool → List ℕ → List ℕ → List ℕ → Type 0
-IsCut is_last bytes line after =
-    (follow : List ℕ) → MayFollow is_last follow → lines (bytes ++ follow) ≡ line ∷ lines (after ++ follow)
 
 -- whatever may follow, the faults are those of the rest
 abbrev pub FaultsGoOn : ℕ → Bool → ℕ → List ℕ → ℕ → List ℕ → Type 0
@@ -27,18 +17,10 @@ abbrev pub IsFirstFault : ℕ → Bool → ℕ → List ℕ → CaptureFault →
 IsFirstFault limit is_last number bytes fault =
     (follow : List ℕ) → MayFollow is_last follow → IsFirst (faults_from limit number (bytes ++ follow)) fault
 
--- Whatever may follow: where the text was the front of a listing that went on with the bytes, it is one now that goes
+-- Whatever may follow: where the text was the start of a listing that continued with the bytes, it is one now that goes
 -- on with the rest.
 abbrev pub ListingGoesOn : Listed → Bool → ℕ → List ℕ → List ℕ → ℕ → List ℕ → List ℕ → Type 0
 ListingGoesOn listed is_last number bytes old later rest new =
     (start : ℕ) (all : List Capture) (follow : List ℕ) → MayFollow is_last follow
-    → ((more : List ℕ) → CaptureLines listed number (captures (limit_of listed) (bytes ++ follow)) more → CaptureLines listed start all (old ++ more))
-    → (more : List ℕ) → CaptureLines listed later (captures (limit_of listed) (rest ++ follow)) more → CaptureLines listed start all (new ++ more)
-
--- no line of the bytes has its end there
-abbrev pub HasNoEnd : List ℕ → Type 0
-HasNoEnd bytes = position (λ byte. byte == 10) bytes ≡ None
-
--- the end of some bytes
-abbrev pub IsEnd : List ℕ → List ℕ → Type 0
-IsEnd bytes rest = rest ≡ drop (length bytes - length rest) bytes
+    → ((more : List ℕ) → CaptureLines listed number (captures (line_limit listed) (bytes ++ follow)) more → CaptureLines listed start all (old ++ more))
+    → (more : List ℕ) → CaptureLines listed later (captures (line_limit listed) (rest ++ follow)) more → CaptureLines listed start all (new ++ more)

@@ -8,11 +8,11 @@ use Rattle.dap_msg.specs.declared.items.Item.TheVariants.{Whole, Malformed}
 use Rattle.dap_listing.specs.declared.captured.CapturedPacket.{CapturedPacket}
 use Rattle.dap_listing.specs.declared.captured.CapturedPacket.TheVariants.{Segment, DataAck}
 
--- how many bytes are decoded, of so many, to tell what they are
+-- how many bytes of this many are decoded to report what they are
 abbrev pub front_of : ℕ → ℕ
 front_of count = min 32 count
 
--- a payload's digits end the digits, and stand behind so many bytes at most
+-- a payload's digits end the digits, after at most this many bytes
 abbrev pub IsBehind : List ℕ → ℕ → Result CapturedPacket SegFault → Type 0
 IsBehind digits known (Ok (Segment c)) =
     (head : ℕ) × (head ≤ known) × (2 * head + length c.digits.now ≡ length digits) × (c.digits.now ≡ drop (2 * head) digits)
@@ -20,12 +20,12 @@ IsBehind digits known (Ok (DataAck ack)) = Unit {0}
 IsBehind digits known (Err fault) = Unit {0}
 
 -- the message with another record, where it is one of a record
-abbrev pub with_record : Message → List ℕ → Message
-with_record (Filedata recnum payload) body = Filedata recnum body
-with_record m body = m
+abbrev pub with_other_record : Message → List ℕ → Message
+with_other_record (Filedata recnum payload) body = Filedata recnum body
+with_other_record m body = m
 
 abbrev pub item_with_record : Item → List ℕ → Item
-item_with_record (Whole m) body = Whole (with_record m body)
+item_with_record (Whole m) body = Whole (with_other_record m body)
 item_with_record (Malformed fault) body = Malformed fault
 
 -- how many bytes of a record are its last

@@ -1,8 +1,8 @@
 -- What a line of the program is.
 use Rattle.std.specs.Prelude.{ℕ, Option, None, option_map, Ok, Err}
 use Rattle.std.specs.Result.{result_err}
-use Rattle.dap_listing.specs.declared.fault.CaptureFault.{CaptureFault}
-use Rattle.dap_listing.specs.declared.fault.CaptureFault.TheVariants.{BadLine}
+use Rattle.linewise.specs.declared.fault.CaptureFault.{CaptureFault}
+use Rattle.linewise.specs.declared.fault.CaptureFault.TheVariants.{BadLine}
 use Rattle.dap_listing.specs.declared.lines.Head.{Head}
 use Rattle.dap_listing.specs.declared.lines.Head.TheVariants.{Skipped, Digits, Malformed}
 use Rattle.dap_listing.specs.Lines.{Line, digits_line}

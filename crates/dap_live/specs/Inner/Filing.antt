@@ -14,7 +14,7 @@ use Rattle.dap_live.specs.Both.{DoneOr}
 use Rattle.dap_live.specs.Node.{GivesFile, GivesRecordTo}
 
 -- a node without files and links
-pub record IsEmpty (own : ServerSetup) (links : ℕ) (usual : LinkSetup) (most : ℕ) (node : Node) : Type 0 where
+pub record HasNoBytes (own : ServerSetup) (links : ℕ) (usual : LinkSetup) (most : ℕ) (node : Node) : Type 0 where
   pub stands : SharedAfter [] [] node.node.noted.shared
   pub setup : node.node.noted.shared.setup ≡ own
   pub sessions : length node.node.noted.shared.sessions ≡ links

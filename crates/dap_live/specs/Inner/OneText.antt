@@ -3,7 +3,7 @@ use Rattle.std.specs.Prelude.{◌≡◌, List}
 use Rattle.dap_accessed.specs.Standing.{Files}
 use Rattle.dap_shared.specs.Nodes.{Event}
 use Rattle.dap_shared.specs.Shared.{SharedAfter}
-use Rattle.dap_end.specs.Node.{LinkValue}
+use Rattle.dap_end.specs.Node.{NodeLinkValue}
 use Rattle.dap_end.specs.Asking.{HasDone}
 use Rattle.dap_live.specs.declared.asking.Asking.{Asking}
 use Rattle.dap_live.specs.declared.node.Node.{Node}
@@ -16,7 +16,7 @@ AreSameAsking one other =
     × (one.is_each ≡ other.is_each) × HasDone one.end
 
 -- some history left what a link of a node stands before, and the link sends some messages
-abbrev pub HasCarried : LinkValue → Type 0
+abbrev pub HasCarried : NodeLinkValue → Type 0
 HasCarried v = (first : Files) × (events : List Event) × SharedAfter first events v.present.shared × HasSent v.port.link
 
 -- both nodes are of one value

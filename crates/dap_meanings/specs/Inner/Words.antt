@@ -8,22 +8,22 @@ use Rattle.dap_meanings.specs.declared.words.Word.{Word}
 use Rattle.dap_meanings.specs.declared.words.Word.TheVariants.{Nothing, Named, Record, Quoted, Rights, Frame}
 
 -- what it says
-abbrev pub text_of : Word → List ℕ
-text_of Nothing = []
-text_of (Named word) = word.now
-text_of (Record number) = codes "record " ++ decimal number
-text_of (Quoted bytes) = quote bytes.now
-text_of (Rights fac) = codes "for" ++ rights_text fac
-text_of (Frame text) = text.now
+abbrev pub said_text : Word → List ℕ
+said_text Nothing = []
+said_text (Named word) = word.now
+said_text (Record number) = codes "record " ++ decimal number
+said_text (Quoted bytes) = quote bytes.now
+said_text (Rights fac) = codes "for" ++ rights_text fac
+said_text (Frame text) = text.now
 
 -- as words, of which there may be none
-abbrev pub said : Word → List (List ℕ)
-said Nothing = []
-said (Named word) = text_of (Named word) ∷ []
-said (Record number) = text_of (Record number) ∷ []
-said (Quoted bytes) = text_of (Quoted bytes) ∷ []
-said (Rights fac) = text_of (Rights fac) ∷ []
-said (Frame text) = text_of (Frame text) ∷ []
+abbrev pub word_list : Word → List (List ℕ)
+word_list Nothing = []
+word_list (Named word) = said_text (Named word) ∷ []
+word_list (Record number) = said_text (Record number) ∷ []
+word_list (Quoted bytes) = said_text (Quoted bytes) ∷ []
+word_list (Rights fac) = said_text (Rights fac) ∷ []
+word_list (Frame text) = said_text (Frame text) ∷ []
 
 -- an entry of a table
 abbrev pub entry_of : Entry → ℕ × List ℕ

@@ -7,13 +7,13 @@ use Rattle.dap_msg.specs.Grammar as kinds
 use Rattle.dap_msg.specs.Grammar.{field_bytes}
 use Rattle.dap_msg.specs.Formats.{header_bytes}
 
-abbrev pub bytes_of : Field → List ℕ
-bytes_of Absent = []
-bytes_of (Byte v) = v ∷ []
-bytes_of (Word v) = field_bytes kinds.Word v
-bytes_of (Extensible v) = shortest v
-bytes_of (Image image) = length image.now ∷ image.now
-bytes_of (Rest bytes) = bytes.now
+abbrev pub bytes_of_field : Field → List ℕ
+bytes_of_field Absent = []
+bytes_of_field (Byte v) = v ∷ []
+bytes_of_field (Word v) = field_bytes kinds.Word v
+bytes_of_field (Extensible v) = shortest v
+bytes_of_field (Image image) = length image.now ∷ image.now
+bytes_of_field (Rest bytes) = bytes.now
 
 abbrev pub is_there : Field → Bool
 is_there Absent = false
@@ -21,7 +21,7 @@ is_there _ = true
 
 abbrev pub fields_bytes : List Field → List ℕ
 fields_bytes [] = []
-fields_bytes (field ∷ fields) = bytes_of field ++ fields_bytes fields
+fields_bytes (field ∷ fields) = bytes_of_field field ++ fields_bytes fields
 
 -- the bytes of a message of these fields
 abbrev pub message_bytes : ℕ → List Field → List ℕ

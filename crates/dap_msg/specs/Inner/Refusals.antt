@@ -3,16 +3,16 @@ use Rattle.std.specs.Prelude.{ℕ, ◌^◌, ◌==◌, ◌&&◌, nat_lt, nat_le, 
 use Rattle.dap_msg.specs.Codes.{greatest_type}
 use Rattle.dap_msg.specs.declared.fault.FaultKind.{FaultKind}
 use Rattle.dap_msg.specs.declared.fault.FaultKind.TheVariants.{BadFlags, BadStream, UnknownType, BadMenu}
-use Rattle.dap_msg.specs.Formats.{refuses, flags_are_known}
+use Rattle.dap_msg.specs.Formats.{refuses_as, flags_are_known}
 
 abbrev pub refuses_bits : ℕ → ℕ → Option FaultKind
-refuses_bits fields = refuses BadMenu (λ bits. nat_lt bits (2 ^ fields))
+refuses_bits fields = refuses_as BadMenu (λ bits. nat_lt bits (2 ^ fields))
 
 abbrev pub refuses_type : ℕ → Option FaultKind
-refuses_type = refuses UnknownType (λ number. nat_lt 0 number && nat_le number greatest_type)
+refuses_type = refuses_as UnknownType (λ number. nat_lt 0 number && nat_le number greatest_type)
 
 abbrev pub refuses_flags : ℕ → Option FaultKind
-refuses_flags = refuses BadFlags flags_are_known
+refuses_flags = refuses_as BadFlags flags_are_known
 
 abbrev pub refuses_stream : ℕ → Option FaultKind
-refuses_stream = refuses BadStream (λ stream. stream == 0)
+refuses_stream = refuses_as BadStream (λ stream. stream == 0)

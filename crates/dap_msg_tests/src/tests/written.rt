@@ -8,7 +8,7 @@ use std::alloc::Global;
 use std::process::Abort;
 use std::test::Fail;
 
-/// Whether the message stands in front of the bytes, and has so many of them.
+/// Whether the message is at the start of the bytes, and has this many of them.
 fn is_read(bytes: &[u8], message: &Message<'_>, len: usize) -> bool {
     match decode(bytes) {
         Ok((read, end)) => read == *message && end == len,
@@ -223,7 +223,7 @@ fn file_data(rt: HostRuntime) -> Result<(), Fail> {
     check(&rt, message, &[8, 2, 2, 0, 0x41])
 }
 
-/// How many bytes a record of so many is written in, whether they begin so, and whether they are read back.
+/// How many bytes a record of this many is written in, whether they begin so, and whether they are read back.
 fn written(alloc: Global, record: &[u8], begin: &[u8]) -> Result<(usize, bool, bool), MsgFault> {
     let message = Message::Filedata {
         recnum: &[],

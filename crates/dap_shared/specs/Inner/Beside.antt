@@ -1,5 +1,5 @@
 -- What one link's session does beside those of the others.
-use Rattle.std.specs.Prelude.{ℕ, ◌≡◌, ◌≤◌, Bool, true, false, nat_lt, if◌then◌else◌, List, [], ◌∷◌, length, map, Option, Some, None}
+use Rattle.std.specs.Prelude.{ℕ, ◌≡◌, ◌≤◌, Bool, true, false, ◌||◌, nat_lt, if◌then◌else◌, List, [], ◌∷◌, length, map, Option, Some, None}
 use Rattle.std.specs.List.{list_any}
 use Rattle.std.specs.Global.{Vec}
 use Rattle.dap_msg.specs.BothEnds.{greatest_message}
@@ -9,7 +9,7 @@ use Rattle.dap_accessed.specs.declared.phase.Phase.{Phase}
 use Rattle.dap_accessed.specs.Standing.{Files}
 use Rattle.dap_accessed.specs.Replies.{bare_status}
 use Rattle.dap_accessed.specs.Served.{Answered}
-use Rattle.dap_accessed.specs.Sessions.{SessionValue, IsOpenIn, ServesItem, asked_in, joined, open_at, refused_session}
+use Rattle.dap_accessed.specs.Sessions.{SessionValue, IsOpenIn, ServesItem, asked_in, with_files, open_at, refused_session}
 use Rattle.dap_shared.specs.Sharing.{bars, file_locked}
 use Rattle.dap_shared.specs.Shared.{session_without}
 
@@ -28,13 +28,21 @@ abbrev pub gone_by : (before after : Files) → Phase → Option OpenFile
 gone_by before after phase = if nat_lt (length after) (length before) then open_at phase else None
 
 -- refused as the file is locked, or served
-abbrev pub Does : (locked : Bool) → Item → Files → SessionValue → Files → SessionValue → Vec (Vec ℕ) → Type 0
-Does true item files s files' s' answers =
+abbrev pub ServesOrRefuses : (locked : Bool) → Item → Files → SessionValue → Files → SessionValue → Vec (Vec ℕ) → Type 0
+ServesOrRefuses true item files s files' s' answers =
     (files' ≡ files) × (s' ≡ refused_session s) × Answered s.limit (bare_status file_locked ∷ []) answers
     × (s.limit ≤ greatest_message)
-Does false item files s files' s' answers = ServesItem item (joined files s) (joined files' s') answers
+ServesOrRefuses false item files s files' s' answers = ServesItem item (with_files files s) (with_files files' s') answers
 
+-- one link's session moved beside others, which are moved up where a file was removed
 pub record MovesBeside (item : Item) (files : Files) (others : List SessionValue) (s : SessionValue) (files' : Files) (others' : List SessionValue) (s' : SessionValue) (answers : Vec (Vec ℕ)) : Type 0 where
-  pub does : Does (is_barred others (asked_in s.setup files s.phase item)) item files s files' s' answers
+  pub does : ServesOrRefuses (is_barred others (asked_in s.setup files s.phase item)) item files s files' s' answers
   pub moved : others' ≡ map (session_moved_up (gone_by files files' s.phase)) others
+  pub there : IsOpenIn files' s'.phase
+
+-- the same beside those of the links before it and of the links after it
+pub record MovesAmong (item : Item) (files : Files) (before : List SessionValue) (s : SessionValue) (after : List SessionValue) (files' : Files) (before' : List SessionValue) (s' : SessionValue) (after' : List SessionValue) (answers : Vec (Vec ℕ)) : Type 0 where
+  pub does : ServesOrRefuses (is_barred before (asked_in s.setup files s.phase item) || is_barred after (asked_in s.setup files s.phase item)) item files s files' s' answers
+  pub first : before' ≡ map (session_moved_up (gone_by files files' s.phase)) before
+  pub rest : after' ≡ map (session_moved_up (gone_by files files' s.phase)) after
   pub there : IsOpenIn files' s'.phase

@@ -29,7 +29,7 @@ pub record IsHeld (v : SharedValue) : Type 0 where
   pub after : SharedAfter first events v
   pub numbers : (link : ℕ) → HasNumber (session_at v.setup link v.sessions).phase
 
--- one session was taken out, served and put back
+-- one link's session was served, beside those of the others
 pub record MovesOn (own : ServerSetup) (link : ℕ) (item : Item) (files : Files) (sessions : List SessionValue) (files' : Files) (sessions' : List SessionValue) (answers : Vec (Vec ℕ)) : Type 0 where
   pub others : List SessionValue
   pub session : SessionValue

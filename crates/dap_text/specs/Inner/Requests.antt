@@ -1,4 +1,4 @@
--- The words behind the first one of a request, where they say one of several.
+-- The words after the first one of a request, where they say one of several.
 use Rattle.std.specs.Prelude.{◌∷◌, [], codes, Option, Some, None}
 use Rattle.dap_accessing.specs.Request.{Request}
 use Rattle.dap_accessing.specs.declared.request.Request.TheVariants as request

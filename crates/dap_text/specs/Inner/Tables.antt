@@ -5,7 +5,7 @@ use Rattle.std.specs.Fmt.{decimal}
 use Rattle.rec_file.specs.declared.shapes.Shape.{Shape}
 use Rattle.dap_text.specs.Tables.{format_text, org_text}
 
--- two sizes, each behind a space
+-- two sizes, each after a space
 abbrev pub sizes_text : (mrs mrn : ℕ) → List ℕ
 sizes_text mrs mrn = concat (codes " " ∷ decimal mrs ∷ codes " " ∷ decimal mrn ∷ [])
 

@@ -1,11 +1,11 @@
 -- What the program keeps of a stream that isn't over.
 use Rattle.std.specs.Prelude.{◌≡◌, ◌⊎◌, ⊤, ℕ, ◌+◌, ◌/◌, ◌%◌, ◌^◌, ◌<◌, ◌≤◌, ◌==◌, ◌&&◌, nat_le, not, true, false, Bool, List, [], ◌∷◌, ◌++◌, length, take, drop, max, if◌then◌else◌, Option, Some, None}
 use Rattle.std.specs.List.{AllByRecursion, filter, flat_map}
-use Rattle.dap_listing.specs.Captured.{Spell, bytes_of}
+use Rattle.dap_listing.specs.Captured.{Spell, digit_bytes}
 use Rattle.dap_listing.specs.declared.captured.CapturedSegment.{CapturedSegment}
 use Rattle.dap_follow.specs.Streams.{Placed}
-use Rattle.dap_follow.specs.Joined.{Piece, is_message, latest, payload, pieces, tail}
-use Rattle.dap_watch.specs.Inner.Segments.{came, put_at}
+use Rattle.dap_follow.specs.Joined.{Fragment, is_message, latest, payload, fragments_of, tail}
+use Rattle.dap_follow.specs.Segments.{numbered_segment, placed_at}
 use Rattle.dap_watch.specs.Watched.{whole_with}
 use Rattle.dap_watch.specs.Inner.Pieces.{IsPut, Rises, all_segments, glue}
 use Rattle.dap_watch.specs.declared.places.Kept.{Kept}
@@ -15,8 +15,8 @@ use Rattle.dap_watch.specs.declared.places.Whole.{Whole}
 -- ---- one of the program
 
 -- the digits of all payloads
-abbrev pub digits_of : Kept → List ℕ
-digits_of k = flat_map (λ payload. payload) k.payloads.items
+abbrev pub kept_digits : Kept → List ℕ
+kept_digits k = flat_map (λ payload. payload) k.payloads.items
 
 -- in a row, and of a message that isn't whole, or both listed
 abbrev pub do_join : Kept → Kept → Bool
@@ -29,7 +29,7 @@ pub record IsSegment (place : ℕ) (c : CapturedSegment) (k : Kept) : Type 0 whe
   pub first : k.first ≡ c.first
   pub last : k.last ≡ c.last
   pub listed : k.listed ≡ false
-  pub digits : digits_of k ≡ c.digits.now
+  pub digits : kept_digits k ≡ c.digits.now
 
 -- two as one
 pub record IsAbsorbed (one other joined : Kept) : Type 0 where
@@ -38,13 +38,13 @@ pub record IsAbsorbed (one other joined : Kept) : Type 0 where
   pub first : joined.first ≡ one.first
   pub last : joined.last ≡ other.last
   pub listed : joined.listed ≡ one.listed
-  pub digits : digits_of joined ≡ digits_of one ++ digits_of other
+  pub digits : kept_digits joined ≡ kept_digits one ++ kept_digits other
 
 -- a place of the number near the highest place
 abbrev pub IsNear : ℕ → ℕ → ℕ → Type 0
 IsNear highest number place = (highest ≤ place + 2047) × (place ≤ highest + 2048) × (place % 4096 ≡ number)
 
--- each ends before those behind it do
+-- each ends before those after it do
 abbrev pub Ascends : List Kept → Type 0
 Ascends [] = ⊤
 Ascends (k ∷ others) = AllByRecursion (λ other. k.to < other.to) others × Ascends others
@@ -65,14 +65,14 @@ IsApart piece (k ∷ others) = do_join piece k ≡ false
 abbrev pub IsBehindApart : List Kept → Kept → Type 0
 IsBehindApart front piece = (others : List Kept) (k : Kept) → front ≡ others ++ k ∷ [] → do_join k piece ≡ false
 
--- the one behind is joined, or isn't in a row
+-- the next one is joined, or isn't in a row
 abbrev pub AbsorbsAfter : ℕ → List Kept → Kept → List Kept → Kept → Type 0
 AbsorbsAfter index old piece new joined =
     ((new ≡ old) × (joined ≡ piece) × IsApart piece (drop index old))
     ⊎ ((after : Kept) × (others : List Kept) × (drop index old ≡ after ∷ others) × (new ≡ take index old ++ others)
     × (do_join piece after ≡ true) × IsAbsorbed piece after joined)
 
--- the one in front
+-- the one before
 abbrev pub AbsorbsBefore : ℕ → List Kept → Kept → ℕ → List Kept → Kept → Type 0
 AbsorbsBefore index old piece now new joined =
     ((new ≡ old) × (now ≡ index) × (joined ≡ piece) × IsBehindApart (take index old) piece)
@@ -82,45 +82,45 @@ AbsorbsBefore index old piece now new joined =
 -- ---- what it stands for
 
 -- messages one after another without a gap, from one place to another
-abbrev pub AreListed : ℕ → ℕ → List Piece → Type 0
+abbrev pub AreListed : ℕ → ℕ → List Fragment → Type 0
 AreListed from to [] = ⊥
 AreListed from to (m ∷ []) = (is_message m ≡ true) × (m.head.place ≡ from) × ((tail m).place ≡ to)
 AreListed from to (m ∷ n ∷ ms) = (is_message m ≡ true) × (m.head.place ≡ from) × AreListed ((tail m).place + 1) to (n ∷ ms)
 
 -- a piece of a stream
-pub record IsOpen (k : Kept) (p : Piece) : Type 0 where
+pub record IsOpen (k : Kept) (p : Fragment) : Type 0 where
   pub from : k.from ≡ p.head.place
   pub to : k.to ≡ (tail p).place
   pub first : k.first ≡ p.head.first
   pub last : k.last ≡ (tail p).last
   pub listed : k.listed ≡ false
-  pub bytes : bytes_of (digits_of k) ≡ payload p
-  pub spelled : Spell (digits_of k) (length (digits_of k) / 2)
+  pub bytes : digit_bytes (kept_digits k) ≡ payload p
+  pub spelled : Spell (kept_digits k) (length (kept_digits k) / 2)
 
 -- these pieces
-abbrev pub Holds : Kept → List Piece → Type 0
-Holds k ps = ((k.listed ≡ true) × AreListed k.from k.to ps) ⊎ ((p : Piece) × (ps ≡ p ∷ []) × IsOpen k p)
+abbrev pub HoldsPieces : Kept → List Fragment → Type 0
+HoldsPieces k ps = ((k.listed ≡ true) × AreListed k.from k.to ps) ⊎ ((p : Fragment) × (ps ≡ p ∷ []) × IsOpen k p)
 
 -- and what isn't listed is no message
-abbrev pub Stays : Kept → List Piece → Type 0
-Stays k ps = Holds k ps × (k.listed ≡ false → AllByRecursion (λ p. is_message p ≡ false) ps)
+abbrev pub Stays : Kept → List Fragment → Type 0
+Stays k ps = HoldsPieces k ps × (k.listed ≡ false → AllByRecursion (λ p. is_message p ≡ false) ps)
 
 -- all pieces of a stream, in order
-abbrev pub Keeps : List Piece → List Kept → Type 0
-Keeps ps [] = ps ≡ []
-Keeps ps (k ∷ ks) = (held rest : List Piece) × (ps ≡ held ++ rest) × Stays k held × Keeps rest ks
+abbrev pub KeepsPieces : List Fragment → List Kept → Type 0
+KeepsPieces ps [] = ps ≡ []
+KeepsPieces ps (k ∷ ks) = (held rest : List Fragment) × (ps ≡ held ++ rest) × Stays k held × KeepsPieces rest ks
 
 -- ---- one between others
 
--- It took the neighbours that it joins: what was in front, its own and what was behind are now these. Where it isn't listed, no
+-- It took the neighbours that it joins: what was before it, its own and what was after it are now these. Where it isn't listed, no
 -- message became of it or was lost but in the middle.
-pub record Regroups (xs ys zs : List Piece) (piece : Kept) (front : List Kept) (joined : Kept) (back : List Kept) : Type 0 where
-  pub before : List Piece
-  pub these : List Piece
-  pub behind : List Piece
-  pub front_keeps : Keeps before front
-  pub holds : Holds joined these
-  pub back_keeps : Keeps behind back
+pub record Regroups (xs ys zs : List Fragment) (piece : Kept) (front : List Kept) (joined : Kept) (back : List Kept) : Type 0 where
+  pub before : List Fragment
+  pub these : List Fragment
+  pub behind : List Fragment
+  pub front_keeps : KeepsPieces before front
+  pub holds : HoldsPieces joined these
+  pub back_keeps : KeepsPieces behind back
   pub all : glue xs (glue ys zs) ≡ before ++ (these ++ behind)
   pub kind : joined.listed ≡ piece.listed
   pub messages : piece.listed ≡ false → (filter is_message before ≡ filter is_message xs) × (filter is_message behind ≡ filter is_message zs)
@@ -129,59 +129,59 @@ pub record Regroups (xs ys zs : List Piece) (piece : Kept) (front : List Kept) (
 -- so it does whatever stands for all
 pub record Joins (index : ℕ) (old : List Kept) (piece : Kept) (now : ℕ) (new : List Kept) (joined : Kept) : Type 0 where
   pub within : now ≤ length new
-  pub regroups : (xs ys zs : List Piece) → Keeps xs (take index old) → Holds piece ys → Keeps zs (drop index old)
+  pub regroups : (xs ys zs : List Fragment) → KeepsPieces xs (take index old) → HoldsPieces piece ys → KeepsPieces zs (drop index old)
       → Regroups xs ys zs piece (take now new) joined (drop now new)
 
 -- a message is kept as listed, and these are its digits
 pub record Lists (index : ℕ) (old : List Kept) (message : Kept) (new : List Kept) (digits : List ℕ) (whole : Whole) : Type 0 where
   pub from : whole.from ≡ message.from
   pub to : whole.to ≡ message.to
-  pub digits_are : digits ≡ digits_of message
-  pub keeps : (xs zs : List Piece) (m : Piece) → is_message m ≡ true → message.from ≡ m.head.place → message.to ≡ (tail m).place
-      → Keeps xs (take index old) → Keeps zs (drop index old) → Keeps (xs ++ m ∷ zs) new
+  pub digits_are : digits ≡ kept_digits message
+  pub keeps : (xs zs : List Fragment) (m : Fragment) → is_message m ≡ true → message.from ≡ m.head.place → message.to ≡ (tail m).place
+      → KeepsPieces xs (take index old) → KeepsPieces zs (drop index old) → KeepsPieces (xs ++ m ∷ zs) new
 
 -- the place and the digits of a message
-pub record IsWhole (digits : List ℕ) (w : Whole) (m : Piece) : Type 0 where
+pub record IsWholeMessage (digits : List ℕ) (w : Whole) (m : Fragment) : Type 0 where
   pub message : is_message m ≡ true
   pub from : w.from ≡ m.head.place
   pub to : w.to ≡ (tail m).place
-  pub bytes : bytes_of digits ≡ payload m
+  pub bytes : digit_bytes digits ≡ payload m
   pub spelled : Spell digits (length digits / 2)
 
 -- it is a message, and told; or it is none
-abbrev pub IsTold : List ℕ → Option Whole → Piece → Type 0
-IsTold digits None m = is_message m ≡ false
-IsTold digits (Some w) m = IsWhole digits w m
+abbrev pub IsListedPiece : List ℕ → Option Whole → Fragment → Type 0
+IsListedPiece digits None m = is_message m ≡ false
+IsListedPiece digits (Some w) m = IsWholeMessage digits w m
 
 -- A segment was put between pieces: one piece has it.
-pub record Settles (xs ys zs : List Piece) (new : List Kept) (digits : List ℕ) (found : Option Whole) : Type 0 where
-  pub before : List Piece
-  pub piece : Piece
-  pub behind : List Piece
+pub record Settles (xs ys zs : List Fragment) (new : List Kept) (digits : List ℕ) (found : Option Whole) : Type 0 where
+  pub before : List Fragment
+  pub piece : Fragment
+  pub behind : List Fragment
   pub all : glue xs (glue ys zs) ≡ before ++ piece ∷ behind
-  pub keeps : Keeps (before ++ piece ∷ behind) new
-  pub told : IsTold digits found piece
+  pub keeps : KeepsPieces (before ++ piece ∷ behind) new
+  pub told : IsListedPiece digits found piece
   pub messages : (filter is_message before ≡ filter is_message xs) × (filter is_message behind ≡ filter is_message zs)
   pub later : latest (all_segments ys) ≤ latest (piece.head ∷ piece.others)
 
 abbrev pub Puts : ℕ → List Kept → Kept → List Kept → List ℕ → Option Whole → Type 0
 Puts index old segment new digits found =
-    (xs ys zs : List Piece) → segment.listed ≡ false → Keeps xs (take index old) → Holds segment ys → Keeps zs (drop index old)
+    (xs ys zs : List Fragment) → segment.listed ≡ false → KeepsPieces xs (take index old) → HoldsPieces segment ys → KeepsPieces zs (drop index old)
     → Settles xs ys zs new digits found
 
 -- ---- a stream
 
 -- what is kept of a stream with these segments in order, all of packets below a number
 pub record KeepsPlaces (packet : ℕ) (ordered : List Placed) (p : Places) : Type 0 where
-  pub keeps : Keeps (pieces ordered) p.kept.items
+  pub keeps : KeepsPieces (fragments_of ordered) p.kept.items
   pub rises : Rises ordered
   pub numbered : AllByRecursion (λ s. s.packet < packet) ordered
   pub low : 4096 ≤ p.highest
 
 -- the messages that are whole with the packet: none, or the one that is told
-abbrev pub AreTold : ℕ → List ℕ → Option Whole → List Piece → Type 0
+abbrev pub AreTold : ℕ → List ℕ → Option Whole → List Fragment → Type 0
 AreTold packet digits None ms = ms ≡ []
-AreTold packet digits (Some w) ms = (m : Piece) × (ms ≡ m ∷ []) × (whole_with m ≡ packet) × IsWhole digits w m
+AreTold packet digits (Some w) ms = (m : Fragment) × (ms ≡ m ∷ []) × (whole_with m ≡ packet) × IsWholeMessage digits w m
 
 -- the segment of a packet was put in its place, and messages became whole with it
 pub record Found (packet : ℕ) (c : CapturedSegment) (ordered : List Placed) (old new : Places) (digits : List ℕ) (found : Option Whole) : Type 0 where
@@ -189,10 +189,10 @@ pub record Found (packet : ℕ) (c : CapturedSegment) (ordered : List Placed) (o
   pub near : IsNear old.highest c.number place
   pub highest : new.highest ≡ max old.highest place
   pub later : List Placed
-  pub put : IsPut ordered (put_at place (came packet c)) later
-  pub keeps : Keeps (pieces later) new.kept.items
-  pub ms : List Piece
-  pub added : (front back : List Piece) × (filter is_message (pieces ordered) ≡ front ++ back) × (filter is_message (pieces later) ≡ front ++ (ms ++ back))
+  pub put : IsPut ordered (placed_at place (numbered_segment packet c)) later
+  pub keeps : KeepsPieces (fragments_of later) new.kept.items
+  pub ms : List Fragment
+  pub added : (front back : List Fragment) × (filter is_message (fragments_of ordered) ≡ front ++ back) × (filter is_message (fragments_of later) ≡ front ++ (ms ++ back))
   pub told : AreTold packet digits found ms
 
 abbrev pub Finds : CapturedSegment → Places → Places → List ℕ → Option Whole → Type 0

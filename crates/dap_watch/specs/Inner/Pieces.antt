@@ -2,24 +2,24 @@
 use Rattle.std.specs.Prelude.{◌≡◌, ◌⊎◌, ⊤, ◌<◌, List, [], ◌∷◌, ◌++◌, if◌then◌else◌}
 use Rattle.std.specs.List.{AllByRecursion, flat_map}
 use Rattle.dap_follow.specs.Streams.{Placed}
-use Rattle.dap_follow.specs.Joined.{Piece, joins, tail}
+use Rattle.dap_follow.specs.Joined.{Fragment, joins, tail}
 
 -- the segments of pieces, in order
-abbrev pub all_segments : List Piece → List Placed
+abbrev pub all_segments : List Fragment → List Placed
 all_segments ps = flat_map (λ p. p.head ∷ p.others) ps
 
 -- a piece and the next one as one
-abbrev pub merged : Piece → Piece → Piece
+abbrev pub merged : Fragment → Fragment → Fragment
 merged p q = record { head = p.head; others = p.others ++ q.head ∷ q.others }
 
--- The pieces of segments, and those of the segments behind them: the last and the first are one, if they join.
-abbrev pub glue : List Piece → List Piece → List Piece
+-- The pieces of segments, and those of the segments after them: the last and the first are one, if they join.
+abbrev pub glue : List Fragment → List Fragment → List Fragment
 glue [] ys = ys
 glue (p ∷ []) [] = p ∷ []
 glue (p ∷ []) (y ∷ ys) = if joins (tail p) y.head then merged p y ∷ ys else p ∷ y ∷ ys
 glue (p ∷ q ∷ ps) ys = p ∷ glue (q ∷ ps) ys
 
--- each place is below those behind it
+-- each sequence number is below those after it
 abbrev pub Rises : List Placed → Type 0
 Rises [] = ⊤
 Rises (s ∷ others) = AllByRecursion (λ other. s.place < other.place) others × Rises others

@@ -5,17 +5,17 @@ use Rattle.std.specs.Fmt.{decimal}
 use Rattle.dap_text.specs.Text.{line_feed}
 use Rattle.dap_follow.specs.Following.{range_text, stream_text}
 use Rattle.dap_follow.specs.declared.streams.Stream.{Stream}
-use Rattle.dap_watch.specs.Inner.Kept.{digits_of}
+use Rattle.dap_watch.specs.Inner.Kept.{kept_digits}
 use Rattle.dap_watch.specs.declared.places.Kept.{Kept}
 use Rattle.dap_watch.specs.declared.places.Places.{Places}
 
--- ` len=N`: so many bytes
+-- ` len=N`: a number of bytes
 abbrev pub count_text : ℕ → List ℕ
 count_text count = concat (codes " len=" ∷ decimal count ∷ line_feed ∷ [])
 
 abbrev pub kept_part : Stream → Kept → List ℕ
 kept_part stream k =
-    if k.listed then [] else codes "part" ++ (stream_text stream ++ (range_text k.from k.to ++ count_text (length (digits_of k) / 2)))
+    if k.listed then [] else codes "part" ++ (stream_text stream ++ (range_text k.from k.to ++ count_text (length (kept_digits k) / 2)))
 
 abbrev pub kept_gap : Stream → Kept → List Kept → List ℕ
 kept_gap stream k [] = []

@@ -4,25 +4,25 @@ use Rattle.std.specs.List.{AllByRecursion, AllZip, concat, enumerate_from, flat_
 use Rattle.dap_listing.specs.Lines.{Capture, line_of}
 use Rattle.dap_listing.specs.Listing.{packet_limit}
 use Rattle.dap_follow.specs.Streams.{Captured, Placed}
-use Rattle.dap_follow.specs.Joined.{Message, Piece, message_of, messages}
+use Rattle.dap_follow.specs.Joined.{Message, Fragment, fragment_message, messages}
 use Rattle.dap_meanings.specs.Frames.{frame_words}
-use Rattle.dap_follow.specs.Following.{IsCaptured, IsMessageText, IsPacketText, frame_of}
+use Rattle.dap_follow.specs.Following.{IsCaptured, IsMessageText, IsFollowedPacketText, frame_of}
 use Rattle.linewise.specs.declared.talking.Became.{Became}
 use Rattle.linewise.specs.declared.talking.Became.TheVariants.{Done, BadLine, NoMemory}
 use Rattle.dap_watch.specs.Watched.{whole_with}
-use Rattle.dap_watch.specs.Inner.Streams.{KeepsAll}
+use Rattle.dap_watch.specs.Inner.Streams.{KeepsAllOrdered}
 use Rattle.dap_watch.specs.declared.streams.Streams.{Streams}
 use Rattle.dap_watch.specs.declared.watching.Watching.{Watching}
 
 -- a packet more, and the texts of the messages that are whole with it
-pub record Tells (in_words : Bool) (packets : List Captured) (packet : Captured) (ordered : List (List Placed)) (new : Streams) (old_text new_text : List ℕ) : Type 0 where
+pub record TellsPacket (in_words : Bool) (packets : List Captured) (packet : Captured) (ordered : List (List Placed)) (new : Streams) (old_text new_text : List ℕ) : Type 0 where
   pub later : List (List Placed)
-  pub keeps : KeepsAll (packets ++ packet ∷ []) later new
+  pub keeps : KeepsAllOrdered (packets ++ packet ∷ []) later new
   pub front : List Message
   pub back : List Message
-  pub ms : List Piece
+  pub ms : List Fragment
   pub before : flat_map messages ordered ≡ front ++ back
-  pub after : flat_map messages later ≡ front ++ (map message_of ms ++ back)
+  pub after : flat_map messages later ≡ front ++ (map fragment_message ms ++ back)
   pub whole : AllByRecursion (λ m. whole_with m ≡ 1 + length packets) ms
   pub texts : List (List ℕ)
   pub are : AllZip (IsMessageText in_words) ms texts
@@ -34,12 +34,12 @@ pub record Watches (in_words : Bool) (frames : List (List (List ℕ))) (captured
   pub ordered : List (List Placed)
   pub texts : List (List ℕ)
   pub are_seen : AllZip IsCaptured captured packets
-  pub are_texts : AllZip (IsPacketText in_words frames (flat_map messages ordered)) (enumerate_from 1 packets) texts
+  pub are_texts : AllZip (IsFollowedPacketText in_words frames (flat_map messages ordered)) (enumerate_from 1 packets) texts
   pub written_is : written ≡ concat texts
   pub words : w.in_words ≡ in_words
   pub count : w.packets ≡ length packets
   pub most : length packets ≤ 2 ^ 50
-  pub keeps : KeepsAll packets ordered w.streams
+  pub keeps : KeepsAllOrdered packets ordered w.streams
 
 -- no line came yet
 pub record Starts (w : Watching) : Type 0 where
@@ -48,8 +48,8 @@ pub record Starts (w : Watching) : Type 0 where
   pub watches : (frames : List (List (List ℕ))) → Watches w.in_words frames [] [] w
 
 -- a captured packet more, of which the line directly before it tells the frame
-abbrev pub GoesOn : Capture → Watching → Watching → List ℕ → Type 0
-GoesOn capture old new text =
+abbrev pub WatchesPacket : Capture → Watching → Watching → List ℕ → Type 0
+WatchesPacket capture old new text =
     (new.packets ≡ old.packets + 1) × (new.before.items ≡ [])
     × ((in_words : Bool) (frames : List (List (List ℕ))) (captured : List Capture) (written : List ℕ)
     → frame_of frames (old.packets + 1) ≡ frame_words old.before.items → Watches in_words frames captured written old
@@ -67,7 +67,7 @@ abbrev pub answered : Watching → Option (List ℕ) → Watching → List ℕ �
 answered old None new text became = new ≡ old
 answered old (Some line) new text Done =
     ((line_of packet_limit line ≡ Ok None) × PassesBy line old new × (text ≡ []))
-    ⊎ ((capture : Capture) × (line_of packet_limit line ≡ Ok (Some capture)) × GoesOn capture old new text)
+    ⊎ ((capture : Capture) × (line_of packet_limit line ≡ Ok (Some capture)) × WatchesPacket capture old new text)
 answered old (Some line) new text BadLine = (is_err (line_of packet_limit line) ≡ true) × PassesBy line old new × (text ≡ [])
 answered old (Some line) new text NoMemory = text ≡ []
 

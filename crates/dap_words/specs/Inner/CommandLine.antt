@@ -6,7 +6,7 @@ use Rattle.clap.specs.Words.{app_of, Text, new_app, with_subcommand}
 use Rattle.dap_words.specs.Choosing.{dapnsp}
 
 -- a command that is the program's command line
-pub record IsCommandLine (command : Command) : Type 0 where
+pub record IsDapnspLine (command : Command) : Type 0 where
   pub app : app_of command ≡ dapnsp
   pub local : (out-Command command).has_globals ≡ false
   pub required : (out-Command command).subcommand_required ≡ true

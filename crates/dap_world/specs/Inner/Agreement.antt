@@ -15,11 +15,11 @@ use Rattle.dap_accessing.specs.declared.phase.Phase.TheVariants.{Fresh, Ready, O
 use Rattle.dap_accessing.specs.Told.{is_unexpected}
 use Rattle.dap_accessing.specs.Phase.{phase_after, limit_after}
 use Rattle.dap_end.specs.Agreement.{AreAgreed, AreExpected}
-use Rattle.dap_world.specs.Agreement.{answers_to, items_of, reports_of}
+use Rattle.dap_world.specs.Agreement.{request_answers, items_of, reports_of}
 
 -- a request is admissible after these and the answers to them
 abbrev pub IsNext : (own_a own_b : ℕ) → List Request → Request → Type 0
-IsNext own_a own_b requests request = IsAdmissible own_a requests (map Whole (answers_to own_a own_b requests)) request
+IsNext own_a own_b requests request = IsAdmissible own_a requests (map Whole (request_answers own_a own_b requests)) request
 
 -- the two ends agree after these requests, and the accessed end is not inside a group
 abbrev pub Agree : (own_a own_b : ℕ) → List Request → Type 0

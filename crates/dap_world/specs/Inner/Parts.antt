@@ -4,7 +4,7 @@ use Rattle.dap_msg.specs.declared.message.Message.{Message}
 use Rattle.dap_msg.specs.declared.items.Item.{Item}
 use Rattle.dap_msg.specs.declared.items.Item.TheVariants.{Whole}
 use Rattle.dap_msg.specs.Canon.{canon}
-use Rattle.dap_msg.specs.Blocked.{NspMessage, joined, Blocked, all_joined, messages_in, AllFit}
+use Rattle.dap_msg.specs.Blocked.{NspMessage, blocked_bytes, Blocked, all_joined, messages_in, AllFit}
 use Rattle.nsp_link.specs.declared.link.LinkSetup.{LinkSetup}
 use Rattle.dap_msg.specs.BothEnds.{plain_identity}
 use Rattle.dap_accessed.specs.Setup.{plain_setup}
@@ -20,17 +20,17 @@ use Rattle.dap_events.specs.declared.event.End.TheVariants.{A, B}
 use Rattle.dap_world.specs.Machine.{State, EndState, sent_by, taken_of, answers_read, reported}
 use Rattle.dap_world.specs.Inner.Worlds.{IsWorld}
 use Rattle.dap_end.specs.Asking.{HasAsked}
-use Rattle.dap_end.specs.Done.{AskingValue, AskingPast}
+use Rattle.dap_end.specs.Done.{AskingValue, ClientHistory}
 use Rattle.dap_end.specs.Serving.{IsAfter}
-use Rattle.dap_end.specs.Done.{ServingValue, Past, answers_to}
-use Rattle.dap_world.specs.Wires.{address_of, sending_of}
-use Rattle.dap_world.specs.Inner.Sides.{SideValue, port_of, AreShort}
+use Rattle.dap_end.specs.Done.{ServingValue, ServerHistory, answers_to}
+use Rattle.dap_world.specs.Wires.{end_address, sending_of}
+use Rattle.dap_world.specs.Inner.Sides.{SideValue, port_of, AreWithinLimit}
 use Rattle.dap_world.specs.Inner.Ways.{IsWay}
 
 pub record Parts : Type 0 where
   pub a : SideValue
   pub b : SideValue
-  pub accessing : accessing.Present
+  pub accessing : accessing.ClientState
   pub accessed : accessed.Present
   pub requests : List Request
   pub sent : List (List ℕ)  -- the DAP messages in what A handed over
@@ -53,15 +53,15 @@ answer_packets own before items = answers_to (plain_setup own) [] before items
 abbrev pub served_items : Parts → List Item
 served_items p = map Whole (take p.served (Asked p.accessing.own p.requests))
 
-abbrev pub asks : Parts → List NspMessage
-asks p = asked_packets p.accessing.own p.accessed.own p.requests
+abbrev pub asked_messages : Parts → List NspMessage
+asked_messages p = asked_packets p.accessing.own p.accessed.own p.requests
 
 abbrev pub answers : Parts → List NspMessage
 answers p = answer_packets p.accessed.own [] (served_items p)
 
 -- ---- The state.
 
--- of these NSP messages, so many were handed over, and the others wait
+-- of these NSP messages, this many were passed on, and the others wait
 abbrev pub end_state : SideValue → List NspMessage → EndState
 end_state s packets =
     record {
@@ -82,7 +82,7 @@ state_of p =
       own_a = p.accessing.own;
       own_b = p.accessed.own;
       requests = p.requests;
-      a = end_state p.a (asks p);
+      a = end_state p.a (asked_messages p);
       b = end_state p.b (answers p);
       served = p.served;
       read = p.read;
@@ -106,29 +106,29 @@ serving_end p = record { port = port_of p.b; present = p.accessed }
 
 -- whatever else it did on its link, it was asked these and read these, or served these
 abbrev pub IsAskedAll : AskingValue → List Request → (answers : List Item) → Type 0
-IsAskedAll v requests answers = (past : AskingPast) × HasAsked (record past { requests = requests; answers = answers }) v
+IsAskedAll v requests answers = (past : ClientHistory) × HasAsked (record past { requests = requests; answers = answers }) v
 
 abbrev pub IsServedAll : ServingValue → List Item → Type 0
-IsServedAll v items = (past : Past) × IsAfter (record past { first = []; items = items }) v
+IsServedAll v items = (past : ServerHistory) × IsAfter (record past { first = []; items = items }) v
 
 -- ---- What is true of them.
 
 -- the links have one size, one window and one limit, and the second one is that of A
 pub record AreAlike (s t : LinkSetup) : Type 0 where
-  pub here : t.local ≡ address_of A
-  pub there : t.remote ≡ address_of B
+  pub here : t.local ≡ end_address A
+  pub there : t.remote ≡ end_address B
   pub size : s.seg_size ≡ t.seg_size
   pub window : s.window ≡ t.window
   pub limit : s.max_message ≡ t.max_message
 
--- Of the first messages in NSP messages so many were handled: all those of some NSP messages, which left the link, and
--- the first of the next one, which stays while one of it is left; the place is behind these.
+-- Of the first messages in NSP messages this many were handled: all those of some NSP messages, which left the link, and
+-- the first of the next one, which stays while one of it is left; the place is after these.
 pub record IsAmong (packets : List NspMessage) (count place : ℕ) (gone : List NspMessage) : Type 0 where
   pub begun : List Message
   pub rest : List NspMessage
   pub split : packets ≡ gone ++ rest
   pub handled : count ≡ length (messages_in gone) + length begun
-  pub behind : place ≡ length (joined begun)
+  pub behind : place ≡ length (blocked_bytes begun)
   pub stays : (begun ≡ []) ⊎ ((m : Message) × (more : List Message) × (later : List NspMessage) × (rest ≡ (begun ++ m ∷ more) ∷ later))
 
 -- One direction: the bytes are those of the NSP messages, the messages have a spelling, and the link of the other end
@@ -142,10 +142,10 @@ pub record IsToldBy (count_posted place most : ℕ) (outbox : List (List ℕ)) (
   pub bytes : handed ++ outbox ≡ all_joined packets
   pub fit : AllFit (messages_in packets)
   -- what waits isn't too long
-  pub short : AreShort most outbox
+  pub short : AreWithinLimit most outbox
 
-abbrev pub IsTold : (from to : SideValue) → List NspMessage → (count : ℕ) → Type 0
-IsTold from to packets count = IsToldBy from.posted to.place from.link.setup.max_message from.outbox packets count (IsWay from to.link)
+abbrev pub IsCarried : (from to : SideValue) → List NspMessage → (count : ℕ) → Type 0
+IsCarried from to packets count = IsToldBy from.posted to.place from.link.setup.max_message from.outbox packets count (IsWay from to.link)
 
 pub record AreParts (p : Parts) : Type 0 where
   pub world : IsWorld (state_of p)
@@ -156,8 +156,8 @@ pub record AreParts (p : Parts) : Type 0 where
   -- a link takes what either end may send
   pub limit : p.a.link.setup.max_message ≡ max p.accessing.own p.accessed.own
   pub most : p.a.link.setup.max_message ≤ largest_limit
-  pub from_a : IsTold p.a p.b (asks p) p.served
-  pub from_b : IsTold p.b p.a (answers p) p.read
+  pub from_a : IsCarried p.a p.b (asked_messages p) p.served
+  pub from_b : IsCarried p.b p.a (answers p) p.read
   pub sent_is : p.sent ≡ map canon (sent_by (state_of p).a)
   pub reports_is : p.reports ≡ reported (state_of p)
   -- the ends are as after what was asked, served and read

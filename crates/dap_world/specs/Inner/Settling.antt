@@ -5,7 +5,7 @@ use Rattle.dap_events.specs.declared.event.Event.{Event}
 use Rattle.dap_events.specs.declared.event.Event.TheVariants as event
 use Rattle.dap_events.specs.declared.event.WorldFault.{WorldFault}
 use Rattle.dap_world.specs.Runs.{Runs}
-use Rattle.dap_world.specs.Machine.{State, EndState, Sending, MayEmit, next_to_read, posted, reported, end_of, sent_by, other, with_end}
+use Rattle.dap_world.specs.Machine.{State, EndState, Sending, MayEmit, next_to_read, posted, reported, end_of, sent_by, other_end, with_end}
 use Rattle.dap_msg.specs.declared.message.Message.{Message}
 use Rattle.dap_world.specs.Settling.{FinishFault, IsEmpty, RanBy, unacked}
 use Rattle.dap_events.specs.declared.event.End.TheVariants.{A, B}
@@ -64,21 +64,21 @@ abbrev pub AreThere : State → End → (first count : ℕ) → Type 0
 AreThere s end first count =
     (i : ℕ) → i < count → slice_get (end_of s end).wire (first + i) ≡ Some (record { segment = Some ((end_of s end).acked + 1 + i); acks = (end_of s end).taken })
 
--- So many of them were delivered: the other end took no fewer segments, and this one didn't move.
+-- This many of them were delivered: the other end took no fewer segments, and this one didn't move.
 pub record AllCame (old new : State) (end : End) (n : ℕ) : Type 0 where
   pub ran : RanBy old new n
-  pub taken : (end_of old end).acked + n ≤ (end_of new (other end)).taken
+  pub taken : (end_of old end).acked + n ≤ (end_of new (other_end end)).taken
   pub still : end_of new end ≡ end_of old end
 
--- So many segments more were sent, and brought to the other end, which acknowledged them.
+-- This many segments more were sent, and brought to the other end, which acknowledged them.
 pub record Brought (old new : State) (end : End) (n : ℕ) : Type 0 where
   pub ran : RanBy old new (4 * n)
   pub same : SameBut old new
   pub sent : (end_of new end).sent ≡ (end_of old end).sent + n
-  pub back : (end_of new (other end)).sent ≡ (end_of old (other end)).sent
+  pub back : (end_of new (other_end end)).sent ≡ (end_of old (other_end end)).sent
   pub done : unacked new end ≡ 0
 
--- All that there are were, by so many events.
+-- All that there are were, by this many events.
 pub record BroughtAll (old new : State) (end : End) (n : ℕ) : Type 0 where
   pub segments : ℕ
   pub brought : Brought old new end segments
@@ -91,14 +91,14 @@ pub record BroughtAll (old new : State) (end : End) (n : ℕ) : Type 0 where
 abbrev pub IsQuiet : State → Type 0
 IsQuiet s = (end : End) → (end_of s end).waiting ≡ []
 
--- All that waits was handed over, by one event or none.
+-- All that waits was passed on, by one event or none.
 pub record PostedAll (old new : State) (end : End) (n : ℕ) : Type 0 where
   pub ran : RanBy old new n
   pub is : new ≡ with_end old end (posted (end_of old end))
   pub few : n ≤ 1
   pub nothing : (end_of old end).waiting ≡ [] → n ≡ 0
 
--- All that waits was handed over, and all segments were brought to the other end.
+-- All that waits was passed on, and all segments were brought to the other end.
 pub record Emptied (old new : State) (end : End) (n : ℕ) : Type 0 where
   pub seg_size : new.seg_size ≡ old.seg_size
   pub ran : RanBy old new n
@@ -106,10 +106,10 @@ pub record Emptied (old new : State) (end : End) (n : ℕ) : Type 0 where
   pub served : new.served ≡ old.served
   pub read : new.read ≡ old.read
   pub handed : (end_of new end).handed ≡ (end_of old end).handed ++ (end_of old end).waiting
-  pub back_waiting : (end_of new (other end)).waiting ≡ (end_of old (other end)).waiting
-  pub back_handed : (end_of new (other end)).handed ≡ (end_of old (other end)).handed
-  pub back_sent : (end_of new (other end)).sent ≡ (end_of old (other end)).sent
-  pub back_acked : (end_of old (other end)).acked ≤ (end_of new (other end)).acked
+  pub back_waiting : (end_of new (other_end end)).waiting ≡ (end_of old (other_end end)).waiting
+  pub back_handed : (end_of new (other_end end)).handed ≡ (end_of old (other_end end)).handed
+  pub back_sent : (end_of new (other_end end)).sent ≡ (end_of old (other_end end)).sent
+  pub back_acked : (end_of old (other_end end)).acked ≤ (end_of new (other_end end)).acked
   pub more : ℕ
   pub sent : (end_of new end).sent ≡ (end_of old end).sent + more
   pub count : n ≤ 1 + 4 * more
@@ -152,7 +152,7 @@ pub record SentBoth (old new : State) (n : ℕ) : Type 0 where
   pub count : n ≤ 2 + 4 * more_a + 4 * more_b
   pub nothing : AreEmpty old → n ≡ 0
 
--- So many messages were served, all that were sent, and their answers brought to A.
+-- This many messages were served, all that were sent, and their answers brought to A.
 pub record Served (old new : State) (n messages : ℕ) : Type 0 where
   pub ran : RanBy old new n
   pub empty : AreEmpty new
@@ -173,7 +173,7 @@ pub record ServedEvery (old new : State) (n : ℕ) : Type 0 where
 
 -- ---- Reading.
 
--- So many answers were read, all that came, and nothing else moved.
+-- This many answers were read, all that came, and nothing else moved.
 pub record ReadEvery (old new : State) (n : ℕ) : Type 0 where
   pub ran : RanBy old new n
   pub read : new ≡ record old { read = new.read }

@@ -3,15 +3,15 @@ use Rattle.std.specs.Prelude.{max}
 use Rattle.nsp_link.specs.declared.link.LinkSetup.{LinkSetup}
 use Rattle.dap_events.specs.declared.event.End.{End}
 use Rattle.dap_events.specs.declared.setup.WorldSetup.{WorldSetup}
-use Rattle.dap_world.specs.Machine.{other}
-use Rattle.dap_world.specs.Wires.{address_of}
+use Rattle.dap_world.specs.Machine.{other_end}
+use Rattle.dap_world.specs.Wires.{end_address}
 
 -- both links take what either end may send
-abbrev pub link_of : WorldSetup → End → LinkSetup
-link_of s end =
+abbrev pub link_setup_of : WorldSetup → End → LinkSetup
+link_setup_of s end =
     record {
-      local = address_of end;
-      remote = address_of (other end);
+      local = end_address end;
+      remote = end_address (other_end end);
       seg_size = s.seg_size;
       window = s.window;
       max_message = max s.bufsiz_a s.bufsiz_b;

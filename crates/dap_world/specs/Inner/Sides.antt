@@ -4,7 +4,7 @@ use Rattle.nsp_link.specs.Link.{LinkValue, may_send}
 use Rattle.nsp_link.specs.Cutting.{cut}
 use Rattle.nsp_link.specs.Limits.{most_segments}
 use Rattle.nsp_link.specs.Sending.{WritesSent}
-use Rattle.dap_accessing.specs.Present.{Present}
+use Rattle.dap_accessing.specs.Present.{ClientState}
 use Rattle.dap_accessing.specs.Calls.{AskRefused, IsAdmittedBy}
 use Rattle.dap_accessing.specs.Request.{Request}
 use Rattle.dap_accessing.specs.declared.report.Report.{Report}
@@ -32,8 +32,8 @@ side_of port posted wire = record { link = port.link; outbox = port.outbox; post
 abbrev pub port_of : SideValue → PortValue
 port_of s = record { link = s.link; outbox = s.outbox; place = s.place }
 
--- A packet was written behind the others. It carries the k-th segment of what was handed over, or none, and what was taken.
-pub record WroteOne (v : LinkValue) (old new : List Wired) (k : Option ℕ) (answer : Step) : Type 0 where
+-- A packet was written after the others. It carries the k-th segment of what was passed on, or none, and what was taken.
+pub record WroteWired (v : LinkValue) (old new : List Wired) (k : Option ℕ) (answer : Step) : Type 0 where
   pub place : answer ≡ step.Packet (length old)
   pub wired : Wired
   pub wire : new ≡ old ++ wired ∷ []
@@ -53,35 +53,35 @@ ResendFault v i fault.NothingToDo = v.sent - v.acked ≤ i
 ResendFault v i fault.NoMemory = i < v.sent - v.acked
 ResendFault v i _ = ⊥
 
-abbrev pub AreShort : ℕ → List (List ℕ) → Type 0
-AreShort limit messages = All (λ m. length m ≤ limit) messages
+abbrev pub AreWithinLimit : ℕ → List (List ℕ) → Type 0
+AreWithinLimit limit messages = All (λ m. length m ≤ limit) messages
 
--- how many segments there are once these are handed over
+-- how many segments there are once these are passed on
 abbrev pub segments_with : LinkValue → List (List ℕ) → ℕ
 segments_with v waiting = v.acked + length v.queue + length (cut v.setup.seg_size waiting)
 
--- all that waited, and something did, counts as handed over
+-- all that waited, and something did, counts as passed on
 abbrev pub PostedSo : (waiting : List (List ℕ)) → (old new : ℕ) → Step → Type 0
 PostedSo waiting old new answer = (answer ≡ step.Posted (length waiting)) × (new ≡ old + length waiting) × (0 < length waiting)
 
--- why nothing is handed over
+-- why nothing is passed on
 abbrev pub PostFault : LinkValue → (waiting : List (List ℕ)) → WorldFault → Type 0
 PostFault v waiting fault.NothingToDo = waiting ≡ []
 PostFault v waiting fault.Exhausted = (0 < length waiting) × (most_segments < segments_with v waiting)
 PostFault v waiting fault.NoMemory = (0 < length waiting) × (segments_with v waiting ≤ most_segments)
 PostFault v waiting _ = ⊥
 
--- the request was asked: so many NSP messages wait more
+-- the request was asked: this many NSP messages wait more
 abbrev pub AskedSo : Request → (old new : AskingValue) → Step → Type 0
 AskedSo request old new answer = (n : ℕ) × (answer ≡ step.Asked n) × AskedOne request old new n
 
 -- why it isn't asked
-abbrev pub AskFaultOf : Request → Present → WorldFault → Type 0
+abbrev pub AskFaultOf : Request → ClientState → WorldFault → Type 0
 AskFaultOf request old (fault.Ask f) = (f ≢ ask_fault.NoMemory) × AskRefused request old f
 AskFaultOf request old fault.NoMemory = IsAdmittedBy old request
 AskFaultOf request old _ = ⊥
 
--- the report that was read, if there is one, stands behind the others
+-- the report that was read, if there is one, follows the others
 abbrev pub KeptSo : Option Report → (old new : List Report) → Step → Type 0
 KeptSo (Some report) old new answer = (answer ≡ step.Reported) × (new ≡ old ++ report ∷ [])
 KeptSo None old new answer = (answer ≡ step.Nothing) × (new ≡ old)

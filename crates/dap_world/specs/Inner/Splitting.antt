@@ -1,13 +1,13 @@
 -- The DAP messages in an NSP message, as bytes.
 use Rattle.std.specs.Prelude.{◌≡◌, ◌≢◌, ℕ, List, [], ◌++◌, map}
 use Rattle.dap_msg.specs.Canon.{canon}
-use Rattle.dap_end.specs.Pasts.{AreFull}
-use Rattle.dap_msg.specs.Blocked.{NspMessage, joined, all_joined, messages_in, AllFit}
+use Rattle.dap_end.specs.Histories.{AreFull}
+use Rattle.dap_msg.specs.Blocked.{NspMessage, blocked_bytes, all_joined, messages_in, AllFit}
 
 -- whatever messages were joined into these bytes, they are added, each as its own bytes
 abbrev pub SplitsOne : List ℕ → List (List ℕ) → List (List ℕ) → Type 0
 SplitsOne bytes old new =
-    (packet : NspMessage) → packet ≢ [] → AllFit packet → bytes ≡ joined packet → new ≡ old ++ map canon packet
+    (packet : NspMessage) → packet ≢ [] → AllFit packet → bytes ≡ blocked_bytes packet → new ≡ old ++ map canon packet
 
 -- the same of several NSP messages
 abbrev pub SplitsAll : List (List ℕ) → List (List ℕ) → List (List ℕ) → Type 0

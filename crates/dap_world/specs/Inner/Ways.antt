@@ -9,7 +9,7 @@ use Rattle.nsp_link.specs.declared.link.Got.{Got}
 use Rattle.nsp_link.specs.declared.fault.LinkFault.{LinkFault}
 use Rattle.nsp_link.specs.Receiving.{Receives}
 use Rattle.dap_world.specs.Machine.{is_old}
-use Rattle.dap_world.specs.Inner.Sides.{SideValue, AreShort}
+use Rattle.dap_world.specs.Inner.Sides.{SideValue, AreWithinLimit}
 use Rattle.dap_world.specs.declared.side.Wired.{Wired}
 use Rattle.dap_events.specs.declared.event.Step.{Step}
 use Rattle.dap_events.specs.declared.event.Step.TheVariants as step
@@ -25,7 +25,7 @@ pub record IsWay (from : SideValue) (to : LinkValue) (messages given : List (Lis
   pub back : from.link.setup.remote ≡ to.setup.local
   pub sends : Sends from.link messages
   pub stands : Stands to from.link.setup.seg_size messages given
-  pub short : AreShort to.setup.max_message messages
+  pub short : AreWithinLimit to.setup.max_message messages
   pub few : length (cut from.link.setup.seg_size messages) ≤ most_segments
   pub wire : AllByRecursion (λ w. Writes from.link messages w.segment w.acks w.packet.items) from.wire
 

@@ -22,5 +22,5 @@ parts_of w =
 abbrev pub world_view : Inside → State
 world_view w = state_of (parts_of w)
 
-abbrev pub IsSound : Inside → Type 0
-IsSound w = AreParts (parts_of w)
+abbrev pub IsSoundWorld : Inside → Type 0
+IsSoundWorld w = AreParts (parts_of w)

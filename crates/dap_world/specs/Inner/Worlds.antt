@@ -38,8 +38,8 @@ pub record IsDirection (window there sent acked taken : ℕ) (held : List ℕ) (
   pub wire : AreTrue sent back packets
 
 -- what one end sends, and the other takes
-abbrev pub Reaches : (seg_size window : ℕ) → (from to : EndState) → Type 0
-Reaches seg_size window from to =
+abbrev pub ReachesPeer : (seg_size window : ℕ) → (from to : EndState) → Type 0
+ReachesPeer seg_size window from to =
     IsDirection window (segments_of seg_size from.handed) from.sent from.acked to.taken to.held from.taken from.wire
 
 -- ---- Both.
@@ -49,11 +49,11 @@ pub record IsWorld (s : State) : Type 0 where
   pub some : 1 ≤ s.window
   pub own_a : IsBufsiz s.own_a
   pub own_b : IsBufsiz s.own_b
-  pub from_a : Reaches s.seg_size s.window s.a s.b
-  pub from_b : Reaches s.seg_size s.window s.b s.a
+  pub from_a : ReachesPeer s.seg_size s.window s.a s.b
+  pub from_b : ReachesPeer s.seg_size s.window s.b s.a
   -- each request was admissible when it was asked
   pub admissible : AreAdmissible s.own_a s.own_b [] s.requests
-  -- what A asked is what was handed over, and what waits
+  -- what A asked is what was passed on, and what waits
   pub asked : messages_in (s.a.handed ++ s.a.waiting) ≡ Asked s.own_a s.requests
   -- what B answered likewise
   pub answered : messages_in (s.b.handed ++ s.b.waiting) ≡ Answers s.own_b [] (map Whole (taken_of s))

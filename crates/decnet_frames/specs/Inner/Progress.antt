@@ -9,7 +9,7 @@ use Rattle.capture_file.specs.Meanings.{Record}
 use Rattle.capture_file.specs.Reading.{HasRead}
 use Rattle.capture_file.specs.declared.fault.FileFault.{FileFault}
 use Rattle.capture_file.specs.declared.fault.FaultKind.TheVariants.{NoMemory}
-use Rattle.decnet_frames.specs.Lines.{ends_after, lines_from, packets_from}
+use Rattle.decnet_frames.specs.Lines.{ends_after, frame_lines, packets_from}
 use Rattle.decnet_frames.specs.declared.run.Frames.{Frames}
 use Rattle.decnet_frames.specs.declared.text.Counts.{Counts}
 use Rattle.decnet_frames.specs.declared.text.Ends.{Ends}
@@ -31,7 +31,7 @@ pub record HasListed (ends : Option Ends) (f : Frames) (bytes written : List ℕ
   pub ends_are : f.listing.ends ≡ ends_all ends records
   pub counted : f.listing.count ≡ count_all 0 records
   pub taken : f.listing.taken ≡ clamped (length (packets_from ends records))
-  pub text_is : written ++ f.text.items ≡ lines_from ends 0 records
+  pub text_is : written ++ f.text.items ≡ frame_lines ends 0 records
 
 -- no fault was met
 abbrev pub IsGoing : Frames → Type 0
@@ -43,7 +43,7 @@ pub record HasStopped (ends : Option Ends) (f : Frames) (bytes written : List �
   pub stops : Stops bytes records fault.kind fault.at
   pub counted : f.listing.count ≡ count_all 0 records
   pub taken : f.listing.taken ≡ clamped (length (packets_from ends records))
-  pub text_is : written ++ f.text.items ≡ lines_from ends 0 records
+  pub text_is : written ++ f.text.items ≡ frame_lines ends 0 records
 
 -- a step over a piece of an input
 abbrev pub StepFails : (old new : Frames) → (piece : List ℕ) → FileFault → Type 0

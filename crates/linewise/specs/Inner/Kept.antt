@@ -4,9 +4,9 @@ use Rattle.std.specs.Io.{StopsAt, IsEmptyOrEndsWith}
 use Rattle.std.specs.Io.KnownBytes.{Consumes, IsAtEnd}
 use Rattle.std.specs.Io.BufRead.{take_through, ends_with_byte, strip_last, DropsThrough}
 use Rattle.linewise.specs.Talks.{longest}
-use Rattle.linewise.specs.declared.input.Kept.{Kept}
-use Rattle.linewise.specs.declared.input.Kept.TheVariants.{All as whole, TooLong, NoMemory}
-use Rattle.linewise.specs.declared.input.Line.{Line}
+use Rattle.linewise.specs.declared.reading.Kept.{Kept}
+use Rattle.linewise.specs.declared.reading.Kept.TheVariants.{All as whole, TooLong, NoMemory}
+use Rattle.linewise.specs.declared.reading.Line.{Line}
 
 -- these bytes were read of it
 abbrev pub HoldsAs : Kept → List ℕ → List ℕ → Type 0
@@ -14,11 +14,11 @@ HoldsAs whole kept read = (kept ≡ read) × (length kept ≤ longest + 2)
 HoldsAs TooLong kept read = longest + 2 < length read
 HoldsAs NoMemory kept read = 0 < length read
 
-abbrev pub Holds : Line → List ℕ → Type 0
-Holds line read = HoldsAs line.kept line.bytes.items read
+abbrev pub HoldsLine : Line → List ℕ → Type 0
+HoldsLine line read = HoldsAs line.kept line.bytes.items read
 
 abbrev pub HoldsMore : Line → Line → List ℕ → Type 0
-HoldsMore old new more = (read : List ℕ) → Holds old read → Holds new (read ++ more)
+HoldsMore old new more = (read : List ℕ) → HoldsLine old read → HoldsLine new (read ++ more)
 
 -- a line without the line feed, or carriage return and line feed, at its end
 abbrev pub without_end : List ℕ → List ℕ
@@ -36,6 +36,6 @@ pub record Passes (unread left : Option (List ℕ)) (old new : Line) (done : Boo
   pub goes : done ≢ true → All (λ byte. byte ≢ 10) bytes
 
 -- a whole line was read, of which there are no bytes where none is left
-abbrev pub HasRead : Option (List ℕ) → Option (List ℕ) → Line → Type 0
-HasRead unread left line = (read : List ℕ) × Holds line read
+abbrev pub HasReadLine : Option (List ℕ) → Option (List ℕ) → Line → Type 0
+HasReadLine unread left line = (read : List ℕ) × HoldsLine line read
     × IfSome unread (λ rest. read ≡ take_through 10 rest) × DropsThrough unread left 10

@@ -10,8 +10,8 @@ use Rattle.linewise.specs.declared.talking.Answer.{Answer}
 use Rattle.linewise.specs.declared.talking.Answer.TheVariants.{Whole, Begun}
 use Rattle.linewise.specs.declared.talking.Next.{Next}
 use Rattle.linewise.specs.declared.talking.Next.TheVariants.{Over, Line}
-use Rattle.linewise.specs.declared.talking.TalkFault.{TalkFault}
-use Rattle.linewise.specs.declared.talking.TalkFault.TheVariants.{ReadFailed, WriteFailed, NoMemory as OutOfMemory}
+use Rattle.linewise.specs.declared.fault.CaptureFault.{CaptureFault}
+use Rattle.linewise.specs.declared.fault.CaptureFault.TheVariants.{ReadFailed, WriteFailed}
 
 -- what comes of a line, or how its answer begins
 abbrev pub BeginsLine : {E P : Type 0} → Answering E → (E → Option ℕ) → (E → P → List (List ℕ)) → E → List ℕ → E → List ℕ → Option (Answer P) → Type 0
@@ -24,35 +24,35 @@ abbrev pub Completes : {P : Type 0} → (P → List (List ℕ)) → List ℕ →
 Completes pieces text (Whole became) whole came = (whole ≡ text) × (came ≡ became)
 Completes pieces text (Begun place) whole came = (more : List ℕ) × ComesIn (pieces place) more came × (whole ≡ text ++ more)
 
--- Of the pieces of an answer those in front are written, behind its first text, but for the text that comes next; these
--- are left behind that.
+-- The first pieces of an answer are written after its first text, but for the text that comes next;
+-- these are left after that.
 abbrev pub HasWritten : (pieces left : List (List ℕ)) → (first text : List ℕ) → (written holds : Option (List ℕ)) → Type 0
 HasWritten pieces left first text written holds =
     (front : List (List ℕ)) × (said : List ℕ) × (pieces ≡ front ++ left) × (said ++ text ≡ first ++ concat front) × Appends written holds said
 
--- the answer to a line stands behind what was written
-abbrev pub Says : {E : Type 0} → Answering E → (E → Option ℕ) → E → List ℕ → E → (written holds : Option (List ℕ)) → Option Became → Type 0
-Says answered waiting old line new written holds became =
+-- the answer to a line follows what was written
+abbrev pub SaysLine : {E : Type 0} → Answering E → (E → Option ℕ) → E → List ℕ → E → (written holds : Option (List ℕ)) → Option Became → Type 0
+SaysLine answered waiting old line new written holds became =
     (said : List ℕ) × SaysTo answered waiting old line new said became × Appends written holds said
 
--- a front of it does
+-- a prefix of it does
 abbrev pub Breaks : {E : Type 0} → Answering E → (E → Option ℕ) → E → List ℕ → E → (written holds : Option (List ℕ)) → Type 0
 Breaks answered waiting old line new written holds =
     (became : Option Became) × (said : List ℕ) × SaysTo answered waiting old line new said became × WritesFront written holds said
 
 -- what a turn comes to
-abbrev pub Goes : {E : Type 0} → Answering E → (E → Option ℕ) → E → E → (unread left written holds : Option (List ℕ)) → Next → Type 0
-Goes answered waiting old new unread left written holds Over = IsAtEnd unread × (new ≡ old) × Keeps written holds
-Goes answered waiting old new unread left written holds (Line became) =
+abbrev pub TurnGoes : {E : Type 0} → Answering E → (E → Option ℕ) → E → E → (unread left written holds : Option (List ℕ)) → Next → Type 0
+TurnGoes answered waiting old new unread left written holds Over = IsAtEnd unread × (new ≡ old) × Keeps written holds
+TurnGoes answered waiting old new unread left written holds (Line became) =
     IfSome unread (λ rest. (0 < length rest) × (left ≡ Some (drop_through 10 rest))
-    × Says answered waiting old (first_line rest) new written holds became)
+    × SaysLine answered waiting old (first_line rest) new written holds became)
 
 -- and where it fails
-abbrev pub Ends : {E : Type 0} → Answering E → (E → Option ℕ) → E → E → (unread written holds : Option (List ℕ)) → TalkFault → Type 0
-Ends answered waiting old new unread written holds ReadFailed = (new ≡ old) × Keeps written holds
-Ends answered waiting old new unread written holds OutOfMemory = ⊥
-Ends answered waiting old new unread written holds WriteFailed =
+abbrev pub TalkEnds : {E : Type 0} → Answering E → (E → Option ℕ) → E → E → (unread written holds : Option (List ℕ)) → CaptureFault → Type 0
+TalkEnds answered waiting old new unread written holds ReadFailed = (new ≡ old) × Keeps written holds
+TalkEnds answered waiting old new unread written holds WriteFailed =
     IfSome unread (λ rest. Breaks answered waiting old (first_line rest) new written holds)
+TalkEnds answered waiting old new unread written holds _ = ⊥
 
 -- the lines up to what is left are answered, and the writer holds the answers
 abbrev pub HasTalked : {E : Type 0} → Answering E → (E → Option ℕ) → E → (unread written : Option (List ℕ)) → E → (left holds : Option (List ℕ)) → Bool → Type 0

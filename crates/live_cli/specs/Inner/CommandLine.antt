@@ -46,7 +46,7 @@ HasIdentity before =
     (number (codes "filesys") (codes "13") 0 255))
     (option (codes "syscap") (codes "2001c3466")))
 
--- the words behind the name of an end, with the digits of its usual addresses
+-- the words after the name of an end, with the digits of its usual addresses
 abbrev pub end_line_by : (name own other : Text) → App
 end_line_by name own other =
     fold with_rule (new_app name)
@@ -72,7 +72,7 @@ pub record IsEndLine (name own other : Text) (command : Command) : Type 0 where
   pub app : app_of command ≡ end_line_by name own other
   pub local : (out-Command command).has_globals ≡ false
 
--- the words behind `serve`
+-- the words after `serve`
 abbrev pub serve_line_by : App
 serve_line_by =
     with_rule
@@ -102,14 +102,14 @@ pub record IsFramesLine (command : Command) : Type 0 where
   pub local : (out-Command command).has_globals ≡ false
 
 -- a command that is the program's command line
-pub record IsCommandLine (command : Command) : Type 0 where
+pub record IsDapliveLine (command : Command) : Type 0 where
   pub app : app_of command ≡ daplive
   pub local : (out-Command command).has_globals ≡ false
   pub required : (out-Command command).subcommand_required ≡ true
 
 -- an end's buffer has room for any message of a fixed length, and its SYSCAP has a place in a Configuration
-abbrev pub HasRoom : Task → Type 0
-HasRoom (End options) = (least_buffer ≤ options.buffer) × (options.syscap < 2 ^ 84)
-HasRoom (Follow in_words) = Unit {0}
-HasRoom (Watch in_words) = Unit {0}
-HasRoom (Frames ends) = Unit {0}
+abbrev pub HasBufferRoom : Task → Type 0
+HasBufferRoom (End options) = (least_buffer ≤ options.buffer) × (options.syscap < 2 ^ 84)
+HasBufferRoom (Follow in_words) = Unit {0}
+HasBufferRoom (Watch in_words) = Unit {0}
+HasBufferRoom (Frames ends) = Unit {0}

@@ -7,7 +7,7 @@ use Rattle.decnet_frames.specs.Nodes.{node_of}
 use Rattle.live_cli.specs.declared.words.Digits.{Digits}
 use Rattle.live_cli.specs.declared.words.Digits.TheVariants.{Abilities, Address, Bytes, Code, Comparing, Node, Nowhere, Number}
 use Rattle.live_cli.specs.declared.words.Misspelt.{Misspelt}
-use Rattle.live_cli.specs.Words.{code_of, folded_of, greatest_waiting, is_given, syscap_of}
+use Rattle.live_cli.specs.Words.{code_of, folded_of, greatest_waiting, has_value, syscap_of}
 
 -- what a value says that has to be spelled so
 abbrev pub read_of : Digits → Text → Option ℕ
@@ -23,7 +23,7 @@ read_of Nowhere = λ text. None
 -- it is the value of its option; of nodes, it may be any; where there is no place for it, the words give it
 abbrev pub IsValue : Digits → List Row → (option text : Text) → Type 0
 IsValue Node rows option text = Unit {0}
-IsValue Nowhere rows option text = IsTrue (is_given option rows) × IfSome (first_of option rows) (λ value. value ≡ text)
+IsValue Nowhere rows option text = IsTrue (has_value option rows) × IfSome (first_of option rows) (λ value. value ≡ text)
 IsValue _ rows option text = IfSome (first_of option rows) (λ value. value ≡ text)
 
 -- it is the value of its option, if that has one, and says nothing

@@ -3,14 +3,14 @@ use Rattle.std.specs.Prelude.{Some, None, ◌≡◌, ◌≤◌, ◌+◌, ◌*◌
 use Rattle.nsp_link.specs.declared.link.LinkEnd.TheInside.{Inside}
 use Rattle.nsp_link.specs.Limits.{largest_limit}
 use Rattle.nsp_link.specs.Link.{LinkValue, IsLink, waiting_bytes}
-use Rattle.nsp_link.specs.Inner.Pieces.{pieces, coming_of, held_from}
+use Rattle.nsp_link.specs.Inner.Pieces.{piece_values, coming_of, held_from}
 
 abbrev pub link_view : Inside → LinkValue
 link_view a = record {
   setup = a.setup;
   sent = a.sent;
   acked = a.acked;
-  queue = pieces a.queue.items;
+  queue = piece_values a.queue.items;
   part = a.part;
   coming = coming_of a.incoming;
   held = held_from (a.incoming.received + 1) a.held.items;
@@ -19,7 +19,7 @@ link_view a = record {
 
 -- What holds of the fields: a place for each number of the window, that of the next one is free, and the
 -- filled ones are counted.
-pub record IsEnd (a : Inside) : Type 0 where
+pub record IsLinkInside (a : Inside) : Type 0 where
   pub link : IsLink (link_view a)
   pub places : length a.held.items ≡ a.setup.window
   pub capacity : a.held.capacity ≡ a.setup.window

@@ -27,14 +27,14 @@ abbrev pub MasksCells : {X : Type 0} → ℕ → List (Option X) → Type 0
 MasksCells mask cells = (k : ℕ) → k < 64 → bit_at mask k ≡ (if is_some (cell cells k) then 1 else 0)
 
 -- the records of cells, in order
-abbrev pub bodies_of : Cells → List (List ℕ)
-bodies_of cells = filter_map (λ c. c) cells
+abbrev pub cell_bodies : Cells → List (List ℕ)
+cell_bodies cells = filter_map (λ c. c) cells
 
 -- how many cells below cell k are occupied
 abbrev pub occupied_below : Cells → ℕ → ℕ
-occupied_below cells k = length (bodies_of (take k cells))
+occupied_below cells k = length (cell_bodies (take k cells))
 
--- from cell k on, so many cells: those whose bit is set have the records, in order
+-- from cell k on, this many cells: those whose bit is set have the records, in order
 unfoldable pub cells_from : ℕ → ℕ → ℕ → List (List ℕ) → Cells
 cells_from mask k zero bodies = []
 cells_from mask k (suc many) bodies =
@@ -50,7 +50,7 @@ cells_of mask bodies = cells_from mask 0 64 bodies
 pub record IsPacked (mask : ℕ) (bodies : List (List ℕ)) : Type 0 where
   pub fits : mask < 2 ^ 64
   pub bits : MasksCells mask (cells_of mask bodies)
-  pub records : bodies ≡ bodies_of (cells_of mask bodies)
+  pub records : bodies ≡ cell_bodies (cells_of mask bodies)
 
 -- the records of cells, the first of which has the number n
 abbrev pub numbered_cells : ℕ → Cells → List (ℕ × List ℕ)
@@ -85,9 +85,9 @@ NoneAt place [] = Unit {0}
 NoneAt place (e ∷ es) = (e.1 ≢ place) × NoneAt place es
 
 -- no two are the same place
-abbrev pub HaveOwnPlaces : List (ℕ × ℕ) → Type 0
-HaveOwnPlaces [] = Unit {0}
-HaveOwnPlaces (e ∷ es) = NoneAt e.1 es × HaveOwnPlaces es
+abbrev pub HaveOwnSlots : List (ℕ × ℕ) → Type 0
+HaveOwnSlots [] = Unit {0}
+HaveOwnSlots (e ∷ es) = NoneAt e.1 es × HaveOwnSlots es
 
 -- the record of a number, through its page and cell: what a reader may take for the meaning of pages
 abbrev pub page_cell : Option Cells → ℕ → Option (List ℕ)

@@ -29,26 +29,26 @@ abbrev pub HavePages : List (ℕ × List (ℕ × ℕ)) → Type 0
 HavePages gs = AllByRecursion (λ es. es ≢ []) (map (λ g. g.1) gs)
 
 -- each page is of this group
-abbrev pub AreOf : ℕ → List (ℕ × ℕ) → Type 0
-AreOf g [] = Unit {0}
-AreOf g (e ∷ es) = (group_of e.0 ≡ g) × AreOf g es
+abbrev pub AreOfGroup : ℕ → List (ℕ × ℕ) → Type 0
+AreOfGroup g [] = Unit {0}
+AreOfGroup g (e ∷ es) = (group_of e.0 ≡ g) × AreOfGroup g es
 
 -- a group has its own pages alone, in order
 pub record IsGroup (g : ℕ) (es : List (ℕ × ℕ)) : Type 0 where
-  pub own : AreOf g es
+  pub own : AreOfGroup g es
   pub sorted : is_sorted nat_cmp es ≡ true
 
-abbrev pub AreGroups : List (ℕ × List (ℕ × ℕ)) → Type 0
-AreGroups [] = Unit {0}
-AreGroups (g ∷ gs) = IsGroup g.0 g.1 × AreGroups gs
+abbrev pub ArePageGroups : List (ℕ × List (ℕ × ℕ)) → Type 0
+ArePageGroups [] = Unit {0}
+ArePageGroups (g ∷ gs) = IsGroup g.0 g.1 × ArePageGroups gs
 
 -- the place of a page
-abbrev pub place_of : List (ℕ × ℕ) → ℕ → Option ℕ
-place_of es page = lookup (is_at (nat_cmp page)) es
+abbrev pub slot_of : List (ℕ × ℕ) → ℕ → Option ℕ
+slot_of es page = lookup (is_at (nat_cmp page)) es
 
 -- with this place for a page that has none
-abbrev pub with_place : List (ℕ × ℕ) → ℕ → ℕ → List (ℕ × ℕ)
-with_place es page place = if is_some (place_of es page) then es else insert_entry nat_cmp es page place
+abbrev pub with_slot : List (ℕ × ℕ) → ℕ → ℕ → List (ℕ × ℕ)
+with_slot es page place = if is_some (slot_of es page) then es else insert_entry nat_cmp es page place
 
 -- the place that a page had
 abbrev pub had_of : Put → Option ℕ
@@ -61,32 +61,32 @@ IsBegunWith body (Kept place) = Unit {0}
 IsBegunWith body (Begun first) = first.items ≡ body
 
 -- the places of the pages from one on
-abbrev pub places_from : ℕ → List (ℕ × ℕ) → List (ℕ × ℕ)
-places_from page es = filter (λ e. is_le (nat_cmp page e.0)) es
+abbrev pub slots_from : ℕ → List (ℕ × ℕ) → List (ℕ × ℕ)
+slots_from page es = filter (λ e. is_le (nat_cmp page e.0)) es
 
 -- no page above this one has a place
-pub record IsLastPlace (es : List (ℕ × ℕ)) (e : ℕ × ℕ) : Type 0 where
-  pub here : place_of es e.0 ≡ Some e.1
-  pub none_above : (page : ℕ) → e.0 < page → place_of es page ≡ None
+pub record IsLastSlot (es : List (ℕ × ℕ)) (e : ℕ × ℕ) : Type 0 where
+  pub here : slot_of es e.0 ≡ Some e.1
+  pub none_above : (page : ℕ) → e.0 < page → slot_of es page ≡ None
 
 -- ---- A record less.
 
 -- a page whose cell was emptied, and the place of the page
-pub record Emptied (es : List (ℕ × ℕ)) (pages : Slab Cells) (page k : ℕ) : Type 0 where
+pub record HasEmptied (es : List (ℕ × ℕ)) (pages : Slab Cells) (page k : ℕ) : Type 0 where
   pub place : ℕ
-  pub has : place_of es page ≡ Some place
+  pub has : slot_of es page ≡ Some place
   pub cells : Cells
   pub there : get pages place ≡ Some cells
   pub occupied : IsSome (cell cells k)
 
 -- it has other records, and stays
-pub record Stays (es es' : List (ℕ × ℕ)) (pages pages' : Slab Cells) (page k : ℕ) (e : Emptied es pages page k) : Type 0 where
+pub record PageStays (es es' : List (ℕ × ℕ)) (pages pages' : Slab Cells) (page k : ℕ) (e : HasEmptied es pages page k) : Type 0 where
   pub others : ((j : ℕ) → cell (slice_set e.cells k None) j ≡ None) → ⊥
   pub places : es' ≡ es
   pub written : pages' ≡ with_value pages e.place (slice_set e.cells k None)
 
 -- it has none, and goes
-pub record Goes (es es' : List (ℕ × ℕ)) (pages pages' : Slab Cells) (page k : ℕ) (e : Emptied es pages page k) : Type 0 where
+pub record PageGoes (es es' : List (ℕ × ℕ)) (pages pages' : Slab Cells) (page k : ℕ) (e : HasEmptied es pages page k) : Type 0 where
   pub none : (j : ℕ) → cell (slice_set e.cells k None) j ≡ None
   pub places : es' ≡ remove_entry (is_at (nat_cmp page)) es
   pub free : Updates (with_value pages e.place (slice_set e.cells k None)) pages' e.place None
@@ -95,6 +95,6 @@ pub record Goes (es es' : List (ℕ × ℕ)) (pages pages' : Slab Cells) (page k
 -- a cell of a page was emptied, or there was no record
 abbrev pub Clears : (es es' : List (ℕ × ℕ)) (pages pages' : Slab Cells) (page k : ℕ) → Bool → Type 0
 Clears es es' pages pages' page k true =
-    (e : Emptied es pages page k) × (Stays es es' pages pages' page k e ⊎ Goes es es' pages pages' page k e)
+    (e : HasEmptied es pages page k) × (PageStays es es' pages pages' page k e ⊎ PageGoes es es' pages pages' page k e)
 Clears es es' pages pages' page k false =
-    IfSome (place_of es page) (λ i. page_cell (get pages i) k ≡ None) × (es' ≡ es) × (pages' ≡ pages)
+    IfSome (slot_of es page) (λ i. page_cell (get pages i) k ≡ None) × (es' ≡ es) × (pages' ≡ pages)

@@ -11,6 +11,6 @@ abbrev pub list_file : Shape → List (ℕ × List ℕ) → FileVal
 list_file shape pairs = record { shape = shape; records = from_sorted pairs }
 
 -- how a file is stored: as its shape and its entries
-abbrev pub file_code : Coded FileVal
-file_code =
+abbrev pub test_file_code : Coded FileVal
+test_file_code =
     code_by (Shape × Records) (coded× shape_type.the_row.coded (code coded_ℕ (coded_list coded_ℕ))) (λ f. (f.shape, f.records)) (λ p. record { shape = p.0; records = p.1 }) (λ _. refl)

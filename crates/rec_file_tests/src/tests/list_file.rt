@@ -24,11 +24,11 @@ impl Model for ListFile {
     ghost use Rattle.std.specs.FinMap.{is_sorted};
     ghost use Rattle.rec_file.specs.Shapes.{is_seq};
     ghost use Rattle.rec_file.specs.Files.{FileVal, IsFile};
-    ghost use Rattle.rec_file_tests.specs.Inner.Lists.{file_code, list_file};
+    ghost use Rattle.rec_file_tests.specs.Inner.Lists.{test_file_code, list_file};
 
     ghost Value = { FileVal };
 
-    ghost coded = { file_code };
+    ghost coded = { test_file_code };
 
     ghost view = { λ a. list_file a.shape (map (λ e. (e.0, e.1.items)) a.entries.items) };
 

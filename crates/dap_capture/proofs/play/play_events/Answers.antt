@@ -1,5 +1,5 @@
 use Rattle.std.proofs.Common.{rules, ◌∙◌}
-use Rattle.dap_listing.specs.declared.fault.Outcome.TheVariants.{Good, Stopped}
+use Rattle.linewise.specs.declared.fault.Outcome.TheVariants.{Good, Stopped}
 use Rattle.dap_orders.specs.Orders.{event_of_order}
 use Rattle.dap_capture.specs.Inner.Playing.{PlaysOne}
 use Rattle.dap_capture.specs.Inner.Playing.{events_of}

@@ -14,4 +14,4 @@ returns-clause-serving c = λ past one two h k port own.
 pub returns-clause-asking : goal.returns-clause-asking
 returns-clause-asking c = λ past one two h k port own.
     ap (λ (p : PortValue). record one { port = p }) port
-    ∙ ap (λ (x : accessing.Present). record two { present = x }) (one_present past.requests past.answers one.present two.present h.asking k.asking own)
+    ∙ ap (λ (x : accessing.ClientState). record two { present = x }) (one_present past.requests past.answers one.present two.present h.asking k.asking own)

@@ -13,7 +13,7 @@ returns-clause-ok g c =
     let waits = has_first c.port.inside.link.coming.inbox bytes (sym c.in-Some.ensures) in
     let idle : length c.port.inside.outbox.items ≡ 0 = search rules in
     let answered : c.len-answered.result ≡ length c.in-Ok.served.answers.items = search rules in
-    let goes = gone_is (record (port_view c.port.inside) { outbox = bodies c.in-Ok.served.answers.items }) c.go_on.new.self bytes waits.0 c.item_at-item.result.1 c.is_end-at_end.result c.is_end-at_end.ensures.end waits.1 (c.go_on.ensures.going, c.go_on.ensures.ends) in
+    let goes = gone_is (record (port_view c.port.inside) { outbox = bodies c.in-Ok.served.answers.items }) c.advance.new.self bytes waits.0 c.item_at-item.result.1 c.is_end-at_end.result c.is_end-at_end.ensures.end waits.1 (c.advance.ensures.going, c.advance.ensures.ends) in
     rw (← c.port.view_is)
     (record {
       idle = no_length (bodies c.port.inside.outbox.items) (length-map c.port.inside.outbox.items _ ∙ idle);
@@ -41,6 +41,6 @@ returns-clause-kept g c =
     let waits = has_first c.port.inside.link.coming.inbox bytes (sym c.in-Some.ensures) in
     let kept : IsPort (port_view c.port.inside) = subst IsPort (sym c.port.view_is) c.requires.kept in
     let short = c.in-Ok.ensures.short bytes c.port.inside.place c.item_at-item.ensures.exact in
-    let goes = gone_is (record (port_view c.port.inside) { outbox = bodies c.in-Ok.served.answers.items }) c.go_on.new.self bytes waits.0 c.item_at-item.result.1 c.is_end-at_end.result c.is_end-at_end.ensures.end waits.1 (c.go_on.ensures.going, c.go_on.ensures.ends) in
+    let goes = gone_is (record (port_view c.port.inside) { outbox = bodies c.in-Ok.served.answers.items }) c.advance.new.self bytes waits.0 c.item_at-item.result.1 c.is_end-at_end.result c.is_end-at_end.ensures.end waits.1 (c.advance.ensures.going, c.advance.ensures.ends) in
     subst IsPort (sym goes)
     (port_goes (port_view c.port.inside) bytes waits.0 (bodies c.in-Ok.served.answers.items) c.item_at-item.result.1 65535 waits.1 kept c.item_at-item.ensures.within (omega arith) short)

@@ -7,7 +7,7 @@ use Rattle.dap_follow.specs.Streams.{IsOrdered, came_in, streams}
 use Rattle.dap_follow.specs.Joined.{messages}
 use Rattle.dap_follow.specs.Inner.Listing.{UnderAll, all_rest_lines}
 use Rattle.dap_follow.specs.Inner.Keeping.{KeepsEach}
-use Rattle.dap_follow.specs.Inner.Whole.{ordered_of, texts_of}
+use Rattle.dap_follow.specs.Inner.Whole.{ordered_of, joined_texts}
 use Rattle.dap_follow.specs.declared.streams.Stream.{Stream}
 use Rattle.dap_follow.proofs.ReadingLemmas.{count_is}
 use Rattle.dap_follow.proofs.WholeLemmas.{are_ordered, packet_texts, texts_joined}
@@ -44,5 +44,5 @@ returns-clause-whole c =
       are_seen = all.are_seen;
       are_ordered = ordered;
       are_texts = packet_texts c.args.in_words (frames packet_limit c.args.input.now) (flat_map messages (ordered_of places)) 1 all.packets r.lines.items c.list_streams.new.lines all.reads.lines under;
-      joined = c.in_ok-join.ensures ∙ ap (λ (l : List ℕ). l ++ c.deref-2.result.now) (ap texts_of same ∙ texts_joined c.list_streams.new.lines) ∙ ap (λ (l : List ℕ). concat (map (λ (v : Vec ℕ). v.items) c.list_streams.new.lines) ++ l) (c.deref-2.ensures.value ∙ left);
+      joined = c.in_ok-join.ensures ∙ ap (λ (l : List ℕ). l ++ c.deref-2.result.now) (ap joined_texts same ∙ texts_joined c.list_streams.new.lines) ∙ ap (λ (l : List ℕ). concat (map (λ (v : Vec ℕ). v.items) c.list_streams.new.lines) ++ l) (c.deref-2.ensures.value ∙ left);
     }

@@ -1,8 +1,8 @@
 use Rattle.std.proofs.Common.{arith, rules, ◌≡◌, ◌<◌, ◌≤◌, ◌++◌, ℕ, List, length, get_or, sym, ap, ◌∙◌, subst}
 use Rattle.std.specs.List.{AllByRecursion}
-use Rattle.dap_follow.specs.Joined.{pieces}
+use Rattle.dap_follow.specs.Joined.{fragments_of}
 use Rattle.dap_follow.specs.Following.{rest_lines}
-use Rattle.dap_follow.specs.Inner.Keeping.{IsGood}
+use Rattle.dap_follow.specs.Inner.Keeping.{IsCounted}
 use Rattle.dap_follow.specs.Inner.Listing.{UnderAll, all_rest_lines, values}
 use Rattle.dap_follow.specs.declared.places.Places.{Places}
 use Rattle.dap_follow.specs.declared.places.Counted.{Counted}
@@ -36,7 +36,7 @@ list_stream-requires c =
     let one = kept_one k.0 c.loop-at.at c.args.streams.now.names.keys c.args.streams.now.places.items c.index.result.now each below in
     let kept = subst (λ (p : Places). KeepsStream k.0 one.0 p) (sym c.index.ensures) one.2 in
     let count : length k.0 ≡ length c.loop-at.lines = omega (arith, k.2, c.loop-at.auto.lines) in
-    subst (λ (n : ℕ). AllByRecursion (IsGood n) c.deref.result.now) count (subst (AllByRecursion (IsGood (length k.0))) (sym c.deref.ensures.value) kept.good)
+    subst (λ (n : ℕ). AllByRecursion (IsCounted n) c.deref.result.now) count (subst (AllByRecursion (IsCounted (length k.0))) (sym c.deref.ensures.value) kept.good)
 
 pub loop-at-preserved : goal.loop-at-preserved
 loop-at-preserved c =
@@ -48,8 +48,8 @@ loop-at-preserved c =
     let same : c.deref.result.now ≡ (get_or places at d).ordered.items = c.deref.ensures.value ∙ ap (λ (p : Places). p.ordered.items) c.index.ensures in
     let lists = c.in_ok-list_stream.ensures in
     let under = subst (λ (cs : List Counted). UnderAll c.args.in_words (messages (values cs)) 1 c.loop-at.lines c.list_stream.new.lines) same lists.under in
-    let rest : c.list_stream.new.rest.items ≡ c.loop-at.rest.items ++ rest_lines c.in-Some.stream.now (pieces (values (get_or places at d).ordered.items)) =
-    lists.rest ∙ ap (λ (cs : List Counted). c.loop-at.rest.items ++ rest_lines c.in-Some.stream.now (pieces (values cs))) same in
+    let rest : c.list_stream.new.rest.items ≡ c.loop-at.rest.items ++ rest_lines c.in-Some.stream.now (fragments_of (values (get_or places at d).ordered.items)) =
+    lists.rest ∙ ap (λ (cs : List Counted). c.loop-at.rest.items ++ rest_lines c.in-Some.stream.now (fragments_of (values cs))) same in
     record {
       within = omega (arith, below);
       under = under_more c.args.in_words places at d c.args.lines.now c.loop-at.lines c.list_stream.new.lines below c.loop-at.invariant.under under;

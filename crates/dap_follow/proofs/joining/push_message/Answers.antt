@@ -1,24 +1,24 @@
 use Rattle.std.proofs.Common.{arith, ◌≡◌, ◌/◌, ◌++◌, ℕ, List, length, refl, sym, ap, ◌∙◌, subst}
 use Rattle.std.specs.Prelude.{codes}
 use Rattle.std.proofs.lemmas.Result.{on_ok_weaker}
-use Rattle.dap_listing.specs.Captured.{Spell, bytes_of}
+use Rattle.dap_listing.specs.Captured.{Spell, digit_bytes}
 use Rattle.dap_follow.specs.Streams.{Placed}
 use Rattle.dap_follow.specs.Joined.{payload, tail}
 use Rattle.dap_follow.specs.Following.{length_text, range_text}
-use Rattle.dap_follow.specs.Inner.Listing.{digits_of, message_heading}
+use Rattle.dap_follow.specs.Inner.Listing.{payload_digits, message_heading}
 use Rattle.dap_follow.proofs.JoiningLemmas.{appended_twice, payload_is, spelled_half}
 use Rattle.dap_follow.proofs.joining.push_message.Goals as goal
 
 pub push_messages-requires-clause-spelled : goal.push_messages-requires-clause-spelled
 push_messages-requires-clause-spelled c =
-    let same : c.deref.result.now ≡ digits_of c.args.piece.now = c.deref.ensures.value ∙ c.in_ok-gather.ensures in
+    let same : c.deref.result.now ≡ payload_digits c.args.piece.now = c.deref.ensures.value ∙ c.in_ok-gather.ensures in
     let spell = subst (λ (l : List ℕ). Spell l (length l / 2)) (sym same) (spelled_half c.args.piece.now c.requires.spelled) in
     (spell.0, omega (arith, spell.1, c.deref_mut.ensures.len, c.in_ok-resize.ensures.len, c.len-count.ensures, c.deref.ensures.len))
 
 pub returns : goal.returns
 returns c =
     let piece = c.args.piece.now in
-    let same : c.deref.result.now ≡ digits_of piece = c.deref.ensures.value ∙ c.in_ok-gather.ensures in
+    let same : c.deref.result.now ≡ payload_digits piece = c.deref.ensures.value ∙ c.in_ok-gather.ensures in
     let t0 = c.args.text.now.items in
     let t1 = c.push_str.new.text.items in
     let t2 = c.push_range.new.text.items in
@@ -26,7 +26,7 @@ returns c =
     on_ok_weaker c.push_messages.result
     (λ added p is.
     let carries = payload_is piece p c.requires.spelled is in
-    let lines = rw (ap bytes_of same ∙ carries.0) at added in
+    let lines = rw (ap digit_bytes same ∙ carries.0) at added in
     let count : length (payload p) ≡ c.len-count.result / 2 = omega (arith, carries.2, ap length same, c.deref.ensures.len, c.len-count.ensures) in
     let from : c.ends.result.0.now.place ≡ p.head.place = ap (λ (s : Placed). s.place) (c.ends.ensures.first p is) in
     let to : c.ends.result.1.now.place ≡ (tail p).place = ap (λ (s : Placed). s.place) (c.ends.ensures.last p is) in

@@ -1,12 +1,12 @@
 use Rattle.std.proofs.Common.{◌≡◌, subst, inr, arith, rules, ◌/◌, ◌++◌, ◌∷◌, [], ℕ, List, length, length-append, refl, sym, ap, ◌∙◌}
 use Rattle.std.specs.Prelude.{slice_get, Some}
 use Rattle.std.proofs.lemmas.List.{append_assoc}
-use Rattle.dap_listing.specs.Captured.{bytes_of}
+use Rattle.dap_listing.specs.Captured.{digit_bytes}
 use Rattle.dap_listing.specs.Listing.{captures, frames, packet_limit}
 use Rattle.dap_meanings.specs.Frames.{frame_words}
 use Rattle.dap_listing.specs.Lines.{Capture}
 use Rattle.dap_listing.proofs.ForCallers.{decoded}
-use Rattle.dap_listing.specs.declared.fault.CaptureFault.{CaptureFault}
+use Rattle.linewise.specs.declared.fault.CaptureFault.{CaptureFault}
 use Rattle.dap_follow.proofs.ReadingLemmas.{frame_here, seen_more, is_first, if_err_and}
 use Rattle.dap_follow.proofs.reading.read_packets.Goals as goal
 
@@ -43,7 +43,7 @@ loop-reading-preserved c =
       so_far = (
         packets ++ (way, more.0) ∷ [],
         done ++ (way, digits) ∷ [],
-        seen_more done packets way digits (bytes_of digits) more.0 before.2 (decoded digits (length digits / 2) spelled) more.1,
+        seen_more done packets way digits (digit_bytes digits) more.0 before.2 (decoded digits (length digits / 2) spelled) more.1,
         before.3 ∙ ap (λ (l : List Capture). done ++ l) captured ∙ sym (append_assoc done ((way, digits) ∷ []) (captures packet_limit c.in-Some.found.rest.now)),
         more.2 (frames packet_limit c.args.input.now) packets here before.4,
         omega (arith, longer, shorter, before.5),

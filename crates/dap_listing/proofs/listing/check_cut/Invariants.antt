@@ -1,7 +1,7 @@
 use Rattle.std.proofs.Common.{◌≤◌, ◌+◌, length}
-use Rattle.dap_listing.specs.Listing.{limit_of}
+use Rattle.dap_listing.specs.Listing.{line_limit}
 use Rattle.dap_listing.specs.Inner.Cutting.{FaultsGoOn}
-use Rattle.dap_listing.specs.Inner.Cutting.{IsEnd}
+use Rattle.linewise.specs.Cuts.{IsEnd}
 use Rattle.dap_listing.proofs.listing.check_cut.Given as goal
 
 abbrev pub invariant-loop-line : goal.invariant-loop-line
@@ -9,7 +9,7 @@ invariant-loop-line l = record {
   counted : l.at + length l.rest ≤ l.initial.at + length l.bytes;
   left : IsEnd l.bytes l.rest;
   short : length l.rest ≤ length l.bytes;
-  clean : FaultsGoOn (limit_of l.listed) l.is_last l.initial.at l.bytes l.at l.rest;
+  clean : FaultsGoOn (line_limit l.listed) l.is_last l.initial.at l.bytes l.at l.rest;
 }
 
 abbrev pub decreases-loop-line : goal.decreases-loop-line

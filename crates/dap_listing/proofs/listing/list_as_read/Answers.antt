@@ -1,7 +1,7 @@
 use Rattle.std.proofs.Common.{rules, ap, ◌∙◌, arith, true, ◌≡◌, ◌==◌, ◌+◌, ◌-◌, ◌++◌, drop, length, length-append, length-take-le, take}
-use Rattle.dap_listing.specs.Listing.{limit_of}
+use Rattle.dap_listing.specs.Listing.{line_limit}
 use Rattle.dap_listing.proofs.ProgressLemmas.{at_end, first_fault, length_end, line_unwritten, none_left, stands_read, stands_taken, stands_whole}
-use Rattle.dap_listing.proofs.InputLemmas.{ok_apart, taken_behind, taken_more, taken_none, up_behind}
+use Rattle.linewise.proofs.ForCallers.{ok_apart, taken_behind, taken_more, taken_none, up_behind}
 use Rattle.dap_listing.proofs.listing.list_as_read.Goals as goal
 
 pub returns-in-Err-take_lines-clause-fault : goal.returns-in-Err-take_lines-clause-fault
@@ -14,7 +14,7 @@ returns-in-Err-take_lines-clause-fault g c =
     first_fault c.args.listed c.read_some.new.count _ _ _ c.deref.result.now c.chunks.progress c.in-Err-take_lines.fault stands (at_end c.in_ok-came.came _ read.end) c.in-Err-take_lines.ensures.fault c.in_ok-skip_unread-in-Err-take_lines.ensures.small
 
 pub returns-in-Err-take_lines-clause-unwritten : goal.returns-in-Err-take_lines-clause-unwritten
-returns-in-Err-take_lines-clause-unwritten g c = line_unwritten (limit_of c.args.listed) c.chunks.progress.at (c.in_ok-came.came == 0) c.deref.result.now c.in-Err-take_lines.fault c.in-Err-take_lines.ensures.fault
+returns-in-Err-take_lines-clause-unwritten g c = line_unwritten (line_limit c.args.listed) c.chunks.progress.at (c.in_ok-came.came == 0) c.deref.result.now c.in-Err-take_lines.fault c.in-Err-take_lines.ensures.fault
 
 pub returns-then-is_last-clause-whole : goal.returns-then-is_last-clause-whole
 returns-then-is_last-clause-whole g c =

@@ -1,7 +1,7 @@
 use Rattle.std.proofs.Common.{◌≡◌, ◌≤◌, ◌+◌, length}
-use Rattle.dap_listing.specs.Listing.{limit_of}
+use Rattle.dap_listing.specs.Listing.{line_limit}
 use Rattle.dap_listing.specs.Inner.Cutting.{FaultsGoOn, ListingGoesOn}
-use Rattle.dap_listing.specs.Inner.Cutting.{IsEnd}
+use Rattle.linewise.specs.Cuts.{IsEnd}
 use Rattle.dap_listing.proofs.listing.list_cut.Given as goal
 
 abbrev pub invariant-loop-line : goal.invariant-loop-line
@@ -11,10 +11,10 @@ invariant-loop-line l = record {
   at_same : l.progress.at ≡ l.initial.progress.at;
   number_same : l.progress.number ≡ l.initial.progress.number;
   wants_same : l.progress.wants ≡ l.initial.progress.wants;
-  room : length l.room ≡ limit_of l.listed;
+  room : length l.room ≡ line_limit l.listed;
   left : IsEnd l.bytes l.rest;
   short : length l.rest ≤ length l.bytes;
-  clean : FaultsGoOn (limit_of l.listed) l.is_last l.initial.progress.at l.bytes l.at l.rest;
+  clean : FaultsGoOn (line_limit l.listed) l.is_last l.initial.progress.at l.bytes l.at l.rest;
   listing : ListingGoesOn l.listed l.is_last l.initial.progress.number l.bytes l.initial.progress.text.items l.number l.rest l.progress.text.items;
 }
 

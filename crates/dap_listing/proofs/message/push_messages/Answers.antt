@@ -1,7 +1,7 @@
 use Rattle.std.proofs.Common.{◌≡◌, ◌≤◌, ◌<◌, ◌-◌, ◌*◌, ◌++◌, ℕ, [], length, take, drop, arith, sym, refl, ap, ◌∙◌}
 use Rattle.std.proofs.lemmas.List.{append-nil}
 use Rattle.dap_listing.specs.Messages.{item_line_in}
-use Rattle.dap_listing.specs.Captured.{AreDecoded, Spell, bytes_of}
+use Rattle.dap_listing.specs.Captured.{AreDecoded, Spell, digit_bytes}
 use Rattle.dap_listing.specs.Inner.Decoding.{item_with_record}
 use Rattle.dap_listing.proofs.DigitLemmas.{count_of}
 use Rattle.dap_listing.proofs.ItemLemmas.{all_decoded, read_is, same_item, size_within}
@@ -38,8 +38,8 @@ returns-then-next-nsp_message c =
     let read = read_is item digits room c.items.at next c.decode_to-known.result (next - c.record_size.result) (spelled.0, omega (arith, spelled.1, size))
     c.item_at-item.ensures.within c.item_at-item.ensures.exact (ap (λ (k : ℕ). next - k) c.record_size.ensures) c.if-known-start.false decoded in
     let so_far = c.items.invariant.so_far in
-    let end : next ≡ length (bytes_of digits) = omega (arith, c.if-next-nsp_message.true, count_of digits (length c.items.nsp_message) spelled, size) in
-    ends_here c.args.in_words (bytes_of digits) c.items.at next _ so_far.0 c.args.text.now.items _ _ read.1 end so_far.2 so_far.1 c.in_ok-push_item_line.ensures
+    let end : next ≡ length (digit_bytes digits) = omega (arith, c.if-next-nsp_message.true, count_of digits (length c.items.nsp_message) spelled, size) in
+    ends_here c.args.in_words (digit_bytes digits) c.items.at next _ so_far.0 c.args.text.now.items _ _ read.1 end so_far.2 so_far.1 c.in_ok-push_item_line.ensures
 
 pub items-preserved : goal.items-preserved
 items-preserved c =
@@ -55,11 +55,11 @@ items-preserved c =
     c.item_at-item.ensures.within c.item_at-item.ensures.exact (ap (λ (k : ℕ). next - k) c.record_size.ensures) c.if-known-start.false decoded in
     let so_far = c.items.invariant.so_far in
     let start : ℕ = next - c.record_size.result in
-    let told = item_with_record item (bytes_of (take (2 * next - 2 * start) (drop (2 * start) digits))) in
+    let told = item_with_record item (digit_bytes (take (2 * next - 2 * start) (drop (2 * start) digits))) in
     let within : next ≤ length room = c.item_at-item.ensures.within in
     let below : next < length room = omega (arith, c.if-next-nsp_message.false, within) in
     let further : c.items.at < next = c.item_at-item.ensures.further (omega (arith, c.items.invariant.before_end (omega (arith, below)), size)) in
-    let below_all : next < length (bytes_of digits) = omega (arith, below, count_of digits (length c.items.nsp_message) spelled, size) in
+    let below_all : next < length (digit_bytes digits) = omega (arith, below, count_of digits (length c.items.nsp_message) spelled, size) in
     record {
       inside = within;
       within = omega (arith, c.decode_to-known.ensures.end, c.max.ensures, c.items.invariant.within, c.items.invariant.inside, size);
@@ -67,7 +67,7 @@ items-preserved c =
       decoded = λ i low high. decoded i (omega (arith, low, further)) high;
       before_end = λ some. below;
       wanted = λ words. omega (arith, c.decode_to-known.ensures.end, c.max.ensures, c.items.invariant.wanted words, c.items.invariant.inside, size);
-      so_far = (so_far.0 ++ item_line_in c.args.in_words told, joined c.args.text.now.items _ _ so_far.0 _ so_far.1 c.in_ok-push_item_line.ensures, goes_further c.args.in_words (bytes_of digits) c.items.at next _ so_far.0 read.1 below_all so_far.2);
+      so_far = (so_far.0 ++ item_line_in c.args.in_words told, joined c.args.text.now.items _ _ so_far.0 _ so_far.1 c.in_ok-push_item_line.ensures, goes_further c.args.in_words (digit_bytes digits) c.items.at next _ so_far.0 read.1 below_all so_far.2);
     }
 
 pub push_item_line-requires-clause-record : goal.push_item_line-requires-clause-record
@@ -85,5 +85,5 @@ push_item_line-requires-clause-record c words =
     c.item_at-item.ensures.within c.item_at-item.ensures.exact (ap (λ (k : ℕ). next - k) c.record_size.ensures) c.if-known-start.false decoded in
     let all : c.decode_to-known.result ≡ length room = omega (arith, c.decode_to-known.ensures.end, c.max.ensures, c.items.invariant.wanted words, c.items.invariant.inside, size) in
     let same = all_decoded digits room c.items.at c.decode_to-known.result spell all decoded in
-    let here = same_item _ (bytes_of digits) room c.items.at next (count_of digits (length room) spell) same read.1 in
+    let here = same_item _ (digit_bytes digits) room c.items.at next (count_of digits (length room) spell) same read.1 in
     (c.item_at-item.ensures.only _ next here).0

@@ -1,5 +1,5 @@
 use Rattle.std.proofs.Common.{◌≡◌, ◌≤◌, ◌<◌, ◌+◌, ◌-◌, ◌++◌, ℕ, List, length, true}
-use Rattle.dap_listing.specs.Captured.{AreDecoded, Spell, bytes_of}
+use Rattle.dap_listing.specs.Captured.{AreDecoded, Spell, digit_bytes}
 use Rattle.dap_listing.proofs.MessageLemmas.{GoesOn}
 use Rattle.dap_listing.proofs.message.push_messages.Given as goal
 
@@ -10,7 +10,7 @@ invariant-items l = record {
   spelled : Spell l.digits (length l.nsp_message);
   decoded : AreDecoded l.digits l.at l.known l.nsp_message;
   before_end : 0 < length l.nsp_message → l.at < length l.nsp_message;
-  so_far : (done : List ℕ) × (l.text.items ≡ l.initial.text.items ++ done) × GoesOn l.in_words (bytes_of l.digits) l.at done;
+  so_far : (done : List ℕ) × (l.text.items ≡ l.initial.text.items ++ done) × GoesOn l.in_words (digit_bytes l.digits) l.at done;
   wanted : l.in_words ≡ true → l.known ≡ length l.nsp_message;
 }
 

@@ -6,7 +6,7 @@ use Rattle.nsp_seg.specs.declared.packet.SegFault.{SegFault}
 use Rattle.dap_listing.specs.Packets.{Seen, IsSeen, seen_line}
 use Rattle.dap_listing.specs.Inner.Messages.{SegmentMessages}
 use Rattle.dap_listing.proofs.MessageLemmas.{appended_twice}
-use Rattle.dap_listing.specs.Captured.{HasDigits, Spell, bytes_of, seen_value, segment_of}
+use Rattle.dap_listing.specs.Captured.{HasDigits, Spell, digit_bytes, seen_value, segment_fields}
 use Rattle.dap_listing.specs.declared.captured.CapturedPacket.{CapturedPacket}
 use Rattle.dap_listing.specs.Inner.Decoding.{IsBehind, front_of}
 use Rattle.dap_listing.proofs.DigitLemmas.{count_of}
@@ -28,9 +28,9 @@ push_whole-requires-clause-decoded c =
     take_all (length digits - 2 * head) (drop (2 * head) digits) (omega (arith, length-drop (2 * head) digits)) ∙ sym behind.3 in
     let decoded = rest_decoded digits room known head spell (omega (arith, behind.2, spell.1)) (omega arith) seen.decoded in
     let same_known : known ≡ c.min-known.result = sym c.min-known.ensures in
-    subst (λ (n : ℕ). (i : ℕ) → 0 ≤ i → i < n - (length room - length payload / 2) → get_or (take (length room - (length room - length payload / 2)) (drop (length room - length payload / 2) room)) i 0 ≡ get_or (bytes_of payload) i 0) same_known
-    (subst (λ (k : ℕ). (i : ℕ) → 0 ≤ i → i < known - k → get_or (take (length room - k) (drop k room)) i 0 ≡ get_or (bytes_of payload) i 0) same
-    (λ i low high. decoded i low high ∙ ap (λ (l : List ℕ). get_or (bytes_of l) i 0) rest))
+    subst (λ (n : ℕ). (i : ℕ) → 0 ≤ i → i < n - (length room - length payload / 2) → get_or (take (length room - (length room - length payload / 2)) (drop (length room - length payload / 2) room)) i 0 ≡ get_or (digit_bytes payload) i 0) same_known
+    (subst (λ (k : ℕ). (i : ℕ) → 0 ≤ i → i < known - k → get_or (take (length room - k) (drop k room)) i 0 ≡ get_or (digit_bytes payload) i 0) same
+    (λ i low high. decoded i low high ∙ ap (λ (l : List ℕ). get_or (digit_bytes l) i 0) rest))
 
 pub push_segment-requires : goal.push_segment-requires
 push_segment-requires c =
@@ -40,8 +40,8 @@ push_segment-requires c =
 pub returns-in_ok-push_segment-in-Ok-Segment : goal.returns-in_ok-push_segment-in-Ok-Segment
 returns-in_ok-push_segment-in-Ok-Segment c =
     let line = c.in-Ok-Segment.line in
-    let bytes = bytes_of c.args.digits.now in
-    let told : Seen = Ok (Segment (segment_of line)) in
+    let bytes = digit_bytes c.args.digits.now in
+    let told : Seen = Ok (Segment (segment_fields line)) in
     let is : IsSeen told bytes =
     subst (λ (r : Result CapturedPacket SegFault). IsSeen (seen_value r) bytes) (c.in-Ok-Segment.is ∙ ap Ok c.in-Ok-Segment.field-0-is) c.see.ensures.seen in
     on_ok_weaker c.push_whole.result
@@ -55,7 +55,7 @@ returns-in_ok-push_segment-in-Ok-Segment c =
 
 pub returns-in-Ok-DataAck : goal.returns-in-Ok-DataAck
 returns-in-Ok-DataAck c =
-    let bytes = bytes_of c.args.digits.now in
+    let bytes = digit_bytes c.args.digits.now in
     let told : Seen = Ok (DataAck c.in-Ok-DataAck.ack) in
     let is : IsSeen told bytes =
     subst (λ (r : Result CapturedPacket SegFault). IsSeen (seen_value r) bytes) (c.in-Ok-DataAck.is ∙ ap Ok c.in-Ok-DataAck.field-0-is) c.see.ensures.seen in

@@ -1,5 +1,5 @@
 use Rattle.std.proofs.Common.{◌≡◌, false, rules}
-use Rattle.dap_live.specs.Asking.{Asks}
+use Rattle.dap_live.specs.Asking.{AnswersAsk}
 use Rattle.dap_live.proofs.ResultLemmas.{err_from}
 use Rattle.dap_live.proofs.ReachLemmas.{unless_reached}
 use Rattle.dap_live.proofs.asking.ask.Goals as goal
@@ -10,4 +10,4 @@ returns-clause-err c =
     let old = c.args.asking.now in
     let new = c.ask_running.new.asking in
     err_from c.ask_running.result c.ask_running.ensures.err
-    (λ why. unless_reached old.end.port.link works _ old new (Asks false old c.args.asked.now new) (rw c.in_ok-request.ensures at why))
+    (λ why. unless_reached old.end.port.link works _ old new (AnswersAsk false old c.args.asked.now new) (rw c.in_ok-request.ensures at why))

@@ -11,10 +11,10 @@ returns-in_err-push_told-clause-err c =
     err_always c.from_residual.result (
       c.args.text.now.items ++ told_text c.args.asking.now,
       Told Done,
-      where_none _ (sym c.goes_on.ensures ∙ c.if-goes_on.false) _ _ (refl, refl, refl),
+      where_none _ (sym c.has_more.ensures ∙ c.if-has_more.false) _ _ (refl, refl, refl),
     )
 
-pub returns-then-goes_on-clause-err : goal.returns-then-goes_on-clause-err
-returns-then-goes_on-clause-err c =
+pub returns-then-has_more-clause-err : goal.returns-then-has_more-clause-err
+returns-then-has_more-clause-err c =
     err_from c.go_on_again.result c.go_on_again.ensures.err
-    (λ done. (done.0, done.1, where_left _ (sym c.goes_on.ensures ∙ c.if-goes_on.true) _ _ done.2))
+    (λ done. (done.0, done.1, where_left _ (sym c.has_more.ensures ∙ c.if-has_more.true) _ _ done.2))

@@ -1,4 +1,4 @@
-use Rattle.std.proofs.Common.{◌≡◌, ◌∙◌, List, Some, ap, sym, ℕ}
+use Rattle.std.proofs.Common.{◌∙◌, List, Some, ap, sym, ℕ}
 use Rattle.dap_live.proofs.NodeLemmas.{gives-record, on-all}
 use Rattle.dap_live.proofs.node.add_body.Goals as goal
 

@@ -1,45 +1,26 @@
-use Rattle.std.proofs.Common.{◌≡◌, List, ap, refl, sym, subst, ◌∙◌}
-use Rattle.std.specs.Prelude.{get_or, set}
-use Rattle.std.proofs.lemmas.Result.{IfOk-weaker, on_err_weaker}
-use Rattle.dap_accessed.specs.Sessions.{SessionValue}
-use Rattle.dap_shared.specs.Shared.{no_session}
-use Rattle.dap_shared.specs.Inner.Beside.{MovesBeside}
-use Rattle.dap_shared.specs.Inner.Held.{session_at}
-use Rattle.dap_shared.proofs.PutBack.{put-back, read-at}
+use Rattle.std.proofs.Common.{◌≡◌, ℕ, List, ◌∷◌, ◌++◌, ap, sym, subst, ◌∙◌}
+use Rattle.std.proofs.lemmas.Result.{IfOk-weaker}
+use Rattle.dap_accessed.specs.Sessions.{SessionValue, IsOpenIn}
+use Rattle.dap_shared.specs.Inner.Held.{MovesOn, session_at}
+use Rattle.dap_shared.proofs.Among.{among-at, moves-on}
 use Rattle.dap_shared.proofs.shared.serve_on.Goals as goal
 
-pub returns-clause-err : goal.returns-clause-err
-returns-clause-err c =
-    let s = c.replace-session.result in
-    let sessions = c.args.sessions.now.items in
-    let was : s ≡ get_or sessions c.args.link s = subst (λ (x : SessionValue). x ≡ get_or sessions c.args.link x) (sym c.replace-session.ensures.value) c.index_mut.ensures.value in
-    on_err_weaker c.serve_beside-served.result
-    (λ h. (
-      h.0,
-      ap (λ (l : List SessionValue). set l c.args.link c.serve_beside-served.new.session) h.1
-          ∙ ap (λ (t : SessionValue). set (set sessions c.args.link c.replace-session.new.dest) c.args.link t) h.2
-          ∙ put-back sessions c.args.link c.replace-session.new.dest s was,
-    ))
-    c.serve_beside-served.ensures.err
+pub serve_beside-requires-clause-there : goal.serve_beside-requires-clause-there
+serve_beside-requires-clause-there c =
+    let b = c.split_at_mut-before.result.0.now in
+    let whole : c.args.sessions.now ≡ b ++ c.in-Some.session.now ∷ c.in-Some.after.now =
+    c.split_at_mut-before.ensures.value ∙ ap (λ (l : List SessionValue). b ++ l) c.in-Some.ensures.cases.0 in
+    among-at c.args.files.now c.args.link b c.in-Some.session.now c.in-Some.after.now c.split_at_mut-before.ensures.front_len
+    (λ own. subst (λ (l : List SessionValue). IsOpenIn c.args.files.now (session_at own c.args.link l).phase) whole (c.requires.there own))
 
 pub returns-clause-ok : goal.returns-clause-ok
 returns-clause-ok c =
-    let setup = c.args.setup in
-    let s = c.replace-session.result in
-    let sessions = c.args.sessions.now.items in
-    let was : s ≡ get_or sessions c.args.link s = subst (λ (x : SessionValue). x ≡ get_or sessions c.args.link x) (sym c.replace-session.ensures.value) c.index_mut.ensures.value in
-    let at : s ≡ session_at setup c.args.link sessions = read-at sessions c.args.link s (no_session setup) c.requires.link was in
-    let out : c.replace-session.new.dest ≡ no_session setup = c.replace-session.ensures.after ∙ c.no_session.ensures in
-    let files = c.serve_beside-served.new.files in
-    let others = c.serve_beside-served.new.others.items in
-    let after = c.serve_beside-served.new.session in
-    IfOk-weaker c.serve_beside-served.result _ _
-    (λ served m. record {
-      others = others;
-      session = after;
-      moves =
-          subst (λ (t : SessionValue). MovesBeside c.args.item c.args.files.now (set sessions c.args.link (no_session setup)) t files others after served.answers) at
-          (subst (λ (t : SessionValue). MovesBeside c.args.item c.args.files.now (set sessions c.args.link t) s files others after served.answers) out m);
-      back = refl;
-    })
-    c.serve_beside-served.ensures.ok
+    let b = c.split_at_mut-before.result.0.now in
+    let whole : c.args.sessions.now ≡ b ++ c.in-Some.session.now ∷ c.in-Some.after.now =
+    c.split_at_mut-before.ensures.value ∙ ap (λ (l : List SessionValue). b ++ l) c.in-Some.ensures.cases.0 in
+    IfOk-weaker c.serve_beside.result _ _
+    (λ served m own.
+    subst (λ (l : List SessionValue). MovesOn own c.args.link c.args.item c.args.files.now l c.serve_beside.new.files (c.serve_beside.new.before ++ c.serve_beside.new.session ∷ c.serve_beside.new.after) served.answers) (sym whole)
+    (subst (λ (n : ℕ). MovesOn own n c.args.item c.args.files.now (b ++ c.in-Some.session.now ∷ c.in-Some.after.now) c.serve_beside.new.files (c.serve_beside.new.before ++ c.serve_beside.new.session ∷ c.serve_beside.new.after) served.answers) c.split_at_mut-before.ensures.front_len
+    (moves-on own c.args.item c.args.files.now c.serve_beside.new.files b c.in-Some.after.now c.serve_beside.new.before c.serve_beside.new.after c.in-Some.session.now c.serve_beside.new.session served.answers m)))
+    c.serve_beside.ensures.ok

@@ -1,4 +1,4 @@
--- Behind the last file there is no record.
+-- After the last file there is no record.
 use Rattle.std.proofs.Common.{rules, sym}
 use Rattle.std.proofs.lemmas.List.{append-nil}
 use Rattle.dap_text.proofs.TableLemmas.{none_there}

@@ -1,5 +1,5 @@
 use Rattle.std.proofs.Common.{sym, ◌+◌}
-use Rattle.dap_text.proofs.SliceLemmas.{slice_from}
+use Rattle.linewise.proofs.ForCallers.{slice_from}
 use Rattle.dap_text.proofs.WordLemmas.{some_word, only_word}
 use Rattle.dap_text.proofs.words.first_word.Goals as goal
 

@@ -1,5 +1,5 @@
 use Rattle.std.proofs.Common.{◌++◌, ◌∷◌, List, refl, sym, subst, ◌∙◌}
-use Rattle.dap_watch.specs.Inner.Kept.{Keeps}
+use Rattle.dap_watch.specs.Inner.Kept.{KeepsPieces}
 use Rattle.dap_watch.specs.declared.places.Kept.{Kept}
 use Rattle.dap_watch.proofs.JoinLemmas.{lists_run}
 use Rattle.dap_watch.proofs.places.list_at.Goals as goal
@@ -10,7 +10,7 @@ returns-clause-listed c = record {
   to = refl;
   digits_are = c.in_ok-gather.ensures.gathered;
   keeps = λ xs zs m is from to front back.
-      subst (λ (l : List Kept). Keeps (xs ++ m ∷ zs) l) (sym c.in_ok-insert.ensures.items)
+      subst (λ (l : List Kept). KeepsPieces (xs ++ m ∷ zs) l) (sym c.in_ok-insert.ensures.items)
       (lists_run c.args.index c.args.kept.now.items c.listed.result c.in_ok-index.index c.join.new.kept.items c.in_ok-index.run' c.in_ok-index.ensures
       c.listed.ensures.listed xs zs m is (c.listed.ensures.from ∙ from) (c.listed.ensures.to ∙ to) front back);
 }

@@ -1,7 +1,7 @@
 use Rattle.std.proofs.Common.{◌≡◌, ◌++◌, ◌/◌, ℕ, List, [], length, replicate, codes, rules, ap, sym, ◌∙◌, if◌then◌else◌}
 use Rattle.std.proofs.lemmas.Result.{on_ok_weaker}
 use Rattle.dap_follow.specs.Following.{range_text, stream_text}
-use Rattle.dap_watch.specs.Inner.Kept.{digits_of}
+use Rattle.dap_watch.specs.Inner.Kept.{kept_digits}
 use Rattle.dap_watch.specs.Inner.Rest.{count_text}
 use Rattle.dap_watch.proofs.RestLemmas.{appended_twice, count_is, some_bytes}
 use Rattle.dap_watch.proofs.rest.push_part.Goals as goal
@@ -16,7 +16,7 @@ returns c =
     let k = c.args.kept.now in
     let stream = stream_text c.args.stream.now in
     let r = range_text k.from k.to in
-    let n : ℕ = length (digits_of k) / 2 in
+    let n : ℕ = length (kept_digits k) / 2 in
     let digits : c.len.result ≡ length c.gather.new.digits.items = search rules in
     let size : c.len.result / 2 ≡ n = ap (λ (m : ℕ). m / 2) (digits ∙ ap (λ (l : List ℕ). length l) c.in_ok-gather.ensures.gathered) in
     on_ok_weaker c.push_length.result

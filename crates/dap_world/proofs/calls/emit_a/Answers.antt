@@ -1,6 +1,6 @@
 use Rattle.std.proofs.Common.{ℕ, ◌+◌, ◌∙◌, Some, ap}
 use Rattle.nsp_link.specs.Link.{LinkValue}
-use Rattle.dap_world.proofs.Put.{may_wrote, wrote_put}
+use Rattle.dap_world.proofs.Steps.Put.{may_wrote, wrote_put}
 use Rattle.dap_world.proofs.calls.emit_a.Goals as goal
 
 pub returns-in-Ok-clause-ok : goal.returns-in-Ok-clause-ok

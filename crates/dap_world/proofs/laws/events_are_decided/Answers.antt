@@ -1,4 +1,4 @@
-use Rattle.dap_world.proofs.Deciding.{no_step, one_outcome, one_reason, one_step}
+use Rattle.dap_world.proofs.Steps.Deciding.{no_step, one_outcome, one_reason, one_step}
 use Rattle.dap_world.proofs.laws.events_are_decided.Goals as goal
 
 pub returns-clause-apart : goal.returns-clause-apart

@@ -1,4 +1,4 @@
-use Rattle.dap_world.proofs.Kept.{headline}
+use Rattle.dap_world.proofs.Headline.Kept.{headline}
 use Rattle.dap_world.proofs.laws.every_run_keeps_the_headline.Goals as goal
 
 pub returns : goal.returns

@@ -1,4 +1,4 @@
-use Rattle.dap_world.proofs.Apart.{counts_in_order, within_window, are_near, segments_told, acks_told}
+use Rattle.dap_world.proofs.Steps.Apart.{counts_in_order, within_window, are_near, segments_told, acks_told}
 use Rattle.dap_world.proofs.laws.numbers_stay_apart.Goals as goal
 
 pub returns-clause-order : goal.returns-clause-order

@@ -1,7 +1,7 @@
 use Rattle.std.proofs.Common.{refl}
 use Rattle.std.specs.Prelude.{None}
 use Rattle.nsp_link.specs.Sending.{ack_packet_of}
-use Rattle.dap_world.proofs.Put.{wrote_put}
+use Rattle.dap_world.proofs.Steps.Put.{wrote_put}
 use Rattle.dap_world.proofs.side.acknowledge.Goals as goal
 
 pub returns-clause-ok : goal.returns-clause-ok

@@ -1,6 +1,6 @@
 use Rattle.std.proofs.Common.{◌<◌, ◌-◌, ◌+◌, ℕ, Some, ap, inl, inr}
 use Rattle.std.proofs.lemmas.Bool.{cases_lt}
-use Rattle.dap_world.proofs.Put.{wrote_put}
+use Rattle.dap_world.proofs.Steps.Put.{wrote_put}
 use Rattle.dap_world.proofs.side.again.Goals as goal
 
 pub returns-clause-ok : goal.returns-clause-ok

@@ -5,7 +5,7 @@ use Rattle.std.specs.Option.{option_map}
 use Rattle.std.proofs.lemmas.Option.{slice_get-map, slice_get-get_or}
 use Rattle.dap_msg.specs.Blocked.{bodies}
 use Rattle.dap_world.specs.Inner.Splitting.{SplitsOne}
-use Rattle.dap_world.proofs.Splits.{first_more}
+use Rattle.dap_world.proofs.Headline.Splits.{first_more}
 use Rattle.dap_world.proofs.splitting.split_all.Goals as goal
 
 item_of : (list : List (Vec ℕ)) (n : ℕ) (v : Vec ℕ) → n < length list → v ≡ get_or list n v → slice_get (bodies list) n ≡ Some v.items

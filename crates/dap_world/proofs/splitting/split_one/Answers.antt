@@ -1,7 +1,7 @@
 use Rattle.std.proofs.Common.{inl, inr, refl, arith, rules, ◌<◌, length, ap, ◌∙◌}
 use Rattle.std.proofs.lemmas.List.{map-append}
 use Rattle.dap_msg.specs.Blocked.{bodies}
-use Rattle.dap_world.proofs.Splits.{split_begins, split_ends, split_more}
+use Rattle.dap_world.proofs.Headline.Splits.{split_begins, split_ends, split_more}
 use Rattle.dap_world.proofs.splitting.split_one.Goals as goal
 
 pub items-init : goal.items-init

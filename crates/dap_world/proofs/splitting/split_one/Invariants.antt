@@ -1,7 +1,7 @@
 use Rattle.std.proofs.Common.{◌≡◌, ◌<◌, ◌-◌, length}
 use Rattle.std.specs.Prelude.{◌⊎◌}
 use Rattle.dap_msg.specs.Blocked.{bodies}
-use Rattle.dap_world.proofs.Splits.{SplitSoFar}
+use Rattle.dap_world.proofs.Headline.Splits.{SplitSoFar}
 use Rattle.dap_world.proofs.splitting.split_one.Given as goal
 
 abbrev pub invariant-items : goal.invariant-items

@@ -4,7 +4,7 @@ use Rattle.std.proofs.lemmas.List.{append-nil, drop_all, length-replicate, take-
 use Rattle.std.proofs.lemmas.Slice.{drop-put_mid, take-put_mid}
 use Rattle.live_cli.proofs.words.padded.Goals as goal
 
--- what is written at the end of so many equal bytes stands behind those that are left
+-- what is written at the end of this many equal bytes stands after those that are left
 behind : (n : ℕ) (zeros written digits : List ℕ) → zeros ≡ replicate 32 48 → written ≡ digits → length digits ≡ n → n ≤ 21
     → put_mid (32 - n) (32 - (32 - n)) zeros written ≡ replicate (32 - n) 48 ++ digits
 behind n zeros written digits zero is size small =

@@ -2,7 +2,7 @@ use Rattle.std.proofs.Common.{◌≡◌, length, take, refl, inr, ap, ◌∙◌,
 use Rattle.std.proofs.lemmas.List.{length-append}
 use Rattle.nsp_link.proofs.Counts.{length-cut_message}
 use Rattle.nsp_link.specs.Cutting.{cut, cut_message}
-use Rattle.nsp_link.specs.Inner.Pieces.{bodies}
+use Rattle.nsp_link.specs.Inner.Pieces.{vec_bodies}
 use Rattle.nsp_link.proofs.Several.{cut_step, cut_within, cut-none}
 use Rattle.nsp_link.proofs.cutting.check_all.Goals as goal
 
@@ -24,5 +24,5 @@ loop-message-preserved c =
     let ms = c.args.messages.now in
     let lenm : c.len.result ≡ length m.items = omega (arith, c.len.ensures, m.ok.0) in
     let counted = rw lenm at c.segment_count-count.ensures in
-    let step = ap length (cut_step c.args.size ms i m c.loop-message-test.true c.message-item.is) ∙ length-append (cut c.args.size (bodies (take i ms))) (cut_message c.args.size m.items) in
+    let step = ap length (cut_step c.args.size ms i m c.loop-message-test.true c.message-item.is) ∙ length-append (cut c.args.size (vec_bodies (take i ms))) (cut_message c.args.size m.items) in
     omega (arith, step, length-cut_message c.args.size m.items, counted, c.loop-message.invariant, c.if-count-left.false)

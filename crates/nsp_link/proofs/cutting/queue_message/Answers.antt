@@ -4,7 +4,7 @@ use Rattle.std.specs.Prelude.{slice_range}
 use Rattle.std.proofs.lemmas.Grind.{common_steps}
 use Rattle.nsp_link.specs.Inner.Pieces.{Segment}
 use Rattle.nsp_link.specs.Cutting.{count_of, cut_message}
-use Rattle.nsp_link.specs.Inner.Pieces.{pieces}
+use Rattle.nsp_link.specs.Inner.Pieces.{piece_values}
 use Rattle.nsp_link.proofs.Counts.{queued_more, piece_is, starts_within, piece_payload}
 use Rattle.nsp_link.proofs.cutting.queue_message.Goals as goal
 
@@ -17,7 +17,7 @@ loop-i-preserved c =
     let lt : i < count_of c.args.size (length c.args.message.now) = omega (arith, c.requires.counted) in
     let within = starts_within c.args.size (length c.args.message.now) i c.requires.positive lt in
     record {
-      cut_so_far = queued_more c.args.size c.args.message.now i (pieces c.args.queue.now.items) c.loop-i.queue.items c.push_back.new.self.items s pushed c.loop-i.invariant.cut_so_far
+      cut_so_far = queued_more c.args.size c.args.message.now i (piece_values c.args.queue.now.items) c.loop-i.queue.items c.push_back.new.self.items s pushed c.loop-i.invariant.cut_so_far
           (piece_is c.args.size c.args.message.now i count s c.requires.counted refl refl
           (c.in_ok-payload.ensures.ok ∙ ap (λ (bytes : List ℕ). slice_range bytes (i * c.args.size) c.min-end.result) c.in_ok-shared.ensures ∙ piece_payload c.args.size i (i * c.args.size) c.min-end.result c.args.message.now refl c.min-end.ensures within));
       kept = grind (arith, common_steps);

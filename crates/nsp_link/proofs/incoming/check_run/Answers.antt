@@ -1,6 +1,6 @@
 use Rattle.std.proofs.Common.{◌≡◌, ◌+◌, length, drop, refl, ap, arith, subst}
 use Rattle.nsp_link.specs.Cutting.{Piece}
-use Rattle.nsp_link.specs.Coming.{Coming, FitsBehind, taken, Misfits}
+use Rattle.nsp_link.specs.Coming.{Coming, FitsNext, with_taken, Misfits}
 use Rattle.nsp_link.specs.Inner.Pieces.{coming_of, leading, held_piece, lent_piece, run_in, IsBegun}
 use Rattle.nsp_link.proofs.Placing.{if_err_and}
 use Rattle.nsp_link.proofs.Runs.{looked_first, looked_more, looked_all, misfits_first, misfits_more}
@@ -51,7 +51,7 @@ loop-held-preserved c =
     let items = c.args.ring.now.items in
     let start = coming_of c.args.incoming.now in
     let piece-is : lent_piece c.lent.result ≡ held_piece h = c.lent.ensures in
-    let ok = λ (now : Coming) (is : IsBegun c.loop-held.begun now). subst (λ (p : Piece). FitsBehind c.args.limit now p × IsBegun c.in_ok-begun-2.begun (taken now p)) piece-is (c.in_ok-begun-2.ensures.ok now is) in
+    let ok = λ (now : Coming) (is : IsBegun c.loop-held.begun now). subst (λ (p : Piece). FitsNext c.args.limit now p × IsBegun c.in_ok-begun-2.begun (with_taken now p)) piece-is (c.in_ok-begun-2.ensures.ok now is) in
     record {
       count = omega (arith, ap length c.in-Some.ensures.leads, c.loop-held.invariant.count);
       short = c.in_ok-begun-2.ensures.short;

@@ -1,5 +1,5 @@
 use Rattle.std.proofs.Common.{◌≡◌, ◌+◌, ◌-◌, ◌≤◌, length, drop}
-use Rattle.nsp_link.specs.Coming.{taken_all}
+use Rattle.nsp_link.specs.Coming.{with_all_taken}
 use Rattle.nsp_link.specs.Limits.{most_segments}
 use Rattle.nsp_link.specs.Inner.Pieces.{coming_of, leading, lent_piece, run_in}
 use Rattle.nsp_link.specs.Inner.Joining.{emptied_of}
@@ -8,7 +8,7 @@ use Rattle.nsp_link.proofs.incoming.gather.Given as goal
 abbrev pub invariant-loop-held : goal.invariant-loop-held
 invariant-loop-held l = record {
   few : l.aside.received + length (leading (drop l.place l.ring.items)) ≤ most_segments;
-  taken : taken_all (coming_of l.aside) (leading (drop l.place l.ring.items)) ≡ taken_all (emptied_of (coming_of l.incoming)) (run_in (lent_piece l.piece) l.ring.items);
+  taken : with_all_taken (coming_of l.aside) (leading (drop l.place l.ring.items)) ≡ with_all_taken (emptied_of (coming_of l.incoming)) (run_in (lent_piece l.piece) l.ring.items);
 }
 
 abbrev pub decreases-loop-held : goal.decreases-loop-held

@@ -2,7 +2,7 @@ use Rattle.std.proofs.Common.{◌≡◌, length, drop, sym, ap, ◌∙◌, arith
 use Rattle.nsp_link.specs.Cutting.{Piece}
 use Rattle.nsp_link.specs.Coming.{Coming}
 use Rattle.nsp_link.specs.Inner.Pieces.{coming_of, leading, lent_piece, run_in}
-use Rattle.nsp_link.specs.Inner.Joining.{joined}
+use Rattle.nsp_link.specs.Inner.Joining.{with_begun}
 use Rattle.nsp_link.proofs.Joining.{joined_run}
 use Rattle.nsp_link.proofs.Runs.{one_taken}
 use Rattle.nsp_link.proofs.Taking.{received-all}
@@ -22,7 +22,7 @@ returns-in_ok-take-clause-within c =
 pub returns-in_ok-join-clause-taken : goal.returns-in_ok-join-clause-taken
 returns-in_ok-join-clause-taken c =
     let before = coming_of c.args.incoming.now in
-    c.in_ok-join.ensures.ok ∙ ap (joined before) c.in_ok-aside.ensures
+    c.in_ok-join.ensures.ok ∙ ap (with_begun before) c.in_ok-aside.ensures
     ∙ joined_run before (run_in (lent_piece c.args.piece.now) c.args.ring.now.items)
 
 pub returns-in_ok-join-clause-within : goal.returns-in_ok-join-clause-within

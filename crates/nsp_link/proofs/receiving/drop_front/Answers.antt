@@ -1,6 +1,6 @@
 use Rattle.std.proofs.Common.{◌≡◌, ℕ, take, refl, sym, ap, ◌∙◌, arith}
 use Rattle.std.proofs.lemmas.List.{take-map}
-use Rattle.nsp_link.specs.Inner.Pieces.{pieces, piece}
+use Rattle.nsp_link.specs.Inner.Pieces.{piece_values, piece}
 use Rattle.nsp_link.specs.Cutting.{part_after}
 use Rattle.nsp_link.proofs.Waiting.{dropped_one, bytes_dropped, long_enough, last_dropped, inner_dropped}
 use Rattle.nsp_link.proofs.receiving.drop_front.Goals as goal
@@ -13,7 +13,7 @@ loop-init c = record { dropped = refl; part = refl; counted = c.requires.counted
 pub returns-after-loop-clause-part : goal.returns-after-loop-clause-part
 returns-after-loop-clause-part c =
     let done : c.loop.counter ≡ c.args.count = omega arith in
-    c.loop.invariant.part ∙ ap (λ (n : ℕ). part_after c.args.part (pieces (take n c.args.queue.now.items))) done
+    c.loop.invariant.part ∙ ap (λ (n : ℕ). part_after c.args.part (piece_values (take n c.args.queue.now.items))) done
     ∙ ap (part_after c.args.part) (sym (take-map piece c.args.count c.args.queue.now.items))
 
 pub overflow_add-part : goal.overflow_add-part
@@ -39,13 +39,13 @@ loop-preserved c =
     elim c.if-segment.branch [
       | then-segment w ↦ record {
         dropped = one.0;
-        part = omega (arith, w.part-is, last_dropped (part_after c.args.part (pieces (take c.loop.counter items))) _ s w.if-segment.true one.1);
+        part = omega (arith, w.part-is, last_dropped (part_after c.args.part (piece_values (take c.loop.counter items))) _ s w.if-segment.true one.1);
         counted = omega (arith, bytes, c.loop.invariant.counted, w.part-is, w.waiting-is);
         fewer = omega (arith, c.loop.invariant.fewer, w.waiting-is);
       }
       | else-segment w ↦ record {
         dropped = one.0;
-        part = omega (arith, w.part-is, inner_dropped (part_after c.args.part (pieces (take c.loop.counter items))) _ s w.if-segment.false one.1, c.loop.invariant.part);
+        part = omega (arith, w.part-is, inner_dropped (part_after c.args.part (piece_values (take c.loop.counter items))) _ s w.if-segment.false one.1, c.loop.invariant.part);
         counted = omega (arith, bytes, c.loop.invariant.counted, w.part-is, w.waiting-is);
         fewer = omega (arith, c.loop.invariant.fewer, w.waiting-is);
       }

@@ -1,5 +1,5 @@
 use Rattle.std.proofs.Common.{ap, sym, ◌∙◌}
-use Rattle.rec_file.specs.Inner.Places.{with_place}
+use Rattle.rec_file.specs.Inner.Places.{with_slot}
 use Rattle.rec_file.proofs.FileLaws.{wanted}
 use Rattle.rec_file.proofs.SoughtLaws.{searchable, read-place, with-found, gap-place, with-gap}
 use Rattle.rec_file.proofs.places.put_in.Goals as goal
@@ -21,7 +21,7 @@ pub returns-in_ok-insert-in-Err-clause-ok : goal.returns-in_ok-insert-in-Err-cla
 returns-in_ok-insert-in-Err-clause-ok c =
     c.in_ok-insert-in-Err.ensures.items
     ∙ with-gap c.args.group.now.items c.requires c.args.page c.in-Err.at (rw c.deref.ensures.value at c.in-Err.ensures.gap) c.in_ok-place-in-Err.place
-    ∙ ap (λ place. with_place c.args.group.now.items c.args.page place) c.in_ok-place-in-Err.ensures.place
+    ∙ ap (λ place. with_slot c.args.group.now.items c.args.page place) c.in_ok-place-in-Err.ensures.place
 
 pub returns-in_err-place-in-Err-clause-wanted : goal.returns-in_err-place-in-Err-clause-wanted
 returns-in_err-place-in-Err-clause-wanted c =

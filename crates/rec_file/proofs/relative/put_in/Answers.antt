@@ -3,16 +3,16 @@ use Rattle.std.specs.BTreeMap.{insert_entry}
 use Rattle.std.specs.Ordering.{nat_cmp}
 use Rattle.slab.specs.Slab.{get}
 use Rattle.rec_file.specs.Inner.Pages.{page_cell}
-use Rattle.rec_file.specs.Inner.Places.{had_of, place_of, with_place}
+use Rattle.rec_file.specs.Inner.Places.{had_of, slot_of, with_slot}
 use Rattle.rec_file.proofs.FileLaws.{copied_none, copied_some, not_none, wanted}
 use Rattle.rec_file.proofs.Keyed.{lookup_is_at}
 use Rattle.rec_file.proofs.PlacedLaws.{no-page, its-page, stands, put-kept, put-new, own-new, length-inserted}
 use Rattle.rec_file.proofs.relative.put_in.Goals as goal
 
-with-there : (es : List (ℕ × ℕ)) (p i j : ℕ) → place_of es p ≡ Some j → with_place es p i ≡ es
+with-there : (es : List (ℕ × ℕ)) (p i j : ℕ) → slot_of es p ≡ Some j → with_slot es p i ≡ es
 with-there es p i j is = ap (λ o. cond (is_some o) es (insert_entry nat_cmp es p i)) is
 
-with-none : (es : List (ℕ × ℕ)) (p i : ℕ) → place_of es p ≡ None → with_place es p i ≡ insert_entry nat_cmp es p i
+with-none : (es : List (ℕ × ℕ)) (p i : ℕ) → slot_of es p ≡ None → with_slot es p i ≡ insert_entry nat_cmp es p i
 with-none es p i is = ap (λ o. cond (is_some o) es (insert_entry nat_cmp es p i)) is
 
 pub returns-in_err-place-clause-wanted : goal.returns-in_err-place-clause-wanted

@@ -14,10 +14,10 @@ returns-then-self-extent-clause-read c = λ bytes rest records s.
 
 pub returns-in-Ok-clause-read : goal.returns-in-Ok-clause-read
 returns-in-Ok-clause-read c =
-    IfOk-weaker c.go_on.result _ _ (λ given goes. λ bytes rest records s.
-    read_more c.args.self.now c.go_on.new.self bytes rest records c.in-Some.extent c.in-Ok.meaning given s c.in-Some.is (omega (arith, c.if-self-extent.false))
+    IfOk-weaker c.apply.result _ _ (λ given goes. λ bytes rest records s.
+    read_more c.args.self.now c.apply.new.self bytes rest records c.in-Some.extent c.in-Ok.meaning given s c.in-Some.is (omega (arith, c.if-self-extent.false))
     (ap (λ i. meaning_of c.args.self.now.format i c.args.self.now.kept.items) (sym c.deref.ensures.value)
-    ∙ (ap (λ k. meaning_of c.args.self.now.format c.deref.result.now k) (sym c.deref-2.ensures.value) ∙ sym c.in-Ok.ensures.value)) goes) c.go_on.ensures.goes
+    ∙ (ap (λ k. meaning_of c.args.self.now.format c.deref.result.now k) (sym c.deref-2.ensures.value) ∙ sym c.in-Ok.ensures.value)) goes) c.apply.ensures.goes
 
 pub returns-in-Err-clause-fault : goal.returns-in-Err-clause-fault
 returns-in-Err-clause-fault c = inr (λ rest g. none_of c.args.self.now rest c.in-Some.extent c.in-Err.kind g c.in-Some.is (omega (arith, c.if-self-extent.false))

@@ -5,7 +5,7 @@ use Rattle.dap_accessed.proofs.StepIs.{stands-more, answers-are, same-own, same-
 use Rattle.dap_accessed.proofs.Silent.{silent-is}
 use Rattle.dap_accessed.specs.Present.{Present, StandsAfter}
 use Rattle.dap_accessed.specs.Served.{IsSilent}
-use Rattle.dap_accessed.specs.Sessions.{joined}
+use Rattle.dap_accessed.specs.Sessions.{with_files}
 use Rattle.dap_accessed.specs.Inner.Moves.{Moves, move}
 use Rattle.dap_accessed.proofs.accessed.Accessed.serve_item.Goals as goal
 
@@ -16,7 +16,7 @@ pub returns-clause-serves : goal.returns-clause-serves
 returns-clause-serves c bytes at there =
     let item = c.args.item in
     let old = c.args.self.now in
-    let new = joined c.answer_item.new.files c.answer_item.new.self in
+    let new = with_files c.answer_item.new.files c.answer_item.new.self in
     let moves : Moves old (move old item) new c.in_ok-answers.answers = subst (λ (p : Present). Moves p (move p item) new c.in_ok-answers.answers) c.self.view_is c.in_ok-answers.ensures.ok in
     record {
       item = item;
@@ -34,7 +34,7 @@ returns-clause-serves c bytes at there =
 
 pub returns-in_err-answers-clause-unrefused : goal.returns-in_err-answers-clause-unrefused
 returns-in_err-answers-clause-unrefused c = λ first items h none.
-    (let inside = joined c.self.inside.files c.self.inside.session in
+    (let inside = with_files c.self.inside.files c.self.inside.session in
     let stands = subst (StandsAfter first items) (sym c.self.view_is) h in
     let silent = subst (λ (p : Present). IsSilent p.setup first items c.args.item) (sym c.self.view_is) none in
     let taken = c.in_err-answers.ensures.silent (silent-is inside first items c.args.item stands silent) in cc)

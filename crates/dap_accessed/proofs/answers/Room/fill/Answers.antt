@@ -5,13 +5,13 @@ use Rattle.dap_msg.specs.BothEnds.{least_buffer}
 use Rattle.dap_msg.specs.declared.message.Message.{Message}
 use Rattle.dap_msg.specs.Blocked.{bodies}
 use Rattle.dap_msg.specs.Written.{Appends, no_memory}
-use Rattle.dap_accessed.specs.Inner.Written.{message_of, most_bytes}
+use Rattle.dap_accessed.specs.Inner.Written.{reply_message, most_bytes}
 use Rattle.dap_accessed.proofs.Writing.{answered_one, filled, short_most}
 use Rattle.dap_accessed.proofs.answers.Room.fill.Goals as goal
 
 pub returns : goal.returns
 returns c =
-    let m = message_of c.args.answer in
+    let m = reply_message c.args.answer in
     let most : length (canon m) ≤ most_bytes c.args.answer = c.message.ensures.within in
     let short : length (canon m) ≤ least_buffer = omega (arith, most, short_most c.args.answer c.requires.short) in
     let appends : Appends no_memory (canon m) c.self.inside.bytes c.encode_value-written.new.out c.encode_value-written.result =

@@ -11,7 +11,7 @@ use Rattle.rec_file.specs.Files.{records_from}
 use Rattle.dap_msg.specs.Canon.{canon}
 use Rattle.dap_msg.specs.declared.message.Message.{Message}
 use Rattle.dap_msg.specs.declared.message.Message.TheVariants.{Filedata}
-use Rattle.dap_accessed.specs.Sessions.{SessionValue, joined}
+use Rattle.dap_accessed.specs.Sessions.{SessionValue, with_files}
 use Rattle.dap_accessed.specs.Served.{Answered}
 use Rattle.dap_accessed.specs.Records.{filedata_of}
 use Rattle.dap_accessed.proofs.Fetching.{GoesOn, filedata_size, begins, goes_on, above_next, ends_there, stops_there}
@@ -47,7 +47,7 @@ returns-then-filedata_len-from-clause-place c =
     let file = c.file-file.ensures in
     let large : c.args.self.now.limit < length (canon (filedata_of (c.in-Some.number, c.in-Some.body.now))) = omega (arith, filedata_size (c.in-Some.number, c.in-Some.body.now), c.if-filedata_len-from.true, c.filedata_len.ensures, c.from.ensures, limit) in
     ap (phases.Stopped c.args.opened) c.at_number.ensures
-    ∙ sym (ap (λ (e : Effect). phase_at e.place (plain_memory c.args.self.now.kept)) (stops_there (scene_in (joined c.args.files.now c.args.self.now)) c.args.opened c.args.stream (any_value c.file-file.result.now) c.loop-number.next c.loop-number.answers
+    ∙ sym (ap (λ (e : Effect). phase_at e.place (plain_memory c.args.self.now.kept)) (stops_there (scene_in (with_files c.args.files.now c.args.self.now)) c.args.opened c.args.stream (any_value c.file-file.result.now) c.loop-number.next c.loop-number.answers
     (c.in-Some.number, c.in-Some.body.now) (records_from (any_value c.file-file.result.now).records (c.in-Some.number + 1)) file c.loop-number.invariant c.in-Some.ensures.some (lt-leb _ _ large)))
 
 pub returns-then-filedata_len-from-clause-answers : goal.returns-then-filedata_len-from-clause-answers
@@ -57,7 +57,7 @@ returns-then-filedata_len-from-clause-answers c =
     let large : c.args.self.now.limit < length (canon (filedata_of (c.in-Some.number, c.in-Some.body.now))) = omega (arith, filedata_size (c.in-Some.number, c.in-Some.body.now), c.if-filedata_len-from.true, c.filedata_len.ensures, c.from.ensures, limit) in
     let given = c.loop-number.invariant.given in
     subst (λ (e : Effect). Answered c.args.self.now.limit e.answers c.append.new.answers)
-    (sym (stops_there (scene_in (joined c.args.files.now c.args.self.now)) c.args.opened c.args.stream (any_value c.file-file.result.now) c.loop-number.next c.loop-number.answers
+    (sym (stops_there (scene_in (with_files c.args.files.now c.args.self.now)) c.args.opened c.args.stream (any_value c.file-file.result.now) c.loop-number.next c.loop-number.answers
     (c.in-Some.number, c.in-Some.body.now) (records_from (any_value c.file-file.result.now).records (c.in-Some.number + 1)) file c.loop-number.invariant c.in-Some.ensures.some (lt-leb _ _ large)))
     (subst (λ (l : ℕ). Answered l (map filedata_of given ++ too_large ∷ []) c.append.new.answers) limit
     (subst (λ (m : Message). Answered c.self.inside.limit (map filedata_of given ++ m ∷ []) c.append.new.answers) c.too_large.ensures.message (c.in_ok-append.ensures (map filedata_of given) (subst (λ (l : ℕ). Answered l (map filedata_of given) c.loop-number.answers) (sym limit) c.loop-number.invariant.answered))))
@@ -66,7 +66,7 @@ pub returns-clause-place : goal.returns-clause-place
 returns-clause-place c =
     let file = c.file-file.ensures in
     ap (phases.Connected c.args.opened) c.at_number-2.ensures
-    ∙ sym (ap (λ (e : Effect). phase_at e.place (plain_memory c.args.self.now.kept)) (ends_there (scene_in (joined c.args.files.now c.args.self.now)) c.args.opened c.args.stream (any_value c.file-file.result.now) c.loop-number.next c.loop-number.answers
+    ∙ sym (ap (λ (e : Effect). phase_at e.place (plain_memory c.args.self.now.kept)) (ends_there (scene_in (with_files c.args.files.now c.args.self.now)) c.args.opened c.args.stream (any_value c.file-file.result.now) c.loop-number.next c.loop-number.answers
     file c.loop-number.invariant c.in_default.ensures.none))
 
 pub returns-clause-answers : goal.returns-clause-answers
@@ -75,7 +75,7 @@ returns-clause-answers c =
     let file = c.file-file.ensures in
     let given = c.loop-number.invariant.given in
     subst (λ (e : Effect). Answered c.args.self.now.limit e.answers c.append-2.new.answers)
-    (sym (ends_there (scene_in (joined c.args.files.now c.args.self.now)) c.args.opened c.args.stream (any_value c.file-file.result.now) c.loop-number.next c.loop-number.answers
+    (sym (ends_there (scene_in (with_files c.args.files.now c.args.self.now)) c.args.opened c.args.stream (any_value c.file-file.result.now) c.loop-number.next c.loop-number.answers
     file c.loop-number.invariant c.in_default.ensures.none))
     (subst (λ (l : ℕ). Answered l (map filedata_of given ++ bare_status codes.stscode.end_of_file ∷ []) c.append-2.new.answers) limit
     (c.in_ok-append-3.ensures (map filedata_of given) (subst (λ (l : ℕ). Answered l (map filedata_of given) c.loop-number.answers) (sym limit) c.loop-number.invariant.answered)))

@@ -4,7 +4,7 @@ use Rattle.dap_msg.specs.declared.message.Message.{Message}
 use Rattle.dap_msg.proofs.ForCallers.{item_fits}
 use Rattle.dap_accessed.specs.Present.{Present}
 use Rattle.dap_accessed.specs.Served.{Answered}
-use Rattle.dap_accessed.specs.Sessions.{joined, session_of}
+use Rattle.dap_accessed.specs.Sessions.{with_files, session_of}
 use Rattle.dap_accessed.proofs.StepIs.{answers-in, in-more, same-own, same-setup}
 use Rattle.dap_accessed.proofs.Silent.{silent-in}
 use Rattle.dap_accessed.proofs.session.Session.serve_item.Goals as goal
@@ -18,8 +18,8 @@ answer_item-requires-clause-fits c = item_fits c.args.item c.requires.spelled
 
 pub returns-clause-serves : goal.returns-clause-serves
 returns-clause-serves c =
-    let old = joined c.args.files.now c.args.self.now in
-    let new = joined c.answer_item.new.files c.answer_item.new.self in
+    let old = with_files c.args.files.now c.args.self.now in
+    let new = with_files c.answer_item.new.files c.answer_item.new.self in
     let moves = c.in_ok-answers.ensures.ok in
     record {
       stands = λ s h. in-more old new c.args.item s moves.present h;
@@ -36,4 +36,4 @@ returns-in_err-answers-clause-no_memory c =
 
 pub returns-in_err-answers-clause-unrefused : goal.returns-in_err-answers-clause-unrefused
 returns-in_err-answers-clause-unrefused c = λ s h none.
-    (let taken = c.in_err-answers.ensures.silent (silent-in (joined c.args.files.now c.args.self.now) s c.args.item h none) in cc)
+    (let taken = c.in_err-answers.ensures.silent (silent-in (with_files c.args.files.now c.args.self.now) s c.args.item h none) in cc)

@@ -2,14 +2,14 @@ use Rattle.std.proofs.Common.{refl, subst, sym}
 use Rattle.std.specs.Prelude.{Ok}
 use Rattle.dap_msg.specs.Blocked.{bodies}
 use Rattle.dap_end.specs.Turns.{DidAll, WentOn}
-use Rattle.dap_end.specs.Hearing.{asks}
+use Rattle.dap_end.specs.Hearing.{hears}
 use Rattle.dap_end.specs.Inner.AskingInside.{asking_view}
 use Rattle.dap_end.proofs.Turning.{went_by}
 use Rattle.dap_end.proofs.asking.AskingEnd.go_on.Goals as goal
 
 pub returns-clause-went : goal.returns-clause-went
 returns-clause-went c =
-    let end = asks c.args.reports.now.items c.hear_all.new.reports.items in
+    let end = hears c.args.reports.now.items c.hear_all.new.reports.items in
     let old = c.args.self.now in
     let heard = asking_view c.self.inside in
     let hears = subst (λ v. DidAll end old v (Ok tt)) (sym c.self.view_is) c.in_ok-hear_all.ensures.all in

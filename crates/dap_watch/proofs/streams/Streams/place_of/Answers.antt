@@ -2,7 +2,7 @@ use Rattle.std.proofs.Common.{rules, ◌≡◌, ◌≤◌, ◌<◌, ◌+◌, ◌
 use Rattle.std.specs.List.{IsDistinct, list_any}
 use Rattle.indexmap.specs.IndexSet.{insert_key}
 use Rattle.dap_follow.specs.Streams.{is_same}
-use Rattle.dap_watch.specs.Inner.Segments.{HasAt}
+use Rattle.dap_follow.specs.Segments.{HasStreamAt}
 use Rattle.dap_follow.specs.declared.streams.Stream.{Stream}
 use Rattle.dap_follow.proofs.ForCallers.{eq_is, same_at}
 use Rattle.dap_watch.proofs.StayLemmas.{not_true}
@@ -40,7 +40,7 @@ returns-clause-indexed c = λ same.
     let fresh : is_new ≡ true = elim c.else-not-is_new.branch [
       | else-not-is_new-via-then-not-is_new+else-index-len w ↦
           (let any : list_any (is_same stream) old ≡ true = not_false (list_any (is_same stream) old) (sym added ∙ w.if-not-is_new.true) in
-          let at : HasAt stream c.in_ok-index.index new = same_at stream c.in_ok-index.index new facts.stored in
+          let at : HasStreamAt stream c.in_ok-index.index new = same_at stream c.in_ok-index.index new facts.stored in
           let below : c.in_ok-index.index < length old = subst (λ (l : List Stream). c.in_ok-index.index < length l) (key_known stream old new keys any) (in_range new c.in_ok-index.index at.0 at.1) in
           let beyond : length places ≤ c.in_ok-index.index = search rules in
           absurd (omega (arith, below, beyond, same)))
@@ -52,6 +52,6 @@ returns-clause-indexed c = λ same.
     record {
       small = omega arith;
       distinct = subst (λ (e : Stream → Stream → Bool). IsDistinct e new) eq_is facts.unique;
-      has = subst (λ (l : List Stream). HasAt stream (c.len-2.result - 1) l) (sym key) (stands_last stream old (c.len-2.result - 1) (omega (arith, size, same)));
+      has = subst (λ (l : List Stream). HasStreamAt stream (c.len-2.result - 1) l) (sym key) (stands_last stream old (c.len-2.result - 1) (omega (arith, size, same)));
       case = inr (any, key, c.new.result, c.in_ok-push.ensures.items, c.new.ensures.highest, c.new.ensures.kept);
     }

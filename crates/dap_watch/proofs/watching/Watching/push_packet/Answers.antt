@@ -4,7 +4,7 @@ use Rattle.dap_listing.specs.Captured.{seen_value}
 use Rattle.dap_listing.specs.Packets.{Seen}
 use Rattle.dap_follow.specs.Streams.{came_as}
 use Rattle.dap_follow.specs.Inner.Keeping.{stream_of}
-use Rattle.dap_watch.specs.Inner.Watching.{Tells}
+use Rattle.dap_watch.specs.Inner.Watching.{TellsPacket}
 use Rattle.dap_watch.proofs.GrowLemmas.{keeps_aside}
 use Rattle.dap_watch.proofs.WatchLemmas.{tells_aside, watches_more}
 use Rattle.dap_watch.proofs.watching.Watching.push_packet.Goals as goal
@@ -25,7 +25,7 @@ returns-in-Ok-Segment c =
       λ words frames captured written framed w.
           watches_more words frames captured written old c.push_segment.new.self way c.args.digits.now seen c.push_segment.new.text.items c.push_packet_line.new.text.items old.streams framed w c.requires.spelled
           c.read_packet-seen.ensures.seen c.push_segment.ensures.words c.push_segment.ensures.packets most refl line
-          (λ packets ordered few keeps. subst (λ (s : Seen). Tells old.in_words packets (way, s) ordered c.push_segment.new.self.streams c.push_packet_line.new.text.items c.push_segment.new.text.items) (sym (ap seen_value whole))
+          (λ packets ordered few keeps. subst (λ (s : Seen). TellsPacket old.in_words packets (way, s) ordered c.push_segment.new.self.streams c.push_packet_line.new.text.items c.push_segment.new.text.items) (sym (ap seen_value whole))
           (told packets ordered few keeps)),
     ))
     c.push_segment.ensures.told

@@ -1,7 +1,7 @@
 use Rattle.std.proofs.Common.{List, ℕ, sym, subst, Option}
 use Rattle.std.proofs.lemmas.Result.{on_ok_weaker}
-use Rattle.dap_watch.specs.Inner.Segments.{segment_packet}
-use Rattle.dap_watch.specs.Inner.Kept.{IsWhole}
+use Rattle.dap_follow.specs.Segments.{captured_segment}
+use Rattle.dap_watch.specs.Inner.Kept.{IsWholeMessage}
 use Rattle.dap_watch.specs.Inner.Streams.{Grows}
 use Rattle.dap_watch.specs.declared.places.Whole.{Whole}
 use Rattle.dap_watch.proofs.WatchLemmas.{tells_message}
@@ -9,10 +9,10 @@ use Rattle.dap_watch.proofs.watching.Watching.push_segment.Goals as goal
 
 pub returns-clause-told : goal.returns-clause-told
 returns-clause-told c =
-    let x = segment_packet c.args.way c.args.segment.now in
+    let x = captured_segment c.args.way c.args.segment.now in
     on_ok_weaker c.push_whole.result
     (λ said packets ordered few k.
     tells_message c.args.self.now.in_words packets x ordered c.add.new.self c.add.new.digits.items c.in-Some.whole c.args.text.now.items c.push_whole.new.text.items
     (subst (λ (f : Option Whole). Grows packets x ordered c.add.new.self c.add.new.digits.items f) c.in-Some.is (c.in_ok-whole.ensures.grows packets ordered few k))
-    (λ m whole. said m (subst (λ (l : List ℕ). IsWhole l c.in-Some.whole m) (sym c.deref.ensures.value) whole)))
+    (λ m whole. said m (subst (λ (l : List ℕ). IsWholeMessage l c.in-Some.whole m) (sym c.deref.ensures.value) whole)))
     c.push_whole.ensures

@@ -3,11 +3,11 @@ use Rattle.dap_events.specs.declared.event.End.{End}
 use Rattle.dap_events.specs.declared.event.Event.TheVariants as event
 use Rattle.dap_world.specs.Machine.{State, Steps, end_of}
 use Rattle.dap_world.specs.Settling.{unacked}
-use Rattle.dap_world.proofs.Others.{refused_same}
+use Rattle.dap_world.proofs.Steps.Others.{refused_same}
 use Rattle.dap_world.specs.Runs.{Went}
 use Rattle.dap_world.specs.Wires.{sending_of}
-use Rattle.dap_world.proofs.Settles.{acknowledged_all, ack_unacked, back_refused, ack_refused, wire_length}
-use Rattle.dap_world.proofs.Resting.{rest_ack, rest_both, rest_deliver}
+use Rattle.dap_world.proofs.Stretch.Settles.{acknowledged_all, ack_unacked, back_refused, ack_refused, wire_length}
+use Rattle.dap_world.proofs.Stretch.Resting.{rest_ack, rest_both, rest_deliver}
 use Rattle.dap_world.proofs.world.World.acknowledge.Goals as goal
 
 pub returns-in-Ok-step-clause-ok : goal.returns-in-Ok-step-clause-ok

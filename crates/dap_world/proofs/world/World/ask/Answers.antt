@@ -1,7 +1,7 @@
 use Rattle.std.proofs.Common.{subst}
 use Rattle.dap_world.specs.Machine.{State}
 use Rattle.dap_world.specs.Headline.{HeadlineOf}
-use Rattle.dap_world.proofs.Kept.{headline_of}
+use Rattle.dap_world.proofs.Headline.Kept.{headline_of}
 use Rattle.dap_world.proofs.world.World.ask.Goals as goal
 
 pub returns-clause-headline : goal.returns-clause-headline

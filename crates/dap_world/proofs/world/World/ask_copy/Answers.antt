@@ -1,5 +1,5 @@
 use Rattle.dap_world.specs.Inner.WorldView.{parts_of}
-use Rattle.dap_world.proofs.AskingOne.{asked_done}
+use Rattle.dap_world.proofs.Steps.AskingOne.{asked_done}
 use Rattle.dap_world.proofs.world.World.ask_copy.Goals as goal
 
 pub invariant_of-self : goal.invariant_of-self

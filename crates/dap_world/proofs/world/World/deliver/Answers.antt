@@ -2,7 +2,7 @@ use Rattle.std.proofs.Common.{List, subst}
 use Rattle.dap_world.specs.declared.side.Wired.{Wired}
 use Rattle.dap_world.specs.Inner.Ways.{Delivery}
 use Rattle.dap_world.specs.Inner.WorldView.{parts_of}
-use Rattle.dap_world.proofs.Came.{delivered_a, delivered_b}
+use Rattle.dap_world.proofs.Steps.Came.{delivered_a, delivered_b}
 use Rattle.dap_world.proofs.world.World.deliver.Goals as goal
 
 pub invariant_of-self : goal.invariant_of-self

@@ -3,11 +3,11 @@ use Rattle.dap_events.specs.declared.event.End.{End}
 use Rattle.dap_events.specs.declared.event.Event.TheVariants as event
 use Rattle.dap_world.specs.Machine.{State, Steps}
 use Rattle.dap_world.specs.Settling.{unacked}
-use Rattle.dap_world.proofs.Others.{refused_same}
+use Rattle.dap_world.proofs.Steps.Others.{refused_same}
 use Rattle.dap_world.specs.Runs.{Went}
 use Rattle.dap_world.specs.Inner.Settling.{AllCame}
-use Rattle.dap_world.proofs.Settles.{came_more, came_refused, came_unacked}
-use Rattle.dap_world.proofs.Resting.{rest_both, rest_deliver}
+use Rattle.dap_world.proofs.Stretch.Settles.{came_more, came_refused, came_unacked}
+use Rattle.dap_world.proofs.Stretch.Resting.{rest_both, rest_deliver}
 use Rattle.dap_world.proofs.world.World.deliver_all.Goals as goal
 
 pub loop-j-preserved : goal.loop-j-preserved

@@ -1,4 +1,4 @@
-use Rattle.dap_world.proofs.Kept.{headline_of}
+use Rattle.dap_world.proofs.Headline.Kept.{headline_of}
 use Rattle.dap_world.proofs.world.World.direct.Goals as goal
 
 pub returns-clause-headline : goal.returns-clause-headline

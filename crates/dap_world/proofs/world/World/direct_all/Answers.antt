@@ -1,8 +1,8 @@
 use Rattle.std.proofs.Common.{◌≡◌, sym, ap, ◌∙◌, Some, refl, arith, slice_get}
 use Rattle.std.proofs.lemmas.Option.{slice_get-get_or}
 use Rattle.dap_accessing.specs.Request.{Request}
-use Rattle.dap_world.proofs.Exhausting.{quiet_empty}
-use Rattle.dap_world.proofs.Directing.{fresh_done, ask_stops, finish_stops, done_more, runs_none, runs_asked, runs_refused, runs_to, none_there}
+use Rattle.dap_world.proofs.Stretch.Exhausting.{quiet_empty}
+use Rattle.dap_world.proofs.Stretch.Directing.{fresh_done, ask_stops, finish_stops, done_more, runs_none, runs_asked, runs_refused, runs_to, none_there}
 use Rattle.dap_world.proofs.world.World.direct_all.Goals as goal
 
 pub loop-place-init : goal.loop-place-init

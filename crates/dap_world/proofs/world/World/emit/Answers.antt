@@ -1,6 +1,6 @@
 use Rattle.dap_events.specs.declared.event.End.TheVariants.{A, B}
 use Rattle.dap_world.specs.Inner.WorldView.{parts_of}
-use Rattle.dap_world.proofs.Wrote.{emitted_a, emitted_b, is_running}
+use Rattle.dap_world.proofs.Steps.Wrote.{emitted_a, emitted_b, is_running}
 use Rattle.dap_world.proofs.world.World.emit.Goals as goal
 
 pub emit_a-requires : goal.emit_a-requires

@@ -4,9 +4,9 @@ use Rattle.dap_accessing.specs.Told.{due_after, Wrong}
 use Rattle.dap_world.specs.Machine.{State, answers_read}
 use Rattle.dap_world.specs.Inner.WorldView.{parts_of}
 use Rattle.dap_world.specs.Inner.Settling.{IsOneDue, IsQuiet}
-use Rattle.dap_world.proofs.Exhausting.{quiet_parts}
-use Rattle.dap_world.proofs.Few.{few_served, one_due, in_place}
-use Rattle.dap_world.proofs.ReadingOne.{few_read}
+use Rattle.dap_world.proofs.Stretch.Exhausting.{quiet_parts}
+use Rattle.dap_world.proofs.Stretch.Few.{few_served, one_due, in_place}
+use Rattle.dap_world.proofs.Steps.ReadingOne.{few_read}
 use Rattle.dap_world.proofs.world.World.few.Goals as goal
 
 pub returns-clause-served : goal.returns-clause-served

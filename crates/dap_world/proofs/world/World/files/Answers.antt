@@ -2,7 +2,7 @@ use Rattle.std.proofs.Common.{◌∙◌, subst}
 use Rattle.dap_world.specs.Machine.{State}
 use Rattle.dap_world.specs.Headline.{HeadlineOf}
 use Rattle.dap_world.specs.Inner.WorldView.{parts_of}
-use Rattle.dap_world.proofs.Kept.{files_are, headline_of}
+use Rattle.dap_world.proofs.Headline.Kept.{files_are, headline_of}
 use Rattle.dap_world.proofs.world.World.files.Goals as goal
 
 pub returns-clause-files : goal.returns-clause-files

@@ -1,10 +1,10 @@
 use Rattle.std.proofs.Common.{◌+◌, ◌∙◌, subst, sym}
 use Rattle.dap_world.specs.Settling.{IsFinished}
-use Rattle.dap_world.proofs.Exhausting.{memory, quiet_enough, quiet_read}
-use Rattle.dap_world.proofs.Finishes.{finished, ran_three, still_settled, still_sent_from, still_four, all_served, are_empty, unread}
-use Rattle.dap_world.proofs.Onward.{told_same}
-use Rattle.dap_world.proofs.Settles.{ran_both}
-use Rattle.dap_world.proofs.Untold.{untold}
+use Rattle.dap_world.proofs.Stretch.Exhausting.{memory, quiet_enough, quiet_read}
+use Rattle.dap_world.proofs.Stretch.Finishes.{finished, ran_three, still_settled, still_sent_from, still_four, all_served, are_empty, unread}
+use Rattle.dap_world.proofs.Stretch.Onward.{told_same}
+use Rattle.dap_world.proofs.Stretch.Settles.{ran_both}
+use Rattle.dap_world.proofs.Stretch.Untold.{untold}
 use Rattle.dap_world.proofs.world.World.finish_all.Goals as goal
 
 pub returns-in-Err-clause-err : goal.returns-in-Err-clause-err

@@ -1,7 +1,7 @@
 use Rattle.std.proofs.Common.{sym, ap, ◌∙◌, Some}
 use Rattle.std.proofs.lemmas.Option.{slice_get-get_or}
 use Rattle.dap_events.specs.declared.event.Event.{Event}
-use Rattle.dap_world.proofs.Others.{runs_more, stops}
+use Rattle.dap_world.proofs.Steps.Others.{runs_more, stops}
 use Rattle.dap_world.proofs.world.World.go.Goals as goal
 
 pub loop-i-preserved : goal.loop-i-preserved

@@ -1,6 +1,6 @@
 use Rattle.dap_events.specs.declared.event.End.TheVariants.{A, B}
 use Rattle.dap_world.specs.Inner.WorldView.{parts_of}
-use Rattle.dap_world.proofs.Wires.{shown_link, came_partial, came_inbox}
+use Rattle.dap_world.proofs.Steps.Wires.{shown_link, came_partial, came_inbox}
 use Rattle.dap_world.proofs.world.World.link.Goals as goal
 
 pub returns-in-A-clause-way : goal.returns-in-A-clause-way

@@ -2,7 +2,7 @@ use Rattle.std.proofs.Common.{◌≡◌, ◌∙◌, sym, subst, false, IsTrue}
 use Rattle.nsp_link.specs.Link.{LinkValue, may_send}
 use Rattle.dap_events.specs.declared.event.End.TheVariants.{A, B}
 use Rattle.dap_world.specs.Inner.WorldView.{parts_of}
-use Rattle.dap_world.proofs.Wrote.{can, cannot}
+use Rattle.dap_world.proofs.Steps.Wrote.{can, cannot}
 use Rattle.dap_world.proofs.world.World.may_emit.Goals as goal
 
 pub returns-in-A : goal.returns-in-A

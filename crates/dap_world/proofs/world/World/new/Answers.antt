@@ -4,8 +4,8 @@ use Rattle.nsp_link.specs.Link.{IsSetup}
 use Rattle.dap_msg.specs.Blocked.{bodies}
 use Rattle.dap_end.specs.Ports.{new_port}
 use Rattle.dap_events.specs.declared.event.End.TheVariants.{A}
-use Rattle.dap_world.proofs.Kept.{headline_of}
-use Rattle.dap_world.proofs.New.{new_sound, world_setup}
+use Rattle.dap_world.proofs.Headline.Kept.{headline_of}
+use Rattle.dap_world.proofs.Steps.New.{new_sound, world_setup}
 use Rattle.dap_world.proofs.world.World.new.Goals as goal
 
 pub invariant_of-result : goal.invariant_of-result

@@ -1,9 +1,9 @@
 use Rattle.dap_events.specs.declared.event.End.TheVariants.{A, B}
 use Rattle.dap_msg.specs.Blocked.{bodies}
 use Rattle.dap_world.specs.Inner.WorldView.{parts_of}
-use Rattle.dap_world.proofs.Wrote.{is_running}
-use Rattle.dap_world.proofs.Growing.{few_posted}
-use Rattle.dap_world.proofs.Posted.{post_a, post_b}
+use Rattle.dap_world.proofs.Steps.Wrote.{is_running}
+use Rattle.dap_world.proofs.Steps.Growing.{few_posted}
+use Rattle.dap_world.proofs.Steps.Posted.{post_a, post_b}
 use Rattle.dap_world.proofs.world.World.post.Goals as goal
 
 pub post_a-requires : goal.post_a-requires

@@ -4,9 +4,9 @@ use Rattle.dap_events.specs.declared.event.Event.TheVariants as event
 use Rattle.dap_events.specs.declared.event.Step.{Step}
 use Rattle.dap_events.specs.declared.event.WorldFault.{WorldFault}
 use Rattle.dap_world.specs.Runs.{Went}
-use Rattle.dap_world.proofs.Exhausting.{post_fault}
-use Rattle.dap_world.proofs.Others.{refused_same}
-use Rattle.dap_world.proofs.Posting.{posted_one, posted_none, post_refused}
+use Rattle.dap_world.proofs.Stretch.Exhausting.{post_fault}
+use Rattle.dap_world.proofs.Steps.Others.{refused_same}
+use Rattle.dap_world.proofs.Stretch.Posting.{posted_one, posted_none, post_refused}
 use Rattle.dap_world.proofs.world.World.post_waiting.Goals as goal
 
 pub returns-in-Ok-clause-ok : goal.returns-in-Ok-clause-ok

@@ -2,7 +2,7 @@ use Rattle.std.proofs.Common.{List, arith, refl, subst}
 use Rattle.dap_accessing.specs.declared.report.Report.{Report}
 use Rattle.dap_world.specs.Inner.Sides.{KeptSo}
 use Rattle.dap_world.specs.Inner.WorldView.{parts_of}
-use Rattle.dap_world.proofs.ReadingOne.{few_read, not_read, read_step, reads_later, reads_nothing}
+use Rattle.dap_world.proofs.Steps.ReadingOne.{few_read, not_read, read_step, reads_later, reads_nothing}
 use Rattle.dap_world.proofs.world.World.read.Goals as goal
 
 pub returns-then-not-may_read : goal.returns-then-not-may_read

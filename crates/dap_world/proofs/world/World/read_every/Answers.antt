@@ -4,7 +4,7 @@ use Rattle.dap_events.specs.declared.event.Event.TheVariants as event
 use Rattle.dap_events.specs.declared.event.Step.{Step}
 use Rattle.dap_events.specs.declared.event.WorldFault.{WorldFault}
 use Rattle.dap_world.specs.Runs.{Went}
-use Rattle.dap_world.proofs.Emptying.{read_more, fewer_left, read_ends, read_refused}
+use Rattle.dap_world.proofs.Stretch.Emptying.{read_more, fewer_left, read_ends, read_refused}
 use Rattle.dap_world.proofs.world.World.read_every.Goals as goal
 
 pub answers-preserved : goal.answers-preserved

@@ -2,7 +2,7 @@ use Rattle.std.proofs.Common.{◌-◌, ℕ, length}
 use Rattle.dap_events.specs.declared.event.End.TheVariants.{A}
 use Rattle.dap_world.specs.Machine.{arrived_at}
 use Rattle.dap_world.specs.Inner.Worlds.{IsWorld}
-use Rattle.dap_world.proofs.Emptying.{ReadSome}
+use Rattle.dap_world.proofs.Stretch.Emptying.{ReadSome}
 use Rattle.dap_world.proofs.world.World.read_every.Given as goal
 
 abbrev pub invariant-answers : goal.invariant-answers

@@ -1,6 +1,6 @@
 use Rattle.dap_events.specs.declared.event.End.TheVariants.{A, B}
 use Rattle.dap_world.specs.Inner.WorldView.{parts_of}
-use Rattle.dap_world.proofs.Wrote.{resent}
+use Rattle.dap_world.proofs.Steps.Wrote.{resent}
 use Rattle.dap_world.proofs.world.World.resend.Goals as goal
 
 pub invariant_of-self : goal.invariant_of-self

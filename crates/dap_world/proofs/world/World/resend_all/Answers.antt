@@ -2,9 +2,9 @@ use Rattle.std.proofs.Common.{◌∙◌, ap, arith}
 use Rattle.dap_events.specs.declared.event.Event.TheVariants as event
 use Rattle.dap_world.specs.Machine.{State}
 use Rattle.dap_world.specs.Settling.{unacked}
-use Rattle.dap_world.proofs.Others.{refused_same}
-use Rattle.dap_world.proofs.Settles.{resent_more, resend_refused, same_unacked}
-use Rattle.dap_world.proofs.Resting.{rest_both, rest_resend}
+use Rattle.dap_world.proofs.Steps.Others.{refused_same}
+use Rattle.dap_world.proofs.Stretch.Settles.{resent_more, resend_refused, same_unacked}
+use Rattle.dap_world.proofs.Stretch.Resting.{rest_both, rest_resend}
 use Rattle.dap_world.proofs.world.World.resend_all.Goals as goal
 
 pub loop-place-preserved : goal.loop-place-preserved

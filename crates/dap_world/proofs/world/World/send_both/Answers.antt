@@ -1,8 +1,8 @@
 use Rattle.std.proofs.Common.{◌+◌}
-use Rattle.dap_world.proofs.Settles.{ran_both}
+use Rattle.dap_world.proofs.Stretch.Settles.{ran_both}
 use Rattle.dap_events.specs.declared.event.End.TheVariants.{A}
-use Rattle.dap_world.proofs.Posting.{still_other}
-use Rattle.dap_world.proofs.SentBoth.{sent_both, settled_b}
+use Rattle.dap_world.proofs.Stretch.Posting.{still_other}
+use Rattle.dap_world.proofs.Stretch.SentBoth.{sent_both, settled_b}
 use Rattle.dap_world.proofs.world.World.send_both.Goals as goal
 
 pub send_waiting-requires-clause-due : goal.send_waiting-requires-clause-due

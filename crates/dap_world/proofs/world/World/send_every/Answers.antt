@@ -1,6 +1,6 @@
 use Rattle.std.proofs.Common.{◌+◌, ◌*◌, arith}
-use Rattle.dap_world.proofs.Settles.{ran_both}
-use Rattle.dap_world.proofs.Bringing.{brought_more, could_emit, same_both}
+use Rattle.dap_world.proofs.Stretch.Settles.{ran_both}
+use Rattle.dap_world.proofs.Stretch.Bringing.{brought_more, could_emit, same_both}
 use Rattle.dap_world.proofs.world.World.send_every.Goals as goal
 
 pub segments-preserved : goal.segments-preserved

@@ -1,16 +1,16 @@
 use Rattle.std.proofs.Common.{◌+◌, Err, sym, ap, arith, subst, length}
 use Rattle.dap_events.specs.declared.event.End.{End}
 use Rattle.dap_events.specs.declared.event.Event.TheVariants as event
-use Rattle.dap_world.specs.Machine.{Steps, other}
+use Rattle.dap_world.specs.Machine.{Steps, other_end}
 use Rattle.dap_world.specs.Runs.{Went}
-use Rattle.dap_world.proofs.Settles.{wire_length, ran_one, ran_both}
-use Rattle.dap_world.proofs.Exhausting.{may_left}
-use Rattle.dap_world.proofs.Others.{refused_same}
+use Rattle.dap_world.proofs.Stretch.Settles.{wire_length, ran_one, ran_both}
+use Rattle.dap_world.proofs.Stretch.Exhausting.{may_left}
+use Rattle.dap_world.proofs.Steps.Others.{refused_same}
 use Rattle.dap_world.specs.Machine.{State}
 use Rattle.dap_world.specs.Settling.{IsEmpty, unacked}
-use Rattle.dap_world.proofs.Bringing.{deliver_unacked, emit_unacked, emit_refused, first_refused, arrived_all, brought_one}
-use Rattle.dap_world.proofs.Bringing.{same_both}
-use Rattle.dap_world.proofs.Resting.{same_emitted, rest_deliver}
+use Rattle.dap_world.proofs.Stretch.Bringing.{deliver_unacked, emit_unacked, emit_refused, first_refused, arrived_all, brought_one}
+use Rattle.dap_world.proofs.Stretch.Bringing.{same_both}
+use Rattle.dap_world.proofs.Stretch.Resting.{same_emitted, rest_deliver}
 use Rattle.dap_world.proofs.world.World.send_one.Goals as goal
 
 pub returns-in-Err-clause-err : goal.returns-in-Err-clause-err
@@ -47,7 +47,7 @@ returns-in-Err-acknowledge-clause-err c =
         2 + err.1.0,
         ran_both c.args.self.now c.step-2.new.self c.acknowledge.new.self 2 err.1.0
             (ran_both c.args.self.now c.step.new.self c.step-2.new.self 1 1 (ran_one c.args.self.now c.step.new.self (event.Emit c.args.end) c.in-Ok._step tt c.in-Ok.ensures.went)
-            (ran_one c.step.new.self c.step-2.new.self (event.Deliver (other c.args.end) (length c.wire-place.result.now)) c.in-Ok-step._step tt second)) err.1.1,
+            (ran_one c.step.new.self c.step-2.new.self (event.Deliver (other_end c.args.end) (length c.wire-place.result.now)) c.in-Ok-step._step tt second)) err.1.1,
       ),
     )
 

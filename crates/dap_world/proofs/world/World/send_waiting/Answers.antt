@@ -1,8 +1,8 @@
 use Rattle.std.proofs.Common.{◌+◌, ◌∙◌}
-use Rattle.dap_world.proofs.Settles.{ran_both}
-use Rattle.dap_world.proofs.Exhausting.{due_settled, memory}
-use Rattle.dap_world.proofs.Posting.{emptied, posted_read, posted_settled, sent_left, not_empty, waits_then}
-use Rattle.dap_world.proofs.Onward.{ran_none_is}
+use Rattle.dap_world.proofs.Stretch.Settles.{ran_both}
+use Rattle.dap_world.proofs.Stretch.Exhausting.{due_settled, memory}
+use Rattle.dap_world.proofs.Stretch.Posting.{emptied, posted_read, posted_settled, sent_left, not_empty, waits_then}
+use Rattle.dap_world.proofs.Stretch.Onward.{ran_none_is}
 use Rattle.dap_world.proofs.world.World.send_waiting.Goals as goal
 
 pub send_every-requires-clause-settled : goal.send_every-requires-clause-settled

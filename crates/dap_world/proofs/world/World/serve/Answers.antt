@@ -1,8 +1,8 @@
 use Rattle.dap_events.specs.declared.event.WorldFault.TheVariants.{NoMemory, NothingToDo}
 use Rattle.dap_world.specs.Inner.WorldView.{parts_of}
 use Rattle.std.proofs.Common.{arith}
-use Rattle.dap_world.proofs.Few.{few_served}
-use Rattle.dap_world.proofs.Serving.{served_step, not_served, serves_nothing, serves_later}
+use Rattle.dap_world.proofs.Stretch.Few.{few_served}
+use Rattle.dap_world.proofs.Steps.Serving.{served_step, not_served, serves_nothing, serves_later}
 use Rattle.dap_world.proofs.world.World.serve.Goals as goal
 
 pub invariant_of-self : goal.invariant_of-self

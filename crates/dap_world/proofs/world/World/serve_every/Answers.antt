@@ -7,8 +7,8 @@ use Rattle.dap_world.specs.Runs.{Went}
 use Rattle.dap_world.specs.Machine.{State, EndState}
 use Rattle.dap_world.specs.Inner.Settling.{Served, ServedEvery}
 use Rattle.dap_world.specs.Inner.Worlds.{IsWorld}
-use Rattle.dap_world.proofs.Settles.{ran_both}
-use Rattle.dap_world.proofs.ServingAll.{same_sent, serves_sent, nothing_left, served_none, served_more, served_one, served_due, served_every, serve_refused}
+use Rattle.dap_world.proofs.Stretch.Settles.{ran_both}
+use Rattle.dap_world.proofs.Stretch.ServingAll.{same_sent, serves_sent, nothing_left, served_none, served_more, served_one, served_due, served_every, serve_refused}
 use Rattle.dap_world.proofs.world.World.serve_every.Goals as goal
 
 pub messages-init : goal.messages-init

@@ -1,5 +1,5 @@
-use Rattle.dap_world.proofs.Kept.{headline_of}
-use Rattle.dap_world.proofs.Resting.{no_work}
+use Rattle.dap_world.proofs.Headline.Kept.{headline_of}
+use Rattle.dap_world.proofs.Stretch.Resting.{no_work}
 use Rattle.dap_world.proofs.world.World.settle.Goals as goal
 
 pub returns-clause-headline : goal.returns-clause-headline

@@ -1,8 +1,8 @@
 use Rattle.std.proofs.Common.{◌+◌, arith}
 use Rattle.dap_events.specs.declared.event.End.TheVariants.{A, B}
-use Rattle.dap_world.proofs.Settles.{ran_both}
-use Rattle.dap_world.proofs.Exhausting.{memory, unsettled}
-use Rattle.dap_world.proofs.Settled.{settled_both, settle_needs}
+use Rattle.dap_world.proofs.Stretch.Settles.{ran_both}
+use Rattle.dap_world.proofs.Stretch.Exhausting.{memory, unsettled}
+use Rattle.dap_world.proofs.Stretch.Settled.{settled_both, settle_needs}
 use Rattle.dap_world.proofs.world.World.settle_both.Goals as goal
 
 pub returns-in-Ok-settle_end-clause-ok : goal.returns-in-Ok-settle_end-clause-ok

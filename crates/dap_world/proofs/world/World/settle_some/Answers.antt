@@ -1,7 +1,7 @@
 use Rattle.std.proofs.Common.{◌≡◌, ◌+◌, ◌-◌, ◌∙◌, ℕ, arith, subst, length, refl}
 use Rattle.dap_world.specs.Settling.{RanBy}
-use Rattle.dap_world.proofs.Settles.{there_again, wire_grew, came_unacked, same_unacked, all_taken, wire_length, ran_both}
-use Rattle.dap_world.proofs.Resting.{rest_both}
+use Rattle.dap_world.proofs.Stretch.Settles.{there_again, wire_grew, came_unacked, same_unacked, all_taken, wire_length, ran_both}
+use Rattle.dap_world.proofs.Stretch.Resting.{rest_both}
 use Rattle.dap_world.proofs.world.World.settle_some.Goals as goal
 
 pub deliver_all-requires-clause-order : goal.deliver_all-requires-clause-order

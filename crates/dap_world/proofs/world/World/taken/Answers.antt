@@ -4,7 +4,7 @@ use Rattle.dap_msg.specs.Canon.{canon}
 use Rattle.dap_world.specs.Machine.{sent_by}
 use Rattle.dap_world.specs.Inner.WorldView.{parts_of}
 use Rattle.dap_world.specs.Inner.Parts.{state_of}
-use Rattle.dap_world.proofs.Kept.{served_there}
+use Rattle.dap_world.proofs.Headline.Kept.{served_there}
 use Rattle.dap_world.proofs.world.World.taken.Goals as goal
 
 pub slice_bounds-result-end : goal.slice_bounds-result-end

@@ -1,6 +1,6 @@
 use Rattle.dap_events.specs.declared.event.End.TheVariants.{A, B}
 use Rattle.dap_world.specs.Inner.WorldView.{parts_of}
-use Rattle.dap_world.proofs.Wires.{wire_of}
+use Rattle.dap_world.proofs.Steps.Wires.{wire_of}
 use Rattle.dap_world.proofs.world.World.wire.Goals as goal
 
 pub returns-in-A-clause-sendings : goal.returns-in-A-clause-sendings

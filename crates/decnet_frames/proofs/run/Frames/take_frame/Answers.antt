@@ -1,6 +1,6 @@
 use Rattle.std.proofs.Common.{◌≡◌, inl, inr, take, ◌++◌, ◌+◌, ℕ, List, ap, subst, ◌∙◌, Option}
 use Rattle.capture_file.specs.Files.{clamped}
-use Rattle.capture_file.specs.Meanings.{Record, record_of}
+use Rattle.capture_file.specs.Meanings.{Record, frame_record}
 use Rattle.capture_file.specs.Reading.{HasRead, given_in}
 use Rattle.capture_file.specs.declared.meaning.Given.{Given}
 use Rattle.decnet_frames.specs.Lines.{ends_after, record_packets, record_text, taken_with}
@@ -18,7 +18,7 @@ pub returns-in-Ok-push_frame-clause-listed : goal.returns-in-Ok-push_frame-claus
 returns-in-Ok-push_frame-clause-listed c = λ ends bytes written h.
     let kept = c.take.new.self.kept.items in
     let given = c.in-Some.given in
-    let r = record_of kept given in
+    let r = frame_record kept given in
     let came : List ℕ → Record = λ xs. record { time = given.time; is_ethernet = given.is_ethernet; bytes = xs } in
     let framed : came c.frame-frame.result.now ≡ r = ap came c.frame-frame.ensures in
     let read = subst (λ (x : Option Given). HasRead c.take.new.self (bytes ++ take c.in-Ok.step.taken c.args.piece.now) (h.records ++ given_in kept x)) c.in-Some.is

@@ -3,7 +3,7 @@ use Rattle.std.specs.Prelude.{slice_get}
 use Rattle.std.proofs.lemmas.Option.{slice_get_within}
 use Rattle.std.proofs.lemmas.List.{length-set}
 use Rattle.circular_buffer.proofs.Places.{slice_get-set_other}
-use Rattle.nsp_link.specs.Link.{LinkValue, Keeps}
+use Rattle.nsp_link.specs.Link.{LinkValue, KeepsEarly}
 use Rattle.nsp_link.specs.Inner.Pieces.{Held, lent_piece, held_from}
 use Rattle.nsp_link.specs.Receiving.{taking_in}
 use Rattle.nsp_link.specs.Inner.View.{link_view}
@@ -18,7 +18,7 @@ returns-in_err-payload-clause-err c =
     let at = is_free_read items c.args.place c.is_free.result c.is_free.ensures c.if-is_free.true in
     let v = link_view c.self.inside in
     let keeps = keeps_free v items refl c.args.place c.requires c.self.invariant.places at in
-    let now-keeps : Keeps c.args.self.now (c.args.self.now.coming.received + 1 + c.args.place) = subst (λ (w : LinkValue). Keeps w (w.coming.received + 1 + c.args.place)) c.self.view_is keeps in
+    let now-keeps : KeepsEarly c.args.self.now (c.args.self.now.coming.received + 1 + c.args.place) = subst (λ (w : LinkValue). KeepsEarly w (w.coming.received + 1 + c.args.place)) c.self.view_is keeps in
     if_err_and c.from_residual.result _ _ c.from_residual.ensures.1 (λ e is. (is, now-keeps, refl))
 
 pub fill-requires : goal.fill-requires

@@ -1,6 +1,6 @@
 use Rattle.std.proofs.Common.{◌≡◌, ◌+◌, ◌≤◌, ◌∙◌, [], ◌∷◌, List, length, drop, ap, arith, refl, subst, sym, Some, None, Option}
 use Rattle.std.specs.Prelude.{slice_get, unwrap_or}
-use Rattle.nsp_link.specs.Coming.{Coming, AllFit, RefusesAll}
+use Rattle.nsp_link.specs.Coming.{Coming, AllFitInOrder, RefusesAll}
 use Rattle.nsp_link.specs.Link.{LinkValue}
 use Rattle.nsp_link.specs.Inner.Pieces.{Held, lent_piece, held_from, leading, run_in, coming_of}
 use Rattle.nsp_link.specs.Receiving.{run, taking_in}
@@ -50,7 +50,7 @@ returns-clause-ok c =
     let v = link_view c.self.inside in
     let p = lent_piece c.args.piece.now in
     let fit = run_fit v c.self.inside.held.items refl c.self.invariant.free p v.setup.max_message c.in_ok-count.ensures.fit in
-    subst (λ (w : LinkValue). AllFit w.setup.max_message w.coming (run w p)) c.self.view_is fit
+    subst (λ (w : LinkValue). AllFitInOrder w.setup.max_message w.coming (run w p)) c.self.view_is fit
 
 pub returns-clause-taken : goal.returns-clause-taken
 returns-clause-taken c =

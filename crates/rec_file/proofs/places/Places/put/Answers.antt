@@ -1,6 +1,6 @@
 use Rattle.std.proofs.Common.{◌≡◌, Result, Ok, Err, IfOk, None, ap, sym, subst, ◌∙◌}
 use Rattle.std.specs.Prelude.{OnOk, OnErr}
-use Rattle.rec_file.specs.Inner.Places.{had_of, with_place}
+use Rattle.rec_file.specs.Inner.Places.{had_of, with_slot}
 use Rattle.rec_file.proofs.FileLaws.{wanted}
 use Rattle.rec_file.proofs.HeldLaws.{Holds, group-sorted, get-some, get-none, put-some, put-same, put-none, places-sorted}
 use Rattle.rec_file.proofs.places.Places.put.Goals as goal
@@ -87,7 +87,7 @@ returns-clause-ok c =
     let holds : Holds c.self.inside.groups.entries = record { sorted = c.self.invariant.0; are = c.self.invariant.1; have = c.self.invariant.2 } in
     let made = rw c.get_mut.follows.holds-at-none at c.in_ok-insert.ensures.entries in
     (put-none c.self.inside.groups.entries holds c.args.self.now c.self.view_is c.args.page c.in_ok-place.place c.push.new.self c.insert.new.self.entries (sym c.in_default.ensures.value) made (rw c.new-group.ensures.items at c.in_ok-push.ensures.items)).0
-    ∙ ap (λ place. with_place c.args.self.now c.args.page place) c.in_ok-place.ensures.place
+    ∙ ap (λ place. with_slot c.args.self.now c.args.page place) c.in_ok-place.ensures.place
 
 pub returns-in-Some-clause-wanted : goal.returns-in-Some-clause-wanted
 returns-in-Some-clause-wanted c =

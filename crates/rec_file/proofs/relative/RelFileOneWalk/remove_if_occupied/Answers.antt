@@ -4,8 +4,8 @@ use Rattle.slab.specs.Slab.{Slab, get, slab_len, with_value}
 use Rattle.rec_file.specs.declared.shapes.Shape.{Shape}
 use Rattle.rec_file.specs.Shapes.{is_seq}
 use Rattle.rec_file.specs.Files.{FileVal, IsFile, removed}
-use Rattle.rec_file.specs.Inner.Pages.{Cells, HaveOwnPlaces, cell_of, page_cell, pages_at}
-use Rattle.rec_file.specs.Inner.Places.{Clears, Emptied, place_of}
+use Rattle.rec_file.specs.Inner.Pages.{Cells, HaveOwnSlots, cell_of, page_cell, pages_at}
+use Rattle.rec_file.specs.Inner.Places.{Clears, HasEmptied, slot_of}
 use Rattle.rec_file.specs.Pages.{page_of}
 use Rattle.std.specs.FinMap as map
 use Rattle.rec_file.proofs.FileLaws.{IsFile-removed}
@@ -16,24 +16,24 @@ use Rattle.rec_file.proofs.PlacedLaws.{no-page, its-page, stands, page-written, 
 use Rattle.rec_file.proofs.relative.RelFileOneWalk.remove_if_occupied.Goals as goal
 
 module _ (s : Shape) (pages pages' : Slab Cells) (es es' : List (ℕ × ℕ)) (f : FileVal) (h : HoldsFile s (pages_at (get pages) es) f) (n : ℕ) (least : 1 ≤ n) where
-  its : (e : Emptied es pages (page_of n) (cell_of n)) → at (pages_at (get pages) es) (page_of n) ≡ Some e.cells
+  its : (e : HasEmptied es pages (page_of n) (cell_of n)) → at (pages_at (get pages) es) (page_of n) ≡ Some e.cells
   its e = its-page (get pages) es _ e.place e.cells (sym (lookup_is_at es _) ∙ e.has) e.there
 
   -- whether the number had a record
   occupied : (b : Bool) → Clears es es' pages pages' (page_of n) (cell_of n) b → b ≡ is_some (map.get f.records n)
   occupied true (e, left) = sym e.occupied ∙ ap is_some (here _ _ f h n e.cells least (its e))
-  occupied false (none, same, pages_same) = by (place_of es (page_of n)) refl none
+  occupied false (none, same, pages_same) = by (slot_of es (page_of n)) refl none
     where
-      of : (i : ℕ) (o : Option Cells) → place_of es (page_of n) ≡ Some i → get pages i ≡ o → page_cell o (cell_of n) ≡ None → false ≡ is_some (map.get f.records n)
+      of : (i : ℕ) (o : Option Cells) → slot_of es (page_of n) ≡ Some i → get pages i ≡ o → page_cell o (cell_of n) ≡ None → false ≡ is_some (map.get f.records n)
       of i None has there none = absurd (stands (get pages) es _ i h.all (sym (lookup_is_at es _) ∙ has) there)
       of i (Some cells) has there none = ap is_some (sym none ∙ here _ _ f h n cells least (its-page (get pages) es _ i cells (sym (lookup_is_at es _) ∙ has) there))
 
-      by : (o : Option ℕ) → place_of es (page_of n) ≡ o → IfSome o (λ i. page_cell (get pages i) (cell_of n) ≡ None) → false ≡ is_some (map.get f.records n)
+      by : (o : Option ℕ) → slot_of es (page_of n) ≡ o → IfSome o (λ i. page_cell (get pages i) (cell_of n) ≡ None) → false ≡ is_some (map.get f.records n)
       by None has none = ap is_some (absent _ _ f h n least (no-page (get pages) es _ (sym (lookup_is_at es _) ∙ has)))
       by (Some i) has none = of i (get pages i) has refl none
 
   -- the file without it
-  after : (own : HaveOwnPlaces es) (b : Bool) → Clears es es' pages pages' (page_of n) (cell_of n) b → HoldsFile s (pages_at (get pages') es') (cond b (removed f n) f)
+  after : (own : HaveOwnSlots es) (b : Bool) → Clears es es' pages pages' (page_of n) (cell_of n) b → HoldsFile s (pages_at (get pages') es') (cond b (removed f n) f)
   after own false (none, same, pages_same) =
       subst (λ p. HoldsFile s (pages_at (get p) es') f) (sym pages_same) (subst (λ l. HoldsFile s (pages_at (get pages) l) f) (sym same) h)
   after own true (e, inl stays) =
@@ -44,10 +44,10 @@ module _ (s : Shape) (pages pages' : Slab Cells) (es es' : List (ℕ × ℕ)) (f
       subst (λ ps. HoldsFile s ps (removed f n)) (sym (page-removed pages pages' es es' _ e.place e.cells _ own e.has e.there goes.free goes.places)) (drop_page _ _ f h n e.cells least (its e) goes.none)
 
   -- the pages that are left have places of their own
-  kept : HaveOwnPlaces es → slab_len pages ≡ length es → (b : Bool) → Clears es es' pages pages' (page_of n) (cell_of n) b → HaveOwnPlaces es' × (slab_len pages' ≡ length es')
-  kept own many false (none, same, pages_same) = (subst HaveOwnPlaces (sym same) own, ap slab_len pages_same ∙ many ∙ sym (ap length same))
+  kept : HaveOwnSlots es → slab_len pages ≡ length es → (b : Bool) → Clears es es' pages pages' (page_of n) (cell_of n) b → HaveOwnSlots es' × (slab_len pages' ≡ length es')
+  kept own many false (none, same, pages_same) = (subst HaveOwnSlots (sym same) own, ap slab_len pages_same ∙ many ∙ sym (ap length same))
   kept own many true (e, inl stays) =
-      (subst HaveOwnPlaces (sym stays.places) own, ap slab_len stays.written ∙ len-written pages e.place e.cells (set e.cells (cell_of n) None) e.there ∙ many ∙ sym (ap length stays.places))
+      (subst HaveOwnSlots (sym stays.places) own, ap slab_len stays.written ∙ len-written pages e.place e.cells (set e.cells (cell_of n) None) e.there ∙ many ∙ sym (ap length stays.places))
   kept own many true (e, inr goes) =
       let fewer = goes.fewer in
       let as_many = len-written pages e.place e.cells (set e.cells (cell_of n) None) e.there ∙ many in
@@ -67,13 +67,13 @@ pub returns-then-number-eq0-clause-occupied : goal.returns-then-number-eq0-claus
 returns-then-number-eq0-clause-occupied c = rw c.if-number-eq0.true (ap is_some (zero_is_none _ _ c.args.self.now (held c.self.inside.shape (pages_at (get c.self.inside.pages) c.self.inside.places) c.args.self.now c.self.view_is c.self.invariant.2 c.self.invariant.3)))
 
 pub clear-requires-clause-stands : goal.clear-requires-clause-stands
-clear-requires-clause-stands c = by (place_of c.self.inside.places c.page_of.result) refl
+clear-requires-clause-stands c = by (slot_of c.self.inside.places c.page_of.result) refl
   where
-    some : (i : ℕ) (o : Option Cells) → place_of c.self.inside.places c.page_of.result ≡ Some i → get c.self.inside.pages i ≡ o → IsSome o
+    some : (i : ℕ) (o : Option Cells) → slot_of c.self.inside.places c.page_of.result ≡ Some i → get c.self.inside.pages i ≡ o → IsSome o
     some i None has none = absurd (stands (get c.self.inside.pages) c.self.inside.places _ i c.self.invariant.3 (sym (lookup_is_at c.self.inside.places _) ∙ has) none)
     some i (Some cells) has there = refl
 
-    by : (o : Option ℕ) → place_of c.self.inside.places c.page_of.result ≡ o → IfSome o (λ i. IsSome (get c.self.inside.pages i))
+    by : (o : Option ℕ) → slot_of c.self.inside.places c.page_of.result ≡ o → IfSome o (λ i. IsSome (get c.self.inside.pages i))
     by None has = tt
     by (Some i) has = some i (get c.self.inside.pages i) has refl
 

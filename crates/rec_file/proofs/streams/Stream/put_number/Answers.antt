@@ -3,7 +3,7 @@ use Rattle.rec_file.proofs.RecordsLaws.{next_is_none}
 use Rattle.rec_file.proofs.streams.Stream.put_number.Goals.{in-Some, in-None, in-None-2}
 use Rattle.rec_file.proofs.streams.Stream.put_number.Goals as goal
 
--- behind the last record of a sequential file the number is free
+-- after the last record of a sequential file the number is free
 pub returns-clause-reply : goal.returns-clause-reply
 returns-clause-reply g c = elim c.match-key.branch [
   | in-Some w ↦ search rules

@@ -1,0 +1,21 @@
+-- Each call of an end, and each packet that comes, is a step of the machine.
+pub mod Directions
+pub mod Packets
+pub mod Ways
+pub mod Counting
+pub mod Put
+pub mod Wrote
+pub mod Arriving
+pub mod Came
+pub mod Posted
+pub mod Others
+pub mod Arrived
+pub mod Growing
+pub mod Serving
+pub mod ReadingOne
+pub mod AskingOne
+pub mod New
+pub mod Wires
+pub mod Naming
+pub mod Deciding
+pub mod Apart

@@ -1,0 +1,56 @@
+-- What a command over a whole input does.
+use Rattle.std.specs.Prelude.{◌≡◌, ◌≢◌, OnErr, ℕ, ◌+◌, ◌<◌, ◌≤◌, List, [], length, slice_get, Option, Some, IfSome, Result, Ok, Err, ◌⊎◌}
+use Rattle.std.specs.Io.KnownBytes.{Appends, Consumes, Keeps}
+use Rattle.linewise.specs.Talks.{longest}
+use Rattle.linewise.specs.Output.{WritesFront}
+use Rattle.linewise.specs.declared.fault.Outcome.{Outcome}
+use Rattle.linewise.specs.declared.fault.Outcome.TheVariants.{Good, Stopped}
+use Rattle.linewise.specs.declared.fault.CaptureFault.{CaptureFault}
+use Rattle.linewise.specs.declared.fault.CaptureFault.TheVariants.{BadLine, TooLarge, ReadFailed, WriteFailed, NoMemory}
+
+-- A prefix of the reader's known bytes is read: at most one byte more than an input may have (16,777,216).
+abbrev pub TakesWithinLimit : Option (List ℕ) → Option (List ℕ) → Type 0
+TakesWithinLimit old new = (taken : List ℕ) × Consumes old new taken × (length taken ≤ longest + 1)
+
+-- a prefix is read, no longer than an input may be
+abbrev pub TakesAnInput : Option (List ℕ) → Option (List ℕ) → Type 0
+TakesAnInput old new = (taken : List ℕ) × Consumes old new taken × (length taken ≤ longest)
+
+-- the input is within its limit, no line has a fault, and the text is as this says
+abbrev pub IsTextOf : List CaptureFault → (List ℕ → Type 0) → (input text : List ℕ) → Type 0
+IsTextOf faults IsText input text = (length input ≤ longest) × (faults ≡ []) × IsText text
+
+-- the input is within its limit, and this is the first fault of its lines
+abbrev pub HasLineFault : List CaptureFault → (input : List ℕ) → CaptureFault → Type 0
+HasLineFault faults input fault = (length input ≤ longest) × (slice_get faults 0 ≡ Some fault)
+
+-- What a command does with an input, by the faults of its lines and by the texts of each outcome. The text was
+-- written; or a line has a fault, or the input is too large, and nothing was written; or the writer failed, and a
+-- prefix of the text was written; or the reader failed or memory was refused, and nothing was written.
+abbrev pub Gives : List CaptureFault → (Outcome → List ℕ → Type 0) → List ℕ
+    → Option (List ℕ) → Option (List ℕ) → Result Outcome CaptureFault → Type 0
+Gives faults IsText input old new (Ok outcome) =
+    (text : List ℕ) × IsTextOf faults (IsText outcome) input text × Appends old new text
+Gives faults IsText input old new (Err (BadLine number)) =
+    HasLineFault faults input (BadLine number) × Keeps old new
+Gives faults IsText input old new (Err TooLarge) =
+    ((longest < length input) ⊎ HasLineFault faults input TooLarge) × Keeps old new
+Gives faults IsText input old new (Err WriteFailed) =
+    (outcome : Outcome) × (text : List ℕ) × IsTextOf faults (IsText outcome) input text × WritesFront old new text
+Gives faults IsText input old new (Err _) = Keeps old new
+
+-- After a fault nothing was written, unless the writer failed.
+abbrev pub KeepsUnwritten : Result Outcome CaptureFault → Option (List ℕ) → Option (List ℕ) → Type 0
+KeepsUnwritten result old new = OnErr result ((result ≢ Err WriteFailed) → Keeps old new)
+
+-- the exit status of an outcome
+abbrev pub status_of : Result Outcome CaptureFault → ℕ
+status_of (Ok Good) = 0
+status_of (Ok Stopped) = 1
+status_of (Err (BadLine number)) = 1
+status_of (Err TooLarge) = 1
+status_of (Err _) = 3
+
+-- the command does so with some outcome, and the exit status is that of the outcome
+abbrev pub HasStatus : (Result Outcome CaptureFault → Type 0) → ℕ → Type 0
+HasStatus Answers status = (outcome : Result Outcome CaptureFault) × Answers outcome × (status ≡ status_of outcome)

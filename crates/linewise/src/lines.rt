@@ -1,0 +1,96 @@
+//! Where lines end, and which say nothing.
+
+ghost use Rattle.std.specs.Prelude.{◌≡◌, ◌<◌, ◌-◌, ◌==◌, drop, length, MatchOption, IfSome, IfNone, [], ◌∷◌, true, false};
+ghost use Rattle.std.specs.List.{position};
+ghost use Rattle.std.specs.Io.BufRead.{strip_last};
+ghost use Rattle.std.specs.Str.Lines.{lines, strip_carriage_return};
+ghost use Rattle.linewise.specs.Cuts.{HasNoEnd, IsCut, IsEnd};
+ghost use Rattle.linewise.specs.Talks.{is_skipped as says_nothing};
+ghost use Rattle.linewise.specs.Inner.Kept.{without_end as ended};
+
+use memchr::memchr;
+
+/// Where a byte is first, or None where it is nowhere.
+#[tactic(auto, using(crate::proofs::PlaceLemmas::first_place))]
+pub fn find_byte(wanted: u8, bytes: &[u8]) -> Option<usize>
+    ensures { result ≡ position (λ byte. byte == wanted) bytes.now }
+{
+    memchr(wanted, bytes)
+}
+
+/// A line without the carriage return at its end, if it has one.
+fn without_carriage_return(line: &[u8]) -> &[u8]
+    ensures of_bytes { result.now ≡ strip_carriage_return line.now }
+    ensures of_reader { result.now ≡ strip_last 13 line.now }
+{
+    match line {
+        [front @ .., b'\r'] => front,
+        _ => line,
+    }
+}
+
+/// A line without its end.
+pub(crate) fn without_end(line: &[u8]) -> &[u8]
+    ensures { result.now ≡ ended line.now }
+{
+    match line {
+        [front @ .., b'\n'] => without_carriage_return(front),
+        _ => line,
+    }
+}
+
+/// Whether a line says nothing: it is empty, or begins with `#`. An end is given such a line only where its answers have no
+/// ending.
+pub fn is_skipped(line: &[u8]) -> bool
+    ensures { result ≡ says_nothing line.now }
+{
+    match line {
+        [] => true,
+        [first, ..] => *first == b'#',
+    }
+}
+
+/// The first line, without its end, and what is after it. A line ends with LF, or CR LF, or with the bytes.
+#[tactic(auto, using(crate::proofs::LineLemmas::first_line, crate::proofs::LineLemmas::last_line))]
+pub fn next_line(bytes: &[u8]) -> Option<(&[u8], &[u8])>
+    ensures first { MatchOption result (bytes.now ≡ [])
+        (λ cut. (lines bytes.now ≡ cut.0.now ∷ lines cut.1.now)
+        × (length cut.1.now < length bytes.now)) }
+    ensures end { IfSome result
+        (λ cut. cut.1.now ≡ drop (length bytes.now - length cut.1.now) bytes.now) }
+{
+    if bytes.is_empty() {
+        return None;
+    }
+    match find_byte(b'\n', bytes) {
+        None => Some((bytes, &[])),
+        Some(end) => Some((without_carriage_return(&bytes[..end]), &bytes[end + 1..])),
+    }
+}
+
+/// The first line that has its end, without that, and what is after it.
+#[tactic(auto, using(crate::proofs::LineLemmas::first_line, crate::proofs::LineLemmas::ended_first))]
+fn ended_line(bytes: &[u8]) -> Option<(&[u8], &[u8])>
+    ensures first { IfSome result (λ cut. IsCut false bytes.now cut.0.now cut.1.now
+        × (length cut.1.now < length bytes.now)) }
+    ensures end { IfSome result (λ cut. IsEnd bytes.now cut.1.now) }
+    ensures none { IfNone result (HasNoEnd bytes.now) }
+{
+    let end = find_byte(b'\n', bytes)?;
+    Some((without_carriage_return(&bytes[..end]), &bytes[end + 1..]))
+}
+
+/// The first line and what is after it, where the line has its end or the bytes are the last.
+pub fn cut_line(bytes: &[u8], is_last: bool) -> Option<(&[u8], &[u8])>
+    ensures first { IfSome result (λ cut. IsCut is_last bytes.now cut.0.now cut.1.now
+        × (length cut.1.now < length bytes.now)) }
+    ensures end { IfSome result (λ cut. IsEnd bytes.now cut.1.now) }
+    ensures none { IfNone result (HasNoEnd bytes.now) }
+    ensures last { IfNone result (is_last ≡ true → bytes.now ≡ []) }
+{
+    if is_last {
+        next_line(bytes)
+    } else {
+        ended_line(bytes)
+    }
+}
