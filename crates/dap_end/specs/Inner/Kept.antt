@@ -1,7 +1,8 @@
--- What is true of every port.
-use Rattle.std.specs.Prelude.{◌≤◌, ℕ, List, length, All}
+-- What is true of every port and of every end.
+use Rattle.std.specs.Prelude.{◌≡◌, ◌≤◌, ◌++◌, ℕ, List, length, All}
 use Rattle.dap_msg.specs.Items.{IsPlace}
 use Rattle.nsp_link.specs.Limits.{largest_limit}
+use Rattle.nsp_link.specs.Link.{LinkValue, SendsStill}
 use Rattle.dap_end.specs.Ports.{PortValue}
 use Rattle.dap_end.specs.Going.{oldest_message}
 
@@ -13,3 +14,15 @@ pub record IsPort (p : PortValue) : Type 0 where
   pub place : IsPlace p.place (oldest_message p.link.coming.inbox)
   -- no NSP message that waits is longer than an end may send
   pub short : AreMessages p.outbox
+
+-- a port, and what came on it as the state of the client or server needs it
+pub record IsSound {P : Type 0} (IsLeft : List (List ℕ) → P → Type 0) (p : PortValue) (state : P) : Type 0 where
+  pub port : IsPort p
+  pub left : IsLeft p.link.coming.inbox state
+
+-- more messages may have come on a link, and what it sends stays
+pub record Moves (old new : LinkValue) : Type 0 where
+  pub more : List (List ℕ)
+  pub inbox : new.coming.inbox ≡ old.coming.inbox ++ more
+  pub setup : new.setup ≡ old.setup
+  pub sends : SendsStill old new

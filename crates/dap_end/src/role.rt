@@ -1,0 +1,62 @@
+//! What an end does by itself: it serves, or it asks.
+
+ghost use Rattle.std.specs.Prelude.{◌≡◌, ◌<◌, ◌++◌, List, ℕ, true, length};
+ghost use Rattle.std.proofs.Common.{arith, length-append};
+ghost use Rattle.nsp_link.specs.Link.{LinkValue};
+ghost use Rattle.dap_end.specs.Ports.{EndValue};
+ghost use Rattle.dap_end.specs.Moved.{with_link};
+ghost use Rattle.dap_end.specs.Done.{Past, AskingPast};
+ghost use Rattle.dap_end.specs.Serving.{IsAfter};
+ghost use Rattle.dap_end.specs.Asking.{HasAsked};
+ghost use Rattle.dap_end.specs.Pasts.{Still};
+ghost use Rattle.dap_end.specs.Inner.Kept.{Moves};
+ghost use Rattle.dap_end.proofs.Roles.{server_still, client_still};
+
+use dap_accessed::Accessed;
+use dap_accessing::Accessing;
+
+/// What an end does by itself.
+pub trait Role {
+    /// Its history on a link.
+    ghost History: { Type 0 };
+
+    /// The end is as after this history.
+    ghost fits: { History → EndValue Self → Type 0 };
+
+    /// What is true of the NSP messages that came and aren't processed.
+    ghost is_left: { List (List ℕ) → Self → Type 0 };
+
+    /// It stays so where more come.
+    ghost left_more: { (inbox more : List (List ℕ)) (state : Self) → is_left inbox state
+        → is_left (inbox ++ more) state };
+
+    /// Each history stays one where the link moves alone.
+    ghost still_fits: { (v : EndValue Self) (link : LinkValue) → Moves v.port.link link
+        → Still fits v (record v { port = with_link v.port link }) };
+}
+
+impl Role for Accessed {
+    ghost History = { Past };
+
+    ghost fits = { IsAfter };
+
+    ghost is_left = { λ _ _. Unit {0} };
+
+    ghost left_more = { λ _ _ _ _. tt };
+
+    ghost still_fits = { server_still };
+}
+
+impl Role for Accessing {
+    ghost History = { AskingPast };
+
+    ghost fits = { HasAsked };
+
+    // The answer that failed it is left.
+    ghost is_left = { λ inbox state. state.failed ≡ true → 0 < length inbox };
+
+    ghost left_more = { λ inbox more state left failed.
+        (let some = left failed in omega (arith, length-append inbox more, some)) };
+
+    ghost still_fits = { client_still };
+}
