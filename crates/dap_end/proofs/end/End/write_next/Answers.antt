@@ -13,4 +13,4 @@ returns-clause-still g c =
     let n = c.write_next.ensures.sent.0 in
     rw (← c.self.view_is)
     (subst (λ (q : PortValue). Still g.R.Role.fits (end_with p state) (end_with q state)) (sym c.write_next.ensures.sent.1)
-    (g.met.R.Role.still_fits (end_with p state) (sent_more p n).link (sent p n)))
+    (g.R.Role.still_fits (end_with p state) (sent_more p n).link (sent p n)))
