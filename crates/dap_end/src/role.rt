@@ -10,7 +10,6 @@ ghost use Rattle.dap_end.specs.Serving.{IsAfter};
 ghost use Rattle.dap_end.specs.Asking.{HasAsked};
 ghost use Rattle.dap_end.specs.Pasts.{Still};
 ghost use Rattle.dap_end.specs.Inner.Kept.{Moves};
-ghost use Rattle.dap_end.proofs.Roles.{server_still, client_still};
 
 use dap_accessed::Accessed;
 use dap_accessing::Accessing;
@@ -44,7 +43,13 @@ impl Role for Accessed {
 
     ghost left_more = { λ _ _ _ _. tt };
 
-    ghost still_fits = { server_still };
+    ghost still_fits = { λ v link moves past h. record {
+      serving = h.serving;
+      gone = moves.gone past.given v.port.place past.items h.gone;
+      sends = moves.sends past.handed h.sends;
+      answers = h.answers;
+      fit = h.fit;
+    } };
 }
 
 impl Role for Accessing {
@@ -58,5 +63,13 @@ impl Role for Accessing {
     ghost left_more = { λ inbox more state left failed.
         (let some = left failed in omega (arith, length-append inbox more, some)) };
 
-    ghost still_fits = { client_still };
+    ghost still_fits = { λ v link moves past h. record {
+      asking = h.asking;
+      gone = moves.gone past.given v.port.place past.answers h.gone;
+      sends = moves.sends past.handed h.sends;
+      messages = h.messages;
+      waiting = h.waiting;
+      fit = h.fit;
+      full = h.full;
+    } };
 }

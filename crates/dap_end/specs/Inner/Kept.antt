@@ -1,10 +1,11 @@
 -- What is true of every port and of every end.
-use Rattle.std.specs.Prelude.{◌≡◌, ◌≤◌, ◌++◌, ℕ, List, length, All}
+use Rattle.std.specs.Prelude.{◌≤◌, ℕ, List, length, All}
+use Rattle.dap_msg.specs.declared.items.Item.{Item}
 use Rattle.dap_msg.specs.Items.{IsPlace}
 use Rattle.nsp_link.specs.Limits.{largest_limit}
 use Rattle.nsp_link.specs.Link.{LinkValue, SendsStill}
 use Rattle.dap_end.specs.Ports.{PortValue}
-use Rattle.dap_end.specs.Going.{oldest_message}
+use Rattle.dap_end.specs.Going.{oldest_message, GoneThrough}
 
 abbrev pub AreMessages : List (List ℕ) → Type 0
 AreMessages messages = All (λ m. length m ≤ largest_limit) messages
@@ -22,7 +23,5 @@ pub record IsSound {P : Type 0} (IsLeft : List (List ℕ) → P → Type 0) (p :
 
 -- more messages may have come on a link, and what it sends stays
 pub record Moves (old new : LinkValue) : Type 0 where
-  pub more : List (List ℕ)
-  pub inbox : new.coming.inbox ≡ old.coming.inbox ++ more
-  pub setup : new.setup ≡ old.setup
+  pub gone : (given : List (List ℕ)) (place : ℕ) (items : List Item) → GoneThrough given old.coming.inbox place items → GoneThrough given new.coming.inbox place items
   pub sends : SendsStill old new
