@@ -8,12 +8,12 @@ use Rattle.nsp_link.specs.Receiving.{Receives}
 use Rattle.dap_end.specs.Ports.{PortValue}
 use Rattle.dap_end.specs.Moved.{sent_more}
 use Rattle.dap_end.specs.Going.{GoneThrough}
-use Rattle.dap_end.specs.Inner.Kept.{Moves}
+use Rattle.dap_end.specs.Inner.Kept.{LinkMoved}
 use Rattle.dap_end.proofs.Taking.{grown}
 use Rattle.dap_end.proofs.Going.{gone_stays}
 
 -- a packet came
-pub received : (old new : LinkValue) (bytes : List ℕ) (r : Result Got LinkFault) → Receives old new bytes r → Moves old new
+pub received : (old new : LinkValue) (bytes : List ℕ) (r : Result Got LinkFault) → Receives old new bytes r → LinkMoved old new
 received old new bytes r h =
     let g = grown old new bytes r h in
     record {
@@ -22,5 +22,5 @@ received old new bytes r h =
     }
 
 -- segments were sent
-pub sent : (p : PortValue) (n : ℕ) → Moves p.link (sent_more p n).link
+pub sent : (p : PortValue) (n : ℕ) → LinkMoved p.link (sent_more p n).link
 sent p n = record { gone = λ given place items through. through; sends = λ messages h. record { queue = h.queue; acked = h.acked; part = h.part } }

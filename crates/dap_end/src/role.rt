@@ -9,7 +9,7 @@ ghost use Rattle.dap_end.specs.Done.{Past, AskingPast};
 ghost use Rattle.dap_end.specs.Serving.{IsAfter};
 ghost use Rattle.dap_end.specs.Asking.{HasAsked};
 ghost use Rattle.dap_end.specs.Pasts.{Still};
-ghost use Rattle.dap_end.specs.Inner.Kept.{Moves};
+ghost use Rattle.dap_end.specs.Inner.Kept.{LinkMoved};
 
 use dap_accessed::Accessed;
 use dap_accessing::Accessing;
@@ -30,7 +30,7 @@ pub trait Role {
         → is_left (inbox ++ more) state };
 
     /// Each history stays one where the link moves alone.
-    ghost still_fits: { (v : EndValue Self) (link : LinkValue) → Moves v.port.link link
+    ghost still_fits: { (v : EndValue Self) (link : LinkValue) → LinkMoved v.port.link link
         → Still fits v (record v { port = with_link v.port link }) };
 }
 

@@ -22,6 +22,6 @@ pub record IsSound {P : Type 0} (IsLeft : List (List ℕ) → P → Type 0) (p :
   pub left : IsLeft p.link.coming.inbox state
 
 -- more messages may have come on a link, and what it sends stays
-pub record Moves (old new : LinkValue) : Type 0 where
+pub record LinkMoved (old new : LinkValue) : Type 0 where
   pub gone : (given : List (List ℕ)) (place : ℕ) (items : List Item) → GoneThrough given old.coming.inbox place items → GoneThrough given new.coming.inbox place items
   pub sends : SendsStill old new
