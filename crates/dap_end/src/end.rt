@@ -27,7 +27,7 @@ impl<R: Role> Model for End<R> {
     ghost use Rattle.dap_end.specs.Ports.{EndValue};
     ghost use Rattle.dap_end.specs.Inner.Stored.{end_code};
     ghost use Rattle.dap_end.specs.By.{end_with};
-    ghost use Rattle.dap_end.specs.Inner.Kept.{IsSound};
+    ghost use Rattle.dap_end.specs.Inner.Kept.{IsSoundEnd};
 
     ghost Value = { EndValue R };
 
@@ -35,7 +35,7 @@ impl<R: Role> Model for End<R> {
 
     ghost view = { λ s. end_with s.port s.role };
 
-    ghost invariant = { λ s. IsSound R.is_left s.port s.role };
+    ghost invariant = { λ s. IsSoundEnd R.is_left s.port s.role };
 }
 
 impl<R: Role> End<R> {

@@ -17,7 +17,7 @@ pub record IsPort (p : PortValue) : Type 0 where
   pub short : AreMessages p.outbox
 
 -- a port, and what came on it as the state of the client or server needs it
-pub record IsSound {P : Type 0} (IsLeft : List (List ℕ) → P → Type 0) (p : PortValue) (state : P) : Type 0 where
+pub record IsSoundEnd {P : Type 0} (IsLeft : List (List ℕ) → P → Type 0) (p : PortValue) (state : P) : Type 0 where
   pub port : IsPort p
   pub left : IsLeft p.link.coming.inbox state
 
