@@ -56,7 +56,7 @@ use Rattle.dap_accessed.specs.Accesses.{make_file, refuse_access, rights_to_crea
 use Rattle.dap_msg.specs.BothEnds.{no_attributes}
 use Rattle.dap_accessed.specs.Past.{asked_shape, kept_attributes}
 use Rattle.dap_accessed.specs.Replies.{reason_of, refused_access, opened_with, org_number, format_number}
-use Rattle.dap_accessed.proofs.ForCallers.{AllFiles, file-there, one_more}
+use Rattle.dap_accessed.proofs.ForCallers.{AllFiles, file-there, after_item}
 use Rattle.dap_accessed.proofs.ForCallers.{good-shape, place-within}
 use Rattle.dap_accessing.specs.Told.{hear_attributes}
 use Rattle.dap_accessing.proofs.ForCallers.{behind-more, records-more}
@@ -66,7 +66,7 @@ use Rattle.dap_end.specs.Agreement.{AgreeAt, AreLimits}
 -- the cut after more items
 abbrev pub more_items : (own : ServerSetup) → Grouped → List Item → Grouped
 more_items own c [] = c
-more_items own c (item ∷ items) = more_items own (one_more own c item) items
+more_items own c (item ∷ items) = more_items own (after_item own c item) items
 
 -- The messages of a request go to answers that come to a report, and the two ends agree again.
 pub record Goes (own_a : Configuration) (own_b : ServerSetup) (request : Request) (phase : Phase) (s : Standing) (limit_a : ℕ) : Type 0 where
