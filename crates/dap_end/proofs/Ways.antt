@@ -245,11 +245,11 @@ comes a b new from_a from_b to_a to_b wire_a wire_b j w (Err e) join at timely h
 abbrev pub moved : LinkValue → (inbox : List (List ℕ)) → List Piece → ℕ → LinkValue
 moved v inbox queue sent = record (with_inbox v inbox) { queue = queue; sent = sent }
 
-pub record Moves (v : LinkValue) (inbox : List (List ℕ)) (queue : List Piece) (sent : ℕ) : Type 0 where
+pub record LinkMoved (v : LinkValue) (inbox : List (List ℕ)) (queue : List Piece) (sent : ℕ) : Type 0 where
   pub more : v.sent ≤ sent
   pub within : sent ≤ v.acked + v.setup.window
 
-pub works : (a b : LinkValue) (from_a from_b to_a to_b more given : List (List ℕ)) (wire_a wire_b ws : List Written) (inbox : List (List ℕ)) (queue : List Piece) (sent : ℕ) → AreJoined a b from_a from_b to_a to_b wire_a wire_b → Moves a inbox queue sent
+pub works : (a b : LinkValue) (from_a from_b to_a to_b more given : List (List ℕ)) (wire_a wire_b ws : List Written) (inbox : List (List ℕ)) (queue : List Piece) (sent : ℕ) → AreJoined a b from_a from_b to_a to_b wire_a wire_b → LinkMoved a inbox queue sent
     → AreShort a more → Stands (moved a inbox queue sent) b.setup.seg_size from_b given → AreWrittenOf (moved a inbox queue sent) (from_a ++ more) (wire_a ++ ws) → AreTrue sent a.coming.received ws
     → AreJoined (moved a inbox queue sent) b (from_a ++ more) from_b given to_b (wire_a ++ ws) wire_b
 works a b from_a from_b to_a to_b more given wire_a wire_b ws inbox queue sent j m short stands packets counts =

@@ -3,11 +3,13 @@
 #![tactic(auto)]
 
 mod asking;
+mod end;
 mod fault;
 mod laws;
 mod node;
 mod places;
 mod port;
+mod role;
 mod serving;
 mod turns;
 
