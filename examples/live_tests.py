@@ -25,7 +25,7 @@ from decnet.lossy import Both, Line
 BUILT = pathlib.Path(__file__).resolve().parent.parent / "crates"
 DAPLIVE = BUILT / "daplive/out/daplive"
 DAPNSP = BUILT / "dapnsp/out/dapnsp"
-LONGEST = 16_777_216
+MAX_LINE = 16_777_216
 # inputs of that many are one with a line about as long as lines may be
 SELDOM = 400
 # so many packets make a capture, at most 16,777,216 bytes
@@ -89,7 +89,7 @@ def fits(words, forms):
 def is_good(role, line):
     """Whether a line is one of the end's."""
     word, *others = line.split(b" ")
-    if len(line) > LONGEST:
+    if len(line) > MAX_LINE:
         return False
     if role == "ask" and word == b"ask":
         if others[:1] == [b"store"]:
@@ -282,7 +282,7 @@ class Input:
             lines = given + [line for one in lines for line in ([one, b"files"] if one.startswith(b"new") else [one])]
             lines += [b"files", b"resend"]
         if seed % SELDOM == 0:
-            lines.insert(self.chance.randrange(len(lines) + 1), b"#" * (LONGEST + self.chance.randrange(2)))
+            lines.insert(self.chance.randrange(len(lines) + 1), b"#" * (MAX_LINE + self.chance.randrange(2)))
         self.bytes = b"".join(line + self.chance.choice([b"\n", b"\n", b"\r\n"]) for line in lines)
         if not self.chance.randrange(4):
             self.bytes = self.bytes[: len(self.bytes) - self.chance.randrange(9)]
@@ -388,7 +388,7 @@ def differs(given, program):
     lines = lines_of(given.bytes)
     packets = [line for line in text.split("\n") if line.startswith("< ")]
     for place, line in enumerate(lines, 1):
-        is_silent = len(line) <= LONGEST and (not line or line.startswith(b"#"))
+        is_silent = len(line) <= MAX_LINE and (not line or line.startswith(b"#"))
         if is_silent:
             continue
         if not answers:
@@ -416,6 +416,13 @@ def shown(packets, program):
     return not ran.returncode and not re.search(r"^(\d+ [<>]| ) bad ", ran.stdout, re.M)
 
 
+def tells_version(daplive):
+    """Whether the program tells the newest version of the changelog."""
+    newest = re.search(r"^## ([0-9.]+)", (BUILT.parent / "CHANGELOG.md").read_text(), re.M)
+    done = subprocess.run([daplive, "--version"], capture_output=True, check=False)
+    return (done.returncode, done.stdout, done.stderr) == (0, f"daplive {newest[1]}\n".encode(), b"")
+
+
 def main():
     parser = argparse.ArgumentParser(description="Tells both live ends lines of every kind.")
     parser.add_argument("--first", type=int, default=1)
@@ -426,6 +433,9 @@ def main():
     told = talks(options.daplive)
     seeds = range(options.first, options.first + options.inputs)
     wrong = count = 0
+    if not tells_version(options.daplive):
+        wrong += 1
+        print("live_tests: daplive --version doesn't tell the newest version of CHANGELOG.md", file=sys.stderr)
     captures = [[]]
     with ThreadPoolExecutor(os.cpu_count()) as pool:
         run = lambda seed: differs(Input(seed, told), options.daplive)

@@ -22,7 +22,7 @@ from decnet import program
 from decnet.end import DAPLIVE
 from decnet.lossy import Both, Line, Several
 
-MOST_LINKS = 255
+MAX_LINKS = 255
 
 
 def share(text):
@@ -40,8 +40,8 @@ def count(text):
 
 
 def links(text):
-    if not 1 <= int(text) <= MOST_LINKS:
-        raise argparse.ArgumentTypeError(f"{text} is no number from 1 to {MOST_LINKS}")
+    if not 1 <= int(text) <= MAX_LINKS:
+        raise argparse.ArgumentTypeError(f"{text} is no number from 1 to {MAX_LINKS}")
     return int(text)
 
 

@@ -16,7 +16,7 @@ SECONDS = 60
 ALTERED = 20_000
 SEED = 1
 # Lines of 64 KiB of input, of a frame of 262,144 bytes, and what the C library takes; no length that a file names.
-MOST_MEMORY = 12_000  # KiB of addresses
+MAX_MEMORY = 12_000  # KiB of addresses
 ENDLESS = 64 << 20  # bytes of a file that goes on
 LENGTHS = sorted({max(0, (1 << bits) + more) for bits in range(33) for more in (-4, -1, 0, 1, 4)} - {1 << 32})
 LENGTHS = [length for length in LENGTHS if length < 1 << 32]
@@ -176,7 +176,7 @@ class Captures:
         return subprocess.run(self.words, input=file, capture_output=True, timeout=SECONDS, check=False)
 
     def run_bounded(self, file):
-        shell = ["bash", "-c", f'ulimit -v {MOST_MEMORY}; exec "$@"', "bash"]
+        shell = ["bash", "-c", f'ulimit -v {MAX_MEMORY}; exec "$@"', "bash"]
         return subprocess.run([*shell, *self.words], input=file, capture_output=True, timeout=SECONDS, check=False)
 
     def compare(self, name, files, run=None):

@@ -5,15 +5,15 @@ SECTION = 0x0A0D0D0A
 ORDER = 0x1A2B3C4D
 INTERFACE, SIMPLE, ENHANCED = 1, 3, 6
 ETHERNET = 1
-LONGEST = 262_144  # bytes of a record, or of a block of these three kinds
-MOST_INTERFACES = 1024
+MAX_UNIT = 262_144  # bytes of a record, or of a block of these three kinds
+MAX_INTERFACES = 1024
 HEAD = 12  # bytes of which it is known what a file is, and how long a block
 MICROSECONDS, NANOSECONDS = 6, 9  # digits of a second
 MAGICS = {0xA1B2C3D4: MICROSECONDS, 0xA1B23C4D: NANOSECONDS}
 RESOLUTION, OFFSET = 9, 14  # options of an interface
 TAGS = (b"\x81\x00", b"\x88\xa8", b"\x91\x00")
 STATION = b"\xaa\x00\x04\x00"
-LONGEST_PACKET = 4096
+MAX_PACKET = 4096
 
 
 class Fault(Exception):
@@ -63,7 +63,7 @@ def record_frames(data, order, digits):
         unit = Unit(data, at, order)
         unit.need(16)
         count = unit.number(8)
-        unit.refuse(count > LONGEST, "too-long")
+        unit.refuse(count > MAX_UNIT, "too-long")
         unit.need(16 + count)
         yield (unit.number(0) * 10 ** digits + unit.number(4), digits, 0), True, unit.part(16, 16 + count)
         at += 16 + count
@@ -82,14 +82,14 @@ def section_frames(data):
         kind, total = unit.number(0), unit.number(4)
         unit.refuse(total < (28 if is_section else 12) or total % 4)
         is_known = not is_section and kind in (INTERFACE, SIMPLE, ENHANCED)
-        unit.refuse(is_known and total > LONGEST, "too-long")
+        unit.refuse(is_known and total > MAX_UNIT, "too-long")
         unit.need(total)
         unit.refuse(unit.number(total - 4) != total)
         if is_section:
             interfaces = []
         elif kind == INTERFACE:
             unit.refuse(total < 20)
-            unit.refuse(len(interfaces) >= MOST_INTERFACES, "interfaces")
+            unit.refuse(len(interfaces) >= MAX_INTERFACES, "interfaces")
             interfaces.append(interface(unit, total))
         elif kind == SIMPLE:
             yield simple(unit, total, interfaces)
@@ -113,7 +113,7 @@ def interface(unit, total):
 def simple(unit, total, interfaces):
     unit.refuse(total < 16)
     is_ethernet, limit = interfaces[0][:2] if interfaces else (False, 0)
-    count = min(unit.number(8), total - 16, limit or LONGEST)
+    count = min(unit.number(8), total - 16, limit or MAX_UNIT)
     return None, is_ethernet, unit.part(12, 12 + count)
 
 
@@ -153,7 +153,7 @@ def routed(message):
         to, sent_by, start = message[1:3], message[3:5], 6
     else:
         return None
-    is_listed = start < len(message) <= start + LONGEST_PACKET and to != sent_by
+    is_listed = start < len(message) <= start + MAX_PACKET and to != sent_by
     return (int.from_bytes(sent_by, "little"), int.from_bytes(to, "little"), message[start:]) if is_listed else None
 
 

@@ -111,7 +111,7 @@ SHORT = {
     b"> 60020201010080010001020a00040703050600000000\nresend 0303\nfiles\nresend 0202",
 }
 # An end may have so many bytes of memory, whatever line it is told: twice the longest line that is kept, and 8 MiB.
-MOST_MEMORY = 2 * 16_777_216 + 8 * 1_048_576
+MAX_MEMORY = 2 * 16_777_216 + 8 * 1_048_576
 
 
 def too_long():
@@ -513,7 +513,7 @@ class LiveEnds:
                 and answers[-3] == answers[-1]
                 and answers[-2] == [BAD_LINE, b"waits 0"]
                 and (role != "links" or answers[-1][-1] == b"waits 1")
-                and used.ru_maxrss * 1024 <= MOST_MEMORY
+                and used.ru_maxrss * 1024 <= MAX_MEMORY
             )
             self.count(
                 f"daplive {role}, a line of {size} bytes",

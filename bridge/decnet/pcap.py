@@ -9,8 +9,8 @@ import time
 from decnet import log
 from decnet.captures import ETHERNET
 
-MAGIC, VERSION, LONGEST = 0xA1B2C3D4, (2, 4), 65535
-HEAD = struct.pack("<IHHiIII", MAGIC, *VERSION, 0, 0, LONGEST, ETHERNET)
+MAGIC, VERSION, MAX_FRAME = 0xA1B2C3D4, (2, 4), 65535
+HEAD = struct.pack("<IHHiIII", MAGIC, *VERSION, 0, 0, MAX_FRAME, ETHERNET)
 RECORD = struct.Struct("<IIII")  # seconds, microseconds, bytes that are kept, bytes of the frame
 FLAGS = os.O_RDWR | os.O_CREAT | os.O_APPEND | os.O_CLOEXEC | os.O_NONBLOCK
 MODE = 0o600  # passwords are in the frames

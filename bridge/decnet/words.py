@@ -123,6 +123,10 @@ def add_link(parser):
     parser.add_argument("--daplive", metavar="PROGRAM",
                         help="the live end (default $DAPLIVE, or ./daplive of this repository)")
     parser.add_argument("--log", metavar="FILE", help="write messages to a file, which SIGHUP opens again")
+
+
+def add_identity(parser):
+    """What the live end says of itself. A probe says what its conversations say."""
     parser.add_argument("--ostype", type=number(0, 255), metavar="N", help="the system that this node says it is (default 18)")
     parser.add_argument("--filesys", type=number(0, 255), metavar="N", help="its file system (default 13)")
     parser.add_argument("--syscap", type=hex_word, metavar="HEX",
@@ -233,12 +237,12 @@ def add_password(parser):
 
 # of each role what it does, its options, and its other words
 ROLES = {
-    "serve": ("take links to object 17 (FAL)", (add_network, add_link, add_keeping, add_names, add_entry, add_limits), ()),
-    "ask": ("ask a node for what standard input says", (add_network, add_link, add_other, add_asking), ()),
-    "copy": ("copy a file from a node, or to one", (add_network, add_link, add_other, add_copying), (add_copied,)),
-    "type": ("write a node's file as text", (add_network, add_link, add_other), (add_source,)),
-    "get": ("write a record of a node's file", (add_network, add_link, add_other), (add_gotten,)),
-    "put": ("put a record into a node's file", (add_network, add_link, add_other), (add_put,)),
+    "serve": ("take links to object 17 (FAL)", (add_network, add_link, add_identity, add_keeping, add_names, add_entry, add_limits), ()),
+    "ask": ("ask a node for what standard input says", (add_network, add_link, add_identity, add_other, add_asking), ()),
+    "copy": ("copy a file from a node, or to one", (add_network, add_link, add_identity, add_other, add_copying), (add_copied,)),
+    "type": ("write a node's file as text", (add_network, add_link, add_identity, add_other), (add_source,)),
+    "get": ("write a record of a node's file", (add_network, add_link, add_identity, add_other), (add_gotten,)),
+    "put": ("put a record into a node's file", (add_network, add_link, add_identity, add_other), (add_put,)),
     "probe": ("test a node's file access listener beside the proved one", (add_network, add_link, add_other, add_probing), ()),
     "password": ("print the line of --users for a user and the password on standard input", (), (add_password,)),
 }

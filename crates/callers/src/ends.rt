@@ -3,11 +3,11 @@
 use crate::trouble::{Lines, Trouble};
 use dap_accessing::Request;
 use dap_end::{AskingEnd, ServingEnd};
-use nsp_link::{LARGEST_LIMIT, LinkSetup};
+use nsp_link::{LinkSetup, MAX_LIMIT};
 use std::alloc::Global;
 
 /// The end that serves goes on while fewer bytes wait than this: 1 MiB.
-const MOST_WAITING: u64 = 1 << 20;
+const MAX_WAITING: u64 = 1 << 20;
 
 /// The limits of the link of an end with these addresses.
 fn setup(local: u16, remote: u16) -> LinkSetup {
@@ -16,7 +16,7 @@ fn setup(local: u16, remote: u16) -> LinkSetup {
         remote,
         seg_size: 512,
         window: 8,
-        max_message: LARGEST_LIMIT,
+        max_message: MAX_LIMIT,
     }
 }
 
@@ -36,7 +36,7 @@ fn serve(
     out: &mut Lines,
 ) -> Result<Vec<Vec<u8>>, Trouble> {
     let mut back = Vec::new(alloc);
-    let got = end.take(packet, MOST_WAITING, &mut back)?;
+    let got = end.take(packet, MAX_WAITING, &mut back)?;
     let waits = end.link().unacked();
     out.line(format_args!("ends: serving: {got:?}, {waits} unacknowledged"));
     Ok(back)

@@ -14,7 +14,8 @@ pub data Units : Format → List Interface → (bytes : List ℕ) → List Recor
   no_more : {format : Format} {interfaces : List Interface} → Units format interfaces [] [] format interfaces
   one_more : {format last : Format} {interfaces described : List Interface} {bytes : List ℕ} {records : List Record}
       (unit : List ℕ) (extent : Extent) (meaning : Meaning)
-      → IsUnit format extent unit → meaning_of format interfaces (kept_prefix extent unit) ≡ Ok meaning
+      → IsUnit format extent unit
+      → meaning_of format interfaces (kept_prefix extent unit) ≡ Ok meaning
       → Units (format_after format meaning) (interfaces_after interfaces meaning) bytes records last described
       → Units format interfaces (unit ++ bytes) (records_of (kept_prefix extent unit) meaning ++ records) last described
 

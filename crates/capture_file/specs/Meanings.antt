@@ -23,7 +23,8 @@ file_header_of _ kept = Err UnknownMagic
 
 -- what a header says
 abbrev pub file_meaning : List ℕ → Result Meaning FaultKind
-file_meaning kept = if nat_lt (length kept) 24 then Err BadLength else file_header_of (pcap_of kept) kept
+file_meaning kept =
+    if nat_lt (length kept) 24 then Err BadLength else file_header_of (pcap_of kept) kept
 
 -- a record has seconds, and parts of a second
 abbrev pub record_meaning : Order → ℕ → List ℕ → Result Meaning FaultKind

@@ -17,7 +17,8 @@ pub fn files_have_one_reading()
         (at place : ℕ) → Stops bytes records kind at → Stops bytes others other place
         → (records ≡ others) × (kind ≡ other) × (at ≡ place) }
     ensures cut { (bytes : List ℕ) (records others : List Record) (at place : ℕ)
-        → IsCutShort bytes records at → IsCutShort bytes others place → (records ≡ others) × (at ≡ place) }
+        → IsCutShort bytes records at → IsCutShort bytes others place
+        → (records ≡ others) × (at ≡ place) }
     ensures whole_or_stops { (bytes : List ℕ) (records others : List Record) (kind : FaultKind)
         (at : ℕ) → IsWhole bytes records → Stops bytes others kind at → ⊥ }
     ensures whole_or_cut { (bytes : List ℕ) (records others : List Record) (at : ℕ)

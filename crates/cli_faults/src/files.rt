@@ -11,13 +11,13 @@ pub(crate) const MAGIC_LEN: usize = 4;
 /// How a pcap file begins whose times have microseconds, its high byte first.
 const PCAP: &[u8] = &[0xa1, 0xb2, 0xc3, 0xd4];
 
-/// The same with its low byte first.
+/// How it begins with its low byte first.
 const PCAP_SWAPPED: &[u8] = &[0xd4, 0xc3, 0xb2, 0xa1];
 
 /// How a pcap file begins whose times have nanoseconds, its high byte first.
 const PCAP_NANO: &[u8] = &[0xa1, 0xb2, 0x3c, 0x4d];
 
-/// The same with its low byte first.
+/// How that begins with its low byte first.
 const PCAP_NANO_SWAPPED: &[u8] = &[0x4d, 0x3c, 0xb2, 0xa1];
 
 /// How a pcapng file begins, in either order of bytes.

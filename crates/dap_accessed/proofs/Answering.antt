@@ -18,7 +18,7 @@ use Rattle.dap_msg.specs.declared.message.ControlFields.{ControlFields}
 use Rattle.dap_msg.specs.declared.message.Message.TheVariants.{Config, Attrib, Access, Control, Contran, Ack, Accomp, Filedata, Other}
 use Rattle.dap_msg.specs.Formats.{type_number as type_of}
 use Rattle.dap_msg.specs.Inner.Answers.{IsShortAnswer}
-use Rattle.dap_msg.specs.BothEnds.{four_bytes, least_buffer}
+use Rattle.dap_msg.specs.BothEnds.{four_bytes, min_buffer}
 use Rattle.dap_msg.specs.declared.items.Item.{Item}
 use Rattle.dap_msg.specs.declared.items.Item.TheVariants.{Whole, Malformed}
 use Rattle.dap_msg.specs.Items.{IsRead}
@@ -29,7 +29,7 @@ use Rattle.rec_file.specs.declared.shapes.Shape.{Shape}
 use Rattle.rec_file.specs.declared.refusals.Refusal.{Refusal}
 use Rattle.rec_file.specs.declared.refusals.Refusal.TheVariants.{NotPermitted, EndOfFile}
 use Rattle.rec_file.specs.declared.picks.Pick.{Pick}
-use Rattle.rec_file.specs.Limits.{longest_record}
+use Rattle.rec_file.specs.Limits.{max_record}
 use Rattle.rec_file.specs.Shapes.{is_shape}
 use Rattle.rec_file.specs.Files.{IsFile, records_from}
 use Rattle.rec_file.specs.Acts.{StreamVal, act, get_record, put_record, update_record, delete_record}
@@ -70,17 +70,17 @@ read-short (Malformed fault) r = tt
 code_small : (n : ℕ) → codes.status_code_for n < 2 ^ 16
 code_small n = grind (arith, nat_tests)
 
-small : (n : ℕ) → nat_le n longest_record ≡ true → n < 2 ^ 16
+small : (n : ℕ) → nat_le n max_record ≡ true → n < 2 ^ 16
 small n le = grind (arith, nat_tests)
 
 shape_small : (s : Shape) → IsTrue (is_shape s) → s.mrs < 2 ^ 16
 shape_small s h =
     let one = both _ _ h in
     let two = both _ _ one.0 in
-    let le : nat_le s.mrs longest_record ≡ true = (both _ _ two.0).1 in
+    let le : nat_le s.mrs max_record ≡ true = (both _ _ two.0).1 in
     small s.mrs le
 
-module _ (limit : ℕ) (least : least_buffer ≤ limit) where
+module _ (limit : ℕ) (least : min_buffer ≤ limit) where
   short : (m : Message) → IsShortAnswer m → IsSendable limit m
   short m s = (s.fits, omega (arith, s.short, least))
 
@@ -120,7 +120,7 @@ module _ (limit : ℕ) (least : least_buffer ≤ limit) where
     (short Ack answers_fit.ack, tt),
   )
 
-  recorded : (r : ℕ × List ℕ) → length r.1 ≤ longest_record → fits_limit limit r ≡ true → IsSendable limit (filedata_of r)
+  recorded : (r : ℕ × List ℕ) → length r.1 ≤ max_record → fits_limit limit r ≡ true → IsSendable limit (filedata_of r)
   recorded r h e = (
     answers_fit.filedata r.0 r.1 h,
     grind (arith, nat_tests, e),
@@ -130,7 +130,7 @@ module _ (limit : ℕ) (least : least_buffer ≤ limit) where
   sendable_more [] two h k = k
   sendable_more (m ∷ one) two h k = (h.0, sendable_more one two h.1 k)
 
-  leads : (r : ℕ × List ℕ) (rs : List (ℕ × List ℕ)) (b : Bool) → fits_limit limit r ≡ b → length r.1 ≤ longest_record
+  leads : (r : ℕ × List ℕ) (rs : List (ℕ × List ℕ)) (b : Bool) → fits_limit limit r ≡ b → length r.1 ≤ max_record
       → AreSendable limit (map filedata_of (take_while (fits_limit limit) rs)) → AreSendable limit (map filedata_of (if b then r ∷ take_while (fits_limit limit) rs else []))
   leads r rs true e h k = (recorded r h e, k)
   leads r rs false e h k = tt
@@ -140,7 +140,7 @@ module _ (limit : ℕ) (least : least_buffer ≤ limit) where
   all_recorded (r ∷ rs) h =
       subst (λ (l : List (ℕ × List ℕ)). AreSendable limit (map filedata_of l)) (sym (take_while-cons (fits_limit limit) r rs)) (leads r rs (fits_limit limit r) refl h.0 (all_recorded rs h.1))
 
-module _ (own : ServerSetup) (small_own : FieldsFit (Config own.identity)) (scene : Scene) (files : AllFiles scene.files) (least : least_buffer ≤ scene.limit) where
+module _ (own : ServerSetup) (small_own : FieldsFit (Config own.identity)) (scene : Scene) (files : AllFiles scene.files) (least : min_buffer ≤ scene.limit) where
   abbrev Sends : Effect → Type 0
   Sends e = AreSendable scene.limit e.answers
 
@@ -196,11 +196,11 @@ module _ (own : ServerSetup) (small_own : FieldsFit (Config own.identity)) (scen
     file-is : IsFile (the_file scene.files o)
     file-is = file-there scene.files o.at files there
 
-    body-short : (n : ℕ) (body : Option (List ℕ)) → get (the_file scene.files o).records n ≡ body → length (unwrap_or body []) ≤ longest_record
+    body-short : (n : ℕ) (body : Option (List ℕ)) → get (the_file scene.files o).records n ≡ body → length (unwrap_or body []) ≤ max_record
     body-short n None e = lit≤ tt
     body-short n (Some body) e = body_fits (the_file scene.files o) n body file-is (sym e)
 
-    finding : (fits : Bool) (before after : StreamVal) (r : ℕ × List ℕ) → length r.1 ≤ longest_record → fits_limit scene.limit r ≡ fits → Sends (if fits then enters scene (Connected o after) (filedata_of r ∷ []) else enters scene (Connected o (uncurrent before)) (too_large ∷ []))
+    finding : (fits : Bool) (before after : StreamVal) (r : ℕ × List ℕ) → length r.1 ≤ max_record → fits_limit scene.limit r ≡ fits → Sends (if fits then enters scene (Connected o after) (filedata_of r ∷ []) else enters scene (Connected o (uncurrent before)) (too_large ∷ []))
     finding true before after r h e = (recorded scene.limit least r h e, tt)
     finding false before after r h e = (reasoned scene.limit least 0x5000 10 [] (lit< tt) (lit≤ tt), tt)
 

@@ -12,7 +12,7 @@ use Rattle.dap_msg.specs.Canon.{canon}
 use Rattle.dap_msg.specs.BothEnds.{four_bytes}
 use Rattle.dap_msg.specs.Sizes.{file_data_size}
 use Rattle.dap_msg.proofs.ForCallers.{file_data_measured}
-use Rattle.rec_file.specs.Limits.{greatest_number}
+use Rattle.rec_file.specs.Limits.{max_record_number}
 use Rattle.rec_file.specs.Files.{FileVal, Records, records_from}
 use Rattle.rec_file.specs.Acts.{StreamVal}
 use Rattle.dap_accessed.specs.declared.phase.OpenFile.{OpenFile}
@@ -44,7 +44,7 @@ pub record GoesOn (limit : ℕ) (file : FileVal) (n next : ℕ) (answers : Vec (
   pub fails : beyond limit (records_from file.records n) ≡ beyond limit (records_from file.records next)
   pub stands : next ≡ behind n given
   pub above : 1 ≤ next
-  pub within : next ≤ greatest_number + 1
+  pub within : next ≤ max_record_number + 1
   pub answered : Answered limit (map filedata_of given) answers
 
 behind-more : (n : ℕ) (given : List (ℕ × List ℕ)) (r : ℕ × List ℕ) → behind n (given ++ r ∷ []) ≡ r.0 + 1
@@ -70,12 +70,12 @@ leading-large limit r rest e = rw e refl
 failing-large : (limit : ℕ) (r : ℕ × List ℕ) (rest : List (ℕ × List ℕ)) → fits_limit limit r ≡ false → beyond limit (r ∷ rest) ≡ r ∷ rest
 failing-large limit r rest e = rw e refl
 
-pub begins : (limit : ℕ) (file : FileVal) (n : ℕ) (answers : Vec (Vec ℕ)) → 1 ≤ n → n ≤ greatest_number + 1 → Answered limit [] answers → GoesOn limit file n n answers
+pub begins : (limit : ℕ) (file : FileVal) (n : ℕ) (answers : Vec (Vec ℕ)) → 1 ≤ n → n ≤ max_record_number + 1 → Answered limit [] answers → GoesOn limit file n n answers
 begins limit file n answers above within a = record { given = []; leads = refl; fails = refl; stands = refl; above = above; within = within; answered = a }
 
 -- one record more
 pub goes_on : (limit : ℕ) (file : FileVal) (n next : ℕ) (old new : Vec (Vec ℕ)) (r : ℕ × List ℕ) (g : GoesOn limit file n next old)
-    → records_from file.records next ≡ r ∷ records_from file.records (r.0 + 1) → fits_limit limit r ≡ true → r.0 ≤ greatest_number
+    → records_from file.records next ≡ r ∷ records_from file.records (r.0 + 1) → fits_limit limit r ≡ true → r.0 ≤ max_record_number
     → Answered limit (map filedata_of g.given ++ filedata_of r ∷ []) new → GoesOn limit file n (r.0 + 1) new
 goes_on limit file n next old new r g some fits within a =
     record {

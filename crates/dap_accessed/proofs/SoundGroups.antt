@@ -9,7 +9,7 @@ use Rattle.dap_msg.specs.declared.message.Message.{Message}
 use Rattle.dap_msg.specs.declared.message.AccessFields.{AccessFields}
 use Rattle.dap_msg.specs.declared.message.ControlFields.{ControlFields}
 use Rattle.dap_msg.specs.declared.message.Message.TheVariants.{Config, Access, Control, Contran, Accomp, Filedata}
-use Rattle.dap_msg.specs.BothEnds.{message_limit, greatest_message, number_of}
+use Rattle.dap_msg.specs.BothEnds.{message_limit, max_nsp_message, number_of}
 use Rattle.dap_msg.specs.declared.items.Item.{Item}
 use Rattle.dap_msg.specs.declared.items.Item.TheVariants.{Whole, Malformed}
 use Rattle.rec_file.specs.declared.shapes.Shape.{Shape}
@@ -24,7 +24,7 @@ use Rattle.dap_msg.specs.declared.message.Attributes.{Attributes}
 use Rattle.rec_file.specs.declared.shapes.Org.{Org}
 use Rattle.rec_file.specs.declared.shapes.Org.TheVariants.{Seq, Rel}
 use Rattle.rec_file.specs.declared.shapes.Format.{Format}
-use Rattle.rec_file.specs.Limits.{longest_record, greatest_number}
+use Rattle.rec_file.specs.Limits.{max_record, max_record_number}
 use Rattle.rec_file.specs.Shapes.{is_shape, has_length, kept_mrn, org_of_code, format_of_code, shape_of as shape_asked}
 use Rattle.std.specs.Prelude.{unwrap_or}
 use Rattle.rec_file.specs.Files.{FileVal, IsFile, records_from}
@@ -56,10 +56,10 @@ use Rattle.dap_accessed.proofs.SoundTables.{file-there, files-with, files-more, 
 abbrev pub Good : Option Shape → Type 0
 Good shape = IfSome shape (λ s. IsTrue (is_shape s))
 
-allowed : (org : Org) (format : Format) (mrs mrn : ℕ) (b : Bool) → (has_length format mrs && nat_le mrs longest_record && nat_le mrn greatest_number) ≡ b
+allowed : (org : Org) (format : Format) (mrs mrn : ℕ) (b : Bool) → (has_length format mrs && nat_le mrs max_record && nat_le mrn max_record_number) ≡ b
     → Good (if b then Some (record { org = org; format = format; mrs = mrs; mrn = kept_mrn org mrn }) else None)
 allowed org format mrs mrn false e = tt
-allowed Seq format mrs mrn true e = ap (λ b. b && true && true) (both (has_length format mrs && nat_le mrs longest_record) (nat_le mrn greatest_number) e).0
+allowed Seq format mrs mrn true e = ap (λ b. b && true && true) (both (has_length format mrs && nat_le mrs max_record) (nat_le mrn max_record_number) e).0
 allowed Rel format mrs mrn true e = ap (λ b. b && true) e
 
 good-of : (org : Option Org) (format : Option Format) (mrs mrn : ℕ) → Good (shape_asked org format mrs mrn)
@@ -70,21 +70,21 @@ good-of (Some org) (Some format) mrs mrn = allowed org format mrs mrn _ refl
 pub good-shape : (a : Attributes) → Good (asked_shape a)
 good-shape a = good-of (org_of_code (unwrap_or a.org 0)) (format_of_code (unwrap_or a.rfm 2)) (unwrap_or a.mrs 0) (number_of (unwrap_or a.mrn []))
 
-limit-most : (bufsiz : ℕ) → message_limit bufsiz ≤ greatest_message
+limit-most : (bufsiz : ℕ) → message_limit bufsiz ≤ max_nsp_message
 limit-most bufsiz =
-    elim (cases_lt greatest_message bufsiz) [
-      | inl more ↦ let e = lt-ltb greatest_message bufsiz more in grind (arith, e)
+    elim (cases_lt max_nsp_message bufsiz) [
+      | inl more ↦ let e = lt-ltb max_nsp_message bufsiz more in grind (arith, e)
       | inr less ↦ grind (arith, less)
     ]
 
 limit-least : (bufsiz : ℕ) → is_too_small bufsiz ≡ false → 64 ≤ message_limit bufsiz
 limit-least bufsiz e =
-    elim (cases_lt greatest_message bufsiz) [
-      | inl more ↦ let t = lt-ltb greatest_message bufsiz more in grind (arith, t)
+    elim (cases_lt max_nsp_message bufsiz) [
+      | inl more ↦ let t = lt-ltb max_nsp_message bufsiz more in grind (arith, t)
       | inr less ↦ elim (cases_lt 0 bufsiz) [
         | inl some ↦ elim (cases_lt bufsiz 64) [
           | inl few ↦ let t = lt-ltb 0 bufsiz some in let u = lt-ltb bufsiz 64 few in absurd cc
-          | inr enough ↦ let t = le-ltb greatest_message bufsiz less in grind (arith, nat_tests)
+          | inr enough ↦ let t = le-ltb max_nsp_message bufsiz less in grind (arith, nat_tests)
         ]
         | inr nothing ↦ let zero : 0 ≡ bufsiz = omega arith in subst (λ n. 64 ≤ message_limit n) zero (lit≤ tt)
       ]
@@ -102,7 +102,7 @@ abbrev IsSoundTurn : Scene → Turn → Type 0
 IsSoundTurn scene (Does e) = IsSoundAt e.scene e.place
 IsSoundTurn scene (Begins b) = b.opened.at < length scene.files
 
-module _ (scene : Scene) (files : AreFiles scene.files) (least : 64 ≤ scene.limit) (most : scene.limit ≤ greatest_message) where
+module _ (scene : Scene) (files : AreFiles scene.files) (least : 64 ≤ scene.limit) (most : scene.limit ≤ max_nsp_message) where
   abbrev Leaves : Effect → Type 0
   Leaves e = IsSoundAt e.scene e.place
 

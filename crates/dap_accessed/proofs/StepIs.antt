@@ -16,7 +16,7 @@ use Rattle.dap_accessed.specs.declared.phase.OpenFile.{OpenFile}
 use Rattle.dap_accessed.specs.declared.phase.Phase.{Phase}
 use Rattle.dap_accessed.specs.declared.phase.Phase.TheVariants as phases
 use Rattle.dap_accessed.specs.Standing.{Files, Scene, Place, Group, Standing, Effect, Fresh, Ready, Opened, Connected, Store, Stopped}
-use Rattle.dap_accessed.specs.Past.{asked_shape, kept_attributes, is_dropping, ordinal_so_far, this_store, is_skip, is_ready, is_store, is_access, is_filedata, attributes_in, since_access, was_refused, greatest_ordinal, next_ordinal}
+use Rattle.dap_accessed.specs.Past.{asked_shape, kept_attributes, is_dropping, ordinal_so_far, this_store, is_skip, is_ready, is_store, is_access, is_filedata, attributes_in, since_access, was_refused, max_ordinal, next_ordinal}
 use Rattle.dap_accessed.specs.Records.{Change, Putting, Updating}
 use Rattle.dap_accessed.specs.Effects.{Begun, Turn, Does, Begins, turn_of, effect_with}
 use Rattle.dap_accessed.specs.Groups.{Grouped, over, added, stands_after, next_group, next_answers, after_item, answers_of}
@@ -100,12 +100,12 @@ module _ (past : List Group) where
     store-drops false e (Whole message) answers = more-drops (Whole message) answers ∙ e
     store-drops true e (Whole message) answers = more-drops (Whole message) answers ∙ e
 
-    counted : (n : ℕ) → min (suc n) greatest_ordinal ≡ next_ordinal (min n greatest_ordinal)
+    counted : (n : ℕ) → min (suc n) max_ordinal ≡ next_ordinal (min n max_ordinal)
     counted n = omega arith
 
-    more-counted : (item : Item) (answers : List Message) → ordinal_so_far (group_of (Store o s) item answers ∷ past) ≡ min (length (filter (λ (g : Group). is_filedata g.first) (group_of (Store o s) item answers ∷ this_store past))) greatest_ordinal
+    more-counted : (item : Item) (answers : List Message) → ordinal_so_far (group_of (Store o s) item answers ∷ past) ≡ min (length (filter (λ (g : Group). is_filedata g.first) (group_of (Store o s) item answers ∷ this_store past))) max_ordinal
     more-counted item answers =
-        ap (λ (l : List Group). min (length (filter (λ (g : Group). is_filedata g.first) l)) greatest_ordinal) (store-more (group_of (Store o s) item answers) refl)
+        ap (λ (l : List Group). min (length (filter (λ (g : Group). is_filedata g.first) l)) max_ordinal) (store-more (group_of (Store o s) item answers) refl)
 
     store-counts : (item : Item) (answers : List Message) → ordinal_so_far (group_of (Store o s) item answers ∷ past) ≡ ordinal_next (ordinal_so_far past) item
     store-counts (Whole (Filedata r b)) answers = more-counted (Whole (Filedata r b)) answers ∙ counted (length (filter (λ group. is_filedata group.first) (this_store past)))

@@ -6,7 +6,7 @@ use Rattle.dap_msg.specs.declared.fault.MsgFault.{MsgFault}
 use Rattle.dap_msg.specs.declared.message.Message.{Message}
 use Rattle.dap_msg.specs.Canon.{canon, Fits}
 use Rattle.dap_msg.specs.Written.{Appends, no_memory}
-use Rattle.dap_msg.specs.BothEnds.{least_buffer}
+use Rattle.dap_msg.specs.BothEnds.{min_buffer}
 use Rattle.dap_msg.specs.Blocked.{bodies, block_one, AllFit}
 use Rattle.dap_msg.proofs.ForCallers.{Blocked-more}
 use Rattle.std.proofs.Common.{inl, inr}
@@ -71,7 +71,7 @@ answered_more limit messages m old new f h before e =
       fits = fit_more messages m before.fits f;
     }
 
-pub short_most : (a : Answer) → IsShortReply a → most_bytes a ≤ least_buffer
+pub short_most : (a : Answer) → IsShortReply a → most_bytes a ≤ min_buffer
 short_most (answer.Config bufsiz) s = lit≤ tt
 short_most (answer.Attributes shape mrn) s = lit≤ tt
 short_most answer.Ack s = lit≤ tt

@@ -64,16 +64,16 @@ abbrev pub this_store : List Group → List Group
 this_store past = take_while (λ group. is_store group.place) past
 
 -- the ordinal stays at the largest number of 4 bytes
-abbrev pub greatest_ordinal : ℕ
-greatest_ordinal = 4294967295
+abbrev pub max_ordinal : ℕ
+max_ordinal = 4294967295
 
 -- how many Data messages this Store has had, also those that it dropped
 abbrev pub ordinal_so_far : List Group → ℕ
-ordinal_so_far past = min (length (filter (λ group. is_filedata group.first) (this_store past))) greatest_ordinal
+ordinal_so_far past = min (length (filter (λ group. is_filedata group.first) (this_store past))) max_ordinal
 
 -- the ordinal of the next Filedata
 abbrev pub next_ordinal : ℕ → ℕ
-next_ordinal n = min (n + 1) greatest_ordinal
+next_ordinal n = min (n + 1) max_ordinal
 
 -- a Data message of a Store that has an answer was refused
 abbrev pub was_refused : Group → Bool

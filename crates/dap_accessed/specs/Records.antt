@@ -67,10 +67,10 @@ or_refusal (Some refusal) x = Err refusal
 
 -- Why a GET or a PUT is refused before its number is looked up, in order: the right is missing; RAC is too large, or
 -- is 1 in a sequential file; or KEY isn't 1 to 4 bytes and RAC isn't 0.
-abbrev pub refusals_before : (right : Bool) → (greatest_rac : ℕ) → FileVal → ControlFields → List (Bool × Refusal)
-refusals_before right greatest_rac file control =
+abbrev pub refusals_before : (right : Bool) → (max_rac : ℕ) → FileVal → ControlFields → List (Bool × Refusal)
+refusals_before right max_rac file control =
     (not right, NotPermitted)
-    ∷ (nat_lt greatest_rac (rac_of control) || (is_keyed control && is_seq file.shape.org), BadAccessMode)
+    ∷ (nat_lt max_rac (rac_of control) || (is_keyed control && is_seq file.shape.org), BadAccessMode)
     ∷ (not (is_next control) && is_err (key_of control), BadKey) ∷ []
 
 -- ---- GET.
@@ -137,7 +137,8 @@ pub data Change : Type 0 where
 
 -- the PUT or the UPDATE, once the Data message has come
 abbrev pub changed : Change → Scene → OpenFile → StreamVal → List ℕ → Effect
-changed (Putting (Err refusal)) scene opened stream body = refused_effect scene opened stream refusal
+changed (Putting (Err refusal)) scene opened stream body =
+    refused_effect scene opened stream refusal
 changed (Putting (Ok key)) scene opened stream body =
     settled scene opened (act (put_record key body) (the_file scene.files opened) stream)
 changed Updating scene opened stream body =

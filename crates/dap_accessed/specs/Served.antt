@@ -6,7 +6,7 @@ use Rattle.dap_msg.specs.declared.message.Message.{Message}
 use Rattle.dap_msg.specs.declared.items.Item.{Item}
 use Rattle.dap_msg.specs.Items.{ItemAt}
 use Rattle.dap_msg.specs.Blocked.{Blocked, all_joined, bodies, AllFit}
-use Rattle.dap_msg.specs.BothEnds.{greatest_message}
+use Rattle.dap_msg.specs.BothEnds.{max_nsp_message}
 use Rattle.dap_accessed.specs.declared.setup.ServerSetup.{ServerSetup}
 use Rattle.dap_accessed.specs.declared.served.Served.{Served}
 use Rattle.dap_accessed.specs.Standing.{Files}
@@ -32,7 +32,7 @@ pub record Serves (bytes : List ℕ) (at : ℕ) (old new : Present) (served : Se
   pub reads : ItemAt bytes at item served.next
   pub limit : ℕ
   pub is_limit : (first : Files) (items : List Item) → StandsAfter first items old → limit ≡ limit_for old.setup first items
-  pub most : limit ≤ greatest_message
+  pub most : limit ≤ max_nsp_message
   pub stands : (first : Files) (items : List Item) → StandsAfter first items old → StandsAfter first (items ++ item ∷ []) new
   pub answers : (first : Files) (items : List Item) → StandsAfter first items old →
       bodies served.answers.items ≡ all_joined (Blocked limit (added old.setup first items item))

@@ -1,14 +1,14 @@
 -- What a server keeps of one link, but for the files: several links may have one table of files.
 use Rattle.std.specs.Prelude.{ℕ, ◌≡◌, ◌<◌, ◌≤◌, ◌==◌, ◌-◌, nat_lt, if◌then◌else◌, true, false, List, [], length, Option, Some, None, option_map}
 use Rattle.std.specs.Global.{Vec}
-use Rattle.dap_msg.specs.BothEnds.{greatest_message, least_buffer}
+use Rattle.dap_msg.specs.BothEnds.{max_nsp_message, min_buffer}
 use Rattle.dap_msg.specs.Blocked.{bodies}
 use Rattle.dap_msg.specs.Codes as codes
 use Rattle.dap_msg.specs.declared.message.Message.TheVariants.{Access}
 use Rattle.dap_msg.specs.declared.message.AccessFields.{AccessFields}
 use Rattle.dap_msg.specs.declared.items.Item.{Item}
 use Rattle.dap_msg.specs.declared.items.Item.TheVariants.{Whole}
-use Rattle.rec_file.specs.Limits.{greatest_number}
+use Rattle.rec_file.specs.Limits.{max_record_number}
 use Rattle.rec_file.specs.declared.shapes.Shape.{Shape}
 use Rattle.dap_accessed.specs.declared.setup.ServerSetup.{ServerSetup}
 use Rattle.dap_accessed.specs.declared.phase.OpenFile.{OpenFile}
@@ -41,9 +41,9 @@ session_of p = record { own = p.own; setup = p.setup; limit = p.limit; kept = p.
 -- no Configuration was served
 abbrev pub session_with : (own : ServerSetup) → SessionValue
 session_with own =
-    record { own = own.identity.bufsiz; setup = own; limit = least_buffer; kept = Some plain_shape; phase = phases.Fresh }
+    record { own = own.identity.bufsiz; setup = own; limit = min_buffer; kept = Some plain_shape; phase = phases.Fresh }
 
--- the same of a server with this BUFSIZ of which nothing else is asked
+-- no Configuration was served, of a server with this BUFSIZ and the usual setup
 abbrev pub new_session : (own : ℕ) → SessionValue
 new_session own = session_with (plain_setup own)
 
@@ -63,7 +63,7 @@ IsOpenIn files (phases.PutDue opened stream key) = opened.at < length files
 IsOpenIn files (phases.UpdateDue opened stream) = opened.at < length files
 IsOpenIn files (phases.Storing opened stream ordinal) = opened.at < length files
 IsOpenIn files (phases.Dropping opened stream ordinal) = opened.at < length files
-IsOpenIn files (phases.Stopped opened stream) = (opened.at < length files) × (stream.next ≤ greatest_number)
+IsOpenIn files (phases.Stopped opened stream) = (opened.at < length files) × (stream.next ≤ max_record_number)
 
 -- the file that is open in a phase
 abbrev pub open_at : Phase → Option OpenFile
@@ -81,7 +81,7 @@ open_at (phases.Stopped o s) = Some o
 abbrev pub moved_up : (removed : ℕ) → OpenFile → OpenFile
 moved_up removed opened = record opened { at = if nat_lt removed opened.at then opened.at - 1 else opened.at }
 
--- the same of a phase's file
+-- a phase after a file that isn't open is gone from the table
 abbrev pub phase_moved_up : (removed : ℕ) → Phase → Phase
 phase_moved_up r phases.Fresh = phases.Fresh
 phase_moved_up r phases.Ready = phases.Ready
@@ -97,7 +97,7 @@ phase_moved_up r (phases.Stopped o s) = phases.Stopped (moved_up r o) s
 abbrev pub there_at : (fac at : ℕ) → OpenFile
 there_at fac at = record { at = at; is_new = false; rights = rights_to_open fac }
 
--- the same, unless it asks for a right that the server doesn't give
+-- what such an Access opens: none where it asks for a right that the server doesn't give
 abbrev pub there_if : (own : ServerSetup) → (fac : ℕ) → Option ℕ → Option OpenFile
 there_if own fac found = if lacks own.most (rights_to_open fac) then None else option_map (there_at fac) found
 
@@ -128,6 +128,6 @@ pub record ServesItem (item : Item) (old new : Present) (answers : Vec (Vec ℕ)
   pub stands : (c : Grouped) → IsIn c old → IsIn (after_item old.setup c item) new
   pub answered : (c : Grouped) → IsIn c old → Answered old.limit (answers_of old.setup c item) answers
   pub within : AllAtMost old.limit (bodies answers.items)
-  pub most : old.limit ≤ greatest_message
+  pub most : old.limit ≤ max_nsp_message
   pub same_own : new.own ≡ old.own
   pub same_setup : new.setup ≡ old.setup

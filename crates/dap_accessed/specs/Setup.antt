@@ -1,7 +1,7 @@
 -- What a server is set up with: what it says of itself, how it compares names, and the most that an Access may ask for.
 use Rattle.std.specs.Prelude.{ℕ, ◌≤◌, Bool, true, not, ◌&&◌, ◌||◌, List, bytes_eq}
 use Rattle.file_names.specs.Folds.{fold}
-use Rattle.dap_msg.specs.BothEnds.{least_buffer, plain_identity}
+use Rattle.dap_msg.specs.BothEnds.{min_buffer, plain_identity}
 use Rattle.dap_msg.specs.Fitting.{FieldsFit}
 use Rattle.dap_msg.specs.declared.message.Message.TheVariants.{Config}
 use Rattle.rec_file.specs.declared.picks.Rights.{Rights}
@@ -30,4 +30,4 @@ plain_setup bufsiz = record { identity = plain_identity bufsiz; names = Exact; m
 -- its Configuration has a spelling, and its BUFSIZ is at least the least
 pub record IsServerSetup (own : ServerSetup) : Type 0 where
   pub fits : FieldsFit (Config own.identity)
-  pub least : least_buffer ≤ own.identity.bufsiz
+  pub least : min_buffer ≤ own.identity.bufsiz

@@ -1,7 +1,7 @@
 -- What is true of a server after any items.
 use Rattle.std.specs.Prelude.{◌<◌, ◌≤◌, length, IfSome, bytes_eq}
 use Rattle.std.specs.List.{AllByRecursion, IsDistinct}
-use Rattle.dap_msg.specs.BothEnds.{greatest_message, least_buffer}
+use Rattle.dap_msg.specs.BothEnds.{max_nsp_message, min_buffer}
 use Rattle.rec_file.specs.Files.{IsFile}
 use Rattle.dap_accessed.specs.Standing.{Files, Scene, Place, Fresh, Ready, Opened, Connected, Store, Stopped}
 use Rattle.dap_accessed.specs.Groups.{Grouped}
@@ -27,10 +27,10 @@ pub record IsSoundAt (scene : Scene) (place : Place) : Type 0 where
   pub files : AreFiles scene.files
   pub opened : IsOpenAt scene.files place
   -- what a peer takes is not less than the least, and not more than any end takes
-  pub least : least_buffer ≤ scene.limit
-  pub most : scene.limit ≤ greatest_message
+  pub least : min_buffer ≤ scene.limit
+  pub most : scene.limit ≤ max_nsp_message
 
--- the same, also inside a group of two
+-- the state is sound so, and inside a group of two the open file of its first message is in the table too
 pub record IsSound (c : Grouped) : Type 0 where
   pub standing : IsSoundAt c.standing.scene c.standing.place
   pub begun : IfSome c.begun (λ b. b.opened.at < length c.standing.scene.files)

@@ -2,7 +2,7 @@
 use Rattle.std.specs.Prelude.{ℕ, List, [], get_or, set, Option, bytes_eq}
 use Rattle.std.specs.List.{position}
 use Rattle.std.specs.FinMap as map
-use Rattle.dap_msg.specs.BothEnds.{least_buffer}
+use Rattle.dap_msg.specs.BothEnds.{min_buffer}
 use Rattle.dap_msg.specs.declared.message.Message.{Message}
 use Rattle.dap_msg.specs.declared.items.Item.{Item}
 use Rattle.rec_file.specs.declared.shapes.Shape.{Shape}
@@ -89,4 +89,4 @@ enters scene place answers = record { scene = scene; place = place; answers = an
 
 -- The first state: these files, no Configuration of the peer, and the least limit.
 abbrev pub start : Files → Standing
-start files = record { scene = record { limit = least_buffer; files = files }; place = Fresh; past = [] }
+start files = record { scene = record { limit = min_buffer; files = files }; place = Fresh; past = [] }

@@ -1,7 +1,7 @@
 //! The accessed end.
 
 ghost use Rattle.std.specs.Prelude.{◌≡◌, ◌≤◌, ◌<◌, ℕ, List, [], length, IfOk, IsOk, OnErr};
-ghost use Rattle.dap_msg.specs.BothEnds.{greatest_message, least_buffer};
+ghost use Rattle.dap_msg.specs.BothEnds.{max_nsp_message, min_buffer};
 ghost use Rattle.dap_msg.specs.declared.items.Item.{Item as TheItem};
 ghost use Rattle.dap_msg.specs.Items.{IsPlace, ItemAt};
 ghost use Rattle.dap_msg.specs.declared.items.Item.TheVariants.{Whole};
@@ -49,8 +49,8 @@ impl Accessed {
     /// An end with no files that waits for the peer's Config, with a buffer of this many bytes, at least 64. It
     /// takes no memory.
     pub fn new(alloc: Global, bufsiz: u16) -> Accessed
-        requires low { least_buffer ≤ bufsiz }
-        requires high { bufsiz ≤ greatest_message }
+        requires low { min_buffer ≤ bufsiz }
+        requires high { bufsiz ≤ max_nsp_message }
         ensures own { result.own ≡ bufsiz }
         ensures setup { result.setup ≡ plain_setup bufsiz }
         ensures stands { StandsAfter [] [] result }
@@ -58,7 +58,7 @@ impl Accessed {
         Accessed::with_setup(alloc, ServerSetup::plain(bufsiz))
     }
 
-    /// The same end, set up so. It takes no memory.
+    /// An end with this setup, which has no files, and of which no message was served. It takes no memory.
     pub fn with_setup(alloc: Global, setup: ServerSetup) -> Accessed
         requires { IsServerSetup setup }
         ensures setup { result.setup ≡ setup }
@@ -80,8 +80,8 @@ impl Accessed {
         &self.files
     }
 
-    /// Serves the one DAP message that begins at a place of an NSP message (DAP 5.6.0, message sequences): `at` is
-    /// a place in bytes within it, or 0 where it has none. Bytes of which no message can be read are answered by
+    /// Serves the one DAP message that begins at an offset of an NSP message (DAP 5.6.0, message sequences): `at` is
+    /// less than its length, or 0 where it has none. Bytes of which no message can be read are answered by
     /// one Status, and nothing after them is read.
     ///
     /// The only refusal is [`NoMemory`]. Nothing has changed then, and the same call may be made again. A message
@@ -100,7 +100,8 @@ impl Accessed {
         self.serve_item(item, next)
     }
 
-    /// The same of what was read already: the message or fault that `item_at` answered, and the place after it.
+    /// Serves what was read already, as [`Accessed::serve`] does: the message or fault that `item_at` answered, and the
+    /// offset after it.
     pub fn serve_item(&mut self, item: Item<'_>, next: usize) -> Result<Served, NoMemory>
         requires { (m : TheMessage) → item ≡ Whole m → IsSpelled m }
         ensures serves { (bytes : List ℕ) (at : ℕ) → ItemAt bytes at item.entry next

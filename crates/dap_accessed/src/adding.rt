@@ -12,11 +12,11 @@ ghost use Rattle.dap_msg.specs.declared.items.Item.{Item as TheItem};
 use crate::accessed::Accessed;
 use crate::fault::AddFault;
 use crate::phase::Phase;
-use dap_msg::LEAST_BUFFER;
+use dap_msg::MIN_BUFFER;
 use rec_file::{AnyFile, OneWalk, RecordFile, Refusal, Rights, Shape};
 
 impl Accessed {
-    /// The same files for another link: the end waits for a peer's Config again, an open file is closed, and a PUT
+    /// Begins another link, over the same files: the end waits for a peer's Config again, an open file is closed, and a PUT
     /// or an UPDATE that waits for its record is dropped.
     pub fn renew(&mut self)
         ensures own { self.new.own ≡ self.old.own }
@@ -26,7 +26,7 @@ impl Accessed {
         self.session.renew();
     }
 
-    /// The same files for another link, on which an Access may ask for these rights at most.
+    /// Begins another link as [`Accessed::renew`] does; an Access on it may ask for these rights at most.
     pub fn renew_for(&mut self, most: Rights)
         ensures own { self.new.own ≡ self.old.own }
         ensures setup { self.new.setup ≡ record self.old.setup { most = most } }

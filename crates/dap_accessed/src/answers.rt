@@ -4,8 +4,8 @@ ghost use Rattle.std.specs.Prelude.{◌≡◌, ◌≤◌, [], ◌∷◌, IfOk, l
 ghost use Rattle.dap_msg.specs.declared.message.Message.TheVariants.{Ack, Config, Filedata};
 ghost use Rattle.dap_msg.specs.Canon.{Fits};
 ghost use Rattle.dap_msg.specs.Sizes.{file_data_size};
-ghost use Rattle.dap_msg.specs.BothEnds.{four_bytes, least_buffer};
-ghost use Rattle.rec_file.specs.Limits.{longest_record};
+ghost use Rattle.dap_msg.specs.BothEnds.{four_bytes, min_buffer};
+ghost use Rattle.rec_file.specs.Limits.{max_record};
 ghost use Rattle.dap_accessed.specs.Replies.{attributes_for, completed, format_number, opened_with, org_number, status, too_large};
 ghost use Rattle.dap_accessed.specs.Inner.Written.{AddsAnswer, FitsIn, IsAtMost, IsShortReply, IsWritableReply, reply_message, most_bytes};
 ghost use Rattle.dap_accessed.specs.Served.{Answered};
@@ -16,7 +16,7 @@ use dap_msg::codes::{
     RFM_FIXED, RFM_VARIABLE, SUCCESS,
 };
 use dap_msg::{
-    Attributes, Bytes, Configuration, LEAST_BUFFER, MessageValue, StatusFields, append_message,
+    Attributes, Bytes, Configuration, MIN_BUFFER, MessageValue, StatusFields, append_message,
     encode_value, encoded_len,
 };
 use rec_file::{Format, Org, Shape};
@@ -61,7 +61,7 @@ fn status<'a>(code: u16, rfa: &'a [u8], recnum: &'a [u8], stv: &'a [u8]) -> Mess
     requires stv { length stv.now ≤ 4 }
     ensures same { result ≡ status code rfa.now recnum.now stv.now }
     ensures fits { Fits (status code rfa.now recnum.now stv.now) }
-    ensures short { IsAtMost least_buffer (status code rfa.now recnum.now stv.now) }
+    ensures short { IsAtMost min_buffer (status code rfa.now recnum.now stv.now) }
 {
     MessageValue::Status(StatusFields {
         code,
@@ -97,7 +97,7 @@ fn attributes(shape: Shape, mrn: &[u8]) -> MessageValue<'_>
     requires { mrn.now ≡ four_bytes shape.mrn }
     ensures same { result ≡ attributes_for shape }
     ensures fits { Fits (attributes_for shape) }
-    ensures short { IsAtMost least_buffer (attributes_for shape) }
+    ensures short { IsAtMost min_buffer (attributes_for shape) }
 {
     MessageValue::Attrib(Attributes {
         org: Some(org_code(shape.org)),
@@ -112,7 +112,7 @@ fn attributes(shape: Shape, mrn: &[u8]) -> MessageValue<'_>
 #[tactic(auto, using(dap_msg::proofs::ForCallers::file_data_measured, dap_msg::proofs::ForCallers::file_data_fits))]
 fn record<'a>(number: &'a [u8], body: &'a [u8]) -> MessageValue<'a>
     requires four { length number.now ≡ 4 }
-    requires short { length body.now ≤ longest_record }
+    requires short { length body.now ≤ max_record }
     ensures same { result ≡ Filedata number.now body.now }
     ensures fits { Fits (Filedata number.now body.now) }
     ensures size { IsAtMost (file_data_size 4 (length body.now)) (Filedata number.now body.now) }
@@ -126,7 +126,7 @@ fn record<'a>(number: &'a [u8], body: &'a [u8]) -> MessageValue<'a>
 /// How many bytes the Filedata of a record has, with its number in 4 bytes.
 #[tactic(auto, using(dap_msg::proofs::ForCallers::file_data_measured, dap_msg::proofs::ForCallers::file_data_fits))]
 pub(crate) fn filedata_len(body: &[u8]) -> usize
-    requires { length body.now ≤ longest_record }
+    requires { length body.now ≤ max_record }
     ensures { result ≡ file_data_size 4 (length body.now) }
 {
     encoded_len(&MessageValue::Filedata {
@@ -186,7 +186,7 @@ pub(crate) fn append(
 
 /// The answers to an Access that opens a file.
 pub(crate) fn opening(alloc: Global, limit: u16, shape: Shape) -> Result<Vec<Vec<u8>>, NoMemory>
-    requires { least_buffer ≤ limit }
+    requires { min_buffer ≤ limit }
     ensures { IfOk result (Answered limit (opened_with shape)) }
 {
     let mut answers = Vec::new(alloc);
@@ -209,28 +209,28 @@ pub(crate) struct Room {
 
 impl Model for Room {
     ghost use Rattle.std.specs.Prelude.{Bool, true};
-    ghost use Rattle.dap_msg.specs.BothEnds.{least_buffer};
+    ghost use Rattle.dap_msg.specs.BothEnds.{min_buffer};
     ghost use Rattle.dap_accessed.specs.Inner.Written.{IsEmptyFor};
 
     ghost Value = { Bool };
 
     ghost view = { λ a. true };
 
-    ghost invariant = { λ a. IsEmptyFor 1 a.answers × IsEmptyFor least_buffer a.bytes };
+    ghost invariant = { λ a. IsEmptyFor 1 a.answers × IsEmptyFor min_buffer a.bytes };
 }
 
 impl Room {
     /// Room for one answer, unless memory is refused.
     pub(crate) fn new(alloc: Global) -> Result<Room, NoMemory> {
         let answers = Vec::with_capacity(alloc, 1)?;
-        let bytes = Vec::with_capacity(alloc, usize::from(LEAST_BUFFER))?;
+        let bytes = Vec::with_capacity(alloc, usize::from(MIN_BUFFER))?;
         Ok(Room { answers, bytes })
     }
 
     /// The answer in an NSP message of its own.
     pub(crate) fn fill(self, limit: u16, answer: Answer<'_>) -> Vec<Vec<u8>>
         requires short { IsShortReply answer }
-        requires room { least_buffer ≤ limit }
+        requires room { min_buffer ≤ limit }
         ensures { Answered limit (reply_message answer.entry ∷ []) result }
     {
         let Room {

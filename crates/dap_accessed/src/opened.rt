@@ -73,7 +73,8 @@ impl Session {
         control: &ControlFields<'_>,
     ) -> Result<Vec<Vec<u8>>, NoMemory>
         requires { opened.at < length files.old }
-        ensures ok { Makes (step_move (steps.Get opened stream control.now) (with_files files.old self.old))
+        ensures ok { Makes
+            (step_move (steps.Get opened stream control.now) (with_files files.old self.old))
             (with_files files.old self.old) (with_files files.new self.new) result }
         ensures there { OnOk result (IsOpenIn files.new self.new.phase) }
         ensures err { OnErr result (with_files files.new self.new ≡ with_files files.old self.old) }

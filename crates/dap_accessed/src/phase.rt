@@ -9,7 +9,7 @@ use rec_file::{Refusal, Rights, Stream};
 /// The file that an Access opened (DAP 5.6.0, Access message).
 #[derive(Clone, Copy)]
 pub struct OpenFile {
-    /// Its place in the file table, from 0.
+    /// Its index in the file table, from 0.
     pub at: usize,
     /// Whether this Access made it.
     pub is_new: bool,
@@ -18,7 +18,7 @@ pub struct OpenFile {
 }
 
 impl OpenFile {
-    /// The same after a file was removed from the table.
+    /// The open file after another was removed from the table at this index.
     pub(crate) fn moved_up(self, removed: usize) -> OpenFile
         ensures { result ≡ moved_up removed self }
     {
@@ -50,7 +50,7 @@ pub enum Phase {
     UpdateDue(OpenFile, Stream),
     /// A Filedata of a Store, with the number of those so far.
     Storing(OpenFile, Stream, u32),
-    /// The same, after one that was refused.
+    /// A Filedata of a Store in which one was refused, with the number of those so far.
     Dropping(OpenFile, Stream, u32),
     /// A Continue Transfer, after a record that was too large.
     Stopped(OpenFile, Stream),
@@ -69,7 +69,7 @@ impl Phase {
         }
     }
 
-    /// The same after a file that stood before the open one was removed from the table.
+    /// The phase after a file that isn't open was removed from the table at this index.
     pub(crate) fn moved_up(self, removed: usize) -> Phase
         ensures { result ≡ phase_moved_up removed self }
     {

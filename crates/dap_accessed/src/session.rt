@@ -1,7 +1,7 @@
 //! What the accessed end keeps of one link.
 
 ghost use Rattle.std.specs.Prelude.{◌≡◌, ◌≤◌, [], ◌∷◌, Some, IfOk, IsOk, OnOk, OnErr, true};
-ghost use Rattle.dap_msg.specs.BothEnds.{greatest_message, least_buffer};
+ghost use Rattle.dap_msg.specs.BothEnds.{max_nsp_message, min_buffer};
 ghost use Rattle.dap_msg.specs.declared.items.Item.TheVariants.{Whole};
 ghost use Rattle.dap_msg.specs.declared.message.Message.{Message as TheMessage};
 ghost use Rattle.dap_msg.specs.Codes as codes;
@@ -31,7 +31,7 @@ use dap_msg::codes::{
     ACCESS_REFUSED, ACCFUNC_CREATE, ACCFUNC_OPEN, FILE_NOT_FOUND, REASON_BAD_ATTRIBUTES,
     REASON_FILE_EXISTS, REASON_NOT_PERMITTED, TYPE_ACCESS, unsupported,
 };
-use dap_msg::{AccessFields, FileAccess, Item, LEAST_BUFFER, MessageValue};
+use dap_msg::{AccessFields, FileAccess, Item, MIN_BUFFER, MessageValue};
 use rec_file::{Format, Org, RecordFile, Rights, Shape};
 use std::alloc::Global;
 use std::marker::Model;
@@ -136,13 +136,13 @@ fn would_open(setup: &ServerSetup, files: &FileTable, access: &AccessFields<'_>)
 impl Session {
     /// A link on which no Config was served, with a buffer of this many bytes, at least 64. It takes no memory.
     pub fn new(alloc: Global, bufsiz: u16) -> Session
-        requires low { least_buffer ≤ bufsiz }
+        requires low { min_buffer ≤ bufsiz }
         ensures { result ≡ new_session bufsiz }
     {
         Session::with_setup(alloc, ServerSetup::plain(bufsiz))
     }
 
-    /// The same of a server that is set up so. It takes no memory.
+    /// A link of a server with this setup on which no Config was served. It takes no memory.
     pub fn with_setup(alloc: Global, setup: ServerSetup) -> Session
         requires { IsServerSetup setup }
         ensures { result ≡ session_with setup }
@@ -150,23 +150,24 @@ impl Session {
         Session {
             alloc,
             setup,
-            limit: LEAST_BUFFER,
+            limit: MIN_BUFFER,
             kept: Some(PLAIN),
             phase: Phase::Fresh,
         }
     }
 
-    /// The same for another link: the open file is closed, and a PUT or an UPDATE that waits for its record is dropped.
+    /// Begins another link, with the same setup: the open file is closed, and a PUT or an UPDATE that waits for its record
+    /// is dropped.
     pub fn renew(&mut self)
         ensures session { self.new ≡ session_with self.old.setup }
         ensures own { self.new.own ≡ self.old.own }
     {
-        self.limit = LEAST_BUFFER;
+        self.limit = MIN_BUFFER;
         self.kept = Some(PLAIN);
         self.phase = Phase::Fresh;
     }
 
-    /// The same for another link, on which an Access may ask for these rights at most.
+    /// Begins another link as [`Session::renew`] does; an Access on it may ask for these rights at most.
     pub fn renew_for(&mut self, most: Rights)
         ensures session { self.new ≡ session_with (record self.old.setup { most = most }) }
         ensures own { self.new.own ≡ self.old.own }
@@ -281,7 +282,7 @@ impl Session {
 
     /// Answers the Config of a peer that takes messages of this many bytes.
     fn configure(&mut self, files: &FileTable, limit: u16) -> Result<Vec<Vec<u8>>, NoMemory>
-        requires { least_buffer ≤ limit }
+        requires { min_buffer ≤ limit }
         ensures ok { Makes (step_move (steps.Configure limit) (with_files files.now self.old))
             (with_files files.now self.old) (with_files files.now self.new) result }
         ensures there { OnOk result (IsOpenIn files.now self.new.phase) }
@@ -296,7 +297,8 @@ impl Session {
     fn keep(&mut self, files: &FileTable, shape: Option<Shape>) -> Vec<Vec<u8>>
         requires { CanDo files.now (steps.Keep shape) }
         ensures moves { Moves (with_files files.now self.old)
-            (step_move (steps.Keep shape) (with_files files.now self.old)) (with_files files.now self.new) result }
+            (step_move (steps.Keep shape) (with_files files.now self.old))
+            (with_files files.now self.new) result }
         ensures there { IsOpenIn files.now self.new.phase }
     {
         self.kept = shape;
@@ -311,7 +313,8 @@ impl Session {
         name: &[u8],
         fac: u32,
     ) -> Result<Vec<Vec<u8>>, NoMemory>
-        ensures ok { Makes (step_move (steps.Access func name.entry fac) (with_files files.old self.old))
+        ensures ok { Makes
+            (step_move (steps.Access func name.entry fac) (with_files files.old self.old))
             (with_files files.old self.old) (with_files files.new self.new) result }
         ensures there { OnOk result (IsOpenIn files.new self.new.phase) }
         ensures err { OnErr result (with_files files.new self.new ≡ with_files files.old self.old) }
@@ -330,7 +333,8 @@ impl Session {
         answer: Answer<'_>,
     ) -> Result<Vec<Vec<u8>>, NoMemory>
         requires { IsShortReply answer }
-        ensures ok { Makes (opens_nothing (with_files files.now self.old) (reply_message answer.entry))
+        ensures ok { Makes
+            (opens_nothing (with_files files.now self.old) (reply_message answer.entry))
             (with_files files.now self.old) (with_files files.now self.new) result }
         ensures there { OnOk result (IsOpenIn files.now self.new.phase) }
         ensures err { OnErr result (with_files files.now self.new ≡ with_files files.now self.old) }
@@ -403,7 +407,7 @@ impl Session {
         ensures session { OnOk result (self.new ≡ refused_session self.old) }
         ensures answer { IfOk result (Answered self.old.limit (bare_status code ∷ [])) }
         ensures no_memory { OnErr result (self.new ≡ self.old) }
-        ensures most { self.old.limit ≤ greatest_message }
+        ensures most { self.old.limit ≤ max_nsp_message }
     {
         let _ = &self.limit;
         self.refuse_access(files, Answer::Status(code))
@@ -447,7 +451,7 @@ impl Session {
         ensures there { IsOpenIn files.new self.new.phase }
         ensures err { OnErr result (with_files files.new self.new ≡ with_files files.old self.old) }
         ensures silent { is_silent self.old.phase item.entry ≡ true → IsOk result }
-        ensures most { self.old.limit ≤ greatest_message }
+        ensures most { self.old.limit ≤ max_nsp_message }
     {
         match self.phase.step(item) {
             Ok(step) => self.act(files, &step),

@@ -14,7 +14,7 @@ ghost use Rattle.dap_accessed.specs.Replies.{bare_status};
 ghost use Rattle.dap_accessed.specs.Transfers.{continue_refused};
 ghost use Rattle.dap_accessed.specs.Sessions.{IsOpenIn};
 ghost use Rattle.dap_accessed.specs.Inner.Steps.{AsksFor, HasOpen, IsCommon};
-ghost use Rattle.rec_file.specs.Limits.{greatest_number};
+ghost use Rattle.rec_file.specs.Limits.{max_record_number};
 ghost use Rattle.dap_accessed.specs.declared.phase.Phase.TheVariants as phases;
 
 use crate::answers::Answer;
@@ -107,7 +107,7 @@ impl Phase {
         }
     }
 
-    /// The same where a file is open without a stream.
+    /// What a message asks for where a file is open without a stream.
     fn opened<'a>(self, opened: OpenFile, message: MessageValue<'a>) -> Result<Step<'a>, u16>
         requires { self ≡ phases.Opened opened }
         ensures { AsksFor self (Whole message.entry) result }
@@ -124,7 +124,7 @@ impl Phase {
         }
     }
 
-    /// The same where a stream is connected.
+    /// What a message asks for where a stream is connected.
     fn connected<'a>(
         self,
         opened: OpenFile,
@@ -156,7 +156,7 @@ impl Phase {
         }
     }
 
-    /// The same in a Store that drops what comes.
+    /// What a message asks for in a Store that drops what comes.
     fn dropping<'a>(
         self,
         opened: OpenFile,
@@ -181,7 +181,7 @@ impl Phase {
         }
     }
 
-    /// The same after a fetch that stopped.
+    /// What a message asks for after a fetch that stopped.
     fn stopped<'a>(
         self,
         opened: OpenFile,
@@ -189,7 +189,7 @@ impl Phase {
         message: MessageValue<'a>,
     ) -> Result<Step<'a>, u16>
         requires phase { self ≡ phases.Stopped opened stream }
-        requires next { stream.next ≤ greatest_number }
+        requires next { stream.next ≤ max_record_number }
         ensures { AsksFor self (Whole message.entry) result }
     {
         match message {
@@ -206,7 +206,7 @@ impl Phase {
         }
     }
 
-    /// The same in each phase in which a file is open, unless the phase says otherwise.
+    /// What a message asks for in each phase in which a file is open, unless the phase says otherwise.
     fn otherwise<'a>(self, opened: OpenFile, message: MessageValue<'a>) -> Result<Step<'a>, u16>
         requires there { HasOpen self opened }
         requires common { IsCommon self message }

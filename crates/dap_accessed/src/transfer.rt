@@ -5,7 +5,7 @@ ghost use Rattle.dap_accessed.specs.Inner.Moves.{HasFetched, Makes, fetched_phas
 ghost use Rattle.dap_accessed.specs.Sessions.{IsOpenIn, with_files};
 ghost use Rattle.dap_accessed.specs.Inner.Steps.{step_move};
 ghost use Rattle.dap_accessed.specs.declared.step.Step.TheVariants as steps;
-ghost use Rattle.rec_file.specs.Limits.{greatest_number};
+ghost use Rattle.rec_file.specs.Limits.{max_record_number};
 ghost use Rattle.dap_accessed.specs.Records.{at_number};
 
 use crate::answers::{Answer, Room, append, filedata_len, too_large};
@@ -20,7 +20,7 @@ use rec_file::{Stream, first_record};
 /// The stream at another number, with no current record.
 pub(crate) fn at_number(mut stream: Stream, number: u32) -> Stream
     requires above { 1 ≤ number }
-    requires within { number ≤ greatest_number + 1 }
+    requires within { number ≤ max_record_number + 1 }
     ensures { result ≡ at_number number stream }
 {
     stream.seek(number);
@@ -39,7 +39,8 @@ impl Session {
     ) -> Result<Vec<Vec<u8>>, NoMemory>
         requires { opened.at < length files.old }
         ensures ok { Makes
-            (step_move (steps.Store opened stream ordinal body.entry) (with_files files.old self.old))
+            (step_move (steps.Store opened stream ordinal body.entry)
+            (with_files files.old self.old))
             (with_files files.old self.old) (with_files files.new self.new) result }
         ensures there { OnOk result (IsOpenIn files.new self.new.phase) }
         ensures err { OnErr result (with_files files.new self.new ≡ with_files files.old self.old) }

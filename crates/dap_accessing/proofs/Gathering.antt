@@ -9,7 +9,7 @@ use Rattle.dap_msg.specs.declared.items.Item.{Item}
 use Rattle.dap_msg.specs.declared.items.Item.TheVariants.{Whole}
 use Rattle.dap_msg.specs.Codes.{is_success}
 use Rattle.dap_msg.specs.BothEnds.{number_of}
-use Rattle.rec_file.specs.Limits.{greatest_number}
+use Rattle.rec_file.specs.Limits.{max_record_number}
 use Rattle.dap_accessing.specs.Request.{Request}
 use Rattle.dap_accessing.specs.declared.request.Request.TheVariants.{Hello, Create, OpenFile, Connect, Get, Put, Update, Delete, Rewind, Fetch, Store, Continue, Close, Purge}
 use Rattle.dap_accessing.specs.declared.report.Report.{Report}
@@ -32,7 +32,7 @@ attributes : (answers : List Item) → hear_attributes answers ≡ gather_attrib
 attributes [] = refl
 attributes (Whole (Other number body) ∷ rest) = ap hear_file (behind-more is_other (Whole (Other number body)) rest refl) ∙ attributes rest
 attributes (Whole (Attrib a) ∷ rest) =
-    ap (λ h. if nat_le (number_of (unwrap_or a.mrn [])) greatest_number then h else Unexpected) (opened (opened_as a) rest)
+    ap (λ h. if nat_le (number_of (unwrap_or a.mrn [])) max_record_number then h else Unexpected) (opened (opened_as a) rest)
 attributes (_ ∷ rest) = refl
 
 -- a fetch, after these records

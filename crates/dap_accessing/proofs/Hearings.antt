@@ -8,7 +8,7 @@ use Rattle.dap_msg.specs.declared.items.Item.{Item}
 use Rattle.dap_msg.specs.declared.items.Item.TheVariants.{Whole}
 use Rattle.dap_msg.specs.Codes.{cmpfunc, stscode}
 use Rattle.dap_msg.specs.BothEnds.{number_of, is_too_small}
-use Rattle.rec_file.specs.Limits.{greatest_number}
+use Rattle.rec_file.specs.Limits.{max_record_number}
 use Rattle.dap_accessing.specs.Request.{Request}
 use Rattle.dap_accessing.specs.declared.report.Report.{Report}
 use Rattle.dap_accessing.specs.declared.report.Report.TheVariants as report
@@ -61,7 +61,7 @@ stays-attributes : (answers more : List Item) → Stays (gather_attributes answe
 stays-attributes [] more = tt
 stays-attributes (Whole (Other _ _) ∷ rest) more = stays-attributes rest more
 stays-attributes (Whole (Attrib a) ∷ rest) more =
-    elim (nat_le (number_of (unwrap_or a.mrn [])) greatest_number) as (λ b. Stays (if b then gather_opened (opened_as a) rest else Unexpected) (if b then gather_opened (opened_as a) (rest ++ more) else Unexpected) more) [
+    elim (nat_le (number_of (unwrap_or a.mrn [])) max_record_number) as (λ b. Stays (if b then gather_opened (opened_as a) rest else Unexpected) (if b then gather_opened (opened_as a) (rest ++ more) else Unexpected) more) [
       | true ↦ stays-opened (opened_as a) rest more
       | false ↦ refl
     ]

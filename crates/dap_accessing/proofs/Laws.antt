@@ -11,7 +11,7 @@ use Rattle.dap_accessing.specs.declared.report.Report.{Report}
 use Rattle.dap_accessing.specs.declared.pending.Pending.{Pending}
 use Rattle.dap_accessing.specs.declared.pending.Pending.TheVariants as pending
 use Rattle.dap_accessing.specs.Told.{Hearing, Reports, Waits, Unexpected, hear, Told, Due, NothingDue, AnswersDue, Wrong, due_after, is_unexpected}
-use Rattle.dap_msg.specs.BothEnds.{greatest_message}
+use Rattle.dap_msg.specs.BothEnds.{max_nsp_message}
 use Rattle.dap_accessing.specs.declared.phase.Phase.TheVariants.{Fresh}
 use Rattle.dap_msg.specs.Sendable.{AreSendable}
 use Rattle.dap_accessing.specs.Phase.{phase_next, phase_after, limit_next, limit_after, phases_for, IsNoneDue, IsRefused}
@@ -198,7 +198,7 @@ pub phase_more : (reports : List Report) (done : Report) → phase_after (report
 phase_more reports done = fold_more phase_next Fresh reports done
 
 pub limit_more : (reports : List Report) (done : Report) → limit_after (reports ++ done ∷ []) ≡ limit_next (limit_after reports) done
-limit_more reports done = fold_more limit_next greatest_message reports done
+limit_more reports done = fold_more limit_next max_nsp_message reports done
 
 pub stands_asked : (request : Request) (old : ClientState) → old.pending ≡ None → (requests : List Request) (answers : List Item) → ClientAfter requests answers old
     → ClientAfter (requests ++ request ∷ []) answers (record old { pending = Some (pending_of request) })
@@ -327,7 +327,7 @@ admit request old may = λ requests answers s. (
   subst (λ n. AreSendable n (messages_of old.identity request)) s.limit may.sendable,
 )
 
-pub may_ask : (request : Request) (old : ClientState) → old.failed ≡ false → is_some old.pending ≡ false → phase_fits old.phase request ≡ true → AreSendable old.limit (messages_of old.identity request) → old.limit ≤ greatest_message → MayAsk old request
+pub may_ask : (request : Request) (old : ClientState) → old.failed ≡ false → is_some old.pending ≡ false → phase_fits old.phase request ≡ true → AreSendable old.limit (messages_of old.identity request) → old.limit ≤ max_nsp_message → MayAsk old request
 may_ask request old works none right sendable most = record { works = works; none_due = none_of old.pending none; in_phase = right; sendable = sendable; most = most }
 
 -- ---- What `read` answers.

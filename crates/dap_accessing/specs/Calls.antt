@@ -4,7 +4,7 @@ use Rattle.dap_msg.specs.declared.items.Item.{Item}
 use Rattle.dap_msg.specs.Items.{ItemAt}
 use Rattle.dap_msg.specs.Blocked.{Blocked, all_joined}
 use Rattle.dap_msg.specs.Sendable.{AreSendable}
-use Rattle.dap_msg.specs.BothEnds.{greatest_message}
+use Rattle.dap_msg.specs.BothEnds.{max_nsp_message}
 use Rattle.dap_accessing.specs.Request.{Request}
 use Rattle.dap_accessing.specs.declared.fault.AskFault.{AskFault}
 use Rattle.dap_accessing.specs.declared.fault.AskFault.TheVariants as ask_fault
@@ -23,13 +23,14 @@ IsAdmittedBy old request =
 
 -- The request is asked: it is admissible, these NSP messages are its messages, joined within the peer's limit, and
 -- the client is as after this request too. No report is added.
-pub record Asks (request : Request) (old new : ClientState) (messages : List (List ℕ)) : Type 0 where
+pub record Asks (request : Request) (old new : ClientState)
+    (messages : List (List ℕ)) : Type 0 where
   pub works : old.failed ≡ false
   pub goes_on : new.failed ≡ false
   pub admissible : IsAdmittedBy old request
   pub limit : ℕ
   pub is_limit : (requests : List Request) (answers : List Item) → ClientAfter requests answers old → limit ≡ limit_after (Told requests answers)
-  pub most : limit ≤ greatest_message
+  pub most : limit ≤ max_nsp_message
   pub sendable : AreSendable limit (messages_of old.identity request)
   pub spelled : messages ≡ all_joined (Blocked limit (messages_of old.identity request))
   pub stands : (requests : List Request) (answers : List Item) → ClientAfter requests answers old → ClientAfter (requests ++ request ∷ []) answers new

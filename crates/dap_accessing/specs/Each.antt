@@ -17,7 +17,7 @@ abbrev pub records_kept : Option Pending → List (ℕ × List ℕ)
 records_kept (Some (pending.Batch records)) = records
 records_kept _ = []
 
--- the same without them
+-- what is pending, without the records of a batch under way
 abbrev pub none_kept : Option Pending → Option Pending
 none_kept (Some (pending.Batch records)) = Some (pending.Batch [])
 none_kept o = o
@@ -42,7 +42,8 @@ IsBatch p = (records : List (ℕ × List ℕ)) × (p.pending ≡ Some (pending.B
 
 -- The answer at this offset was read while a batch was under way. Whatever records had been taken out before, the client
 -- stands as one that keeps them, and reports the batch without them.
-pub record ReadsOn (bytes : List ℕ) (at : ℕ) (old new : ClientState) (read : ReadStep) : Type 0 where
+pub record ReadsOn (bytes : List ℕ) (at : ℕ) (old new : ClientState)
+    (read : ReadStep) : Type 0 where
   pub answer : Item
   pub reads : ItemAt bytes at answer read.next
   pub stands : (told : List (ℕ × List ℕ)) (requests : List Request) (answers : List Item) → IsBatch old → ClientAfter requests answers (put_back told old) →

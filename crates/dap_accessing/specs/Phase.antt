@@ -3,7 +3,7 @@ use Rattle.std.specs.Prelude.{◌≡◌, ℕ, List, [], ◌∷◌, fold}
 use Rattle.std.specs.List.{IsAmong}
 use Rattle.dap_msg.specs.declared.message.Configuration.{Configuration}
 use Rattle.dap_msg.specs.declared.items.Item.{Item}
-use Rattle.dap_msg.specs.BothEnds.{message_limit, greatest_message}
+use Rattle.dap_msg.specs.BothEnds.{message_limit, max_nsp_message}
 use Rattle.dap_msg.specs.Sendable.{AreSendable}
 use Rattle.dap_accessing.specs.Request.{Request}
 use Rattle.dap_accessing.specs.declared.request.Request.TheVariants.{Hello, Create, OpenFile, Connect, Continue, Close, Purge}
@@ -39,7 +39,7 @@ limit_next limit _ = limit
 
 -- at first 65,535 bytes, and after the answer to Hello what its BUFSIZ allows
 abbrev pub limit_after : List Report → ℕ
-limit_after reports = fold limit_next greatest_message reports
+limit_after reports = fold limit_next max_nsp_message reports
 
 -- the phases in which a request may be asked
 abbrev pub phases_for : Request → List Phase

@@ -1,7 +1,7 @@
 -- What `prepare` makes and `ask_prepared` needs.
 use Rattle.std.specs.Prelude.{◌≡◌, ◌≤◌, true, false, None}
 use Rattle.dap_msg.specs.Sendable.{AreSendable}
-use Rattle.dap_msg.specs.BothEnds.{four_bytes, greatest_message}
+use Rattle.dap_msg.specs.BothEnds.{four_bytes, max_nsp_message}
 use Rattle.dap_accessing.specs.declared.asking.Prepared.{Prepared}
 use Rattle.dap_accessing.specs.Request.{Request}
 use Rattle.dap_accessing.specs.Asked.{messages_of}
@@ -15,7 +15,7 @@ pub record MayAsk (old : ClientState) (request : Request) : Type 0 where
   pub none_due : old.pending ≡ None
   pub in_phase : phase_fits old.phase request ≡ true
   pub sendable : AreSendable old.limit (messages_of old.identity request)
-  pub most : old.limit ≤ greatest_message
+  pub most : old.limit ≤ max_nsp_message
 
 -- The client may ask the request, and this has the number that it carries, in four bytes, and the numbers of bytes of its first
 -- message and its last.

@@ -8,7 +8,7 @@ use Rattle.dap_msg.specs.declared.message.Message.TheVariants.{Config, Attrib, A
 use Rattle.dap_msg.specs.declared.items.Item.{Item}
 use Rattle.dap_msg.specs.declared.items.Item.TheVariants.{Whole}
 use Rattle.dap_msg.specs.BothEnds.{number_of, is_too_small, with_defaults}
-use Rattle.rec_file.specs.Limits.{greatest_number}
+use Rattle.rec_file.specs.Limits.{max_record_number}
 use Rattle.dap_accessing.specs.Request.{Request}
 use Rattle.dap_accessing.specs.declared.request.Request.TheVariants.{Hello, Create, OpenFile, Connect, Get, Fetch, Store, Continue, Close, Purge}
 use Rattle.dap_accessing.specs.declared.report.Report.{Report}
@@ -39,7 +39,7 @@ hear_failure told (Whole (Status status) ∷ rest) =
     if codes.is_success status.code then Unexpected else Reports (told status) rest
 hear_failure told (_ ∷ rest) = Unexpected
 
--- the same, where the report is a refusal
+-- A Status that is no success is reported as a refusal, every other answer is unexpected.
 abbrev pub hear_refusal : List Item → Hearing
 hear_refusal answers = hear_failure refusal answers
 
@@ -67,7 +67,7 @@ is_other _ = false
 -- Messages of types 10 to 16 between the two are ignored.
 abbrev pub hear_file : List Item → Hearing
 hear_file (Whole (Attrib a) ∷ rest) =
-    with_defaults (λ org rfm mrs mrn. if nat_le mrn greatest_number then hear_ack (report.Opened org rfm mrs mrn) (after_those is_other rest) else Unexpected) a
+    with_defaults (λ org rfm mrs mrn. if nat_le mrn max_record_number then hear_ack (report.Opened org rfm mrs mrn) (after_those is_other rest) else Unexpected) a
 hear_file answers = hear_refusal answers
 
 -- an opening; messages of types 10 to 16 before the attributes are ignored too

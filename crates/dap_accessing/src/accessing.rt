@@ -2,7 +2,7 @@
 
 ghost use Rattle.std.specs.Prelude.{◌≡◌, ◌≢◌, ◌≤◌, ◌<◌, ℕ, List, [], ◌∷◌, ◌++◌, true, false, length, map, Some, IfOk, IfErr, OnOk, OnErr};
 ghost use Rattle.dap_accessing.specs.declared.fault.AskFault.TheVariants.{NoMemory};
-ghost use Rattle.dap_msg.specs.BothEnds.{greatest_message, least_buffer, plain_identity};
+ghost use Rattle.dap_msg.specs.BothEnds.{max_nsp_message, min_buffer, plain_identity};
 ghost use Rattle.dap_msg.specs.Fitting.{FieldsFit};
 ghost use Rattle.dap_msg.specs.declared.message.Message.TheVariants.{Config};
 ghost use Rattle.dap_msg.specs.declared.items.Item.{Item as TheItem};
@@ -32,7 +32,7 @@ use crate::pending::{Heard, Pending};
 use crate::phase::Phase;
 use crate::report::Report;
 use crate::request::Request;
-use dap_msg::{Configuration, GREATEST_MESSAGE, Item, MessageValue, item_at, limit_of};
+use dap_msg::{Configuration, Item, MAX_MESSAGE, MessageValue, item_at, limit_of};
 use std::alloc::Global;
 use std::marker::Model;
 use std::mem;
@@ -67,8 +67,8 @@ impl Model for Accessing {
 impl Accessing {
     /// An end that nothing was asked of, with a buffer of this many bytes, at least 64. It takes no memory.
     pub fn new(alloc: Global, bufsiz: u16) -> Accessing
-        requires low { least_buffer ≤ bufsiz }
-        requires high { bufsiz ≤ greatest_message }
+        requires low { min_buffer ≤ bufsiz }
+        requires high { bufsiz ≤ max_nsp_message }
         ensures own { result.own ≡ bufsiz }
         ensures identity { result.identity ≡ plain_identity bufsiz }
         ensures stands { ClientAfter [] [] result }
@@ -76,9 +76,10 @@ impl Accessing {
         Accessing::with_identity(alloc, Configuration::plain(bufsiz))
     }
 
-    /// The same end, which says this of itself in its Configuration, with a BUFSIZ of at least 64. It takes no memory.
+    /// An end that nothing was asked of and that says this of itself in its Configuration, with a BUFSIZ of at least 64.
+    /// It takes no memory.
     pub fn with_identity(alloc: Global, identity: Configuration) -> Accessing
-        requires low { least_buffer ≤ identity.bufsiz }
+        requires low { min_buffer ≤ identity.bufsiz }
         requires fits { FieldsFit (Config identity) }
         ensures identity { result.identity ≡ identity }
         ensures own { result.own ≡ identity.bufsiz }
@@ -89,12 +90,12 @@ impl Accessing {
             identity,
             failed: false,
             phase: Phase::Fresh,
-            limit: GREATEST_MESSAGE,
+            limit: MAX_MESSAGE,
             pending: None,
         }
     }
 
-    /// The same end for another link: nothing was asked of it.
+    /// Begins another link, as the same client: nothing was asked of it.
     pub fn renew(&mut self)
         ensures own { self.new.own ≡ self.old.own }
         ensures identity { self.new.identity ≡ self.old.identity }
@@ -102,7 +103,7 @@ impl Accessing {
     {
         self.failed = false;
         self.phase = Phase::Fresh;
-        self.limit = GREATEST_MESSAGE;
+        self.limit = MAX_MESSAGE;
         self.pending = None;
     }
 
@@ -223,7 +224,7 @@ impl Accessing {
     pub fn read(&mut self, nsp_message: &[u8], at: usize) -> Result<ReadStep, ReadFault>
         requires { IsPlace at nsp_message.now }
         ensures reads { IfOk result (λ read. Reads nsp_message.now at self.old self.new read) }
-        // The same where records were taken out of the batch that is under way.
+        // So it reads also where records were taken out of the batch that is under way.
         ensures reads_on { IfOk result
             (λ read. ReadsOn nsp_message.now at self.old self.new read) }
         ensures refused { IfErr result (λ f. ReadRefused nsp_message.now at self.old self.new f) }

@@ -184,15 +184,15 @@ const BEFORE_SHORT_RECORD: usize = 4;
 const BEFORE_LONG_RECORD: usize = 5;
 
 /// The bytes of the longest Filedata that has a header of 3 bytes.
-const LONGEST_SHORT: u16 = 258;
+const MAX_SHORT_RECORD: u16 = 258;
 
 /// The bytes of the longest record whose Filedata is within the limit, where there is one.
-fn longest_record(limit: u16) -> Option<usize>
+fn max_record_within(limit: u16) -> Option<usize>
     ensures some { IfSome result
         (λ most. (len : ℕ) → (len ≤ most) ↔ (file_data_size 0 len ≤ limit)) }
     ensures none { result ≡ None → (len : ℕ) → limit < file_data_size 0 len }
 {
-    let before = if limit <= LONGEST_SHORT {
+    let before = if limit <= MAX_SHORT_RECORD {
         BEFORE_SHORT_RECORD
     } else {
         BEFORE_LONG_RECORD
@@ -204,7 +204,7 @@ fn longest_record(limit: u16) -> Option<usize>
 fn are_sendable(records: &[Octets], limit: u16) -> bool
     ensures { IsTrue result ↔ AreSendable limit (map (Filedata []) records.now) }
 {
-    let Some(longest) = longest_record(limit) else {
+    let Some(longest) = max_record_within(limit) else {
         return records.is_empty();
     };
     for body in records {

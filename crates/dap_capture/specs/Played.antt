@@ -93,4 +93,5 @@ pub data Played : List Numbered → Outcome → List ℕ → Type 0 where
 
 -- what `schedule` does with an input
 abbrev pub ScheduleGives : List ℕ → Option (List ℕ) → Option (List ℕ) → Result Outcome CaptureFault → Type 0
-ScheduleGives input = Gives (schedule_faults (numbered_lines input)) (Played (numbered_lines input)) input
+ScheduleGives input =
+    Gives (schedule_faults (numbered_lines input)) (Played (numbered_lines input)) input

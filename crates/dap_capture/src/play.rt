@@ -5,7 +5,7 @@ ghost use Rattle.std.specs.List.{filter_map};
 ghost use Rattle.dap_world.specs.Runs.{Went};
 ghost use Rattle.dap_orders.specs.Orders.{event_of_order};
 ghost use Rattle.dap_orders.specs.Schedules.{event_fault, numbered_lines, schedule_faults};
-ghost use Rattle.dap_capture.specs.Inner.Checking.{TellsFirstOrWants, TellsFirstThenWants};
+ghost use Rattle.dap_capture.specs.Inner.Checking.{GivesFirstFaultOrNoMemory, GivesFirstFaultThenNoMemory};
 ghost use Rattle.dap_capture.specs.Inner.Playing.{PlaysOne};
 ghost use Rattle.dap_capture.specs.Played.{Played, Plays};
 ghost use Rattle.dap_capture.specs.Inner.Playing.{events_of};
@@ -14,7 +14,7 @@ use crate::steps::{push_event, push_refusal, refusal_word};
 use dap_orders::{MeaningfulLines, Order, check_orders, check_schedule, read_order, read_setup};
 use dap_text::push_files;
 use dap_world::{Event, Step, World, WorldFault};
-use linewise::{CaptureFault, INPUT_LIMIT, Outcome};
+use linewise::{CaptureFault, MAX_INPUT, Outcome};
 use std::alloc::Global;
 
 /// The event happens; a request is given away.
@@ -62,10 +62,10 @@ fn play_events<'a>(
     world: &mut World,
     mut lines: MeaningfulLines<'a>,
 ) -> Result<(Outcome, Vec<u8>), CaptureFault>
-    requires short { length lines ≤ INPUT_LIMIT + 1 }
+    requires short { length lines ≤ MAX_INPUT + 1 }
     ensures played { IfOk result
         (λ played. Plays world.old 1 (events_of lines.entry) played.0 played.1.items) }
-    ensures faults { TellsFirstOrWants result (filter_map event_fault lines.entry) }
+    ensures faults { GivesFirstFaultOrNoMemory result (filter_map event_fault lines.entry) }
 {
     let mut text = Vec::new(alloc);
     let mut number = 1;
@@ -88,10 +88,10 @@ fn play_events<'a>(
 
 /// Plays a schedule up to its first fault.
 fn play_lines(alloc: Global, input: &[u8]) -> Result<(Outcome, Vec<u8>), CaptureFault>
-    requires small { length input.now ≤ INPUT_LIMIT }
+    requires small { length input.now ≤ MAX_INPUT }
     ensures played { IfOk result
         (λ played. Played (numbered_lines input.now) played.0 played.1.items) }
-    ensures faults { TellsFirstOrWants result (schedule_faults (numbered_lines input.now)) }
+    ensures faults { GivesFirstFaultOrNoMemory result (schedule_faults (numbered_lines input.now)) }
 {
     let mut lines = MeaningfulLines::of(input);
     let Some((at, first)) = lines.next() else {
@@ -114,10 +114,10 @@ fn play_lines(alloc: Global, input: &[u8]) -> Result<(Outcome, Vec<u8>), Capture
 
 /// Plays a schedule. A bad line is reported also where memory was refused before it.
 pub(crate) fn play(alloc: Global, input: &[u8]) -> Result<(Outcome, Vec<u8>), CaptureFault>
-    requires small { length input.now ≤ INPUT_LIMIT }
+    requires small { length input.now ≤ MAX_INPUT }
     ensures played { IfOk result
         (λ played. Played (numbered_lines input.now) played.0 played.1.items) }
-    ensures faults { TellsFirstThenWants result (schedule_faults (numbered_lines input.now)) }
+    ensures faults { GivesFirstFaultThenNoMemory result (schedule_faults (numbered_lines input.now)) }
 {
     match play_lines(alloc, input) {
         Err(CaptureFault::NoMemory) => {

@@ -37,7 +37,8 @@ fn run_lines<R: Read, W: Write>(
     writer: &mut W,
 ) -> Result<Outcome, CaptureFault>
     ensures { IfSome (R.remaining reader.old)
-        (λ input. CommandGives choice input (W.contents writer.old) (W.contents writer.new) result) }
+        (λ input. CommandGives choice input (W.contents writer.old)
+        (W.contents writer.new) result) }
 {
     match choice {
         Choice::Show => show(alloc, reader, writer),
@@ -138,8 +139,8 @@ pub fn run_words<R: Read, W: Write, E: Write>(
     run_named(alloc, words, false, reader, writer, error_writer)
 }
 
-/// The same as `run_words`, and what helps with a bad line, or with a file of captured frames in the place of lines, is told
-/// in a line more.
+/// Runs these words as `run_words` does, and tells in a line more what helps with a bad line, or with a file of captured
+/// frames in place of lines.
 pub fn run_program<R: Read, W: Write, E: Write>(
     alloc: Global,
     words: &[String],

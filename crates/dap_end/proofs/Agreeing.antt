@@ -5,7 +5,7 @@ use Rattle.std.proofs.lemmas.List.{append-nil, map-append}
 use Rattle.std.proofs.lemmas.List.Sums.{fold-append}
 use Rattle.dap_accessed.specs.declared.setup.ServerSetup.{ServerSetup}
 use Rattle.dap_msg.specs.declared.message.Configuration.{Configuration}
-use Rattle.dap_msg.specs.BothEnds.{greatest_message}
+use Rattle.dap_msg.specs.BothEnds.{max_nsp_message}
 use Rattle.dap_msg.specs.declared.message.Message.{Message}
 use Rattle.dap_msg.specs.declared.items.Item.{Item}
 use Rattle.dap_msg.specs.declared.items.Item.TheVariants.{Whole}
@@ -234,7 +234,7 @@ module _ (own_a : Configuration) (own_b : ServerSetup) (a : IsBufsiz own_a.bufsi
         heard = subst (λ (l : List Item). AllHeard (rs ++ r ∷ []) l (y.reports ++ g.done ∷ [])) (sym (ap (map Whole) g.adds ∙ map-append Whole (answers_in s.past) g.answers))
             (heard-more rs r (map Whole (answers_in s.past)) y.reports (map Whole g.answers) g.done y.heard g.heard);
         agree = subst (λ (p : Phase). AgreeAt own_a own_b p g.new.place g.new.scene.limit (limit_after (y.reports ++ g.done ∷ []))) (sym (fold-append phase_next Fresh y.reports (g.done ∷ [])))
-            (subst (λ (l : ℕ). AgreeAt own_a own_b (phase_next (phase_after y.reports) g.done) g.new.place g.new.scene.limit l) (sym (fold-append limit_next greatest_message y.reports (g.done ∷ []))) g.agree);
+            (subst (λ (l : ℕ). AgreeAt own_a own_b (phase_next (phase_after y.reports) g.done) g.new.place g.new.scene.limit l) (sym (fold-append limit_next max_nsp_message y.reports (g.done ∷ []))) g.agree);
       }
 
   all-more : (before rs : List Request) → Synced before → AreAllAdmissible own_a own_b first before rs → Synced (before ++ rs)

@@ -31,7 +31,7 @@ use Rattle.dap_end.specs.Ports.{HandsOver, PortValue, gone_on}
 use Rattle.dap_end.specs.Moved.{with_link, with_outbox_sent}
 use Rattle.dap_end.specs.Writing.{Behind}
 use Rattle.dap_end.specs.Moved.{sent_more}
-use Rattle.dap_end.specs.Going.{given_then}
+use Rattle.dap_end.specs.Going.{processed_after}
 use Rattle.dap_end.specs.Going.{GoneThrough}
 use Rattle.dap_accessing.specs.declared.fault.AskFault.{AskFault}
 use Rattle.dap_accessing.specs.declared.fault.AskFault.TheVariants.{NoMemory}
@@ -290,7 +290,7 @@ read_none v reports = ([], sym (append-nil reports), begins)
 
 -- what left, and what is left
 split_given : (given inbox later : List (List ℕ)) (bytes : List ℕ) (next : ℕ) → inbox ≡ bytes ∷ later →
-    let ends = next == length bytes in given_then given bytes next ++ (if ends then later else inbox) ≡ given ++ inbox
+    let ends = next == length bytes in processed_after given bytes next ++ (if ends then later else inbox) ≡ given ++ inbox
 split_given given inbox later bytes next came =
     elim (cases_eq next (length bytes)) [
       | inl end ↦ rw (eq-eqb next (length bytes) end) (append_assoc given (bytes ∷ []) later ∙ ap (λ (l : List (List ℕ)). given ++ l) (sym came))
@@ -309,7 +309,7 @@ read_grew a b c report told past now g r =
       told = ap (λ (l : List Request). Told l (now.answers ++ r.one.item ∷ [])) (sym g.requests) ∙ r.told now g.is
           ∙ ap (λ (l : List Request). Told l now.answers ++ option_to_list report) g.requests
           ∙ ap (λ (l : List Report). l ++ option_to_list report) g.told ∙ append_assoc (Told past.requests past.answers) told (option_to_list report);
-      given = subst (λ (l : LinkValue). given_then now.given r.one.bytes r.one.next ++ l.coming.inbox ≡ now.given ++ b.port.link.coming.inbox) (sym link)
+      given = subst (λ (l : LinkValue). processed_after now.given r.one.bytes r.one.next ++ l.coming.inbox ≡ now.given ++ b.port.link.coming.inbox) (sym link)
           (split_given now.given b.port.link.coming.inbox r.one.later r.one.bytes r.one.next r.one.came) ∙ g.given;
       stands = λ size messages s. subst (λ (l : LinkValue). Stands l size messages (with_answer_read now r.one.bytes r.one.item r.one.next).given) (sym link)
           (port_given b.port r.one.bytes r.one.later r.one.next size messages now.given r.one.came (g.stands size messages s));

@@ -22,7 +22,7 @@ use Rattle.dap_accessing.specs.declared.fault.ReadFault.{ReadFault}
 use Rattle.dap_accessing.specs.declared.fault.ReadFault.TheVariants as read_fault
 use Rattle.dap_end.specs.Ports.{gone_on}
 use Rattle.dap_end.specs.Done.{ServingValue, AskingValue, answers_to}
-use Rattle.dap_end.specs.Going.{AreFrontOf, given_then}
+use Rattle.dap_end.specs.Going.{AreFrontOf, processed_after}
 use Rattle.dap_end.specs.Asking.{AskedOne, ReadNone}
 use Rattle.dap_end.specs.Runs.{RunsBy}
 use Rattle.dap_end.specs.Headline.{Written}
@@ -163,7 +163,7 @@ next_expected first good p s bytes later answer next fits came reads =
     let gone = port_gone p.a.port bytes later next j.asked.given j.asked.answers answer fits came j.asking.gone reads within in
     let stands = port_given p.a.port bytes later next size j.served.handed j.asked.given came j.ways.back.stands in
     let q = gone_on p.a.port bytes later next in
-    let front = served_front q.link size j.served.handed (given_then j.asked.given bytes next) q.place (j.asked.answers ++ answer ∷ []) j.ways.back.positive stands gone in
+    let front = served_front q.link size j.served.handed (processed_after j.asked.given bytes next) q.place (j.asked.answers ++ answer ∷ []) j.ways.back.positive stands gone in
     let all = in_order first p j (j.asked.answers ++ answer ∷ []) front in
     let split : j.asked.answers ++ answer ∷ all.0 ≡ map Whole (asked_answers p.a.present.identity p.b.present.setup first p.requests) = sym (append_assoc j.asked.answers (answer ∷ []) all.0) ∙ all.1 in
     λ wrong. all_expected first good p s j.asked.answers all.0 answer split (ap (λ (l : List Request). is_unexpected l j.asked.answers answer) (sym j.requests) ∙ wrong)

@@ -48,9 +48,9 @@ use Rattle.std.specs.Prelude.{not, ◌||◌, nat_eq}
 use Rattle.std.proofs.lemmas.Bool.{lt-ltb, le-ltb}
 use Rattle.std.proofs.lemmas.Bool.Decides.{nat_tests}
 use Rattle.dap_msg.specs.declared.message.Attributes.{Attributes}
-use Rattle.dap_msg.specs.BothEnds.{message_limit, greatest_message}
+use Rattle.dap_msg.specs.BothEnds.{message_limit, max_nsp_message}
 use Rattle.rec_file.specs.declared.shapes.Shape.{Shape}
-use Rattle.rec_file.specs.Limits.{greatest_number, longest_record}
+use Rattle.rec_file.specs.Limits.{max_record_number, max_record}
 use Rattle.rec_file.specs.Shapes.{is_shape, is_seq, has_length}
 use Rattle.dap_accessed.specs.Accesses.{make_file, refuse_access, rights_to_create, rights_to_open, open_file, create_file}
 use Rattle.dap_msg.specs.BothEnds.{no_attributes}
@@ -153,8 +153,8 @@ number-four_bytes n h = omega (arith, h)
 -- a file's greatest number is read as it was written, and is one that a file may have
 mrn_read : (shape : Shape) → IsTrue (is_shape shape) → nat_le (number_of (four_bytes shape.mrn)) 2147483647 ≡ true
 mrn_read shape g =
-    let e : nat_le shape.mrn greatest_number ≡ true = in_three (has_length shape.format shape.mrs) (nat_le shape.mrs longest_record) (nat_le shape.mrn greatest_number) (not (is_seq shape.org) || nat_eq shape.mrn 0) g in
-    let fits : shape.mrn ≤ greatest_number = grind (arith, nat_tests) in
+    let e : nat_le shape.mrn max_record_number ≡ true = in_three (has_length shape.format shape.mrs) (nat_le shape.mrs max_record) (nat_le shape.mrn max_record_number) (not (is_seq shape.org) || nat_eq shape.mrn 0) g in
+    let fits : shape.mrn ≤ max_record_number = grind (arith, nat_tests) in
     ap (λ n. nat_le n 2147483647) (number-four_bytes shape.mrn (omega arith)) ∙ e
 
 hear_shape : (shape : Shape) → IsTrue (is_shape shape) → hear_attributes (map Whole (opened_with shape)) ≡ Reports (report.Opened (org_number shape.org) (format_number shape.format) shape.mrs (number_of (four_bytes shape.mrn))) []
@@ -167,7 +167,7 @@ is-large : (n : ℕ) → IsBufsiz n → (nat_lt 0 n && nat_lt n 64) ≡ false
 is-large n b = let e = le-ltb n 64 b.least in let f = lt-ltb 0 n (omega (arith, b.least)) in rw (f, e) refl
 
 pub limit-own : (n : ℕ) → IsBufsiz n → message_limit n ≡ n
-limit-own n b = let e = le-ltb greatest_message n b.most in let least = b.least in grind (arith, nat_tests)
+limit-own n b = let e = le-ltb max_nsp_message n b.most in let least = b.least in grind (arith, nat_tests)
 
 -- two groups, of which the first has no answers
 adds-two : (past : List Group) (answers : List Message) → (answers_in past ++ []) ++ answers ≡ answers_in past ++ answers

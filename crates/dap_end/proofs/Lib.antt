@@ -12,6 +12,7 @@ pub mod Packets
 pub mod Stepping
 pub mod Running
 pub mod Asked
+pub mod Roles
 pub mod Hearing
 pub mod Writing
 pub mod Turning

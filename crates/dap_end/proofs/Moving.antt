@@ -10,7 +10,7 @@ use Rattle.dap_end.specs.Calls.{numbered_packets, WroteOne}
 use Rattle.dap_end.proofs.Packets.{all_written, numbered_written, one_written}
 use Rattle.dap_end.proofs.Proceeding.{none_short}
 use Rattle.dap_end.proofs.Running.{went_written}
-use Rattle.dap_end.proofs.Ways.{AreTrue, AreJoined, moved, Moves, works, counts_numbered}
+use Rattle.dap_end.proofs.Ways.{AreTrue, AreJoined, moved, LinkMoved, works, counts_numbered}
 
 -- the packets of an end that wrote one are true
 one_true : (v : LinkValue) (k : Option ℕ) (w : Written) → IfSome k (λ n. n ≤ v.sent) → WroteOne v k w → AreTrue v.sent v.coming.received (w ∷ [])
@@ -29,7 +29,7 @@ wrote_one a b from_a from_b to_a to_b wire_a wire_b k w j sends was one =
 same_front : (v link : LinkValue) (sent : ℕ) → link ≡ record (with_inbox v link.coming.inbox) { queue = link.queue } → record link { sent = sent } ≡ moved v link.coming.inbox link.queue sent
 same_front v link sent e = subst (λ (l : LinkValue). record l { sent = sent } ≡ moved v l.coming.inbox l.queue sent) (sym e) refl
 
-within_by : (v link : LinkValue) (sent n : ℕ) → link ≡ record (with_inbox v link.coming.inbox) { queue = link.queue } → sent ≡ link.sent + n → (0 < n → sent ≤ link.acked + link.setup.window) → v.sent ≤ v.acked + v.setup.window → Moves v link.coming.inbox link.queue sent
+within_by : (v link : LinkValue) (sent n : ℕ) → link ≡ record (with_inbox v link.coming.inbox) { queue = link.queue } → sent ≡ link.sent + n → (0 < n → sent ≤ link.acked + link.setup.window) → v.sent ≤ v.acked + v.setup.window → LinkMoved v link.coming.inbox link.queue sent
 within_by v link sent zero e is within before =
     let same : link.sent ≡ v.sent = ap (λ (l : LinkValue). l.sent) e in record { more = omega (arith, is, same); within = omega (arith, is, same, before) }
 within_by v link sent (suc n) e is within before =
@@ -49,7 +49,7 @@ goes a b link new port from_a from_b to_a to_b more given now wire_a wire_b pack
     let new_is : new.link ≡ record link { sent = sent } = ap (λ (p : PortValue). p.link) w.sent ∙ ap (λ (l : LinkValue). record l { sent = l.sent + n }) at in
     let to : new.link ≡ moved a link.coming.inbox link.queue sent = new_is ∙ same_front a link sent counts in
     let within : 0 < n → sent ≤ link.acked + link.setup.window = λ some. subst (λ (l : LinkValue). l.sent ≤ l.acked + l.setup.window) new_is (w.within some) in
-    let moves : Moves a link.coming.inbox link.queue sent = within_by a link sent n counts refl within j.there.within in
+    let moves : LinkMoved a link.coming.inbox link.queue sent = within_by a link sent n counts refl within j.there.within in
     let same_sent : link.sent ≡ a.sent = ap (λ (l : LinkValue). l.sent) counts in
     let same_received : link.coming.received ≡ a.coming.received = ap (λ (l : LinkValue). l.coming.received) counts in
     let wrote : AreWrittenOf link now ws = numbered_written link now (link.sent + 1) packets sends (subst (λ (l : LinkValue). AreSegments l (l.sent + 1) packets) at w.writes) in

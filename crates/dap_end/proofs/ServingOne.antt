@@ -20,7 +20,7 @@ use Rattle.dap_accessed.specs.declared.served.Served.{Served}
 use Rattle.dap_end.specs.Histories.{served}
 use Rattle.dap_end.specs.Ports.{PortValue, gone_on}
 use Rattle.dap_end.specs.Going.{oldest_message}
-use Rattle.dap_end.specs.Going.{given_then}
+use Rattle.dap_end.specs.Going.{processed_after}
 use Rattle.dap_end.specs.Going.{GoneThrough}
 use Rattle.dap_end.specs.Serving.{IsAfter, ServedOne}
 use Rattle.dap_end.specs.Done.{ServingValue, ServerHistory, answers_to}
@@ -59,7 +59,7 @@ gone_is p new bytes later next last is inbox h = gone_by p new (next == length b
 -- ---- The step.
 
 pub port_given : (p : PortValue) (bytes : List ℕ) (later : List (List ℕ)) (next size : ℕ) (messages given : List (List ℕ)) → p.link.coming.inbox ≡ bytes ∷ later → Stands p.link size messages given
-    → Stands (gone_on p bytes later next).link size messages (given_then given bytes next)
+    → Stands (gone_on p bytes later next).link size messages (processed_after given bytes next)
 port_given p bytes later next size messages given inbox h =
     elim (cases_eq next (length bytes)) [
       | inl end ↦ rw (eq-eqb next (length bytes) end) (stands_given p.link bytes later size messages given inbox h)
@@ -68,10 +68,10 @@ port_given p bytes later next size messages given inbox h =
 
 -- and what was processed
 pub port_gone : (p : PortValue) (bytes : List ℕ) (later : List (List ℕ)) (next : ℕ) (given : List (List ℕ)) (items : List Item) (item : Item) → AreBytes bytes → p.link.coming.inbox ≡ bytes ∷ later → GoneThrough given p.link.coming.inbox p.place items
-    → ItemAt bytes p.place item next → next ≤ length bytes → GoneThrough (given_then given bytes next) (gone_on p bytes later next).link.coming.inbox (gone_on p bytes later next).place (items ++ item ∷ [])
+    → ItemAt bytes p.place item next → next ≤ length bytes → GoneThrough (processed_after given bytes next) (gone_on p bytes later next).link.coming.inbox (gone_on p bytes later next).place (items ++ item ∷ [])
 port_gone p bytes later next given items item fits inbox h reads within =
     let gone = gone_one given later bytes p.place next items item fits (subst (λ (l : List (List ℕ)). GoneThrough given l p.place items) inbox h) reads within in
-    subst (λ (l : List (List ℕ)). let ends = next == length bytes in GoneThrough (given_then given bytes next) (if ends then later else l) (if ends then 0 else next) (items ++ item ∷ [])) (sym inbox) gone
+    subst (λ (l : List (List ℕ)). let ends = next == length bytes in GoneThrough (processed_after given bytes next) (if ends then later else l) (if ends then 0 else next) (items ++ item ∷ [])) (sym inbox) gone
 
 pub fit-both : (one two : List Message) → AllFit one → AllFit two → AllFit (one ++ two)
 fit-both [] two h k = k

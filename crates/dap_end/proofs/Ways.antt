@@ -11,7 +11,7 @@ use Rattle.nsp_seg.specs.Packets.{Spells}
 use Rattle.nsp_link.specs.declared.link.Got.{Got}
 use Rattle.nsp_link.specs.declared.fault.LinkFault.{LinkFault}
 use Rattle.nsp_link.specs.declared.link.LinkSetup.{LinkSetup}
-use Rattle.nsp_link.specs.Limits.{largest_window}
+use Rattle.nsp_link.specs.Limits.{max_window}
 use Rattle.nsp_link.specs.Cutting.{Piece, cut}
 use Rattle.nsp_link.specs.Holding.{following}
 use Rattle.nsp_link.specs.Link.{LinkValue, IsBetween, IsTimely, Stands, Writes, held_after, with_inbox, AreShort}
@@ -48,7 +48,7 @@ pub record IsWay (from to : LinkValue) (handed given : List (List ℕ)) (wire : 
   pub acked_taken : from.acked ≤ to.coming.received
   pub taken_sent : to.coming.received ≤ from.sent
   pub within : from.sent ≤ from.acked + from.setup.window
-  pub window : from.setup.window ≤ largest_window
+  pub window : from.setup.window ≤ max_window
   pub held : AreSent from.sent to.held
 
 -- ---- Lists.
@@ -193,7 +193,7 @@ due_at from to handed given wire w h works le true_w writes timely =
           way = subst (λ (x : ℕ). IsBetween to.setup.remote x p.0) h.back (subst (λ (x : ℕ). IsBetween x from.setup.remote p.0) h.there p.2);
           carries = p.3;
           fresh = timely;
-          near = near_by from.sent (to.coming.received + largest_window) w.segment (omega (arith, h.within, h.acked_taken, h.window)) true_w.segment;
+          near = near_by from.sent (to.coming.received + max_window) w.segment (omega (arith, h.within, h.acked_taken, h.window)) true_w.segment;
           believable = omega (arith, true_w.acks, le);
         },
       );
@@ -245,11 +245,11 @@ comes a b new from_a from_b to_a to_b wire_a wire_b j w (Err e) join at timely h
 abbrev pub moved : LinkValue → (inbox : List (List ℕ)) → List Piece → ℕ → LinkValue
 moved v inbox queue sent = record (with_inbox v inbox) { queue = queue; sent = sent }
 
-pub record Moves (v : LinkValue) (inbox : List (List ℕ)) (queue : List Piece) (sent : ℕ) : Type 0 where
+pub record LinkMoved (v : LinkValue) (inbox : List (List ℕ)) (queue : List Piece) (sent : ℕ) : Type 0 where
   pub more : v.sent ≤ sent
   pub within : sent ≤ v.acked + v.setup.window
 
-pub works : (a b : LinkValue) (from_a from_b to_a to_b more given : List (List ℕ)) (wire_a wire_b ws : List Written) (inbox : List (List ℕ)) (queue : List Piece) (sent : ℕ) → AreJoined a b from_a from_b to_a to_b wire_a wire_b → Moves a inbox queue sent
+pub works : (a b : LinkValue) (from_a from_b to_a to_b more given : List (List ℕ)) (wire_a wire_b ws : List Written) (inbox : List (List ℕ)) (queue : List Piece) (sent : ℕ) → AreJoined a b from_a from_b to_a to_b wire_a wire_b → LinkMoved a inbox queue sent
     → AreShort a more → Stands (moved a inbox queue sent) b.setup.seg_size from_b given → AreWrittenOf (moved a inbox queue sent) (from_a ++ more) (wire_a ++ ws) → AreTrue sent a.coming.received ws
     → AreJoined (moved a inbox queue sent) b (from_a ++ more) from_b given to_b (wire_a ++ ws) wire_b
 works a b from_a from_b to_a to_b more given wire_a wire_b ws inbox queue sent j m short stands packets counts =

@@ -3,7 +3,7 @@ use Rattle.std.specs.Prelude.{ℕ, ◌≤◌, List, [], ◌∷◌, ◌++◌, map
 use Rattle.dap_msg.specs.declared.message.Configuration.{Configuration}
 use Rattle.dap_msg.specs.declared.message.Message.{Message}
 use Rattle.dap_accessed.specs.declared.setup.ServerSetup.{ServerSetup}
-use Rattle.dap_msg.specs.BothEnds.{greatest_message, least_buffer}
+use Rattle.dap_msg.specs.BothEnds.{max_nsp_message, min_buffer}
 use Rattle.dap_msg.specs.declared.items.Item.{Item}
 use Rattle.dap_msg.specs.declared.items.Item.TheVariants.{Whole}
 use Rattle.dap_accessed.specs.Standing.{Files, Place}
@@ -19,8 +19,8 @@ use Rattle.dap_accessed.specs.Standing as at
 
 -- A BUFSIZ that an end may have.
 pub record IsBufsiz (n : ℕ) : Type 0 where
-  pub least : least_buffer ≤ n
-  pub most : n ≤ greatest_message
+  pub least : min_buffer ≤ n
+  pub most : n ≤ max_nsp_message
 
 -- what the server is sent for these requests
 abbrev pub asked_items : (own_a : Configuration) → List Request → List Item
@@ -47,7 +47,7 @@ AreLimits own_a own_b limit_b limit_a = (limit_b ≡ own_a.bufsiz) × (limit_a �
 
 -- the client's phase is that of the server's place
 abbrev pub AgreeAt : (own_a : Configuration) (own_b : ServerSetup) → Phase → Place → (limit_b limit_a : ℕ) → Type 0
-AgreeAt own_a own_b Fresh at.Fresh limit_b limit_a = limit_b ≡ least_buffer
+AgreeAt own_a own_b Fresh at.Fresh limit_b limit_a = limit_b ≡ min_buffer
 AgreeAt own_a own_b Ready at.Ready limit_b limit_a = AreLimits own_a own_b limit_b limit_a
 AgreeAt own_a own_b Opened (at.Opened _) limit_b limit_a = AreLimits own_a own_b limit_b limit_a
 AgreeAt own_a own_b Connected (at.Connected _ _) limit_b limit_a = AreLimits own_a own_b limit_b limit_a

@@ -11,7 +11,7 @@ use Rattle.dap_accessing.specs.declared.fault.ReadFault.{ReadFault}
 use Rattle.dap_accessing.specs.Told.{Told, is_unexpected}
 use Rattle.dap_accessing.specs.Calls.{Asks, ReadRefused}
 use Rattle.dap_end.specs.Ports.{gone_on}
-use Rattle.dap_end.specs.Going.{given_then, NextItem, GoneThrough}
+use Rattle.dap_end.specs.Going.{processed_after, NextItem, GoneThrough}
 use Rattle.dap_accessing.specs.Each.{IsBatch, reported_behind}
 use Rattle.dap_end.specs.Done.{AskingValue, ClientHistory}
 use Rattle.dap_end.specs.Each.{with_told}
@@ -57,10 +57,10 @@ pub record ReadOne (old new : AskingValue) (report : Option Report) : Type 0 whe
   pub own : new.present.own ≡ old.present.own
   pub identity : new.present.identity ≡ old.present.identity
   pub expected : (history : ClientHistory) → HasAsked history old → is_unexpected history.requests history.answers one.item ≡ false
-  pub past : (history : ClientHistory) → HasAsked history old → HasAsked (record history { given = given_then history.given one.bytes one.next; answers = history.answers ++ one.item ∷ [] }) new
+  pub past : (history : ClientHistory) → HasAsked history old → HasAsked (record history { given = processed_after history.given one.bytes one.next; answers = history.answers ++ one.item ∷ [] }) new
   pub told : (history : ClientHistory) → HasAsked history old → Told history.requests (history.answers ++ one.item ∷ []) ≡ Told history.requests history.answers ++ option_to_list report
-  -- The same while a batch is under way of which records were taken out: they count, but the report comes without them.
-  pub past_on : (told : List (ℕ × List ℕ)) (history : ClientHistory) → IsBatch old.present → HasAsked history (with_told told old) → HasAsked (record history { given = given_then history.given one.bytes one.next; answers = history.answers ++ one.item ∷ [] }) (with_told told new)
+  -- While a batch is under way of which records were taken out, these count, but the report comes without them.
+  pub past_on : (told : List (ℕ × List ℕ)) (history : ClientHistory) → IsBatch old.present → HasAsked history (with_told told old) → HasAsked (record history { given = processed_after history.given one.bytes one.next; answers = history.answers ++ one.item ∷ [] }) (with_told told new)
   pub told_on : (told : List (ℕ × List ℕ)) (history : ClientHistory) → IsBatch old.present → HasAsked history (with_told told old) → Told history.requests (history.answers ++ one.item ∷ []) ≡ Told history.requests history.answers ++ option_to_list (option_map (reported_behind told) report)
 
 -- why nothing was read, and the client then: after an unexpected answer it has failed

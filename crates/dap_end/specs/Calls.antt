@@ -25,8 +25,7 @@ abbrev pub numbered_packets : (k acks : ℕ) → List (List ℕ) → List Writte
 numbered_packets k acks [] = []
 numbered_packets k acks (bytes ∷ packets) = record { bytes = bytes; segment = Some k; acks = acks } ∷ numbered_packets (k + 1) acks packets
 
--- the packet has that segment of whatever was passed to the link, or none, and acknowledges all that the link has
--- taken
+-- the packet has the segment of this number, or none, and acknowledges all segments that the link has received
 abbrev pub WroteOne : LinkValue → Option ℕ → Written → Type 0
 WroteOne v k w = (w.segment ≡ k) × (w.acks ≡ v.coming.received) × WritesSent v k w.bytes
 
@@ -73,7 +72,7 @@ Stepped comes old event more new = EndStepped (Unit {0}) WorkedOn comes old.0 ev
 abbrev pub EventRuns : (comes : LinkValue → List ℕ → Type 0) → ServingValue → List EndEvent → ServingValue → List Written → Type 0
 EventRuns comes old events new wrote = RunsBy (Stepped comes) (old, []) events (new, wrote)
 
--- the same for some events
+-- some events, one after another
 abbrev pub RunsAs : (comes : LinkValue → List ℕ → Type 0) → (old new : ServingValue) → List Written → Type 0
 RunsAs comes old new wrote = (events : List EndEvent) × EventRuns comes old events new wrote
 
@@ -108,7 +107,7 @@ requests_in [] = []
 requests_in (Asks request ∷ events) = request ∷ requests_in events
 requests_in (_ ∷ events) = requests_in events
 
--- the same for some events with these requests
+-- some events in which these requests were asked, one after another
 abbrev pub AskingRunsAs : (comes : LinkValue → List ℕ → Type 0) → List Request → (old new : AskingValue) → List Report → List Written → Type 0
 AskingRunsAs comes requests old new reports wrote =
     (events : List AskingEvent) × (requests ≡ requests_in events) × AskingEventRuns comes old events new reports wrote

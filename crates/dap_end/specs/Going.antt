@@ -16,9 +16,11 @@ AreItemsOf (bytes ∷ messages) items =
 abbrev pub AreFrontOf : List (List ℕ) → List Item → Type 0
 AreFrontOf messages items = (all : List Item) → AreItemsOf messages all → (rest : List Item) × (all ≡ items ++ rest)
 
--- the NSP messages that are processed, after an item that ends at this offset
-abbrev pub given_then : List (List ℕ) → (bytes : List ℕ) → (next : ℕ) → List (List ℕ)
-given_then given bytes next = if next == length bytes then given ++ bytes ∷ [] else given
+-- The NSP messages that are processed after an item of the next one, which ends at this offset. That message counts as
+-- processed when its last item is.
+abbrev pub processed_after : (processed : List (List ℕ)) → (bytes : List ℕ) → (next : ℕ) → List (List ℕ)
+processed_after processed bytes next =
+    if next == length bytes then processed ++ bytes ∷ [] else processed
 
 -- the next item of the oldest NSP message that came, at the port's offset
 pub record NextItem (p : PortValue) : Type 0 where

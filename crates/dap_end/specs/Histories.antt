@@ -8,7 +8,7 @@ use Rattle.dap_accessing.specs.Request.{Request}
 use Rattle.dap_accessing.specs.Asked.{messages_of}
 use Rattle.dap_accessing.specs.Told.{Told}
 use Rattle.dap_accessing.specs.Phase.{limit_after}
-use Rattle.dap_end.specs.Going.{given_then}
+use Rattle.dap_end.specs.Going.{processed_after}
 use Rattle.dap_end.specs.Done.{ServerHistory}
 use Rattle.dap_end.specs.Done.{ClientHistory}
 
@@ -18,11 +18,11 @@ Still {P} Fits old new = (history : P) → Fits history old → Fits history new
 
 -- a server's, with one item more
 abbrev pub served : ServerHistory → (bytes : List ℕ) → Item → (next : ℕ) → ServerHistory
-served history bytes item next = record history { given = given_then history.given bytes next; items = history.items ++ item ∷ [] }
+served history bytes item next = record history { given = processed_after history.given bytes next; items = history.items ++ item ∷ [] }
 
 -- a client's, with one answer more
 abbrev pub with_answer_read : ClientHistory → (bytes : List ℕ) → Item → (next : ℕ) → ClientHistory
-with_answer_read history bytes item next = record history { given = given_then history.given bytes next; answers = history.answers ++ item ∷ [] }
+with_answer_read history bytes item next = record history { given = processed_after history.given bytes next; answers = history.answers ++ item ∷ [] }
 
 -- a client's, with one request more
 abbrev pub asked_one : ClientHistory → (own : Configuration) → Request → ClientHistory

@@ -2,9 +2,7 @@
 pub mod Kept
 pub mod PortView
 pub mod ServingView
-pub mod ServingInside
 pub mod AskingView
-pub mod AskingInside
 pub mod Stored
 pub mod NodeInside
 pub mod Answered

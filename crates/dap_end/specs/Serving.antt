@@ -7,7 +7,7 @@ use Rattle.dap_accessed.specs.Present.{StandsAfter}
 use Rattle.dap_accessed.specs.declared.fault.AddFault.{AddFault}
 use Rattle.dap_accessed.specs.declared.fault.AddFault.TheVariants as fault
 use Rattle.dap_end.specs.Ports.{gone_on, HasCome}
-use Rattle.dap_end.specs.Going.{given_then, NextItem, GoneThrough}
+use Rattle.dap_end.specs.Going.{processed_after, NextItem, GoneThrough}
 use Rattle.dap_end.specs.Done.{ServingValue, ServerHistory, answers_to}
 
 -- The server is as after this history. The items are those of the NSP messages that it served, and of a prefix of the
@@ -42,4 +42,4 @@ pub record ServedOne (old new : ServingValue) (n : ℕ) : Type 0 where
   pub own : new.present.own ≡ old.present.own
   pub setup : new.present.setup ≡ old.present.setup
   pub count : n ≡ length new.port.outbox
-  pub past : (history : ServerHistory) → IsAfter history old → IsAfter (record history { given = given_then history.given one.bytes one.next; items = history.items ++ one.item ∷ [] }) new
+  pub past : (history : ServerHistory) → IsAfter history old → IsAfter (record history { given = processed_after history.given one.bytes one.next; items = history.items ++ one.item ∷ [] }) new

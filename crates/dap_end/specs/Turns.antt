@@ -53,7 +53,8 @@ pub record TookIn {P : Type 0} (old new : EndValue P) (bytes : List ℕ) (result
 -- it was received, and then answered
 abbrev pub TookThen : {P : Type 0} → EndOf P → (old new : EndValue P) → (bytes : List ℕ) → Got → (out all : List (List ℕ)) → Result (Unit {0}) EndFault → Type 0
 TookThen {P} end old new bytes got out all result =
-    (mid : EndValue P) × TookIn old mid bytes (Ok got) × WritesReplies end mid new got out all result
+    (mid : EndValue P) × TookIn old mid bytes (Ok got)
+    × WritesReplies end mid new got out all result
 
 -- What a packet does. Of one that is refused nothing is taken, written or reported.
 abbrev pub TakesPacket : {P : Type 0} → EndOf P → (old new : EndValue P) → (bytes : List ℕ) → (out all : List (List ℕ)) → Result Got TakeFault → Type 0

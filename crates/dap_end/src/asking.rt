@@ -1,15 +1,13 @@
 //! The end that asks.
 
-ghost use Rattle.std.specs.Prelude.{◌≡◌, ◌≢◌, ◌≤◌, ◌<◌, ◌+◌, ◌-◌, ℕ, List, [], ◌∷◌, Ok, Err, Some, None, true, false, length, IfOk, IfErr, IfSome, OnOk, OnErr, IsErrOf, IsTrue, ◌++◌, option_to_list, vec_len, vec_capacity};
-ghost use Rattle.dap_msg.specs.BothEnds.{least_buffer, plain_identity};
+ghost use Rattle.std.specs.Prelude.{◌≡◌, ◌≢◌, ◌≤◌, ◌<◌, ◌+◌, ◌-◌, ℕ, List, [], ◌∷◌, Ok, Err, Some, None, true, false, length, IfOk, IfErr, OnOk, IsErrOf, IsTrue, ◌++◌, option_to_list, vec_len, vec_capacity};
+ghost use Rattle.dap_msg.specs.BothEnds.{min_buffer, plain_identity};
 ghost use Rattle.dap_msg.specs.Fitting.{FieldsFit};
 ghost use Rattle.dap_msg.specs.declared.message.Configuration.{Configuration as Own};
 ghost use Rattle.dap_msg.specs.declared.message.Message.TheVariants.{Config};
 ghost use Rattle.dap_msg.specs.Blocked.{bodies};
-ghost use Rattle.nsp_link.specs.Limits.{largest_limit};
-ghost use Rattle.nsp_link.specs.Link.{IsSetup, SetupFault, may_send, IsSpelling};
-ghost use Rattle.nsp_link.specs.Sending.{NextFault, may_queue, SendAllFault, WritesSent, ack_packet_of};
-ghost use Rattle.nsp_link.specs.declared.fault.LinkFault.TheVariants.{Failed, NoSuchSegment, MessageTooLong};
+ghost use Rattle.nsp_link.specs.Link.{IsSetup, SetupFault};
+ghost use Rattle.nsp_link.specs.declared.fault.LinkFault.TheVariants.{Failed};
 ghost use Rattle.nsp_link.specs.declared.fault.LinkFault.TheVariants as fault;
 ghost use Rattle.dap_accessing.specs.Asked.{messages_of};
 ghost use Rattle.dap_accessing.specs.Each.{none_kept, records_kept};
@@ -19,28 +17,27 @@ ghost use Rattle.dap_accessing.specs.declared.fault.AskFault.TheVariants as ask_
 ghost use Rattle.dap_accessing.specs.declared.fault.ReadFault.TheVariants as read_fault;
 ghost use Rattle.dap_end.specs.declared.fault.EndFault.TheVariants as end_fault;
 ghost use Rattle.dap_fields.specs.Spelling.{AreBytes};
-ghost use Rattle.dap_end.specs.Ports.{HandsOver, new_port};
+ghost use Rattle.dap_end.specs.Ports.{new_port};
 ghost use Rattle.dap_end.specs.Going.{oldest_message};
-ghost use Rattle.nsp_link.specs.Receiving.{Receives};
-ghost use Rattle.dap_end.specs.Writing.{Behind, WroteMore};
+ghost use Rattle.dap_end.specs.Writing.{Behind};
 ghost use Rattle.dap_end.specs.Asking.{HasAsked, AskedOne, ReadOne, ReadNone};
 ghost use Rattle.dap_end.specs.Each.{with_told};
 ghost use Rattle.dap_end.specs.Hearing.{ReadOn, ReadsAll, hears};
 ghost use Rattle.dap_end.specs.declared.asking.Heard.TheVariants.{Nothing, Part, Report as Completed};
 ghost use Rattle.dap_accessing.specs.declared.report.Report.{Report as TheReport};
-ghost use Rattle.dap_end.specs.Done.{ClientHistory, nothing_asked};
+ghost use Rattle.dap_end.specs.Done.{nothing_asked};
 ghost use Rattle.dap_end.specs.Turns.{WritesReplies, DidAll, WentOn, TakesPacket};
 ghost use Rattle.dap_end.specs.Inner.Answered.{ended_by};
 ghost use Rattle.dap_end.specs.Inner.Kept.{IsPort};
 ghost use Rattle.dap_end.specs.Inner.AskingView.{asking_of};
 
+use crate::end::End;
 use crate::fault::{EndFault, TakeFault};
 use crate::port::{Port, is_end};
 use dap_accessing::{Accessing, AskFault, Numbered, Octets, Prepared, ReadFault, Report, Request};
 use dap_msg::Configuration;
-use nsp_link::{Got, LinkEnd, LinkFault, LinkSetup};
+use nsp_link::{Got, LinkFault, LinkSetup};
 use std::alloc::Global;
-use std::marker::Model;
 
 /// What reading the next answer comes to.
 #[derive(Drop, PartialEq)]
@@ -54,30 +51,14 @@ pub enum Heard {
 }
 
 /// The end that asks, with its link.
-#[derive(Drop)]
-pub struct AskingEnd {
-    port: Port,
-    accessing: Accessing,
-}
+pub type AskingEnd = End<Accessing>;
 
-impl Model for AskingEnd {
-    ghost use Rattle.dap_end.specs.Done.{AskingValue};
-
-    ghost Value = { AskingValue };
-
-    ghost use Rattle.dap_end.specs.Inner.AskingInside.{asking_view, IsSoundAsking};
-
-    ghost view = { asking_view };
-
-    ghost invariant = { IsSoundAsking };
-}
-
-impl AskingEnd {
+impl End<Accessing> {
     /// An end of which nothing was asked, with a buffer of this many bytes, at least 64. A setup with `max_message`
     /// 65,535 takes all that an end may send. Refused: `BadSetup` where a limit of the setup isn't in its range;
     /// `NoMemory`.
     pub fn new(alloc: Global, bufsiz: u16, setup: LinkSetup) -> Result<AskingEnd, LinkFault>
-        requires { least_buffer ≤ bufsiz }
+        requires { min_buffer ≤ bufsiz }
         ensures ok { IfOk result (λ end. HasAsked nothing_asked end
             × (end.port ≡ new_port setup) × (end.present.own ≡ bufsiz)) }
         ensures identity { IfOk result (λ end. end.present.identity ≡ plain_identity bufsiz) }
@@ -85,19 +66,20 @@ impl AskingEnd {
         ensures err { IfErr result (SetupFault setup) }
     {
         let port = Port::new(alloc, setup)?;
-        Ok(AskingEnd {
+        Ok(End {
             port,
-            accessing: Accessing::new(alloc, bufsiz),
+            role: Accessing::new(alloc, bufsiz),
         })
     }
 
-    /// The same of a client that says this of itself, with a BUFSIZ of at least 64.
+    /// An end of which nothing was asked, and which says this of itself in its Configuration, with a BUFSIZ of at
+    /// least 64. Refused as `new` is.
     pub fn with_identity(
         alloc: Global,
         identity: Configuration,
         setup: LinkSetup,
     ) -> Result<AskingEnd, LinkFault>
-        requires low { least_buffer ≤ identity.bufsiz }
+        requires low { min_buffer ≤ identity.bufsiz }
         requires fits { FieldsFit (Config identity) }
         ensures ok { IfOk result (λ end. HasAsked nothing_asked end
             × (end.port ≡ new_port setup) × (end.present.identity ≡ identity)) }
@@ -105,14 +87,14 @@ impl AskingEnd {
         ensures err { IfErr result (SetupFault setup) }
     {
         let port = Port::new(alloc, setup)?;
-        Ok(AskingEnd {
+        Ok(End {
             port,
-            accessing: Accessing::with_identity(alloc, identity),
+            role: Accessing::with_identity(alloc, identity),
         })
     }
 
-    /// The same end for another link: nothing was asked of it, and all that waits is dropped. Refused, with nothing
-    /// changed: `BadSetup` where a limit of the setup isn't in its range; `NoMemory`.
+    /// Begins another link, as the same client: nothing was asked of it, and all that waits is dropped. Refused, with
+    /// nothing changed: `BadSetup` where a limit of the setup isn't in its range; `NoMemory`.
     pub fn renew(&mut self, alloc: Global, setup: LinkSetup) -> Result<(), LinkFault>
         ensures ok { OnOk result (HasAsked nothing_asked self.new
             × (self.new.port ≡ new_port setup)
@@ -123,7 +105,7 @@ impl AskingEnd {
     {
         let port = Port::new(alloc, setup)?;
         self.port = port;
-        self.accessing.renew();
+        self.role.renew();
         Ok(())
     }
 
@@ -145,7 +127,7 @@ impl AskingEnd {
         ensures refused { IfErr result (λ f. (f ≢ ask_fault.NoMemory)
             × AskRefused request.now self.now.present f) }
     {
-        self.accessing.check(request)
+        self.role.check(request)
     }
 
     /// What `ask_prepared` needs of a request that `ask` would take, memory aside, as
@@ -157,7 +139,7 @@ impl AskingEnd {
         ensures refused { IfErr result (λ f. (f ≢ ask_fault.NoMemory)
             × AskRefused request.now self.now.present f) }
     {
-        self.accessing.prepare(request)
+        self.role.prepare(request)
     }
 
     /// Asks a request that `prepare` looked at, as `ask` does. It isn't looked at again, and this fails only if memory is
@@ -167,7 +149,7 @@ impl AskingEnd {
         ensures ok { IfOk result (λ n. AskedOne request.now self.old self.new n) }
         ensures err { IfErr result (λ f. (self.new ≡ self.old) × (f ≡ ask_fault.NoMemory)) }
     {
-        ask_next(&mut self.port, &mut self.accessing, request, prepared)
+        ask_next(&mut self.port, &mut self.role, request, prepared)
     }
 
     /// Whether an unexpected answer failed this end, so that every request is refused as `Failed` until `renew`. It
@@ -175,19 +157,7 @@ impl AskingEnd {
     pub fn has_failed(&self) -> bool
         ensures { result ≡ self.now.present.failed }
     {
-        self.accessing.has_failed()
-    }
-
-    /// Takes a packet in, as [`nsp_link::LinkEnd::receive_bounded`] does; nothing is read by that.
-    pub fn receive(&mut self, packet: &[u8]) -> Result<Got, LinkFault>
-        ensures rest { self.new ≡ record self.old {
-          port = record self.old.port { link = self.new.port.link };
-        } }
-        ensures receives { Receives self.old.port.link self.new.port.link packet.now result }
-        ensures still { (history : ClientHistory) → HasAsked history self.old
-            → HasAsked history self.new }
-    {
-        self.port.receive(packet)
+        self.role.has_failed()
     }
 
     /// Whether something came that wasn't read.
@@ -223,21 +193,21 @@ impl AskingEnd {
         }
     }
 
-    /// The same where something came that wasn't read, as `may_read` says: it isn't looked at again. Gives the
-    /// report that the answer completes. Refused as `read` is.
+    /// Reads the next answer where one came that wasn't read, as `may_read` says: it isn't looked at again. Gives
+    /// the report that the answer completes. Refused as `read` is.
     pub fn read_next(&mut self) -> Result<Option<Report>, ReadFault>
         requires { 0 < length self.old.port.link.coming.inbox }
         ensures ok { IfOk result (λ report. ReadOne self.old self.new report) }
         ensures err { IfErr result (λ f. ReadNone self.old self.new f) }
     {
-        read_next(&mut self.port, &mut self.accessing)
+        read_next(&mut self.port, &mut self.role)
     }
 
     /// The records that were read so far of a batch under way, and weren't taken out. None where no batch is under way.
     pub fn records(&self) -> &[(u64, Octets)]
         ensures { result.now ≡ records_kept self.now.present.pending }
     {
-        self.accessing.records()
+        self.role.records()
     }
 
     /// Takes out the records that were read so far of a batch under way, and weren't taken: the report of the batch comes
@@ -252,7 +222,7 @@ impl AskingEnd {
         ensures told { (told : List (ℕ × List ℕ))
             → with_told (told ++ result) self.new ≡ with_told told self.old }
     {
-        self.accessing.take_records()
+        self.role.take_records()
     }
 
     /// Reads all that came, and adds the reports after those in `reports`. Refused as `read` is; what was read before
@@ -272,7 +242,7 @@ impl AskingEnd {
                 return Ok(());
             }
             let Ok(()) = reports.reserve(1) else {
-                return Err(refuse_next(&mut self.port, &mut self.accessing));
+                return Err(refuse_next(&mut self.port, &mut self.role));
             };
             match self.read_next() {
                 Ok(report) => keep(reports, report),
@@ -354,100 +324,6 @@ impl AskingEnd {
     {
         self.hear_all(reports)?;
         ended(self.port.answer(got, out))
-    }
-
-    /// Hands all that waits to the link, and returns how many NSP messages these are. Refused, with nothing
-    /// changed: `Failed`; `MessageTooLong`, above the setup's `max_message`, which never comes where that is
-    /// 65,535; `Exhausted`, where this end would have had more than 2^40 segments; `NoMemory`.
-    pub fn post(&mut self) -> Result<usize, LinkFault>
-        ensures ok { IfOk result (λ n. HandsOver self.old self.new n) }
-        ensures err { IfErr result (λ f. (self.new ≡ self.old)
-            × SendAllFault self.old.port.link self.old.port.outbox f) }
-        ensures short { self.old.port.link.setup.max_message ≡ largest_limit
-            → IfErr result (λ f. f ≢ MessageTooLong) }
-    {
-        self.port.post()
-    }
-
-    /// The same of messages that the link takes, as [`nsp_link::LinkEnd::check_messages`] says: they aren't looked
-    /// at again. Fails only if memory is refused, with nothing changed.
-    pub fn post_checked(&mut self) -> Result<usize, LinkFault>
-        requires { IsTrue (may_queue self.old.port.link self.old.port.outbox) }
-        ensures ok { IfOk result (λ n. HandsOver self.old self.new n) }
-        ensures err { IfErr result (λ f. (self.new ≡ self.old) × (f ≡ fault.NoMemory)) }
-    {
-        self.port.post_checked()
-    }
-
-    /// The packet of the next segment that was never sent, or none where none waits or the window is full, as
-    /// [`nsp_link::LinkEnd::next_packet`] writes it (NSP 4.0.0, data segment message).
-    pub fn emit(&mut self) -> Result<Option<Vec<u8>>, LinkFault>
-        ensures rest { self.new ≡ record self.old { port = self.new.port } }
-        ensures nothing { result ≡ Ok None
-            → (self.new ≡ self.old) × (may_send self.old.port.link ≡ false) }
-        ensures wrote { IfOk result
-            (λ o. IfSome o (λ v. WroteMore self.old.port self.new.port (v.items ∷ []))) }
-        ensures err { IfErr result (λ f. (self.new ≡ self.old) × NextFault self.old.port.link f) }
-        ensures failed { IsTrue self.old.port.link.failed → IsErrOf result Failed }
-        ensures still { (history : ClientHistory) → HasAsked history self.old
-            → HasAsked history self.new }
-    {
-        self.port.emit()
-    }
-
-    /// The same of an end whose link runs and has one to send, as [`nsp_link::LinkEnd::may_send`] says: neither is
-    /// looked at again. Fails only if memory is refused, with nothing changed.
-    pub fn write_next(&mut self) -> Result<Vec<u8>, LinkFault>
-        requires works { self.old.port.link.failed ≡ false }
-        requires may { IsTrue (may_send self.old.port.link) }
-        ensures rest { self.new ≡ record self.old { port = self.new.port } }
-        ensures wrote { IfOk result (λ v. WroteMore self.old.port self.new.port (v.items ∷ [])) }
-        ensures err { IfErr result (λ f. (self.new ≡ self.old) × (f ≡ fault.NoMemory)) }
-        ensures still { (history : ClientHistory) → HasAsked history self.old
-            → HasAsked history self.new }
-    {
-        self.port.write_next()
-    }
-
-    /// The packet of a segment that was sent and isn't acknowledged, again: the oldest is at place 0, as
-    /// [`nsp_link::LinkEnd::resend`] writes it (NSP 4.0.0, data segment message).
-    pub fn resend(&self, place: usize) -> Result<Vec<u8>, LinkFault>
-        ensures wrote { IfOk result (λ v. WritesSent self.now.port.link
-            (Some (self.now.port.link.acked + 1 + place)) v.items) }
-        ensures failed { IsTrue self.now.port.link.failed → IsErrOf result Failed }
-        ensures missing { self.now.port.link.failed ≡ false
-            → self.now.port.link.sent - self.now.port.link.acked ≤ place
-            → IsErrOf result NoSuchSegment }
-        ensures memory { self.now.port.link.failed ≡ false
-            → place < self.now.port.link.sent - self.now.port.link.acked
-            → IfErr result (λ f. f ≡ fault.NoMemory) }
-    {
-        self.port.link.resend(place)
-    }
-
-    /// A packet that only acknowledges all segments that were taken, as [`nsp_link::LinkEnd::ack_packet`] writes it
-    /// (NSP 4.0.0, data acknowledgement message).
-    pub fn ack(&self) -> Result<Vec<u8>, LinkFault>
-        ensures wrote { IfOk result (λ v. IsSpelling (ack_packet_of self.now.port.link) v.items) }
-        ensures failed { IsTrue self.now.port.link.failed → IsErrOf result Failed }
-        ensures memory { self.now.port.link.failed ≡ false
-            → IfErr result (λ f. f ≡ fault.NoMemory) }
-    {
-        self.port.link.ack_packet()
-    }
-
-    /// The link, with its counts.
-    pub fn link(&self) -> &LinkEnd
-        ensures { result.now ≡ self.now.port.link }
-    {
-        &self.port.link
-    }
-
-    /// The NSP messages that wait to be handed to the link, the oldest first.
-    pub fn waiting(&self) -> &[Vec<u8>]
-        ensures { bodies result.now ≡ self.now.port.outbox }
-    {
-        &self.port.outbox
     }
 }
 

@@ -3,15 +3,18 @@
 #![tactic(auto)]
 
 mod asking;
+mod end;
 mod fault;
 mod laws;
 mod node;
 mod places;
 mod port;
+mod role;
 mod serving;
 mod turns;
 
 pub use asking::{AskingEnd, Heard};
+pub use end::End;
 pub use fault::{EndFault, TakeFault};
 pub use laws::{
     a_peer_is_heard_in_order, a_peer_is_served_in_order, answers_are_bounded,
@@ -21,4 +24,5 @@ pub use laws::{
     serving_is_determined, taken_records_count, taking_is_determined, two_ends_keep_the_headline,
 };
 pub use node::ServingNode;
+pub use role::Role;
 pub use serving::ServingEnd;

@@ -1,7 +1,7 @@
 //! A node: several links, each with its port, before one table of files.
 
 ghost use Rattle.std.specs.Prelude.{◌≡◌, ◌≤◌, ◌<◌, ◌+◌, ◌-◌, ℕ, List, [], Some, None, length, replicate, IfOk, IfErr, IfSome, OnOk, OnErr, IsErrOf, IsTrue, slice_get, set, false, true};
-ghost use Rattle.dap_msg.specs.BothEnds.{least_buffer};
+ghost use Rattle.dap_msg.specs.BothEnds.{min_buffer};
 ghost use Rattle.dap_msg.specs.Blocked.{bodies};
 ghost use Rattle.rec_file.specs.Shapes.{is_shape};
 ghost use Rattle.nsp_link.specs.Link.{IsSetup, IsSpelling};
@@ -101,7 +101,7 @@ impl ServingNode {
     /// A node with no files, with a buffer of this many bytes, at least 64, and room for this many links, of which none
     /// is there. However many it is, the table by which they are found has a place for each of the 65,536 addresses.
     pub fn new(alloc: Global, bufsiz: u16, links: usize) -> Result<ServingNode, NoMemory>
-        requires { least_buffer ≤ bufsiz }
+        requires { min_buffer ≤ bufsiz }
         ensures stands { IfOk result (λ node. SharedAfter [] [] node.noted.shared) }
         ensures own { IfOk result (λ node. node.noted.shared.own ≡ bufsiz) }
         ensures setup { IfOk result (λ node. node.noted.shared.setup ≡ plain_setup bufsiz) }
@@ -113,7 +113,7 @@ impl ServingNode {
         ServingNode::with_setup(alloc, ServerSetup::plain(bufsiz), links)
     }
 
-    /// The same of a node that is set up so.
+    /// A node with this setup and no files, and room for this many links, of which none is there.
     pub fn with_setup(
         alloc: Global,
         own: ServerSetup,

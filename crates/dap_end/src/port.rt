@@ -1,7 +1,7 @@
 //! One end of a link, with the NSP messages that wait to be handed to it, and the place in the oldest one that came.
 
 ghost use Rattle.std.specs.Prelude.{◌≡◌, ◌≢◌, ◌+◌, ◌-◌, ◌<◌, ◌≤◌, ◌∷◌, ◌++◌, [], ℕ, List, Ok, Some, None, length, false, true, IfOk, IfErr, IfSome, OnOk, OnErr, IsErrOf, slice_get, IsTrue};
-ghost use Rattle.nsp_link.specs.Limits.{largest_limit};
+ghost use Rattle.nsp_link.specs.Limits.{max_limit};
 ghost use Rattle.nsp_link.specs.Link.{IsSetup, SetupFault, IsLink, may_send, waiting_bytes, with_inbox};
 ghost use Rattle.nsp_link.specs.Sending.{NextFault, may_queue, SendAllFault};
 ghost use Rattle.nsp_link.specs.declared.fault.LinkFault.TheVariants.{Failed, MessageTooLong, NoMemory};
@@ -205,7 +205,7 @@ impl Port {
         ensures kept { IsPort self.new }
         ensures err { IfErr result (λ f. (self.new ≡ self.old)
             × SendAllFault self.old.link self.old.outbox f) }
-        ensures short { self.old.link.setup.max_message ≡ largest_limit
+        ensures short { self.old.link.setup.max_message ≡ max_limit
             → IfErr result (λ f. f ≢ MessageTooLong) }
     {
         self.link.check_messages(&self.outbox)?;

@@ -1,73 +1,43 @@
 //! The end that serves.
 
-ghost use Rattle.std.specs.Prelude.{◌≡◌, ◌≢◌, ◌≤◌, ◌<◌, ◌+◌, ◌-◌, ◌++◌, ◌∷◌, ℕ, [], Ok, Err, Some, None, false, IfOk, IfErr, IfSome, OnOk, OnErr, IsErrOf, IsTrue, MatchOption};
+ghost use Rattle.std.specs.Prelude.{◌≡◌, ◌≢◌, ◌≤◌, ◌<◌, ◌+◌, ◌-◌, ◌++◌, ◌∷◌, [], Ok, Err, false, IfOk, IfErr, OnOk, OnErr, IsTrue, MatchOption};
 ghost use Rattle.std.specs.Result.{result_map_both};
-ghost use Rattle.dap_msg.specs.BothEnds.{least_buffer};
+ghost use Rattle.dap_msg.specs.BothEnds.{min_buffer};
 ghost use Rattle.dap_msg.specs.Blocked.{bodies};
 ghost use Rattle.rec_file.specs.Shapes.{is_shape};
-ghost use Rattle.nsp_link.specs.Limits.{largest_limit};
-ghost use Rattle.nsp_link.specs.Link.{IsSetup, SetupFault, may_send, IsSpelling};
-ghost use Rattle.nsp_link.specs.Sending.{NextFault, may_queue, SendAllFault, WritesSent, ack_packet_of};
-ghost use Rattle.nsp_link.specs.declared.fault.LinkFault.TheVariants.{Failed, NoSuchSegment, MessageTooLong};
-ghost use Rattle.nsp_link.specs.declared.fault.LinkFault.TheVariants as fault;
+ghost use Rattle.nsp_link.specs.Link.{IsSetup, SetupFault};
 ghost use Rattle.dap_accessed.specs.Setup.{IsServerSetup, plain_setup};
-ghost use Rattle.dap_accessed.specs.Standing.{Files};
 ghost use Rattle.dap_accessed.specs.Groups.{After};
 ghost use Rattle.dap_accessed.specs.Adding.{MayAdd, MayAddRecord, AddRefused, RecordRefused, with_new_file, with_record};
-ghost use Rattle.dap_end.specs.Ports.{HandsOver, HasCome, new_port};
-ghost use Rattle.nsp_link.specs.Receiving.{Receives};
-ghost use Rattle.dap_end.specs.Writing.{WroteMore};
+ghost use Rattle.dap_end.specs.Ports.{HasCome, new_port};
 ghost use Rattle.dap_end.specs.Serving.{IsAfter, NotGiven, MayServe, ServedOne};
 ghost use Rattle.dap_end.specs.Done.{ServerHistory, nothing_yet};
 ghost use Rattle.dap_end.specs.Taking.{RestsAt, serves};
-ghost use Rattle.dap_end.specs.Turns.{WritesReplies, DidAll, TakesPacket, WentOn};
-ghost use Rattle.dap_end.specs.Inner.Answered.{ended_by};
+ghost use Rattle.dap_end.specs.Turns.{DidAll, TakesPacket, WentOn};
 ghost use Rattle.dap_end.specs.declared.fault.EndFault.TheVariants as end_fault;
-ghost use Rattle.dap_end.specs.Inner.Kept.{IsPort};
-ghost use Rattle.dap_end.specs.Inner.ServingView.{serving_of};
 
+use crate::end::End;
 use crate::fault::TakeFault;
 use crate::port::Port;
 use crate::turns;
 use dap_accessed::{Accessed, AddFault, FileTable, NoMemory, ServerSetup};
-use nsp_link::{Got, LinkEnd, LinkFault, LinkSetup};
+use nsp_link::{Got, LinkFault, LinkSetup};
 use rec_file::{Rights, Shape};
 use std::alloc::Global;
-use std::marker::Model;
 
 /// The end that is accessed, with its link.
-#[derive(Drop)]
-pub struct ServingEnd {
-    port: Port,
-    accessed: Accessed,
-}
-
-impl Model for ServingEnd {
-    ghost use Rattle.dap_end.specs.Done.{ServingValue};
-
-    ghost Value = { ServingValue };
-
-    ghost use Rattle.dap_end.specs.Inner.Stored.{serving_code};
-
-    ghost coded = { serving_code };
-
-    ghost use Rattle.dap_end.specs.Inner.ServingInside.{serving_view, IsSoundServing};
-
-    ghost view = { serving_view };
-
-    ghost invariant = { IsSoundServing };
-}
+pub type ServingEnd = End<Accessed>;
 
 /// The one link of an end.
 const LINK: usize = 0;
 
-impl ServingEnd {
+impl End<Accessed> {
     /// An end with no files that waits for a packet of its peer, with a buffer of this many bytes, at least 64. A
     /// setup with `max_message` 65,535 takes all that an end may send; with less, a peer that names a larger buffer
     /// can be answered by a message that `post` refuses from then on. Refused: `BadSetup` where a limit of the
     /// setup isn't in its range; `NoMemory`.
     pub fn new(alloc: Global, bufsiz: u16, setup: LinkSetup) -> Result<ServingEnd, LinkFault>
-        requires { least_buffer ≤ bufsiz }
+        requires { min_buffer ≤ bufsiz }
         ensures ok { IfOk result (λ end. IsAfter (nothing_yet []) end
             × (end.port ≡ new_port setup) × (end.present.own ≡ bufsiz)) }
         ensures plain { IfOk result (λ end. end.present.setup ≡ plain_setup bufsiz) }
@@ -75,13 +45,13 @@ impl ServingEnd {
         ensures err { IfErr result (SetupFault setup) }
     {
         let port = Port::new(alloc, setup)?;
-        Ok(ServingEnd {
+        Ok(End {
             port,
-            accessed: Accessed::new(alloc, bufsiz),
+            role: Accessed::new(alloc, bufsiz),
         })
     }
 
-    /// The same of a server that is set up so.
+    /// An end with this setup of a server and of a link, which has no files and has served nothing. Refused as `new` is.
     pub fn with_setup(
         alloc: Global,
         own: ServerSetup,
@@ -94,9 +64,9 @@ impl ServingEnd {
         ensures err { IfErr result (SetupFault setup) }
     {
         let port = Port::new(alloc, setup)?;
-        Ok(ServingEnd {
+        Ok(End {
             port,
-            accessed: Accessed::with_setup(alloc, own),
+            role: Accessed::with_setup(alloc, own),
         })
     }
 
@@ -106,11 +76,11 @@ impl ServingEnd {
         ensures after { (history : ServerHistory) → IsAfter history self.now
             → result.now ≡ After self.now.present.setup history.first history.items }
     {
-        self.accessed.files()
+        self.role.files()
     }
 
-    /// The same files for another link: an open file is closed, a PUT or an UPDATE that waits for its record is
-    /// dropped, and so is all that waits. Refused, with nothing changed: `BadSetup` where a limit of the setup
+    /// Begins another link, over the same files: an open file is closed, a PUT or an UPDATE that waits for its record
+    /// is dropped, and so is all that waits. Refused, with nothing changed: `BadSetup` where a limit of the setup
     /// isn't in its range; `NoMemory`.
     pub fn renew(&mut self, alloc: Global, setup: LinkSetup) -> Result<(), LinkFault>
         ensures ok { OnOk result (IsAfter (nothing_yet self.old.present.files) self.new
@@ -122,11 +92,11 @@ impl ServingEnd {
     {
         let port = Port::new(alloc, setup)?;
         self.port = port;
-        self.accessed.renew();
+        self.role.renew();
         Ok(())
     }
 
-    /// The same where an Access on the new link may ask for these rights at most.
+    /// Begins another link as `renew` does; an Access on it may ask for these rights at most.
     pub fn renew_for(
         &mut self,
         alloc: Global,
@@ -142,7 +112,7 @@ impl ServingEnd {
     {
         let fresh = Port::new(alloc, setup)?;
         self.port = fresh;
-        self.accessed.renew_for(most);
+        self.role.renew_for(most);
         Ok(())
     }
 
@@ -167,7 +137,7 @@ impl ServingEnd {
         if self.port.has_come() {
             return Err(AddFault::Busy);
         }
-        self.accessed.add(name, shape)
+        self.role.add(name, shape)
     }
 
     /// A record more in the newest file, under its number, before a segment came on this link. In a sequential file
@@ -192,19 +162,7 @@ impl ServingEnd {
         if self.port.has_come() {
             return Err(AddFault::Busy);
         }
-        self.accessed.add_record(number, body)
-    }
-
-    /// Takes a packet in, as [`nsp_link::LinkEnd::receive_bounded`] does; nothing is served by that.
-    pub fn receive(&mut self, packet: &[u8]) -> Result<Got, LinkFault>
-        ensures rest { self.new ≡ record self.old {
-          port = record self.old.port { link = self.new.port.link };
-        } }
-        ensures receives { Receives self.old.port.link self.new.port.link packet.now result }
-        ensures still { (history : ServerHistory) → IsAfter history self.old
-            → IsAfter history self.new }
-    {
-        self.port.receive(packet)
+        self.role.add_record(number, body)
     }
 
     /// Serves the next DAP message of the oldest NSP message that came, and returns how many NSP messages with
@@ -216,60 +174,7 @@ impl ServingEnd {
             (λ n. ServedOne self.old self.new n)) }
         ensures no_memory { OnErr result ((self.new ≡ self.old) × MayServe self.old) }
     {
-        turns::serve_next(&mut self.port, &mut self.accessed, LINK)
-    }
-
-    /// Hands all answers that wait to the link, and returns how many NSP messages these are. Refused, with nothing
-    /// changed: `Failed`; `MessageTooLong`, above the setup's `max_message`, which never comes where that is
-    /// 65,535; `Exhausted`, where this end would have had more than 2^40 segments; `NoMemory`.
-    pub fn post(&mut self) -> Result<usize, LinkFault>
-        ensures ok { IfOk result (λ n. HandsOver self.old self.new n) }
-        ensures err { IfErr result (λ f. (self.new ≡ self.old)
-            × SendAllFault self.old.port.link self.old.port.outbox f) }
-        ensures short { self.old.port.link.setup.max_message ≡ largest_limit
-            → IfErr result (λ f. f ≢ MessageTooLong) }
-    {
-        self.port.post()
-    }
-
-    /// The same of messages that the link takes, as [`nsp_link::LinkEnd::check_messages`] says: they aren't looked
-    /// at again. Fails only if memory is refused, with nothing changed.
-    pub fn post_checked(&mut self) -> Result<usize, LinkFault>
-        requires { IsTrue (may_queue self.old.port.link self.old.port.outbox) }
-        ensures ok { IfOk result (λ n. HandsOver self.old self.new n) }
-        ensures err { IfErr result (λ f. (self.new ≡ self.old) × (f ≡ fault.NoMemory)) }
-    {
-        self.port.post_checked()
-    }
-
-    /// The packet of the next segment that was never sent, or none where none waits or the window is full, as
-    /// [`nsp_link::LinkEnd::next_packet`] writes it (NSP 4.0.0, data segment message).
-    pub fn emit(&mut self) -> Result<Option<Vec<u8>>, LinkFault>
-        ensures rest { self.new ≡ record self.old { port = self.new.port } }
-        ensures nothing { result ≡ Ok None
-            → (self.new ≡ self.old) × (may_send self.old.port.link ≡ false) }
-        ensures wrote { IfOk result
-            (λ o. IfSome o (λ v. WroteMore self.old.port self.new.port (v.items ∷ []))) }
-        ensures err { IfErr result (λ f. (self.new ≡ self.old) × NextFault self.old.port.link f) }
-        ensures failed { IsTrue self.old.port.link.failed → IsErrOf result Failed }
-        ensures still { (history : ServerHistory) → IsAfter history self.old
-            → IsAfter history self.new }
-    {
-        self.port.emit()
-    }
-
-    /// The same of an end whose link runs and has one to send, as [`nsp_link::LinkEnd::may_send`] says: neither is
-    /// looked at again. Fails only if memory is refused, with nothing changed.
-    pub fn write_next(&mut self) -> Result<Vec<u8>, LinkFault>
-        requires works { self.old.port.link.failed ≡ false }
-        requires may { IsTrue (may_send self.old.port.link) }
-        ensures rest { self.new ≡ record self.old { port = self.new.port } }
-        ensures wrote { IfOk result (λ v. WroteMore self.old.port self.new.port (v.items ∷ [])) }
-        ensures err { IfErr result (λ f. (self.new ≡ self.old) × (f ≡ fault.NoMemory)) }
-        ensures still { (history : ServerHistory) → IsAfter history self.old
-            → IsAfter history self.new }
-    {
-        self.port.write_next()
+        turns::serve_next(&mut self.port, &mut self.role, LINK)
     }
 
     /// Serves what came, message by message, while fewer than `most_waiting` bytes wait, and hands each group of
@@ -285,7 +190,7 @@ impl ServingEnd {
         ensures err { IfErr result
             (λ f. DidAll (serves most_waiting) self.old self.new (Err (end_fault.Link f))) }
     {
-        turns::serve_all(&mut self.port, &mut self.accessed, LINK, most_waiting)
+        turns::serve_all(&mut self.port, &mut self.role, LINK, most_waiting)
     }
 
     /// Serves what came while fewer than `most_waiting` bytes wait, hands each group of answers to the link, and
@@ -298,7 +203,7 @@ impl ServingEnd {
         ensures rests { OnOk result (RestsAt most_waiting self.new) }
         ensures idle { OnOk result (self.new.port.outbox ≡ []) }
     {
-        turns::go_on(&mut self.port, &mut self.accessed, LINK, most_waiting, out)
+        turns::go_on(&mut self.port, &mut self.role, LINK, most_waiting, out)
     }
 
     /// Takes a packet in, and returns what became of it; serves what came while fewer than `most_waiting` bytes
@@ -320,52 +225,11 @@ impl ServingEnd {
     {
         turns::take(
             &mut self.port,
-            &mut self.accessed,
+            &mut self.role,
             LINK,
             packet,
             most_waiting,
             out,
         )
-    }
-
-    /// The packet of a segment that was sent and isn't acknowledged, again: the oldest is at place 0, as
-    /// [`nsp_link::LinkEnd::resend`] writes it (NSP 4.0.0, data segment message).
-    pub fn resend(&self, place: usize) -> Result<Vec<u8>, LinkFault>
-        ensures wrote { IfOk result (λ v. WritesSent self.now.port.link
-            (Some (self.now.port.link.acked + 1 + place)) v.items) }
-        ensures failed { IsTrue self.now.port.link.failed → IsErrOf result Failed }
-        ensures missing { self.now.port.link.failed ≡ false
-            → self.now.port.link.sent - self.now.port.link.acked ≤ place
-            → IsErrOf result NoSuchSegment }
-        ensures memory { self.now.port.link.failed ≡ false
-            → place < self.now.port.link.sent - self.now.port.link.acked
-            → IfErr result (λ f. f ≡ fault.NoMemory) }
-    {
-        self.port.link.resend(place)
-    }
-
-    /// A packet that only acknowledges all segments that were taken, as [`nsp_link::LinkEnd::ack_packet`] writes it
-    /// (NSP 4.0.0, data acknowledgement message).
-    pub fn ack(&self) -> Result<Vec<u8>, LinkFault>
-        ensures wrote { IfOk result (λ v. IsSpelling (ack_packet_of self.now.port.link) v.items) }
-        ensures failed { IsTrue self.now.port.link.failed → IsErrOf result Failed }
-        ensures memory { self.now.port.link.failed ≡ false
-            → IfErr result (λ f. f ≡ fault.NoMemory) }
-    {
-        self.port.link.ack_packet()
-    }
-
-    /// The link, with its counts.
-    pub fn link(&self) -> &LinkEnd
-        ensures { result.now ≡ self.now.port.link }
-    {
-        &self.port.link
-    }
-
-    /// The NSP messages that wait to be handed to the link, the oldest first.
-    pub fn waiting(&self) -> &[Vec<u8>]
-        ensures { bodies result.now ≡ self.now.port.outbox }
-    {
-        &self.port.outbox
     }
 }

@@ -99,7 +99,7 @@ pub(crate) fn serve_all<S: Serving>(
     Ok(())
 }
 
-/// The same, and then writes all segments that were never sent, as far as the window allows.
+/// Serves as `serve_all` does, and then writes all segments that were never sent, as far as the window allows.
 pub(crate) fn go_on<S: Serving>(
     port: &mut Port,
     server: &mut S,
@@ -121,7 +121,7 @@ pub(crate) fn go_on<S: Serving>(
     port.emit_all(out)
 }
 
-/// The same, and then writes what answers a packet that was taken in.
+/// Serves and writes as `go_on` does, and then writes what answers a packet that was taken in.
 pub(crate) fn answer<S: Serving>(
     port: &mut Port,
     server: &mut S,

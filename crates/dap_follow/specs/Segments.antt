@@ -29,6 +29,6 @@ abbrev pub highest_in : ℕ → List Placed → ℕ
 highest_in highest [] = highest
 highest_in highest (s ∷ others) = highest_in (max highest s.place) others
 
--- the same stream is at this index
+-- this stream is at this index
 abbrev pub HasStreamAt : Stream → ℕ → List Stream → Type 0
 HasStreamAt stream index keys = (other : Stream) × (slice_get keys index ≡ Some other) × (is_same stream other ≡ true)

@@ -22,7 +22,7 @@ abbrev pub segment_in : Captured → Option (Stream × SegmentFields)
 segment_in (way, Ok (Segment s)) = Some (record { way = way; dst = s.dst; src = s.src }, s)
 segment_in _ = None
 
--- the same direction, receiver and sender
+-- both have one direction, one receiver and one sender
 abbrev pub is_same : Stream → Stream → Bool
 is_same a b = bytes_eq (arrow_text a.way) (arrow_text b.way) && (a.dst == b.dst) && (a.src == b.src)
 

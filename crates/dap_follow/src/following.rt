@@ -13,7 +13,7 @@ use crate::joining::{Room, list_stream};
 use crate::reading::{Reading, read_packets};
 use crate::streams::Streams;
 use dap_listing::next_packet;
-use linewise::{CaptureFault, INPUT_LIMIT, Outcome, read_input, write_text};
+use linewise::{CaptureFault, MAX_INPUT, Outcome, read_input, write_text};
 use std::alloc::{AllocError, Global};
 use std::io::{Read, Write};
 
@@ -61,7 +61,7 @@ fn join(alloc: Global, lines: &[Vec<u8>], rest: &[u8]) -> Result<Vec<u8>, AllocE
 
 /// The listing of an input up to its first line at fault.
 fn follow_lines(alloc: Global, input: &[u8], in_words: bool) -> Result<Vec<u8>, CaptureFault>
-    requires { length input.now ≤ INPUT_LIMIT }
+    requires { length input.now ≤ MAX_INPUT }
     ensures whole { IfOk result (λ text. IsFollowed in_words (captures packet_limit input.now)
         (frames packet_limit input.now) text.items) }
     ensures clean { OnOk result (faults_from packet_limit 1 input.now ≡ []) }
@@ -74,7 +74,7 @@ fn follow_lines(alloc: Global, input: &[u8], in_words: bool) -> Result<Vec<u8>, 
 
 /// Whether no line of an input is at fault, or else the first fault.
 fn check_lines(input: &[u8]) -> Result<(), CaptureFault>
-    requires { length input.now ≤ INPUT_LIMIT }
+    requires { length input.now ≤ MAX_INPUT }
     ensures good { OnOk result (faults_from packet_limit 1 input.now ≡ []) }
     ensures fault { IfErr result (IsFirst (faults_from packet_limit 1 input.now)) }
 {
@@ -89,7 +89,7 @@ fn check_lines(input: &[u8]) -> Result<(), CaptureFault>
 
 /// The listing of an input. A line at fault is reported also where memory was refused before it.
 fn follow_input(alloc: Global, input: &[u8], in_words: bool) -> Result<Vec<u8>, CaptureFault>
-    requires { length input.now ≤ INPUT_LIMIT }
+    requires { length input.now ≤ MAX_INPUT }
     ensures whole { IfOk result (λ text. IsFollowed in_words (captures packet_limit input.now)
         (frames packet_limit input.now) text.items) }
     ensures clean { OnOk result (faults_from packet_limit 1 input.now ≡ []) }

@@ -5,7 +5,7 @@ ghost use Rattle.dap_follow.specs.Inner.Placing.{IsPutIn, RisesCounted};
 ghost use Rattle.dap_follow.specs.Inner.Keeping.{IsAdded};
 
 use dap_listing::CapturedSegment;
-use nsp_link::GREATEST_AGE;
+use nsp_link::MAX_AGE;
 use nsp_seg::{MODULUS, Seq12};
 use std::alloc::{AllocError, Global};
 
@@ -13,7 +13,7 @@ use std::alloc::{AllocError, Global};
 pub(crate) const ROUND: u64 = MODULUS as u64;
 
 /// How far below the highest place before it a segment may lie: as far as its number identifies it.
-const BELOW: u64 = GREATEST_AGE;
+const BELOW: u64 = MAX_AGE;
 
 /// A segment that counts: its place, the number of its packet, its marks, and the hex digits of its payload.
 #[derive(Clone, Copy)]

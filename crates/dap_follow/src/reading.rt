@@ -9,11 +9,10 @@ ghost use Rattle.dap_follow.specs.Inner.Reading.{ReadsPackets, ReadsInput, Reads
 
 use crate::streams::Streams;
 use dap_listing::{
-    CapturedPacket, Direction, Found, PACKET_LIMIT, next_packet, push_heading, push_seen,
-    read_packet,
+    CapturedPacket, Direction, Found, MAX_PACKET, next_packet, push_heading, push_seen, read_packet,
 };
 use dap_meanings::add_packet_words;
-use linewise::{CaptureFault, INPUT_LIMIT};
+use linewise::{CaptureFault, MAX_INPUT};
 use nsp_seg::SegFault;
 use std::alloc::{AllocError, Global};
 
@@ -60,7 +59,8 @@ pub fn push_packet_line(
 impl<'a> Reading<'a> {
     /// Nothing was read yet. It takes no memory.
     fn new(alloc: Global) -> Self
-        ensures { (in_words : Bool) (told : List (List (List ℕ))) → ReadsPackets in_words told [] result }
+        ensures { (in_words : Bool) (told : List (List (List ℕ)))
+            → ReadsPackets in_words told [] result }
     {
         Reading {
             lines: Vec::new(alloc),
@@ -108,11 +108,11 @@ pub(crate) fn read_packets<'a>(
     input: &'a [u8],
     in_words: bool,
 ) -> Result<Reading<'a>, CaptureFault>
-    requires { length input.now ≤ INPUT_LIMIT }
+    requires { length input.now ≤ MAX_INPUT }
     ensures all { IfOk result (ReadsInput in_words input.now) }
     ensures fault { IfErr result (WantsOrFirst input.now) }
 {
-    let mut room = vec![in alloc; 0; PACKET_LIMIT]?;
+    let mut room = vec![in alloc; 0; MAX_PACKET]?;
     let mut reading = Reading::new(alloc);
     let mut at = 1;
     let mut rest = input;

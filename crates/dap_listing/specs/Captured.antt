@@ -37,7 +37,7 @@ segment_fields c = record {
   payload = digit_bytes c.digits.now;
 }
 
--- the same of what was read
+-- the packet or the fault that was read, with the bytes of a payload in place of its digits
 abbrev pub seen_value : Result CapturedPacket SegFault → Seen
 seen_value (Ok (captured.Segment c)) = Ok (Segment (segment_fields c))
 seen_value (Ok (captured.DataAck ack)) = Ok (DataAck ack)

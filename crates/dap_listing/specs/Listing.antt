@@ -7,7 +7,7 @@ use Rattle.dap_meanings.specs.Frames.{frame_words}
 use Rattle.std.specs.Result.{result_err, result_unwrap_or}
 use Rattle.std.specs.Str.Lines.{lines}
 use Rattle.hex.specs.Hex.{decode_of}
-use Rattle.dap_msg.specs.BothEnds.{greatest_message}
+use Rattle.dap_msg.specs.BothEnds.{max_nsp_message}
 use Rattle.dap_listing.specs.Lines.{Capture, line_of}
 use Rattle.dap_listing.specs.Packets.{IsPacketText}
 use Rattle.dap_text.specs.Text.{line_feed}
@@ -36,7 +36,7 @@ frames_after limit before [] = []
 frames_after limit before (line ∷ others) =
     option_map_or (λ capture. frame_words before ∷ []) (result_unwrap_or (line_of limit line) None) [] ++ frames_after limit line others
 
--- the same of an input
+-- of each packet of an input, the words of the line directly before it
 abbrev pub frames : ℕ → List ℕ → List (List (List ℕ))
 frames limit input = frames_after limit [] (lines input)
 
@@ -63,7 +63,7 @@ packet_limit = 4096
 -- how many bytes a line may have in hex
 abbrev pub line_limit : Listed → ℕ
 line_limit Packets = packet_limit
-line_limit Messages = greatest_message
+line_limit Messages = max_nsp_message
 
 -- the lines of all that was captured, numbered from this number; by the law `listings_are_one` there is one listing
 pub data CaptureLines (listed : Listed) : ℕ → List Capture → List ℕ → Type 0 where

@@ -14,7 +14,7 @@ mod packet;
 mod text;
 
 pub use captured::{CapturedPacket, CapturedSegment};
-pub use captures::{Found, PACKET_LIMIT, arrow, line_packet, next_packet, push_heading};
+pub use captures::{Found, MAX_PACKET, arrow, line_packet, next_packet, push_heading};
 pub use commands::{messages, show};
 pub use laws::listings_are_one;
 pub use lines::Direction;

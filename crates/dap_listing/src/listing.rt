@@ -14,11 +14,11 @@ ghost use Rattle.dap_listing.specs.Lines.{digits_line, line_of};
 ghost use Rattle.dap_listing.specs.Listing.{IsCapturedText, line_limit};
 ghost use Rattle.dap_listing.specs.Inner.Lines.{fault_of_line};
 
-use crate::captures::{PACKET_LIMIT, push_heading};
+use crate::captures::{MAX_PACKET, push_heading};
 use crate::lines::{Direction, Head, parse_head};
 use crate::message::push_messages;
 use crate::packet::push_packet;
-use dap_msg::GREATEST_MESSAGE;
+use dap_msg::MAX_MESSAGE;
 use dap_text::{is_hex_text, push_number, push_str};
 use linewise::{CHUNK, CaptureFault, cut_line, find_byte, read_some, skip_unread};
 use std::alloc::{AllocError, Global};
@@ -39,8 +39,8 @@ impl Listed {
         ensures { result ≡ line_limit self }
     {
         match self {
-            Listed::Packets => PACKET_LIMIT,
-            Listed::Messages => GREATEST_MESSAGE as usize,
+            Listed::Packets => MAX_PACKET,
+            Listed::Messages => MAX_MESSAGE as usize,
         }
     }
 }

@@ -218,7 +218,7 @@ fn record_size(item: &Item<'_>) -> usize
     }
 }
 
-/// Appends the line of what is at a place of an NSP message. The digits are those of its record, where it is a Data
+/// Appends the line of an item of an NSP message. The digits are those of its record, where it is a Data
 /// message.
 #[inline(always)]
 fn push_item(text: &mut Vec<u8>, item: &Item<'_>, digits: &[u8]) -> Result<(), AllocError>
@@ -232,7 +232,7 @@ fn push_item(text: &mut Vec<u8>, item: &Item<'_>, digits: &[u8]) -> Result<(), A
     }
 }
 
-/// The same, with its words if they are wanted; then the item has its record.
+/// Appends the line of an item, with its words if they are wanted; then the item has its record.
 #[inline(always)]
 fn push_item_line(
     text: &mut Vec<u8>,
@@ -241,7 +241,8 @@ fn push_item_line(
     in_words: bool,
 ) -> Result<(), AllocError>
     requires spelled { Spell digits.now (length digits.now / 2) }
-    requires record { in_words ≡ true → item_with_record item.now (digit_bytes digits.now) ≡ item.now }
+    requires record { in_words ≡ true
+        → item_with_record item.now (digit_bytes digits.now) ≡ item.now }
     ensures { OnOk result (Adds text.old text.new
         (item_line_in in_words (item_with_record item.now (digit_bytes digits.now)))) }
 {

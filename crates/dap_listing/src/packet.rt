@@ -59,7 +59,8 @@ fn push_segment(
     count: usize,
 ) -> Result<(), AllocError>
     requires { count ≡ length (digit_bytes line.now.digits.now) }
-    ensures { OnOk result (Adds text.old text.new (seen_line (Ok (Segment (segment_fields line.now))))) }
+    ensures { OnOk result
+        (Adds text.old text.new (seen_line (Ok (Segment (segment_fields line.now))))) }
 {
     push_str(text, "segment ")?;
     push_str(text, mark_word(line.first, line.last))?;

@@ -22,7 +22,8 @@ fn push_lower(text: &mut Vec<u8>, digits: &[u8]) -> Result<(), AllocError>
 /// Appends the image of the bytes that hex digits spell, after a word: the digits again, in lower case.
 pub(crate) fn push_spelled(text: &mut Vec<u8>, word: &str, digits: &[u8]) -> Result<(), AllocError>
     requires { Spell digits.now (length digits.now / 2) }
-    ensures { OnOk result (Adds text.old text.new (word.now ++ image_text (digit_bytes digits.now))) }
+    ensures { OnOk result
+        (Adds text.old text.new (word.now ++ image_text (digit_bytes digits.now))) }
 {
     push_str(text, word)?;
     if digits.is_empty() {

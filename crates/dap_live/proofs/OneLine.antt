@@ -27,7 +27,7 @@ use Rattle.dap_text.specs.Requests.{request_of}
 use Rattle.linewise.specs.declared.talking.Became.{Became}
 use Rattle.linewise.specs.declared.talking.Became.TheVariants.{BadLine, NoMemory}
 use Rattle.linewise.proofs.ForCallers.{OneAnswer}
-use Rattle.linewise.specs.Talks.{Answering, AnswersLine, is_given, longest, said_of}
+use Rattle.linewise.specs.Talks.{Answering, AnswersLine, is_given, max_line, said_of}
 use Rattle.dap_end.proofs.ForCallers.{segments_one}
 use Rattle.dap_live.specs.declared.orders.Between.{Between}
 use Rattle.dap_live.specs.declared.ask_orders.AskOrder.{AskOrder}
@@ -155,7 +155,7 @@ setup_one s f g nf ng (inr a) b = absurd (nf (ap (λ k. (link_refusal k).1) a.0)
 abbrev became_by : Became → Option Became
 became_by b = Some b
 
-unread_bad : (line : List ℕ) (b : Became) → b ≢ NoMemory → ((b ≡ BadLine) × (longest < length line)) ⊎ (b ≡ NoMemory) → (b ≡ BadLine) × (longest < length line)
+unread_bad : (line : List ℕ) (b : Became) → b ≢ NoMemory → ((b ≡ BadLine) × (max_line < length line)) ⊎ (b ≡ NoMemory) → (b ≡ BadLine) × (max_line < length line)
 unread_bad line b want (inl h) = h
 unread_bad line b want (inr none) = absurd (want none)
 
@@ -170,7 +170,7 @@ module _ {E : Type 0} (answered : Answering E) (waiting : E → Option ℕ) (Are
     → answered one None new said b → answered other None end more c → AreSame new end)
     (waits : (one other : E) → AreSame one other → waiting one ≡ waiting other) where
   -- ends that wait for as many are given a line, or aren't
-  ungiven_apart : (one other new end : E) (line text : List ℕ) (b : Became) → waiting one ≡ waiting other → b ≢ NoMemory → is_given (waiting other) line ≡ false → length line ≤ longest
+  ungiven_apart : (one other new end : E) (line text : List ℕ) (b : Became) → waiting one ≡ waiting other → b ≢ NoMemory → is_given (waiting other) line ≡ false → length line ≤ max_line
       → AnswersLine answered waiting one line new text (Some b) → ⊥
   ungiven_apart one other new end line text b same want ungiven short (inl a) = let bad = unread_bad line b want a.0 in omega (arith, bad.1, short)
   ungiven_apart one other new end line text b same want ungiven short (inr a) =

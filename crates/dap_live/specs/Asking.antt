@@ -49,7 +49,8 @@ came_by _ became = Told became
 pub record HearsPacket (old : Asking) (bytes : List ℕ) (new : Asking) (text : List ℕ) (came : Came) : Type 0 where
   pub taken : Result Got TakeFault
   pub packets : List (List ℕ)
-  pub took : TakesPacket (hears old.reports.items new.reports.items) old.end new.end bytes [] packets taken
+  pub took : TakesPacket (hears old.reports.items new.reports.items)
+      old.end new.end bytes [] packets taken
   pub rest : OnEnd old new
   pub says : text ≡ (taken_said taken (told_text new) packets).0
   pub ended : came ≡ came_by taken (taken_said taken (told_text new) packets).1
@@ -116,7 +117,8 @@ pub record IsNewAsking (setup : LinkSetup) (identity : Configuration) (a : Askin
 abbrev pub AskingDoes : Asking → AskOrder → Asking → List ℕ → Came → Type 0
 AskingDoes old (order.Packet bytes) new text came = HearsPacket old bytes new text came
 AskingDoes old order.Resend new text came = UnlessFailed old.end.port.link text (LeavesEnd (Untold Done) old new came) (Resends old new text came)
-AskingDoes old order.Ack new text came = LeavesEnd (Untold Done) old new came × SaysAck old.end.port.link text
+AskingDoes old order.Ack new text came =
+    LeavesEnd (Untold Done) old new came × SaysAck old.end.port.link text
 AskingDoes old (order.New anew) new text came =
     let setup = setup_anew old.setup anew in
     DoneOr Untold (IsSetup setup × IsNewAsking setup old.end.present.identity new) (SetupFault setup) link_refusal old new text came

@@ -43,7 +43,7 @@ use Rattle.dap_live.specs.declared.node_orders.NodeOrder.TheVariants as order
 use Rattle.dap_live.specs.declared.orders.Between.{Between}
 use Rattle.dap_live.specs.NodeOrders.{node_order_of}
 use Rattle.dap_live.specs.Orders.{most_anew, most_beside, setup_anew, setup_beside}
-use Rattle.dap_live.specs.Sending.{AllAgain, SaysAck, UnlessFailed, is_left, is_served_next, waits_of}
+use Rattle.dap_live.specs.Sending.{AllAgain, SaysAck, UnlessFailed, is_left, may_serve_next, waits_of}
 use Rattle.dap_live.specs.Texts.{LineAnswer, add_refusal, done_said, link_refusal, locked_text, packets_text, refused_with, remove_refusal, status_line, taken_said}
 use Rattle.dap_live.specs.Both.{DoneOr, LeavesEnd}
 
@@ -172,7 +172,7 @@ TakesPacketOf old bytes new text became =
 
 -- apart from memory, the node would do something by going on with this link
 abbrev pub is_behind_at : (most : ℕ) → PortValue → Bool
-is_behind_at most p = is_left p.link p.outbox (is_served_next most p.link)
+is_behind_at most p = is_left p.link p.outbox (may_serve_next most p.link)
 
 -- what the node answers by going on with a link, after this text
 pub record GoesOnWith (link : ℕ) (old : Node) (front : List ℕ) (new : Node) (text : List ℕ) (became : Became) : Type 0 where
@@ -319,7 +319,8 @@ NodeDoes old (order.Resend local) new text became = OnMeant (meant local old.nod
     UnlessFailed p.link text (LeavesEnd Done (about link old) new became) (ResendsOn link p old new text became))) old new text became
 NodeDoes old (order.Ack local) new text became = OnMeant (meant local old.node.ports) (λ link. AtPort link old.node (λ p.
     LeavesEnd Done (about link old) new became × SaysAck p.link text)) old new text became
-NodeDoes old (order.Close local) new text became = OnMeant (position (has_local local) old.node.ports)
+NodeDoes old (order.Close local) new text became =
+    OnMeant (position (has_local local) old.node.ports)
     (λ link. EndsOn link old new × (text ≡ []) × (became ≡ Done)) old new text became
 NodeDoes old (order.Renew anew) new text became = OnMeant (one_link old.node.ports) (λ link. RenewsOn link anew old new text became) old new text became
 NodeDoes old (order.New between) new text became = Renews between old new text became

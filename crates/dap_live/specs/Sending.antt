@@ -10,9 +10,9 @@ use Rattle.dap_live.specs.Texts.{link_refusal, packet_text}
 abbrev pub has_message : LinkValue → Bool
 has_message link = nat_lt 0 (length link.coming.inbox)
 
--- a message that came isn't served, and fewer bytes wait than this
-abbrev pub is_served_next : (most : ℕ) → LinkValue → Bool
-is_served_next most link = has_message link && nat_lt (waiting_bytes link) most
+-- a message that came isn't served, and fewer bytes than this wait to be sent or to be acknowledged
+abbrev pub may_serve_next : (most : ℕ) → LinkValue → Bool
+may_serve_next most link = has_message link && nat_lt (waiting_bytes link) most
 
 -- The link takes the NSP messages that wait; and one waits, or a message isn't processed, or a segment may be
 -- sent. That is so only after a call that ran out of memory. That it comes only then isn't part of a contract.

@@ -14,7 +14,7 @@ pub(crate) enum AskOrder<'a> {
     Packet(Text<'a>),
     Resend,
     Ack,
-    /// The same link again, or one between these addresses.
+    /// A new link between the addresses of the last one, or between these.
     New(Option<Between>),
     Ask(RequestText<'a>),
     /// A fetch of which each record is told by itself.
@@ -51,7 +51,7 @@ fn read_new<'a>(words: Words<'a>) -> Option<AskOrder<'a>>
     }
 }
 
-/// `fetch each`
+/// Reads `fetch each`: a fetch that reports each record by itself.
 fn read_each<'a>(mut words: Words<'a>) -> Option<AskOrder<'a>>
     ensures { result ≡ each_of words.entry }
 {
@@ -64,7 +64,7 @@ fn read_each<'a>(mut words: Words<'a>) -> Option<AskOrder<'a>>
     read_plain(words, AskOrder::FetchEach)
 }
 
-/// A request, or `fetch each`
+/// Reads a request, or `fetch each`.
 fn read_asked<'a>(words: Words<'a>) -> Option<AskOrder<'a>>
     ensures { result ≡ asked_of words.entry }
 {

@@ -1,7 +1,7 @@
 //! The end that asks, over lines.
 
 ghost use Rattle.std.specs.Prelude.{◌≡◌, ◌≤◌, ◌⊎◌, [], ℕ, List, Some, OnOk, OnErr, IfOk, IfErr, MatchBool, ◌||◌, ◌&&◌, false, length, nat_lt};
-ghost use Rattle.dap_msg.specs.BothEnds.{least_buffer};
+ghost use Rattle.dap_msg.specs.BothEnds.{min_buffer};
 ghost use Rattle.dap_msg.specs.Blocked.{bodies};
 ghost use Rattle.dap_msg.specs.Fitting.{FieldsFit};
 ghost use Rattle.dap_msg.specs.declared.message.Message.TheVariants.{Config};
@@ -56,7 +56,7 @@ impl Asking {
         identity: Configuration,
         setup: LinkSetup,
     ) -> Result<Asking, LinkFault>
-        requires low { least_buffer ≤ identity.bufsiz }
+        requires low { min_buffer ≤ identity.bufsiz }
         requires fits { FieldsFit (Config identity) }
         ensures after { IfOk result (λ a. HasAsked nothing_asked a.end) }
         ensures port { IfOk result (λ a. a.end.port ≡ new_port setup) }

@@ -313,8 +313,8 @@ fn is_behind(node: &ServingNode, link: usize, most_waiting: u64) -> bool
     ensures { (p : PortValue) → HasPort link node.now p → result ≡ is_behind_at most_waiting p }
 {
     let end = link_of(node, link);
-    let is_served_next = has_message(end) && end.waiting_bytes() < most_waiting;
-    is_left(end, node.waiting(link), is_served_next)
+    let may_serve_next = has_message(end) && end.waiting_bytes() < most_waiting;
+    is_left(end, node.waiting(link), may_serve_next)
 }
 
 /// Sends all segments of a link again that aren't acknowledged, and goes on, where the link runs.
@@ -475,7 +475,7 @@ fn rights_beside(most: Rights, between: Between) -> Rights
     }
 }
 
-/// The same of a link that may begin as it was.
+/// The rights of a link that begins anew: those that it had, or those with which it begins so.
 fn rights_anew(most: Rights, anew: Option<Between>) -> Rights
     ensures { result ≡ most_anew most anew }
 {

@@ -3,11 +3,8 @@
 ghost use Rattle.std.specs.Prelude.{◌≡◌, Some};
 ghost use Rattle.dap_live.specs.Orders.{address_of, anew_of, between_of, fac_from, hex_alone, limits_from, setup_anew, setup_beside};
 
-use dap_text::{Text, Words, read_hex, read_number};
+use dap_text::{MAX_FAC, Text, Words, read_hex, read_number};
 use nsp_link::LinkSetup;
-
-/// The greatest FAC: every right.
-const GREATEST_FAC: u32 = 15;
 
 /// How a link begins: between these addresses, the own one first. What isn't named is as before.
 #[derive(Clone, Copy)]
@@ -53,7 +50,7 @@ fn read_fac<'a>(local: u16, remote: u16, segment: u32, mut words: Words<'a>) -> 
             fac: None,
         });
     };
-    let fac = Some(read_number(word, GREATEST_FAC)?);
+    let fac = Some(read_number(word, MAX_FAC)?);
     words.end()?;
     Some(Between {
         local,
@@ -114,7 +111,7 @@ pub(crate) fn set_up_beside(setup: LinkSetup, between: Between) -> LinkSetup
     }
 }
 
-/// The same of a link that may begin as it was.
+/// How a link is set up that begins anew: as it was, or so.
 pub(crate) fn set_up_anew(setup: LinkSetup, anew: Option<Between>) -> LinkSetup
     ensures { result ≡ setup_anew setup anew }
 {

@@ -37,7 +37,7 @@ rights_text fac =
     right_text fac fac_bits.get (codes " get") ++ (right_text fac fac_bits.put (codes " put")
     ++ (right_text fac fac_bits.update (codes " update") ++ right_text fac fac_bits.delete (codes " delete")))
 
--- the same, if there are any
+-- the operations for which a file is opened, after "for"; nothing where there are none
 abbrev pub rights_words : ℕ → List (List ℕ)
 rights_words fac = if length (rights_text fac) == 0 then [] else (codes "for" ++ rights_text fac) ∷ []
 

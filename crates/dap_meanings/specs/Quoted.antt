@@ -11,16 +11,16 @@ abbrev pub escaped : ℕ → List ℕ
 escaped byte = if byte == 34 || byte == 92 then 92 ∷ byte ∷ [] else byte ∷ []
 
 -- how many bytes are quoted at most
-abbrev pub quoted_at_most : ℕ
-quoted_at_most = 60
+abbrev pub max_quoted : ℕ
+max_quoted = 60
 
 -- the quote at the end, and two dots where there are more bytes
 abbrev pub closing : List ℕ → List ℕ
-closing bytes = if nat_lt quoted_at_most (length bytes) then codes "\".." else codes "\""
+closing bytes = if nat_lt max_quoted (length bytes) then codes "\".." else codes "\""
 
 -- the first bytes in quotes
 abbrev pub quote : List ℕ → List ℕ
-quote bytes = codes "\"" ++ (flat_map escaped (take quoted_at_most bytes) ++ closing bytes)
+quote bytes = codes "\"" ++ (flat_map escaped (take max_quoted bytes) ++ closing bytes)
 
 -- bytes that are all printable, in quotes; others have no words
 abbrev pub quoted : List ℕ → List (List ℕ)

@@ -3,7 +3,7 @@
 ghost use Rattle.std.specs.Prelude.{◌≡◌, OnOk, take};
 ghost use Rattle.std.specs.List.{flat_map, list_all};
 ghost use Rattle.dap_text.specs.Adding.{Adds};
-ghost use Rattle.dap_meanings.specs.Quoted.{closing, escaped, quoted_at_most, is_printable as printable, quote, quoted as quoted_words};
+ghost use Rattle.dap_meanings.specs.Quoted.{closing, escaped, max_quoted, is_printable as printable, quote, quoted as quoted_words};
 ghost use Rattle.dap_meanings.specs.Inner.Words.{word_list};
 
 use crate::words::Word;
@@ -11,7 +11,7 @@ use dap_text::push_str;
 use std::alloc::AllocError;
 
 /// How many bytes are quoted at most.
-const QUOTED_AT_MOST: usize = 60;
+const MAX_QUOTED: usize = 60;
 
 /// Whether a byte is a space or a visible character of ASCII.
 fn is_printable(byte: u8) -> bool
@@ -58,12 +58,12 @@ fn push_escaped(text: &mut Vec<u8>, bytes: &[u8]) -> Result<(), AllocError>
 
 /// The first bytes, as many as are quoted.
 fn first_bytes(bytes: &[u8]) -> &[u8]
-    ensures { result.now ≡ take quoted_at_most bytes.now }
+    ensures { result.now ≡ take max_quoted bytes.now }
 {
-    if bytes.len() <= QUOTED_AT_MOST {
+    if bytes.len() <= MAX_QUOTED {
         bytes
     } else {
-        &bytes[..QUOTED_AT_MOST]
+        &bytes[..MAX_QUOTED]
     }
 }
 
@@ -71,7 +71,7 @@ fn first_bytes(bytes: &[u8]) -> &[u8]
 fn push_closing(text: &mut Vec<u8>, bytes: &[u8]) -> Result<(), AllocError>
     ensures { OnOk result (Adds text.old text.new (closing bytes.now)) }
 {
-    if bytes.len() > QUOTED_AT_MOST {
+    if bytes.len() > MAX_QUOTED {
         push_str(text, "\"..")
     } else {
         push_str(text, "\"")

@@ -102,7 +102,8 @@ fn push_told(text: &mut Vec<u8>, words: &[Word<'_>]) -> Result<(), AllocError>
 /// Puts words before the end of a text's last line.
 pub(crate) fn add_words(text: &mut Vec<u8>, words: &[Word<'_>]) -> Result<(), AllocError>
     requires { 0 < length text.old.items }
-    ensures { OnOk result (text.new.items ≡ with_words (flat_map word_list words.now) text.old.items) }
+    ensures { OnOk result
+        (text.new.items ≡ with_words (flat_map word_list words.now) text.old.items) }
 {
     text.truncate(text.len() - 1);
     push_told(text, words)?;

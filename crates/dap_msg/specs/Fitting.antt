@@ -1,6 +1,6 @@
 -- The limits of a message's values and of its length: those within them have a closed spelling.
 use Rattle.std.specs.Prelude.{◌^◌, ◌<◌, ◌≤◌, length, Option, IfSome}
-use Rattle.dap_msg.specs.Codes.{types, greatest_type}
+use Rattle.dap_msg.specs.Codes.{types, max_type}
 use Rattle.dap_msg.specs.Grammar.{Kind, Byte, Word, Extensible, Image, ValueOf}
 use Rattle.dap_msg.specs.Message.{Message, Config, Attrib, Access, Control, Contran, Ack, Accomp, Filedata, Status, Other}
 use Rattle.dap_msg.specs.Canon.{operand_bytes}
@@ -40,7 +40,7 @@ FieldsFit Ack = Unit {0}
 FieldsFit (Accomp c) = FitsField Byte c.func × FitsField (Extensible 6) c.fop × FitsOption Word c.check
 FieldsFit (Filedata recnum payload) = FitsField (Image 8) recnum
 FieldsFit (Status s) = FitsField Word s.code × FitsField (Image 8) s.rfa × FitsField (Image 8) s.recnum × FitsField (Image 8) s.stv
-FieldsFit (Other number body) = (types.status < number) × (number ≤ greatest_type)
+FieldsFit (Other number body) = (types.status < number) × (number ≤ max_type)
 
 -- each value is within its field, and the operand is below 65,536 bytes
 pub record KeepsLimits (m : Message) : Type 0 where

@@ -1,7 +1,7 @@
 -- The formats of the messages' operands and of the header (DAP 5.6.0, message formats). Which bits are
 -- refused, and with which fault, is a choice of this implementation.
 use Rattle.std.specs.Prelude.{ℕ, ◌/◌, ◌%◌, ◌^◌, ◌==◌, nat_lt, nat_le, if◌then◌else◌, Bool, true, false, ◌&&◌, ◌||◌, not, List, [], ◌∷◌, Option, Some, None}
-use Rattle.dap_msg.specs.Codes.{types, greatest_type}
+use Rattle.dap_msg.specs.Codes.{types, max_type}
 use Rattle.dap_msg.specs.declared.fault.FaultKind.{FaultKind}
 use Rattle.dap_msg.specs.declared.fault.FaultKind.TheVariants.{BadFlags, BadStream, UnknownType, BadMenu}
 use Rattle.dap_msg.specs.Grammar.{Kind, Byte, Word, Extensible, Image, Part, Must, When, OrElse, UnlessEnd, Remainder, Grammar, Done, Next, ◌>>=◌}
@@ -188,7 +188,7 @@ flags_are_known flags = nat_lt flags 8 && (has flags 1 || not (has flags 2))
 -- LEN256 where their bits are set.
 unfoldable pub header : Grammar Header
 header = do
-  number ← Must Byte (refuses_as UnknownType (λ number. nat_lt 0 number && nat_le number greatest_type))
+  number ← Must Byte (refuses_as UnknownType (λ number. nat_lt 0 number && nat_le number max_type))
   flags ← Must (Extensible 5) (refuses_as BadFlags flags_are_known)
   stream ← When (has flags 0) Byte (refuses_as BadStream (λ stream. stream == 0))
   low ← optional_part flags 1 Byte

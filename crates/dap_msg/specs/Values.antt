@@ -62,12 +62,13 @@ message_value (message.Control func rac key krf rop hsh display) = Control (reco
 })
 message_value (message.Contran func) = Contran func
 message_value message.Ack = Ack
-message_value (message.Accomp func fop check) = Accomp (record { func = func; fop = fop; check = check })
+message_value (message.Accomp func fop check) =
+    Accomp (record { func = func; fop = fop; check = check })
 message_value (message.Filedata recnum payload) = Filedata recnum.now payload.now
 message_value (message.Status code rfa recnum stv) = Status (record { code = code; rfa = rfa.now; recnum = recnum.now; stv = stv.now })
 message_value (message.Other number body) = Other number body.now
 
--- the same of an answer of `decode`
+-- the answer of `decode`, with the value of its message
 abbrev pub message_answer_value : Result (Message × ℕ) MsgFault → Result (MessageValue × ℕ) MsgFault
 message_answer_value (Ok x) = Ok (message_value x.0, x.1)
 message_answer_value (Err fault) = Err fault

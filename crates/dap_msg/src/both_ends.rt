@@ -6,10 +6,10 @@ ghost use Rattle.dap_msg.specs.BothEnds as both;
 use crate::message::{Attributes, Completion, Configuration, Message};
 
 /// The longest message that any end takes, in bytes.
-pub const GREATEST_MESSAGE: u16 = 65535;
+pub const MAX_MESSAGE: u16 = 65535;
 
 /// The least BUFSIZ, in bytes, but for 0, which sets no limit.
-pub const LEAST_BUFFER: u16 = 64;
+pub const MIN_BUFFER: u16 = 64;
 
 /// OSTYPE and FILESYS of an end of which nothing else is asked.
 const PLAIN_OSTYPE: u8 = 7;
@@ -44,15 +44,15 @@ const ABILITIES: u128 = 1 << 1
 
 /// A law: the limits are those that the definitions name.
 pub fn names_the_limits()
-    ensures greatest { GREATEST_MESSAGE ≡ both.greatest_message }
-    ensures least { LEAST_BUFFER ≡ both.least_buffer }
+    ensures greatest { MAX_MESSAGE ≡ both.max_nsp_message }
+    ensures least { MIN_BUFFER ≡ both.min_buffer }
 {}
 
 /// Whether a BUFSIZ, in bytes, is too small for the exchange: 1 to 63.
 pub fn is_too_small(bufsiz: u16) -> bool
     ensures { result ≡ both.is_too_small bufsiz }
 {
-    bufsiz > 0 && bufsiz < LEAST_BUFFER
+    bufsiz > 0 && bufsiz < MIN_BUFFER
 }
 
 /// How long a message, in bytes, an end takes that has this BUFSIZ: as long as any where that is 0 (DAP 5.6.0,
@@ -60,11 +60,7 @@ pub fn is_too_small(bufsiz: u16) -> bool
 pub fn limit_of(bufsiz: u16) -> u16
     ensures { result ≡ both.message_limit bufsiz }
 {
-    if bufsiz == 0 {
-        GREATEST_MESSAGE
-    } else {
-        bufsiz
-    }
+    if bufsiz == 0 { MAX_MESSAGE } else { bufsiz }
 }
 
 /// The number that an image of at most 8 bytes encodes, the least byte first; 0 where it is empty (DAP 5.6.0,

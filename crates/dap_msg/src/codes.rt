@@ -30,7 +30,7 @@ pub const TYPE_DATA: u8 = 8;
 /// The type of a Status message.
 pub const TYPE_STATUS: u8 = 9;
 /// No message has a greater type; those above 9 are kept as bytes.
-pub const GREATEST_TYPE: u8 = 16;
+pub const MAX_TYPE: u8 = 16;
 
 /// ACCFUNC (DAP 5.6.0, Access message): to open a file that is there.
 pub const ACCFUNC_OPEN: u8 = 1;
@@ -163,7 +163,7 @@ pub fn out_of_place(message_type: u8) -> u16
 pub(crate) fn malformed(message_type: u8) -> u16
     ensures { result ≡ codes.status_code_for message_type }
 {
-    if message_type <= GREATEST_TYPE {
+    if message_type <= MAX_TYPE {
         MALFORMED + TYPE_UNIT * u16::from(message_type)
     } else {
         MALFORMED
@@ -181,7 +181,7 @@ pub fn names_the_numbers()
     ensures complete { TYPE_COMPLETE ≡ codes.types.accomp }
     ensures data { TYPE_DATA ≡ codes.types.filedata }
     ensures status { TYPE_STATUS ≡ codes.types.status }
-    ensures greatest { GREATEST_TYPE ≡ codes.greatest_type }
+    ensures greatest { MAX_TYPE ≡ codes.max_type }
     ensures open { ACCFUNC_OPEN ≡ codes.accfunc.opening }
     ensures create { ACCFUNC_CREATE ≡ codes.accfunc.creating }
     ensures get { CTLFUNC_GET ≡ codes.ctlfunc.get }
@@ -214,6 +214,7 @@ pub fn names_the_numbers()
     ensures record_refused { RECORD_REFUSED ≡ codes.stscode.record_refused }
     ensures end_of_file { END_OF_FILE ≡ codes.stscode.end_of_file }
     ensures reason_file_exists { REASON_FILE_EXISTS ≡ codes.reasons.file_exists }
-    ensures reason_too_large_for_buffer { REASON_TOO_LARGE_FOR_BUFFER ≡ codes.reasons.too_large_for_buffer }
+    ensures reason_too_large_for_buffer { REASON_TOO_LARGE_FOR_BUFFER
+        ≡ codes.reasons.too_large_for_buffer }
     ensures reason_bad_attributes { REASON_BAD_ATTRIBUTES ≡ codes.reasons.bad_attributes }
 {}

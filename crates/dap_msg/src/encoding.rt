@@ -353,8 +353,8 @@ fn encode_here(message: &Message<'_>, len: usize, out: &mut Vec<u8>) -> Result<(
     with_fields!(message, write_message, message.number(), len, out)
 }
 
-/// The same. A call clears the room for the fields of all messages that it may meet: so those with the most fields are
-/// written apart.
+/// [`encode_here`] as a call of its own. A call clears the room for the fields of all messages that it may meet: so those
+/// with the most fields are written apart.
 #[inline(never)]
 fn encode_apart(message: &Message<'_>, len: usize, out: &mut Vec<u8>) -> Result<(), MsgFault>
     requires fits { KeepsLimits message.now }

@@ -6,7 +6,7 @@ ghost use Rattle.dap_msg.specs.Canon.{Fits};
 ghost use Rattle.dap_msg.specs.Canon.{operand_bytes};
 ghost use Rattle.dap_msg.specs.Fitting.{FieldsFit, FitsOption};
 
-use crate::codes::{GREATEST_TYPE, TYPE_STATUS};
+use crate::codes::{MAX_TYPE, TYPE_STATUS};
 use crate::field;
 use crate::kind::{Byte, Kind, Word};
 use crate::menu::{self, Optional};
@@ -103,12 +103,12 @@ fn fields_fit(message: &Message<'_>) -> bool
                 && field::RECNUM.fits(&here.recnum)
                 && field::STV.fits(&here.stv)
         }
-        Message::Other { number, .. } => *number > TYPE_STATUS && *number <= GREATEST_TYPE,
+        Message::Other { number, .. } => *number > TYPE_STATUS && *number <= MAX_TYPE,
     }
 }
 
 /// What LENGTH and LEN256 can tell, in bytes.
-const LONGEST_OPERAND: usize = 65535;
+const MAX_OPERAND: usize = 65535;
 
 /// Whether the operand of a message whose values fit has a length that LENGTH and LEN256 can express.
 fn operand_fits(message: &Message<'_>) -> bool
@@ -116,8 +116,8 @@ fn operand_fits(message: &Message<'_>) -> bool
     ensures { IsTrue result ↔ (length (operand_bytes message.now) < 2 ^ 16) }
 {
     match message {
-        Message::Filedata { recnum, payload } => payload.0.len() < LONGEST_OPERAND - recnum.0.len(),
-        Message::Other { body, .. } => body.0.len() <= LONGEST_OPERAND,
+        Message::Filedata { recnum, payload } => payload.0.len() < MAX_OPERAND - recnum.0.len(),
+        Message::Other { body, .. } => body.0.len() <= MAX_OPERAND,
         _ => true,
     }
 }

@@ -28,9 +28,7 @@ mod reading;
 mod status;
 
 pub use blocking::{append_blocked, append_counted, append_message, blocks_in_steps};
-pub use both_ends::{
-    GREATEST_MESSAGE, LEAST_BUFFER, is_too_small, limit_of, names_the_limits, number_of,
-};
+pub use both_ends::{MAX_MESSAGE, MIN_BUFFER, is_too_small, limit_of, names_the_limits, number_of};
 pub use bytes::Bytes;
 pub use dap_message::{Message, decode, encode, fits};
 pub use encoding::{encode_value, encoded_len};

@@ -16,26 +16,26 @@ use Rattle.dap_network.specs.Network.{AtPeer, Network, NetworkRuns, NetworkStepp
 use Rattle.dap_network.proofs.Sets.{set_again, set_here, set_same}
 
 module _ (link : ℕ) where
-  -- the peer of the link is this
-  abbrev so : Network → Peer → Network
-  so net peer = record net { peers = set net.peers link (Some peer) }
+  -- the network with this peer on the link
+  abbrev with_the_peer : Network → Peer → Network
+  with_the_peer net peer = record net { peers = set net.peers link (Some peer) }
 
-  -- a peer then
-  abbrev then : Peer → List Request → SoFar → Peer
-  then peer requests now = record peer { client = now.0; from_peer = now.2; requests = peer.requests ++ requests; reports = now.1 }
+  -- the peer after these requests, with what it has done so far
+  abbrev peer_after : Peer → List Request → SoFar → Peer
+  peer_after peer requests now = record peer { client = now.0; from_peer = now.2; requests = peer.requests ++ requests; reports = now.1 }
 
   asking_events : (old : Network) (peer : Peer) (events : List AskingEvent) (now : SoFar) → slice_get old.peers link ≡ Some (Some peer) → RunsBy (AskingStepped (IsBrought peer.from_node)) (peer.client, peer.reports, peer.from_peer) events now
-      → NetworkRuns old (map (AtPeer link) events) (so old (then peer (requests_in events) now))
+      → NetworkRuns old (map (AtPeer link) events) (with_the_peer old (peer_after peer (requests_in events) now))
   asking_events old peer [] now at r =
-      ap (λ (x : SoFar). so old (then peer [] x)) r ∙ ap (λ (l : List Request). so old (record peer { requests = l })) (append-nil peer.requests) ∙ ap (λ (l : List (Option Peer)). record old { peers = l }) (set_same old.peers link (Some peer) at)
+      ap (λ (x : SoFar). with_the_peer old (peer_after peer [] x)) r ∙ ap (λ (l : List Request). with_the_peer old (record peer { requests = l })) (append-nil peer.requests) ∙ ap (λ (l : List (Option Peer)). record old { peers = l }) (set_same old.peers link (Some peer) at)
   asking_events old peer (event ∷ events) now at r =
-      let q = then peer (requests_in (event ∷ [])) r.0 in
-      let step : PeerStepped link old event r.1 (so old q) = record { peer = peer; with_peer = at; then = q; steps = r.2; requests = refl; same = refl; is = refl } in
-      let rest = asking_events (so old q) q events now (set_here old.peers link (Some peer) (Some q) at) r.3 in
-      let last = then q (requests_in events) now in
+      let q = peer_after peer (requests_in (event ∷ [])) r.0 in
+      let step : PeerStepped link old event r.1 (with_the_peer old q) = record { peer = peer; with_peer = at; then = q; steps = r.2; requests = refl; same = refl; is = refl } in
+      let rest = asking_events (with_the_peer old q) q events now (set_here old.peers link (Some peer) (Some q) at) r.3 in
+      let last = peer_after q (requests_in events) now in
       let requests = append_assoc peer.requests (requests_in (event ∷ [])) (requests_in events) ∙ ap (λ (l : List Request). peer.requests ++ l) (requests_of event events) in
-      let is : so (so old q) last ≡ so old (then peer (requests_in (event ∷ events)) now) = ap (λ (l : List (Option Peer)). record old { peers = l }) (set_again old.peers link (Some q) (Some last)) ∙ ap (λ (l : List Request). so old (record last { requests = l })) requests in
-      (so old q, r.1, step, subst (NetworkRuns (so old q) (map (AtPeer link) events)) is rest)
+      let is : with_the_peer (with_the_peer old q) last ≡ with_the_peer old (peer_after peer (requests_in (event ∷ events)) now) = ap (λ (l : List (Option Peer)). record old { peers = l }) (set_again old.peers link (Some q) (Some last)) ∙ ap (λ (l : List Request). with_the_peer old (record last { requests = l })) requests in
+      (with_the_peer old q, r.1, step, subst (NetworkRuns (with_the_peer old q) (map (AtPeer link) events)) is rest)
 
   pub peer_leads : (old : Network) (peer : Peer) (client : AskingValue) (came : List Arrival) (requests : List Request) (reports : List Report) (wrote : List Written) → slice_get old.peers link ≡ Some (Some peer) → AllByRecursion (λ c. IsBrought peer.from_node c.0 c.1) came
       → AskingRuns came requests peer.client client reports wrote → Leads old (peer_then old link peer client requests reports wrote)
@@ -43,7 +43,7 @@ module _ (link : ℕ) where
       let r = asked_as (IsBrought peer.from_node) came requests peer.client client reports wrote brought run in
       let now : SoFar = (client, peer.reports ++ reports, peer.from_peer ++ wrote) in
       let all = asking_events old peer r.0 now at (behind_these (IsBrought peer.from_node) r.0 peer.client client peer.reports reports peer.from_peer wrote r.2) in
-      (map (AtPeer link) r.0, subst (λ (l : List Request). NetworkRuns old (map (AtPeer link) r.0) (so old (then peer l now))) (sym r.1) all)
+      (map (AtPeer link) r.0, subst (λ (l : List Request). NetworkRuns old (map (AtPeer link) r.0) (with_the_peer old (peer_after peer l now))) (sym r.1) all)
 
 pub leads_on : (old mid new : Network) → Leads old mid → Leads mid new → Leads old new
 leads_on old mid new r q = (r.0 ++ q.0, runs_then NetworkStepped r.0 q.0 old mid new r.1 q.1)

@@ -21,7 +21,7 @@ use Rattle.dap_shared.specs.Shared.{SharedAfter, SharedBegins, SharedDrops, Shar
 use Rattle.dap_shared.proofs.ForCallers.{answers-grow}
 use Rattle.dap_end.specs.By.{ServedBy}
 use Rattle.dap_end.specs.Calls.{AskingEvent, Came, EndEvent, GoesOn, Repeats, WroteOne}
-use Rattle.dap_end.specs.Going.{given_then}
+use Rattle.dap_end.specs.Going.{processed_after}
 use Rattle.dap_end.specs.Headline.{Written}
 use Rattle.dap_end.specs.Moved.{with_link}
 use Rattle.dap_end.specs.Node.{EndedOn, HasPort, NodeValue}
@@ -93,7 +93,7 @@ module _ (own : ServerSetup) (links : ℕ) (first : Files) where
       let reads : ItemAt s.one.bytes old.port.place item s.one.next = subst (ItemAt s.one.bytes old.port.place item) s.next s.by.reads in
       let served = stands_served given handed packets (items_on link history) (AnswersOn link own first links history) old.port stands s.one.bytes s.one.later item s.one.next limit more s.served.answers s.one.fits s.one.came reads s.within s.idle
       (answered_here old.present link history item s.served.answers h (serves.answered first history h.after)) in
-      let left = given_then given s.one.bytes s.one.next in
+      let left = processed_after given s.one.bytes s.one.next in
       let all = packets ++ Blocked limit more in
       let to : PortValue = record (gone_on old.port s.one.bytes s.one.later s.one.next) { outbox = bodies s.served.answers.items } in
       record {

@@ -14,7 +14,7 @@ use Rattle.nsp_link.specs.declared.link.LinkSetup.{LinkSetup}
 use Rattle.nsp_link.specs.Link.{AreShort, LinkValue, Sends, SendsStill, Stands, with_inbox}
 use Rattle.nsp_link.proofs.ForCallers.{may_queue_parts, sends_all, sends_new}
 use Rattle.dap_accessed.specs.Served.{Answered}
-use Rattle.dap_end.specs.Going.{GoneThrough, given_then}
+use Rattle.dap_end.specs.Going.{GoneThrough, processed_after}
 use Rattle.dap_end.specs.Moved.{with_outbox_sent, sent_more, with_link}
 use Rattle.dap_end.specs.Histories.{AreFull}
 use Rattle.dap_end.specs.Ports.{EndValue, HandsOver, PortValue, gone_on, new_port}
@@ -66,7 +66,7 @@ module _ (given handed : List (List ℕ)) (packets : List NspMessage) (items : L
   -- one item more was served, and these are its answers
   pub stands_served : (bytes : List ℕ) (later : List (List ℕ)) (item : Item) (next limit : ℕ) (more : List Message) (out : Vec (Vec ℕ)) → AreBytes bytes → port.link.coming.inbox ≡ bytes ∷ later → ItemAt bytes port.place item next → next ≤ length bytes
       → port.outbox ≡ [] → Answered limit more out
-      → PortStands (given_then given bytes next) handed (packets ++ Blocked limit more) (items ++ item ∷ []) (answers ++ more) (record (gone_on port bytes later next) { outbox = bodies out.items })
+      → PortStands (processed_after given bytes next) handed (packets ++ Blocked limit more) (items ++ item ∷ []) (answers ++ more) (record (gone_on port bytes later next) { outbox = bodies out.items })
   stands_served bytes later item next limit more out fits came reads within idle a =
       let block = Blocked limit more in
       record {
@@ -118,7 +118,7 @@ grew_posted given handed old new n p =
     }
 
 pub grew_served : (given handed : List (List ℕ)) (port : PortValue) (bytes : List ℕ) (later outbox : List (List ℕ)) (next : ℕ) → port.link.coming.inbox ≡ bytes ∷ later
-    → PortGrew given handed (given_then given bytes next) handed port (record (gone_on port bytes later next) { outbox = outbox })
+    → PortGrew given handed (processed_after given bytes next) handed port (record (gone_on port bytes later next) { outbox = outbox })
 grew_served given handed port bytes later outbox next came =
     record {
       link = refl;

@@ -34,5 +34,5 @@ schedule_faults (first ∷ others) =
     cons_option (fault_unless first.0 (world_setup_of first.1)) (filter_map event_fault others)
 
 -- the first of the faults, where there is one
-abbrev pub TellsFirst : {X : Type 0} → Result X CaptureFault → List CaptureFault → Type 0
-TellsFirst result faults = MatchResult result (λ _. faults ≡ []) (λ fault. slice_get faults 0 ≡ Some fault)
+abbrev pub GivesFirstFault : {X : Type 0} → Result X CaptureFault → List CaptureFault → Type 0
+GivesFirstFault result faults = MatchResult result (λ _. faults ≡ []) (λ fault. slice_get faults 0 ≡ Some fault)

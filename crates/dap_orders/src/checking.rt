@@ -3,15 +3,15 @@
 ghost use Rattle.std.specs.Prelude.{◌≤◌, IfErr, length};
 ghost use Rattle.std.specs.List.{filter_map};
 ghost use Rattle.linewise.specs.Firsts.{IsOfLine};
-ghost use Rattle.dap_orders.specs.Schedules.{TellsFirst, event_fault, numbered_lines, schedule_faults};
+ghost use Rattle.dap_orders.specs.Schedules.{GivesFirstFault, event_fault, numbered_lines, schedule_faults};
 
 use crate::meaningful::MeaningfulLines;
 use crate::orders::{read_order, read_setup};
-use linewise::{CaptureFault, INPUT_LIMIT};
+use linewise::{CaptureFault, MAX_INPUT};
 
 /// Whether the lines are events, or else the first line that is none (`BadLine`).
 pub fn check_orders<'a>(mut lines: MeaningfulLines<'a>) -> Result<(), CaptureFault>
-    ensures faults { TellsFirst result (filter_map event_fault lines.entry) }
+    ensures faults { GivesFirstFault result (filter_map event_fault lines.entry) }
     ensures of_line { IfErr result IsOfLine }
 {
     while let Some((number, line)) = lines.next() {
@@ -25,8 +25,8 @@ pub fn check_orders<'a>(mut lines: MeaningfulLines<'a>) -> Result<(), CaptureFau
 /// Whether the first line that isn't skipped is a setup, and the others are events, or else the first
 /// line at fault (`BadLine`).
 pub fn check_schedule(input: &[u8]) -> Result<(), CaptureFault>
-    requires { length input.now ≤ INPUT_LIMIT }
-    ensures faults { TellsFirst result (schedule_faults (numbered_lines input.now)) }
+    requires { length input.now ≤ MAX_INPUT }
+    ensures faults { GivesFirstFault result (schedule_faults (numbered_lines input.now)) }
     ensures of_line { IfErr result IsOfLine }
 {
     let mut lines = MeaningfulLines::of(input);

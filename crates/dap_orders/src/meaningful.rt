@@ -3,17 +3,17 @@
 ghost use Rattle.std.specs.Prelude.{◌≡◌, ◌≤◌, ◌+◌, ◌∷◌, [], length, IfSome, MatchOption};
 ghost use Rattle.dap_orders.specs.Schedules.{said_from};
 
-use linewise::{INPUT_LIMIT, is_skipped, next_line};
+use linewise::{MAX_INPUT, is_skipped, next_line};
 use std::marker::Model;
 
 /// The first line that isn't skipped, after its number, and the bytes after it. The first of all
 /// lines has this number.
 fn next_meaningful(number: usize, bytes: &[u8]) -> Option<(usize, &[u8], &[u8])>
-    requires { number + length bytes.now ≤ INPUT_LIMIT + 1 }
+    requires { number + length bytes.now ≤ MAX_INPUT + 1 }
     ensures said { MatchOption result (said_from number bytes.now ≡ [])
         (λ found. said_from number bytes.now
         ≡ (found.0, found.1.now) ∷ said_from (found.0 + 1) found.2.now) }
-    ensures counted { IfSome result (λ found. found.0 + 1 + length found.2.now ≤ INPUT_LIMIT + 1) }
+    ensures counted { IfSome result (λ found. found.0 + 1 + length found.2.now ≤ MAX_INPUT + 1) }
 {
     let mut number = number;
     let mut rest = bytes;
@@ -51,7 +51,7 @@ impl<'a> MeaningfulLines<'a> {
 
     /// Those of a whole input.
     pub fn of(input: &'a [u8]) -> Self
-        requires { length input.now ≤ INPUT_LIMIT }
+        requires { length input.now ≤ MAX_INPUT }
         ensures said { result ≡ numbered_lines input.now }
         ensures short { length result ≤ length input.now + 1 }
     {

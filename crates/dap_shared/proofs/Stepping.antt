@@ -7,7 +7,7 @@ use Rattle.std.proofs.lemmas.Bool.{le-ltb}
 use Rattle.std.proofs.lemmas.List.{get_or-set_same, map-set, length-map, length-replicate, length-set}
 use Rattle.std.proofs.Math.ListN.{get_or-map}
 use Rattle.dap_accessed.specs.declared.setup.ServerSetup.{ServerSetup}
-use Rattle.dap_msg.specs.BothEnds.{greatest_message}
+use Rattle.dap_msg.specs.BothEnds.{max_nsp_message}
 use Rattle.dap_msg.specs.Blocked.{bodies}
 use Rattle.dap_msg.specs.declared.message.Message.{Message}
 use Rattle.dap_msg.specs.declared.message.Message.TheVariants.{Access}
@@ -274,7 +274,7 @@ module _ (own : ServerSetup) (node : Node) (link : ℕ) (item : Item) (h : IsSha
     pub same_files : files ≡ d.standing.scene.files
     pub same_session : s ≡ session_of (present_of its d)
     pub answered : Answered before.standing.scene.limit messages answers
-    pub within : AllAtMost greatest_message (bodies answers.items)
+    pub within : AllAtMost max_nsp_message (bodies answers.items)
 
   by-lock : (locked : Bool) (files : Files) (s : SessionValue) (answers : Vec (Vec ℕ)) → locked ≡ is_locked others asked → beside.ServesOrRefuses locked item node.files session files s answers →
       Leaves (if locked then locked_group before.standing item else after_item its before item) (if locked then bare_status file_locked ∷ [] else answers_of its before item) files s answers
@@ -283,7 +283,7 @@ module _ (own : ServerSetup) (node : Node) (link : ℕ) (item : Item) (h : IsSha
         same_files = does.0;
         same_session = does.1 ∙ sym (refused-by its others before.standing.scene before.standing.past before.standing.place item (sym e));
         answered = does.2;
-        within = at-most session.limit greatest_message does.3 (bodies answers.items) does.2.within;
+        within = at-most session.limit max_nsp_message does.3 (bodies answers.items) does.2.within;
       }
   by-lock false files s answers e does =
       let stands : with_files files s ≡ present_of its (after_item its before item) = does.stands before refl ∙ ap (λ (n : ServerSetup). present_of n (after_item its before item)) does.same_setup in
@@ -291,7 +291,7 @@ module _ (own : ServerSetup) (node : Node) (link : ℕ) (item : Item) (h : IsSha
         same_files = ap (λ (p : Present). p.files) stands;
         same_session = ap session_of stands;
         answered = does.answered before refl;
-        within = at-most session.limit greatest_message does.most (bodies answers.items) does.within;
+        within = at-most session.limit max_nsp_message does.most (bodies answers.items) does.within;
       }
 
   leaves : (files : Files) (s : SessionValue) (answers : Vec (Vec ℕ)) → beside.ServesOrRefuses (is_barred kept_beside (asked_by session node.files item)) item node.files session files s answers →
@@ -386,7 +386,7 @@ module _ (old : SharedValue) (link : ℕ) (item : Item) (files : Files) (rest : 
     then-left : Leaves old.setup node link item shares (after old.setup node link item shares) (answers_beside (setup_on old.setup link node) (open_beside link node.exchanges) (end_at link node) item) files s answers
     then-left = leaves old.setup node link item shares files s answers then-moves.does
 
-  pub serves-shared : (first : Files) (events : List Event) → SharedAfter first events old → AllAtMost greatest_message (bodies answers.items) → SharedServes link item old new answers
+  pub serves-shared : (first : Files) (events : List Event) → SharedAfter first events old → AllAtMost max_nsp_message (bodies answers.items) → SharedServes link item old new answers
   serves-shared first events h within =
       record {
         stands = then-stands;
@@ -397,7 +397,7 @@ module _ (old : SharedValue) (link : ℕ) (item : Item) (files : Files) (rest : 
         same_links = same-links;
       }
 
-  pub short-answers : (first : Files) (events : List Event) → SharedAfter first events old → AllAtMost greatest_message (bodies answers.items)
+  pub short-answers : (first : Files) (events : List Event) → SharedAfter first events old → AllAtMost max_nsp_message (bodies answers.items)
   short-answers first events h = (then-left first events h).within
 
 -- ---- Where no file is gone, nothing moves up.

@@ -4,7 +4,7 @@
 use Rattle.std.specs.Prelude.{ℕ, Bool, not, ◌&&◌, ◌==◌, nat_lt, if◌then◌else◌, List, [], ◌∷◌, ◌++◌, length, map, replicate, get_or, set, Option, Some, None, option_map}
 use Rattle.std.specs.List.{list_any, remove}
 use Rattle.dap_accessed.specs.declared.setup.ServerSetup.{ServerSetup}
-use Rattle.dap_msg.specs.BothEnds.{least_buffer}
+use Rattle.dap_msg.specs.BothEnds.{min_buffer}
 use Rattle.dap_msg.specs.declared.message.Message.{Message}
 use Rattle.dap_msg.specs.declared.items.Item.{Item}
 use Rattle.rec_file.specs.declared.shapes.Shape.{Shape}
@@ -37,9 +37,9 @@ pub record Node : Type 0 where
 
 -- no Configuration was served on it
 abbrev pub new_exchange : (most : Rights) → Exchange
-new_exchange most = record { most = most; limit = least_buffer; place = Fresh; past = []; begun = None }
+new_exchange most = record { most = most; limit = min_buffer; place = Fresh; past = []; begun = None }
 
--- the same where there is no such link
+-- what stands for a link that there isn't
 abbrev pub no_exchange : Exchange
 no_exchange = new_exchange all_rights
 
@@ -74,7 +74,7 @@ setup_on own link node = setup_with (exchange_at link node).most own
 
 -- ---- One item.
 
--- what a link has open
+-- the file that is open in the exchange on a link
 abbrev pub open_on : Exchange → Option OpenFile
 open_on exchange = open_in exchange.place
 

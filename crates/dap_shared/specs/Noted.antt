@@ -38,7 +38,7 @@ pub record NotedServes (link : ℕ) (item : Item) (old new : NotedValue) (answer
       × (new.locked ≡ old.locked ++ option_to_list lowest)
   pub same_addresses : new.addresses ≡ old.addresses
 
--- the same of the item at this offset of an NSP message
+-- The item at this offset of an NSP message was served, and what locked it out is noted.
 pub record NotedServed (link : ℕ) (bytes : List ℕ) (at : ℕ) (old new : NotedValue) (served : Served) : Type 0 where
   pub item : Item
   pub reads : ItemAt bytes at item served.next

@@ -4,7 +4,7 @@ use Rattle.std.specs.List.{list_any, remove}
 use Rattle.std.specs.Global.{Vec}
 use Rattle.rec_file.specs.declared.picks.Rights.{Rights}
 use Rattle.dap_accessed.specs.declared.setup.ServerSetup.{ServerSetup}
-use Rattle.dap_msg.specs.BothEnds.{greatest_message}
+use Rattle.dap_msg.specs.BothEnds.{max_nsp_message}
 use Rattle.dap_msg.specs.Blocked.{bodies}
 use Rattle.dap_msg.specs.Items.{ItemAt}
 use Rattle.dap_msg.specs.declared.items.Item.{Item}
@@ -56,12 +56,12 @@ pub record SharedServes (link : ℕ) (item : Item) (old new : SharedValue) (answ
   pub answered : (first : Files) (events : List Event) → SharedAfter first events old →
       Answered (limit_on link old.setup first (length old.sessions) events)
       (added_on link old.setup first (length old.sessions) events item) answers
-  pub within : AllAtMost greatest_message (bodies answers.items)
+  pub within : AllAtMost max_nsp_message (bodies answers.items)
   pub same_own : new.own ≡ old.own
   pub same_setup : new.setup ≡ old.setup
   pub same_links : length new.sessions ≡ length old.sessions
 
--- the same of the item at this offset of an NSP message
+-- The item at this offset of an NSP message was served.
 pub record SharedServed (link : ℕ) (bytes : List ℕ) (at : ℕ) (old new : SharedValue) (served : Served) : Type 0 where
   pub item : Item
   pub reads : ItemAt bytes at item served.next

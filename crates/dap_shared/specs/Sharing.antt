@@ -51,7 +51,7 @@ abbrev pub is_locked : (others : List (Option OpenFile)) → Option OpenFile →
 is_locked others None = false
 is_locked others (Some asked) = list_any (bars asked) others
 
--- the same of what is asked for, if anything is
+-- something is asked for, and it can't be opened beside this
 abbrev pub barred_by : (asked held : Option OpenFile) → Bool
 barred_by None held = false
 barred_by (Some asked) held = bars asked held

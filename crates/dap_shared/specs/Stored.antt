@@ -18,7 +18,7 @@ shared_code =
     (λ p. record { own = p.0; setup = p.1.0; files = p.1.1.0; sessions = p.1.1.1 })
     (λ _. refl)
 
--- the same with addresses and what was noted
+-- those parts, the addresses and what was noted as one value
 abbrev pub noted_code : Coded NotedValue
 noted_code =
     code_by (SharedValue × (List ℕ × List ℕ)) (coded× shared_code (coded× (coded_list coded_ℕ) (coded_list coded_ℕ)))

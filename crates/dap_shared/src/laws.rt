@@ -89,5 +89,6 @@ pub fn a_drop_leaves_what_is_open()
 pub fn a_link_keeps_its_rights()
     ensures { (own : ServerSetup) (first : Files) (links : ℕ) (events : List Event) (link : ℕ)
         → link < links
-        → (exchange_at link (node_after own first links events)).most ≡ most_on link own.most events }
+        → (exchange_at link (node_after own first links events)).most
+        ≡ most_on link own.most events }
 {}

@@ -1,7 +1,7 @@
 //! The files of several links that have addresses: what is refused as locked is noted.
 
 ghost use Rattle.std.specs.Prelude.{◌≡◌, ◌⊎◌, ◌≤◌, ◌<◌, ℕ, List, [], length, IfOk, IfErr, IsTrue, OnOk, OnErr, Some, None, true, false, set, replicate, IfSome};
-ghost use Rattle.dap_msg.specs.BothEnds.{least_buffer};
+ghost use Rattle.dap_msg.specs.BothEnds.{min_buffer};
 ghost use Rattle.rec_file.specs.Shapes.{is_shape};
 ghost use Rattle.dap_accessed.specs.Adding.{MayStore, with_new_file};
 ghost use Rattle.dap_accessed.specs.Setup.{IsServerSetup, plain_setup};
@@ -39,7 +39,8 @@ impl Model for NotedFiles {
 
     ghost coded = { noted_code };
 
-    ghost view = { λ a. record { shared = a.shared; addresses = a.addresses.items; locked = a.locked.items } };
+    ghost view = { λ a. record
+        { shared = a.shared; addresses = a.addresses.items; locked = a.locked.items } };
 
     ghost invariant = { λ a. length a.addresses.items ≡ length a.shared.sessions };
 }
@@ -56,7 +57,7 @@ fn lower(lowest: Option<u16>, address: u16) -> u16
     }
 }
 
-/// The same where the address counts.
+/// The lower of an address and what was lowest so far, where the address counts.
 fn lower_if(counts: bool, lowest: Option<u16>, address: u16) -> Option<u16>
     ensures still { counts ≡ false → result ≡ lowest }
     ensures lower { counts ≡ true → IsLower lowest address result }
@@ -87,7 +88,7 @@ fn lowest_of(shared: &SharedFiles, addresses: &[u16], link: usize, item: &Item<'
     lowest
 }
 
-/// The same, where the item is refused at all.
+/// The lowest address of a link that locks an item out, or none where the item isn't locked out.
 fn locking(shared: &SharedFiles, addresses: &[u16], link: usize, item: &Item<'_>) -> Option<u16>
     requires link { link < length shared.now.sessions }
     requires all { length addresses.now ≡ length shared.now.sessions }
@@ -117,7 +118,7 @@ impl NotedFiles {
     /// No files, and this many links on which no Config was served, with a buffer of this many bytes, at least 64. Their
     /// addresses are 0.
     pub fn new(alloc: Global, bufsiz: u16, links: usize) -> Result<NotedFiles, NoMemory>
-        requires { least_buffer ≤ bufsiz }
+        requires { min_buffer ≤ bufsiz }
         ensures stands { IfOk result (λ noted. SharedAfter [] [] noted.shared) }
         ensures own { IfOk result (λ noted. noted.shared.own ≡ bufsiz) }
         ensures setup { IfOk result (λ noted. noted.shared.setup ≡ plain_setup bufsiz) }
@@ -128,7 +129,7 @@ impl NotedFiles {
         NotedFiles::with_setup(alloc, ServerSetup::plain(bufsiz), links)
     }
 
-    /// The same of a node that is set up so.
+    /// No files, and this many links on which no Config was served, of a node with this setup. Their addresses are 0.
     pub fn with_setup(
         alloc: Global,
         setup: ServerSetup,

@@ -1,7 +1,7 @@
 //! What a port needs of whatever serves the items that it brought: a server of one link, or of several.
 
 ghost use Rattle.std.specs.Prelude.{◌≡◌, ◌<◌, ℕ, List, length, IfOk, OnErr};
-ghost use Rattle.dap_msg.specs.BothEnds.{greatest_message};
+ghost use Rattle.dap_msg.specs.BothEnds.{max_nsp_message};
 ghost use Rattle.dap_msg.specs.Blocked.{bodies};
 ghost use Rattle.dap_msg.specs.Decoding.{IsSpelled};
 ghost use Rattle.dap_msg.specs.Items.{ItemAt};
@@ -31,7 +31,7 @@ pub trait Serving {
         ensures serves { (bytes : List ℕ) (at : ℕ) → ItemAt bytes at item.entry next
             → IfOk result (serves link bytes at self.old self.new) }
         ensures short { (bytes : List ℕ) (at : ℕ) → ItemAt bytes at item.entry next
-            → IfOk result (λ s. AllAtMost greatest_message (bodies s.answers.items)) }
+            → IfOk result (λ s. AllAtMost max_nsp_message (bodies s.answers.items)) }
         ensures next { IfOk result (λ served. served.next ≡ next) }
         ensures link { has_link self.new link }
         ensures no_memory { OnErr result (self.new ≡ self.old) };

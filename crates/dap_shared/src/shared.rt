@@ -1,7 +1,7 @@
 //! One table of files, and what is kept of each link before it.
 
 ghost use Rattle.std.specs.Prelude.{◌≡◌, ◌≤◌, ◌<◌, ◌∷◌, ◌++◌, ℕ, List, [], length, map, nat_lt, if◌then◌else◌, IfOk, IfErr, IsTrue, OnOk, OnErr, Some, None, replicate};
-ghost use Rattle.dap_msg.specs.BothEnds.{least_buffer};
+ghost use Rattle.dap_msg.specs.BothEnds.{min_buffer};
 ghost use Rattle.dap_msg.specs.Decoding.{IsSpelled};
 ghost use Rattle.dap_msg.specs.declared.items.Item.TheVariants.{Whole};
 ghost use Rattle.dap_msg.specs.declared.message.Message.{Message as TheMessage};
@@ -69,7 +69,7 @@ fn new_sessions(alloc: Global, setup: ServerSetup, links: usize) -> Result<Vec<S
     Ok(sessions)
 }
 
-/// The file at a place of the table was removed: those after it have moved up.
+/// The file at an index of the table was removed: those after it have moved up.
 #[tactic(auto, using(std::proofs::lemmas::List::Edits::map_over_more))]
 fn move_up(sessions: &mut [Session], removed: usize)
     ensures { sessions.new ≡ map (session_without removed) sessions.old }
@@ -79,7 +79,7 @@ fn move_up(sessions: &mut [Session], removed: usize)
     }
 }
 
-/// The same where a file was removed.
+/// Those after a file have moved up where that was removed, if any was.
 fn close_up(sessions: &mut [Session], gone: Option<OpenFile>)
     ensures { sessions.new ≡ map (session_moved_up gone) sessions.old }
 {
@@ -136,7 +136,8 @@ fn serve_on(
 ) -> Result<Served, NoMemory>
     requires link { link < length sessions.old }
     requires spelled { (m : TheMessage) → item ≡ Whole m → IsSpelled m }
-    requires there { (own : ServerSetup) → IsOpenIn files.old (session_at own link sessions.old).phase }
+    requires there { (own : ServerSetup)
+        → IsOpenIn files.old (session_at own link sessions.old).phase }
     ensures ok { IfOk result (λ served. (own : ServerSetup) → MovesOn own link item.entry files.old
         sessions.old files.new sessions.new served.answers) }
     ensures next { IfOk result (λ served. served.next ≡ next) }
@@ -152,7 +153,7 @@ fn serve_on(
 impl SharedFiles {
     /// No files, and this many links on which no Config was served, with a buffer of this many bytes, at least 64.
     pub fn new(alloc: Global, bufsiz: u16, links: usize) -> Result<SharedFiles, NoMemory>
-        requires { least_buffer ≤ bufsiz }
+        requires { min_buffer ≤ bufsiz }
         ensures stands { IfOk result (SharedAfter [] []) }
         ensures own { IfOk result (λ shared. shared.own ≡ bufsiz) }
         ensures setup { IfOk result (λ shared. shared.setup ≡ plain_setup bufsiz) }
@@ -161,7 +162,7 @@ impl SharedFiles {
         SharedFiles::with_setup(alloc, ServerSetup::plain(bufsiz), links)
     }
 
-    /// The same of a node that is set up so.
+    /// No files, and this many links on which no Config was served, of a node with this setup.
     pub fn with_setup(
         alloc: Global,
         setup: ServerSetup,

@@ -15,7 +15,7 @@ use Rattle.hex.specs.Hex.{encode_lower, encode_with, is_hex_digit, lower_digits}
 use Rattle.hex.proofs.HexLemmas.{decode_of-encode_lower, decode_of-ok, length-encode_with}
 use Rattle.dap_fields.specs.Spelling.{AreBytes}
 use Rattle.rec_file.specs.Shapes.{checked_shape, format_of_code, is_shape, org_of_code, shape_of}
-use Rattle.rec_file.specs.Limits.{greatest_number, longest_record}
+use Rattle.rec_file.specs.Limits.{max_record_number, max_record}
 use Rattle.rec_file.specs.declared.shapes.Shape.{Shape}
 use Rattle.rec_file.specs.declared.shapes.Org.{Org}
 use Rattle.rec_file.specs.declared.shapes.Org.TheVariants.{Seq, Rel}
@@ -115,7 +115,7 @@ record_said number body = 32 ∷ 32 ∷ (decimal number ++ 32 ∷ image_text bod
 record_printed : (number : ℕ) (body : List ℕ) → record_line (number, body) ≡ record_said number body ++ line_feed
 record_printed number body = ap (λ l. 32 ∷ 32 ∷ l) (before (decimal number) (image_text body))
 
-pub record_back : (number : ℕ) (body line : List ℕ) → number ≤ greatest_number → AreBytes body → record_line (number, body) ≡ line ++ line_feed
+pub record_back : (number : ℕ) (body line : List ℕ) → number ≤ max_record_number → AreBytes body → record_line (number, body) ≡ line ++ line_feed
     → record_line_of line ≡ Some (record { number = number; body = body })
 record_back number body line within are printed =
     let same : line ≡ record_said number body = append_cancel_right line (record_said number body) line_feed (sym printed ∙ record_printed number body) in
@@ -151,7 +151,7 @@ named_back Rel format mrs mrn shape same good = grind (arith, nat_tests)
 shape_back : (shape : Shape) → is_shape shape ≡ true → shape_of (Some shape.org) (Some shape.format) shape.mrs shape.mrn ≡ Some shape
 shape_back shape good = named_back shape.org shape.format shape.mrs shape.mrn shape refl good
 
-fits : (shape : Shape) → is_shape shape ≡ true → (shape.mrs ≤ longest_record) × (shape.mrn ≤ greatest_number)
+fits : (shape : Shape) → is_shape shape ≡ true → (shape.mrs ≤ max_record) × (shape.mrn ≤ max_record_number)
 fits shape good = (grind (arith, nat_tests), grind (arith, nat_tests))
 
 abbrev sizes_said : Shape → List ℕ

@@ -25,7 +25,7 @@ is_hex_text digits = nat_le 2 (length digits) && (length digits % 2 == 0 && list
 abbrev pub hex_of : List ℕ → Option (List ℕ)
 hex_of word = if is_hex_text word then result_ok (decode_of word) else None
 
--- the same, or `-` for no bytes
+-- the bytes that a word of digits is, or no bytes for `-`
 abbrev pub text_of : List ℕ → Option (List ℕ)
 text_of word = if bytes_eq word (codes "-") then Some [] else hex_of word
 

@@ -2,7 +2,7 @@
 
 ghost use Rattle.std.specs.Prelude.{◌≡◌, ◌≤◌, ◌++◌, ℕ, List, Some, true};
 ghost use Rattle.dap_fields.specs.Spelling.{AreBytes};
-ghost use Rattle.rec_file.specs.Limits.{greatest_number};
+ghost use Rattle.rec_file.specs.Limits.{max_record_number};
 ghost use Rattle.rec_file.specs.Shapes.{checked_shape, is_shape};
 ghost use Rattle.rec_file.specs.declared.shapes.Shape.{Shape};
 ghost use Rattle.dap_text.specs.Filed.{file_line_of, record_line_of};
@@ -20,7 +20,7 @@ pub fn files_are_read_back()
 
 /// What is printed of a record is read back.
 pub fn records_are_read_back()
-    ensures { (number : ℕ) (body line : List ℕ) → number ≤ greatest_number → AreBytes body
+    ensures { (number : ℕ) (body line : List ℕ) → number ≤ max_record_number → AreBytes body
         → record_line (number, body) ≡ line ++ line_feed
         → record_line_of line ≡ Some (record { number = number; body = body }) }
 {}

@@ -12,8 +12,8 @@ use dap_accessing::{By, How, Octets, OctetsList, RequestOf};
 /// A request whose names and bodies are still the digits of a line. Contracts see the request.
 pub type RequestText<'a> = RequestOf<Octets<Text<'a>>, OctetsList<Texts<'a>>>;
 
-/// The greatest FAC.
-const ACCESS_MOST: u32 = 15;
+/// The greatest FAC, with every right.
+pub const MAX_FAC: u32 = 15;
 
 /// A request without a word of its own.
 fn read_plain<'a>(words: Words<'a>, request: RequestText<'a>) -> Option<RequestText<'a>>
@@ -36,7 +36,7 @@ fn read_create<'a>(mut words: Words<'a>) -> Option<RequestText<'a>>
     let rfm = words.number(255)? as u8;
     let mrs = words.short()?;
     let mrn = words.number(u32::MAX)?;
-    let fac = words.number(ACCESS_MOST)?;
+    let fac = words.number(MAX_FAC)?;
     words.end()?;
     Some(RequestText::Create {
         name,
@@ -54,7 +54,7 @@ fn read_open<'a>(mut words: Words<'a>) -> Option<RequestText<'a>>
         (λ name. field (decimal_of 15) (λ fac. ends (request.OpenFile name fac))) words.entry }
 {
     let name = Octets(words.text()?);
-    let fac = words.number(ACCESS_MOST)?;
+    let fac = words.number(MAX_FAC)?;
     words.end()?;
     Some(RequestText::OpenFile { name, fac })
 }

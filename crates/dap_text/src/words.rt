@@ -49,7 +49,7 @@ impl<'a> Words<'a> {
         Words { rest: Some(line) }
     }
 
-    /// The same words.
+    /// These words once more.
     pub fn again(&self) -> Words<'a>
         ensures { result ≡ self.now }
     {
@@ -136,13 +136,13 @@ pub fn read_number(word: &[u8], most: u32) -> Option<u32>
 }
 
 /// The greatest number of 16 bits.
-const GREATEST_SHORT: u32 = u16::MAX as u32;
+const MAX_SHORT: u32 = u16::MAX as u32;
 
 /// A number of 16 bits, by 1 to 10 decimal digits; or None.
 pub fn read_short(word: &[u8]) -> Option<u16>
     ensures { result ≡ short_of word.now }
 {
-    let number = read_number(word, GREATEST_SHORT)?;
+    let number = read_number(word, MAX_SHORT)?;
     Some(number as u16)
 }
 

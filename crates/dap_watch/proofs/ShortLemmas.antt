@@ -5,7 +5,7 @@ use Rattle.std.specs.Io.BufRead.{drop_through, ends_with_byte, first_line, strip
 use Rattle.std.specs.Str.Lines.{lines}
 use Rattle.std.proofs.lemmas.List.{length-take-le}
 use Rattle.std.proofs.lemmas.Bool.Decides.{nat_tests}
-use Rattle.linewise.specs.Talks.{longest}
+use Rattle.linewise.specs.Talks.{max_line}
 use Rattle.dap_listing.specs.Listing.{frames, frames_after, packet_limit}
 use Rattle.dap_watch.specs.Watched.{heard_frames, heard_lines}
 use Rattle.dap_watch.proofs.StayLemmas.{by_bool}
@@ -38,10 +38,10 @@ first_short rest =
     (λ t. subst (λ (b : Bool). length (if b then strip_last 13 (strip_last 10 line) else strip_last 10 line) ≤ length rest) (sym t) (omega (arith, kept, without_feed, without_both)))
     (λ f. subst (λ (b : Bool). length (if b then strip_last 13 (strip_last 10 line) else strip_last 10 line) ≤ length rest) (sym f) (omega (arith, kept, without_feed)))
 
-fits_so : (n : ℕ) → n ≤ longest → nat_le n longest ≡ true
+fits_so : (n : ℕ) → n ≤ max_line → nat_le n max_line ≡ true
 fits_so n short = grind (arith, nat_tests)
 
-all_heard : (n : ℕ) (input : List ℕ) → length input ≤ n → n ≤ longest → heard_lines input ≡ lines input
+all_heard : (n : ℕ) (input : List ℕ) → length input ≤ n → n ≤ max_line → heard_lines input ≡ lines input
 all_heard n [] within short = refl
 all_heard zero (x ∷ xs) within short = absurd (omega (arith, within))
 all_heard (suc n) (x ∷ xs) within short =
@@ -49,10 +49,10 @@ all_heard (suc n) (x ∷ xs) within short =
     let first = first_line input in
     let others = drop_through 10 input in
     let cut = line_more input (omega arith) in
-    let fit : nat_le (length first) longest ≡ true = fits_so (length first) (omega (arith, first_short input, within, short)) in
-    ap (λ (l : List (List ℕ)). filter (λ line. nat_le (length line) longest) l) cut
+    let fit : nat_le (length first) max_line ≡ true = fits_so (length first) (omega (arith, first_short input, within, short)) in
+    ap (λ (l : List (List ℕ)). filter (λ line. nat_le (length line) max_line) l) cut
     ∙ ap (λ (b : Bool). if b then first ∷ heard_lines others else heard_lines others) fit
     ∙ ap (λ (l : List (List ℕ)). first ∷ l) (all_heard n others (omega (arith, fewer x xs, within)) (omega (arith, short))) ∙ sym cut
 
-pub same_frames : (input : List ℕ) → length input ≤ longest → heard_frames input ≡ frames packet_limit input
+pub same_frames : (input : List ℕ) → length input ≤ max_line → heard_frames input ≡ frames packet_limit input
 same_frames input short = ap (λ (l : List (List ℕ)). frames_after packet_limit [] l) (all_heard (length input) input (omega arith) short)

@@ -12,7 +12,7 @@ use Rattle.std.proofs.lemmas.Bool.{false≢true}
 use Rattle.std.proofs.lemmas.Bool.Decides.{nat_tests}
 use Rattle.std.proofs.lemmas.List.Folds.{list_any-append}
 use Rattle.linewise.specs.Output.{WritesFront}
-use Rattle.linewise.specs.Talks.{AnswersLine, Fails, Talked, is_bad, is_given, is_skipped, longest, said_of}
+use Rattle.linewise.specs.Talks.{AnswersLine, Fails, Talked, is_bad, is_given, is_skipped, max_line, said_of}
 use Rattle.linewise.specs.declared.talking.Became.{Became}
 use Rattle.linewise.specs.declared.talking.Became.TheVariants.{Done, BadLine, NoMemory}
 use Rattle.linewise.specs.declared.fault.CaptureFault.{CaptureFault}
@@ -59,7 +59,7 @@ long_digits direction digits long =
     (λ t. rw t (rw (over (length digits) long) refl))
     (λ f. rw f refl)
 
-long_capture : (line : List ℕ) → longest < length line → result_unwrap_or (capture_line packet_limit line) None ≡ None
+long_capture : (line : List ℕ) → max_line < length line → result_unwrap_or (capture_line packet_limit line) None ≡ None
 long_capture [] long = refl
 long_capture (x ∷ []) long = refl
 long_capture (x ∷ y ∷ digits) long =
@@ -67,22 +67,22 @@ long_capture (x ∷ y ∷ digits) long =
     (λ t. rw t (long_digits Right digits (omega arith)))
     (λ f. rw f (by_bool (x == 60 && y == 32) (λ t. rw t (long_digits Left digits (omega arith))) (λ g. rw g refl)))
 
-long_line : (line : List ℕ) → longest < length line → packet_in line ≡ None
+long_line : (line : List ℕ) → max_line < length line → packet_in line ≡ None
 long_line line long =
     by_bool (is_skipped line)
     (λ t. rw t refl)
     (λ f. rw f (long_capture line long))
 
-not_long : (n : ℕ) → n ≤ longest → nat_lt longest n ≡ false
+not_long : (n : ℕ) → n ≤ max_line → nat_lt max_line n ≡ false
 not_long n short = grind (arith, nat_tests)
 
-is_long : (n : ℕ) → longest < n → nat_lt longest n ≡ true
+is_long : (n : ℕ) → max_line < n → nat_lt max_line n ≡ true
 is_long n long = grind (arith, nat_tests)
 
-good_line : (line : List ℕ) → length line ≤ longest → is_err (line_of packet_limit line) ≡ false → is_refused line ≡ false
+good_line : (line : List ℕ) → length line ≤ max_line → is_err (line_of packet_limit line) ≡ false → is_refused line ≡ false
 good_line line short good = ap (λ b. b || is_err (line_of packet_limit line)) (not_long (length line) short) ∙ good
 
-long_refused : (line : List ℕ) → longest < length line → is_refused line ≡ true
+long_refused : (line : List ℕ) → max_line < length line → is_refused line ≡ true
 long_refused line long = ap (λ b. b || is_err (line_of packet_limit line)) (is_long (length line) long)
 
 or_true : (b : Bool) → (b || true) ≡ true
@@ -90,7 +90,7 @@ or_true true = refl
 or_true false = refl
 
 bad_line : (line : List ℕ) → is_err (line_of packet_limit line) ≡ true → is_refused line ≡ true
-bad_line line is = ap (λ b. nat_lt longest (length line) || b) is ∙ or_true (nat_lt longest (length line))
+bad_line line is = ap (λ b. nat_lt max_line (length line) || b) is ∙ or_true (nat_lt max_line (length line))
 
 no_packet_at : (r : Line) → is_err r ≡ true → result_unwrap_or r None ≡ None
 no_packet_at (Ok o) is = absurd (cc)
@@ -119,20 +119,20 @@ bad_step rest some were became same =
 abbrev Frames : Type 0
 Frames = List (List (List ℕ))
 
-fits_so : (n : ℕ) → n ≤ longest → nat_le n longest ≡ true
+fits_so : (n : ℕ) → n ≤ max_line → nat_le n max_line ≡ true
 fits_so n short = grind (arith, nat_tests)
 
-fits_not : (n : ℕ) → longest < n → nat_le n longest ≡ false
+fits_not : (n : ℕ) → max_line < n → nat_le n max_line ≡ false
 fits_not n long = grind (arith, nat_tests)
 
-heard_more : (rest : List ℕ) → 0 < length rest → length (first_line rest) ≤ longest → heard_lines rest ≡ first_line rest ∷ heard_lines (drop_through 10 rest)
+heard_more : (rest : List ℕ) → 0 < length rest → length (first_line rest) ≤ max_line → heard_lines rest ≡ first_line rest ∷ heard_lines (drop_through 10 rest)
 heard_more rest some short =
-    ap (λ l. filter (λ line. nat_le (length line) longest) l) (line_more rest some)
+    ap (λ l. filter (λ line. nat_le (length line) max_line) l) (line_more rest some)
     ∙ ap (λ b. if b then first_line rest ∷ heard_lines (drop_through 10 rest) else heard_lines (drop_through 10 rest)) (fits_so (length (first_line rest)) short)
 
-heard_less : (rest : List ℕ) → 0 < length rest → longest < length (first_line rest) → heard_lines rest ≡ heard_lines (drop_through 10 rest)
+heard_less : (rest : List ℕ) → 0 < length rest → max_line < length (first_line rest) → heard_lines rest ≡ heard_lines (drop_through 10 rest)
 heard_less rest some long =
-    ap (λ l. filter (λ line. nat_le (length line) longest) l) (line_more rest some)
+    ap (λ l. filter (λ line. nat_le (length line) max_line) l) (line_more rest some)
     ∙ ap (λ b. if b then first_line rest ∷ heard_lines (drop_through 10 rest) else heard_lines (drop_through 10 rest)) (fits_not (length (first_line rest)) long)
 
 -- a line without a packet stands before the lines after it
@@ -142,12 +142,12 @@ framed_by before after line others none same =
     ap (λ (o : Option Capture). option_map_or (λ capture. frame_words before ∷ []) o [] ++ frames_after packet_limit line others) none
     ∙ frames_by packet_limit line after others (sym same)
 
-framed_aside : (before after rest : List ℕ) → 0 < length rest → length (first_line rest) ≤ longest → packet_in (first_line rest) ≡ None → frame_words after ≡ frame_words (first_line rest)
+framed_aside : (before after rest : List ℕ) → 0 < length rest → length (first_line rest) ≤ max_line → packet_in (first_line rest) ≡ None → frame_words after ≡ frame_words (first_line rest)
     → frames_after packet_limit before (heard_lines rest) ≡ frames_after packet_limit after (heard_lines (drop_through 10 rest))
 framed_aside before after rest some short none same =
     ap (λ l. frames_after packet_limit before l) (heard_more rest some short) ∙ framed_by before after (first_line rest) (heard_lines (drop_through 10 rest)) none same
 
-framed_long : (before rest : List ℕ) → 0 < length rest → longest < length (first_line rest)
+framed_long : (before rest : List ℕ) → 0 < length rest → max_line < length (first_line rest)
     → frames_after packet_limit before (heard_lines rest) ≡ frames_after packet_limit before (heard_lines (drop_through 10 rest))
 framed_long before rest some long = ap (λ l. frames_after packet_limit before l) (heard_less rest some long)
 
@@ -191,7 +191,7 @@ aside words input rest said were now new became more w some watches same framed 
   bad = w.bad ∙ bad_step rest some were became bad;
 }
 
-passes : (words : Bool) (input rest said : List ℕ) (were : List (Option Became)) (now new : Watching) (became : Option Became) (more : List ℕ) → WatchedSo words input rest said were now → 0 < length rest → length (first_line rest) ≤ longest
+passes : (words : Bool) (input rest said : List ℕ) (were : List (Option Became)) (now new : Watching) (became : Option Became) (more : List ℕ) → WatchedSo words input rest said were now → 0 < length rest → length (first_line rest) ≤ max_line
     → PassesBy (first_line rest) now new → more ≡ [] → packet_in (first_line rest) ≡ None → is_bad became ≡ is_refused (first_line rest)
     → WatchedSo words input (drop_through 10 rest) (said ++ more) (were ++ became ∷ []) new
 passes words input rest said were now new became more w some short p none no_packet bad =
@@ -199,7 +199,7 @@ passes words input rest said were now new became more w some short p none no_pac
     (framed_aside now.before.items new.before.items rest some short no_packet p.before) none no_packet bad
 
 -- a line that is too long
-unheard : (words : Bool) (input rest said : List ℕ) (were : List (Option Became)) (now new : Watching) (became : Option Became) (more : List ℕ) → WatchedSo words input rest said were now → 0 < length rest → longest < length (first_line rest)
+unheard : (words : Bool) (input rest said : List ℕ) (were : List (Option Became)) (now new : Watching) (became : Option Became) (more : List ℕ) → WatchedSo words input rest said were now → 0 < length rest → max_line < length (first_line rest)
     → new ≡ now → more ≡ [] → is_bad became ≡ is_refused (first_line rest) → WatchedSo words input (drop_through 10 rest) (said ++ more) (were ++ became ∷ []) new
 unheard words input rest said were now new became more w some long same none bad =
     subst (λ (v : Watching). WatchedSo words input (drop_through 10 rest) (said ++ more) (were ++ became ∷ []) v) (sym same)
@@ -207,7 +207,7 @@ unheard words input rest said were now new became more w some long same none bad
 
 -- a line with a packet
 listed : (words : Bool) (input rest said : List ℕ) (were : List (Option Became)) (now new : Watching) (more : List ℕ) (capture : Capture) → WatchedSo words input rest said were now → 0 < length rest
-    → length (first_line rest) ≤ longest → line_of packet_limit (first_line rest) ≡ Ok (Some capture) → WatchesPacket capture now new more
+    → length (first_line rest) ≤ max_line → line_of packet_limit (first_line rest) ≡ Ok (Some capture) → WatchesPacket capture now new more
     → WatchedSo words input (drop_through 10 rest) (said ++ more) (were ++ Some Done ∷ []) new
 listed words input rest said were now new more capture w some short is (one, cleared, goes) =
     let all = heard_frames input in

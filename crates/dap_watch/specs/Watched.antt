@@ -3,7 +3,7 @@ use Rattle.std.specs.Prelude.{◌≡◌, ◌⊎◌, ℕ, ◌==◌, ◌&&◌, ◌
 use Rattle.std.specs.List.{AllZip, concat, enumerate_from, filter, flat_map, zip}
 use Rattle.std.specs.Io.KnownBytes.{Appends}
 use Rattle.linewise.specs.Output.{WritesFront}
-use Rattle.linewise.specs.Talks.{longest}
+use Rattle.linewise.specs.Talks.{max_line}
 use Rattle.linewise.specs.declared.fault.CaptureFault.{CaptureFault}
 use Rattle.linewise.specs.declared.fault.CaptureFault.TheVariants.{BadLine, TooLarge, WriteFailed}
 use Rattle.dap_listing.specs.Lines.{Capture, line_of}
@@ -40,7 +40,7 @@ pub record IsWatched (in_words : Bool) (captured : List Capture) (frames : List 
 
 -- the lines that aren't too long
 abbrev pub heard_lines : List ℕ → List (List ℕ)
-heard_lines input = filter (λ line. nat_le (length line) longest) (lines input)
+heard_lines input = filter (λ line. nat_le (length line) max_line) (lines input)
 
 -- Of each packet of an input, the words of the line directly before it. A line that is too long counts as none: it is as if
 -- the lines around it were one after the other. By the law `short_inputs_have_their_frames` an input without such a line, as
@@ -50,9 +50,9 @@ heard_frames input = frames_after packet_limit [] (heard_lines input)
 
 -- a line that is none of a capture, or that is too long: it is told, and has no packet
 abbrev pub is_refused : List ℕ → Bool
-is_refused line = nat_lt longest (length line) || is_err (line_of packet_limit line)
+is_refused line = nat_lt max_line (length line) || is_err (line_of packet_limit line)
 
--- the same of the packets of an input before these
+-- What was written is what is watched of the packets of an input before these.
 abbrev pub IsWatchedTo : (in_words : Bool) → (input : List ℕ) → (left : List Capture) → (written rest : List ℕ) → Type 0
 IsWatchedTo in_words input left written rest =
     (captured : List Capture) × (captures packet_limit input ≡ captured ++ left) × IsWatched in_words captured (heard_frames input) written rest

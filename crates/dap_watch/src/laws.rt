@@ -3,7 +3,7 @@
 ghost use Rattle.std.specs.Prelude.{◌≡◌, ◌<◌, ◌≤◌, ◌++◌, ◌∷◌, ℕ, Bool, List, [], length, true};
 ghost use Rattle.dap_listing.specs.Lines.{Capture};
 ghost use Rattle.dap_listing.specs.Listing.{frames as input_frames, packet_limit};
-ghost use Rattle.linewise.specs.Talks.{longest};
+ghost use Rattle.linewise.specs.Talks.{max_line};
 ghost use Rattle.dap_follow.specs.Following.{IsFollowed};
 ghost use Rattle.std.specs.List.{AllByRecursion};
 ghost use Rattle.dap_follow.specs.Streams.{Placed};
@@ -28,7 +28,8 @@ pub fn listed_messages_can_go()
         → fragments_of (m.head ∷ m.others) ≡ m ∷ []
         → AllByRecursion (λ a. a.place < m.head.place) front
         → AllByRecursion (λ b. m.head.place < b.place) back
-        → (fragments_of (front ++ ((m.head ∷ m.others) ++ back)) ≡ fragments_of front ++ m ∷ fragments_of back)
+        → (fragments_of (front ++ ((m.head ∷ m.others) ++ back))
+        ≡ fragments_of front ++ m ∷ fragments_of back)
         × (fragments_of (front ++ back) ≡ fragments_of front ++ fragments_of back) }
 {}
 
@@ -42,6 +43,6 @@ pub fn watched_captures_are_followed()
 /// The lines before the packets of an input that `follow` takes, which has at most 16,777,216 bytes, are the same in both
 /// listings.
 pub fn short_inputs_have_their_frames()
-    ensures { (input : List ℕ) → length input ≤ longest
+    ensures { (input : List ℕ) → length input ≤ max_line
         → heard_frames input ≡ input_frames packet_limit input }
 {}

@@ -6,7 +6,7 @@ ghost use Rattle.dap_listing.specs.Captured.{Spell};
 ghost use Rattle.dap_watch.specs.Inner.Kept.{AbsorbsAfter, AbsorbsBefore, Ascends, Finds, IsAbsorbed, IsNear, IsSegment, Joins, Lists, Puts, kept_digits, do_join, is_taken as takes};
 
 use dap_listing::CapturedSegment;
-use nsp_link::GREATEST_AGE;
+use nsp_link::MAX_AGE;
 use nsp_seg::{MODULUS, Seq12};
 use std::alloc::{AllocError, Global};
 use std::marker::Model;
@@ -15,7 +15,7 @@ use std::marker::Model;
 const ROUND: u64 = MODULUS as u64;
 
 /// How far below the highest place before it a segment may lie: as far as its number identifies it.
-const BELOW: u64 = GREATEST_AGE;
+const BELOW: u64 = MAX_AGE;
 
 /// The hex digits of a payload, two for each byte.
 #[derive(Drop)]

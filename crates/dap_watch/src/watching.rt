@@ -32,7 +32,7 @@ use std::alloc::{AllocError, Global};
 use std::io::{BufRead, Write};
 
 /// The most packets of a capture.
-const MOST_PACKETS: usize = 1 << 50;
+const MAX_PACKETS: usize = 1 << 50;
 
 /// A capture as far as its lines came: whether words are wanted, how many packets there were, and what is kept of each stream.
 #[derive(Drop)]
@@ -117,7 +117,7 @@ impl Watching {
         requires empty { text.old.items ≡ [] }
         ensures { OnOk result (WatchesPacket (way, digits.now) self.old self.new text.new.items) }
     {
-        if self.packets >= MOST_PACKETS {
+        if self.packets >= MAX_PACKETS {
             return Err(AllocError);
         }
         self.packets += 1;

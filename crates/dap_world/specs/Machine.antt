@@ -16,7 +16,7 @@ use Rattle.nsp_link.specs.Cutting.{count_of}
 use Rattle.nsp_link.specs.Holding.{closed_up}
 use Rattle.std.specs.Ordering.{nat_cmp}
 use Rattle.std.specs.BTreeSet.{insert_key}
-use Rattle.nsp_link.specs.Limits.{greatest_age, most_segments}
+use Rattle.nsp_link.specs.Limits.{max_age, max_segments}
 use Rattle.nsp_link.specs.Link.{got_of}
 use Rattle.dap_events.specs.declared.event.End.{End}
 use Rattle.dap_events.specs.declared.event.End.TheVariants.{A, B}
@@ -114,12 +114,12 @@ arrived_at s end = messages_in (arrived s.seg_size (end_of s end).taken (end_of 
 -- ---- What both ends did.
 
 -- the messages that B served
-abbrev pub taken_of : State → List Message
-taken_of s = take s.served (sent_by s.a)
+abbrev pub served_by_b : State → List Message
+served_by_b s = take s.served (sent_by s.a)
 
 -- the answers that A read
 abbrev pub answers_read : State → List Item
-answers_read s = map Whole (take s.read (Answers s.own_b [] (map Whole (taken_of s))))
+answers_read s = map Whole (take s.read (Answers s.own_b [] (map Whole (served_by_b s))))
 
 -- what A reported
 unfoldable pub reported : State → List Report
@@ -127,7 +127,7 @@ reported s = Told s.requests (answers_read s)
 
 -- the files that B holds
 unfoldable pub files_of : State → Files
-files_of s = After s.own_b [] (map Whole (taken_of s))
+files_of s = After s.own_b [] (map Whole (served_by_b s))
 
 -- ---- What an event makes of a state.
 
@@ -163,7 +163,7 @@ delivered keep e p =
 
 -- more than 2,047 below
 abbrev pub is_old : ℕ → ℕ → Bool
-is_old number now = nat_lt (number + greatest_age) now
+is_old number now = nat_lt (number + max_age) now
 
 -- the segment is more than 2,047 below the next one, or the acknowledgement more than 2,047 below the count
 -- acknowledged
@@ -172,7 +172,7 @@ is_stale e p = option_map_or (λ k. is_old k (e.taken + 1)) p.segment false || i
 
 -- the answers to one message more, joined within the limit of A that B knows
 abbrev pub answering : State → Message → List NspMessage
-answering s m = let taken = map Whole (taken_of s) in Blocked (limit_for s.own_b [] taken) (added s.own_b [] taken (Whole m))
+answering s m = let taken = map Whole (served_by_b s) in Blocked (limit_for s.own_b [] taken) (added s.own_b [] taken (Whole m))
 
 -- B serves a message, and its answers wait
 abbrev pub served_one : State → Message → State
@@ -219,7 +219,7 @@ Steps s (event.Ask request) answer new =
     IsAdmissible s.own_a s.requests (answers_read s) request × (answer ≡ step.Asked (length (asking s request))) × (new ≡ asked s request)
 Steps s (event.Post end) answer new =
     let e = end_of s end in
-    (0 < length e.waiting) × (segments_of s.seg_size (posted e).handed ≤ most_segments)
+    (0 < length e.waiting) × (segments_of s.seg_size (posted e).handed ≤ max_segments)
     × (answer ≡ step.Posted (length e.waiting)) × (new ≡ with_end s end (posted e))
 Steps s (event.Emit end) answer new =
     let e = end_of s end in
@@ -235,7 +235,7 @@ Steps s event.Serve answer new =
 Steps s event.Read answer new =
     (m : Message) × (next_to_read s ≡ Some m) × (answer ≡ told_by s (with_read s)) × (new ≡ with_read s)
 
--- The same of ends that may also let an early segment go.
+-- The steps of an event where ends may also let an early segment go.
 abbrev pub StepsFreely : State → Event → Step → State → Type 0
 StepsFreely s (event.Deliver end j) answer new = (keep : Bool) × Delivers keep s end j answer new
 StepsFreely s e answer new = Steps s e answer new
@@ -246,10 +246,12 @@ unfoldable pub RefusesEvent : State → Event → WorldFault → Type 0
 RefusesEvent s (event.Ask request) (fault.Ask ask_fault.NoMemory) = ⊥
 RefusesEvent s (event.Ask request) (fault.Ask f) = IsRefused s.own_a s.requests (answers_read s) request f
 RefusesEvent s (event.Post end) fault.NothingToDo = (end_of s end).waiting ≡ []
-RefusesEvent s (event.Post end) fault.Exhausted = (0 < length (end_of s end).waiting) × (most_segments < segments_of s.seg_size (posted (end_of s end)).handed)
+RefusesEvent s (event.Post end) fault.Exhausted = (0 < length (end_of s end).waiting) × (max_segments < segments_of s.seg_size (posted (end_of s end)).handed)
 RefusesEvent s (event.Emit end) fault.NothingToDo = MayEmit s end → ⊥
-RefusesEvent s (event.Resend end i) fault.NothingToDo = (end_of s end).sent - (end_of s end).acked ≤ i
-RefusesEvent s (event.Deliver end j) fault.NoSuchPacket = slice_get (end_of s (other_end end)).wire j ≡ None
+RefusesEvent s (event.Resend end i) fault.NothingToDo =
+    (end_of s end).sent - (end_of s end).acked ≤ i
+RefusesEvent s (event.Deliver end j) fault.NoSuchPacket =
+    slice_get (end_of s (other_end end)).wire j ≡ None
 RefusesEvent s (event.Deliver end j) fault.Stale = (p : Sending) × (slice_get (end_of s (other_end end)).wire j ≡ Some p) × (is_stale (end_of s end) p ≡ true)
 RefusesEvent s event.Serve fault.NothingToDo = (0 < length s.b.waiting) ⊎ (next_to_serve s ≡ None)
 RefusesEvent s event.Read fault.NothingToDo = next_to_read s ≡ None

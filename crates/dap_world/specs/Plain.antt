@@ -37,15 +37,15 @@ IsRefused own requests answers request fault = phase.IsRefused (plain_identity o
 abbrev pub stands_after : (own : ℕ) → Files → List Item → Grouped
 stands_after own first items = accessed.stands_after (plain_setup own) first items
 
--- the longest message that its peer takes then
+-- the longest message that the peer of such a server takes after these items
 abbrev pub limit_for : (own : ℕ) → Files → List Item → ℕ
 limit_for own first items = accessed.limit_for (plain_setup own) first items
 
--- the files then
+-- the files after these items
 abbrev pub After : (own : ℕ) → Files → List Item → Files
 After own first items = accessed.After (plain_setup own) first items
 
--- the answers to all of them, in order
+-- the answers to these items, in order
 abbrev pub Answers : (own : ℕ) → Files → List Item → List Message
 Answers own first items = accessed.Answers (plain_setup own) first items
 

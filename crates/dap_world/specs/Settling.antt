@@ -12,7 +12,7 @@ use Rattle.dap_events.specs.declared.event.Event.{Event}
 use Rattle.dap_events.specs.declared.event.Event.TheVariants as event
 use Rattle.dap_events.specs.declared.event.WorldFault.{WorldFault}
 use Rattle.dap_events.specs.declared.event.WorldFault.TheVariants as fault
-use Rattle.dap_world.specs.Machine.{State, RefusesEvent, end_of, segments_of, sent_by, taken_of, answers_read, reported}
+use Rattle.dap_world.specs.Machine.{State, RefusesEvent, end_of, segments_of, sent_by, served_by_b, answers_read, reported}
 use Rattle.dap_world.specs.Runs.{Runs}
 
 -- n events lead from one state to another, and none of them asks.
@@ -52,13 +52,13 @@ pub record IsEmpty (s : State) (end : End) : Type 0 where
 pub record IsFinished (s : State) : Type 0 where
   pub a : IsEmpty s A
   pub b : IsEmpty s B
-  pub served : taken_of s ≡ sent_by s.a
-  pub read : answers_read s ≡ map Whole (Answers s.own_b [] (map Whole (taken_of s)))
+  pub served : served_by_b s ≡ sent_by s.a
+  pub read : answers_read s ≡ map Whole (Answers s.own_b [] (map Whole (served_by_b s)))
 
 -- All that the requests ask was sent and served, so the files are those after it, and each request has its report.
 pub record AllTold (s : State) : Type 0 where
   pub sent : sent_by s.a ≡ Asked s.own_a s.requests
-  pub taken : taken_of s ≡ Asked s.own_a s.requests
+  pub taken : served_by_b s ≡ Asked s.own_a s.requests
   pub reports : reported s ≡ reports_of s.own_a s.own_b s.requests
   pub each : length (reported s) ≡ length s.requests
 

@@ -2,7 +2,7 @@
 
 ghost use Rattle.std.specs.Prelude.{◌≡◌, ◌<◌, ◌≤◌, ◌+◌, ◌++◌, ◌∷◌, [], length, IfOk, IfErr, Some, OnOk, OnErr, vec_len, vec_capacity, false, IsTrue};
 ghost use Rattle.dap_msg.specs.Blocked.{bodies};
-ghost use Rattle.nsp_link.specs.Limits.{most_segments};
+ghost use Rattle.nsp_link.specs.Limits.{max_segments};
 ghost use Rattle.nsp_link.specs.Link.{may_send};
 ghost use Rattle.nsp_link.specs.Sending.{may_queue};
 ghost use Rattle.dap_accessing.specs.Calls.{IsAdmittedBy};
@@ -10,8 +10,6 @@ ghost use Rattle.dap_accessing.specs.Prepared.{IsPrepared};
 ghost use Rattle.dap_end.specs.Moved.{with_link};
 ghost use Rattle.dap_end.specs.Moved.{sent_more};
 ghost use Rattle.dap_end.specs.Ports.{HandsOver};
-ghost use Rattle.dap_end.specs.Serving.{IsAfter};
-ghost use Rattle.dap_end.specs.Asking.{HasAsked};
 ghost use Rattle.dap_end.specs.Histories.{Still};
 ghost use Rattle.dap_world.specs.Inner.Sides.{AreWithinLimit, AskFaultOf, AskedSo, EmitFault, KeptSo, PostFault, PostedSo, WroteWired};
 ghost use Rattle.dap_world.specs.Inner.Splitting.{SentAll};
@@ -22,7 +20,7 @@ use crate::side::{Wired, acknowledge, again, due, may_post, next_number, put};
 use crate::splitting::split_all;
 use crate::world::World;
 use dap_accessing::{Prepared, Report, Request};
-use dap_end::{AskingEnd, ServingEnd};
+use dap_end::{AskingEnd, End as EndOf, Role, ServingEnd};
 use dap_events::{End, Event, Step, WorldFault};
 use nsp_link::{Got, LinkFault};
 use std::alloc::Global;
@@ -97,8 +95,8 @@ impl World {
         ensures { Went self.old (Event.Emit end) result self.new }
     {
         match end {
-            End::A => emit_a(&mut self.asking, &mut self.wire_a),
-            End::B => emit_b(&mut self.serving, &mut self.wire_b),
+            End::A => emit_next(&mut self.asking, &mut self.wire_a),
+            End::B => emit_next(&mut self.serving, &mut self.wire_b),
         }
     }
 
@@ -139,8 +137,8 @@ impl World {
         ensures { Went self.old (Event.Deliver end j) result self.new }
     {
         match end {
-            End::A => deliver_a(&mut self.asking, &self.wire_b, j),
-            End::B => deliver_b(&mut self.serving, &self.wire_a, j),
+            End::A => deliver_to(&mut self.asking, &self.wire_b, j),
+            End::B => deliver_to(&mut self.serving, &self.wire_a, j),
         }
     }
 }
@@ -225,8 +223,8 @@ fn keep(reports: &mut Vec<Report>, report: Option<Report>) -> Step
     }
 }
 
-/// A writes its next segment.
-fn emit_a(end: &mut AskingEnd, wire: &mut Vec<Wired>) -> Result<Step, WorldFault>
+/// An end writes its next segment.
+fn emit_next<R: Role>(end: &mut EndOf<R>, wire: &mut Vec<Wired>) -> Result<Step, WorldFault>
     requires { end.old.port.link.failed ≡ false }
     ensures rest { end.new ≡ record end.old { port = end.new.port } }
     ensures ok { IfOk result (λ answer. IsTrue (may_send end.old.port.link)
@@ -235,7 +233,7 @@ fn emit_a(end: &mut AskingEnd, wire: &mut Vec<Wired>) -> Result<Step, WorldFault
     ensures sent { OnOk result (end.new.port ≡ sent_more end.old.port 1) }
     ensures err { IfErr result (λ f. (end.new.port ≡ end.old.port)
         × (wire.new.items ≡ wire.old.items) × EmitFault end.old.port.link f) }
-    ensures still { Still HasAsked end.old end.new }
+    ensures still { Still R.fits end.old end.new }
 {
     let number = next_number(end.link(), wire)?;
     let acks = end.link().received_count();
@@ -245,43 +243,11 @@ fn emit_a(end: &mut AskingEnd, wire: &mut Vec<Wired>) -> Result<Step, WorldFault
     }
 }
 
-/// B writes its next segment.
-fn emit_b(end: &mut ServingEnd, wire: &mut Vec<Wired>) -> Result<Step, WorldFault>
-    requires { end.old.port.link.failed ≡ false }
-    ensures rest { end.new ≡ record end.old { port = end.new.port } }
-    ensures ok { IfOk result (λ answer. IsTrue (may_send end.old.port.link)
-        × WroteWired end.old.port.link wire.old.items wire.new.items
-        (Some (end.old.port.link.sent + 1)) answer) }
-    ensures sent { OnOk result (end.new.port ≡ sent_more end.old.port 1) }
-    ensures err { IfErr result (λ f. (end.new.port ≡ end.old.port)
-        × (wire.new.items ≡ wire.old.items) × EmitFault end.old.port.link f) }
-    ensures still { Still IsAfter end.old end.new }
-{
-    let number = next_number(end.link(), wire)?;
-    let acks = end.link().received_count();
-    match end.write_next() {
-        Ok(packet) => Ok(put(wire, packet, Some(number), acks)),
-        Err(_) => Err(WorldFault::NoMemory),
-    }
-}
-
-/// A gets the j-th packet of the wire.
-fn deliver_a(end: &mut AskingEnd, wire: &[Wired], j: usize) -> Result<Step, WorldFault>
+/// An end gets the j-th packet of the other end's wire.
+fn deliver_to<R: Role>(end: &mut EndOf<R>, wire: &[Wired], j: usize) -> Result<Step, WorldFault>
     ensures rest { end.new ≡ record end.old { port = with_link end.old.port end.new.port.link } }
     ensures comes { Delivery end.old.port.link end.new.port.link wire.now j result }
-    ensures still { Still HasAsked end.old end.new }
-{
-    match due(end.link(), wire, j) {
-        Ok(wired) => delivered(end.receive(&wired.packet)),
-        Err(fault) => Err(fault),
-    }
-}
-
-/// B gets the j-th packet of the wire.
-fn deliver_b(end: &mut ServingEnd, wire: &[Wired], j: usize) -> Result<Step, WorldFault>
-    ensures rest { end.new ≡ record end.old { port = with_link end.old.port end.new.port.link } }
-    ensures comes { Delivery end.old.port.link end.new.port.link wire.now j result }
-    ensures still { Still IsAfter end.old end.new }
+    ensures still { Still R.fits end.old end.new }
 {
     match due(end.link(), wire, j) {
         Ok(wired) => delivered(end.receive(&wired.packet)),
@@ -308,7 +274,7 @@ fn post_a(
 ) -> Result<Step, WorldFault>
     requires running { end.old.port.link.failed ≡ false }
     requires short { AreWithinLimit end.old.port.link.setup.max_message end.old.port.outbox }
-    requires few { posted.old ≤ most_segments }
+    requires few { posted.old ≤ max_segments }
     ensures ok { IfOk result (λ answer. PostedSo end.old.port.outbox posted.old posted.new answer) }
     ensures handed { OnOk result (HandsOver end.old end.new (length end.old.port.outbox)) }
     ensures sent { OnOk result (SentAll end.old.port.outbox (bodies sent.old.items)
@@ -330,7 +296,7 @@ fn hand_over(
 ) -> Result<Step, WorldFault>
     requires some { 0 < length end.old.port.outbox }
     requires may { IsTrue (may_queue end.old.port.link end.old.port.outbox) }
-    requires few { posted.old ≤ most_segments }
+    requires few { posted.old ≤ max_segments }
     ensures ok { IfOk result (λ answer. PostedSo end.old.port.outbox posted.old posted.new answer) }
     ensures handed { OnOk result (HandsOver end.old end.new (length end.old.port.outbox)) }
     ensures sent { OnOk result (SentAll end.old.port.outbox (bodies sent.old.items)
@@ -355,7 +321,7 @@ fn hand_over(
 fn post_b(end: &mut ServingEnd, posted: &mut usize) -> Result<Step, WorldFault>
     requires running { end.old.port.link.failed ≡ false }
     requires short { AreWithinLimit end.old.port.link.setup.max_message end.old.port.outbox }
-    requires few { posted.old ≤ most_segments }
+    requires few { posted.old ≤ max_segments }
     ensures ok { IfOk result (λ answer. PostedSo end.old.port.outbox posted.old posted.new answer) }
     ensures handed { OnOk result (HandsOver end.old end.new (length end.old.port.outbox)) }
     ensures same { OnErr result ((end.new ≡ end.old) × (posted.new ≡ posted.old)) }

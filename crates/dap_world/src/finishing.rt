@@ -247,11 +247,11 @@ impl World {
         }
     }
 
-    /// Settles both ends, and then passes on, sends, delivers, acknowledges, serves and reads until nothing is
-    /// left to do: every request then has its report, whatever was lost before. How many events that were, 0 where
-    /// there was nothing to do, which takes no memory. Refused if memory is refused, or where a direction would
-    /// have more than 2^40 segments, as the last event that wasn't refused left the world: no report was
-    /// added.
+    /// Does all that is left to do, so that every request has its report, whatever was lost before: it retransmits
+    /// and delivers what isn't acknowledged, and then passes on, sends, delivers, acknowledges, serves and reads.
+    /// Returns how many events that were; 0 where nothing was left, which takes no memory. Refused if memory is
+    /// refused, or where a direction would have more than 2^40 segments: the world is then as the last event that
+    /// wasn't refused left it, and no report was added.
     pub fn finish(&mut self) -> Result<usize, WorldFault>
         ensures ok { IfOk result (λ n. Finished self.old self.new n) }
         ensures err { IfErr result (λ f. FinishFault self.new f

@@ -13,7 +13,7 @@ impl World {
     ghost use Rattle.dap_world.specs.Headline.{HeadlineOf};
     ghost use Rattle.dap_events.specs.declared.event.End.{End};
     ghost use Rattle.dap_events.specs.declared.event.WorldFault.TheVariants.{NoMemory};
-    ghost use Rattle.nsp_link.specs.Limits.{largest_window};
+    ghost use Rattle.nsp_link.specs.Limits.{max_window};
 
     /// Writes the first segments of an end that aren't acknowledged again, in order.
     fn resend_all(&mut self, end: End, count: usize) -> Result<(), WorldFault>
@@ -78,7 +78,7 @@ impl World {
     fn settle_some(&mut self, end: End, count: usize) -> Result<usize, WorldFault>
         requires world { IsWorld self.old }
         requires all { count ≡ unacked self.old end }
-        requires small { count ≤ largest_window }
+        requires small { count ≤ max_window }
         ensures ok { IfOk result (λ n. RanBy self.old self.new n × (unacked self.new end ≡ 0)
             × (n ≡ (count + count) + 2)) }
         ensures rest { NothingSent self.old self.new }

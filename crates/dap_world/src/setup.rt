@@ -14,7 +14,7 @@ use crate::ends::other_end;
 use crate::world::World;
 use dap_end::{AskingEnd, ServingEnd};
 use dap_events::{End, WorldFault, WorldSetup};
-use dap_msg::LEAST_BUFFER;
+use dap_msg::MIN_BUFFER;
 use nsp_link::{LinkFault, LinkSetup};
 use std::alloc::Global;
 
@@ -60,7 +60,7 @@ impl World {
         ensures headline { IfOk result HeadlineOf }
         ensures err { IfErr result (NewFault setup) }
     {
-        if setup.bufsiz_a < LEAST_BUFFER || setup.bufsiz_b < LEAST_BUFFER {
+        if setup.bufsiz_a < MIN_BUFFER || setup.bufsiz_b < MIN_BUFFER {
             return Err(WorldFault::BadSetup);
         }
         let asking = match AskingEnd::new(alloc, setup.bufsiz_a, link_setup(&setup, End::A)) {

@@ -2,7 +2,7 @@
 
 ghost use Rattle.std.specs.Prelude.{◌≡◌, ◌≢◌, ◌<◌, ◌≤◌, ◌+◌, ◌-◌, ◌++◌, ◌||◌, ◌∷◌, [], length, vec_len, vec_capacity, Some, Ok, IfOk, IfErr, OnOk, OnErr, IsErrOf, slice_get, false, true, IsTrue};
 ghost use Rattle.dap_msg.specs.Blocked.{bodies};
-ghost use Rattle.nsp_link.specs.Limits.{most_segments};
+ghost use Rattle.nsp_link.specs.Limits.{max_segments};
 ghost use Rattle.nsp_link.specs.Link.{may_send, IsSpelling};
 ghost use Rattle.nsp_link.specs.Sending.{WritesSent, may_queue, ack_packet_of};
 ghost use Rattle.nsp_link.specs.declared.fault.LinkFault.TheVariants.{NoSuchSegment};
@@ -14,7 +14,7 @@ ghost use Rattle.dap_events.specs.declared.event.WorldFault.TheVariants.{NoMemor
 ghost use Rattle.dap_events.specs.declared.event.Step.TheVariants as step;
 
 use dap_events::{Step, WorldFault};
-use nsp_link::{GREATEST_AGE, LinkEnd, LinkFault};
+use nsp_link::{LinkEnd, LinkFault, MAX_AGE};
 
 /// A packet that an end wrote.
 #[derive(Drop, PartialEq)]
@@ -110,12 +110,12 @@ pub(crate) fn acknowledge(
 fn is_stale(number: u64, now: u64) -> bool
     ensures { result ≡ is_old number now }
 {
-    now > GREATEST_AGE && number < now - GREATEST_AGE
+    now > MAX_AGE && number < now - MAX_AGE
 }
 
 /// The segment of a packet, where it has one, is more than 2,047 old.
 fn is_stale_segment(segment: Option<u64>, taken: u64) -> bool
-    requires { taken ≤ most_segments }
+    requires { taken ≤ max_segments }
     ensures { result ≡ is_old_segment taken segment }
 {
     match segment {
@@ -126,7 +126,7 @@ fn is_stale_segment(segment: Option<u64>, taken: u64) -> bool
 
 /// The segment or the acknowledgement is more than 2,047 old.
 fn is_stale_wired(wired: &Wired, taken: u64, acked: u64) -> bool
-    requires { taken ≤ most_segments }
+    requires { taken ≤ max_segments }
     ensures { result ≡ (is_old_segment taken wired.now.segment || is_old wired.now.acks acked) }
 {
     let stale_segment = is_stale_segment(wired.segment, taken);

@@ -45,7 +45,7 @@ impl World {
     ghost use Rattle.std.specs.Prelude.{◌≡◌, ◌-◌, ◌++◌, OnOk, IfErr, Some, map, max, slice_get, true, false};
     ghost use Rattle.dap_msg.specs.Blocked.{all_joined, bodies};
     ghost use Rattle.dap_msg.specs.Canon.{canon};
-    ghost use Rattle.dap_world.specs.Machine.{MayEmit, files_of, reported, end_of, other_end, sent_by, taken_of};
+    ghost use Rattle.dap_world.specs.Machine.{MayEmit, files_of, reported, end_of, other_end, sent_by, served_by_b};
     ghost use Rattle.dap_world.specs.Runs.{Runs, StopsAt, Went};
     ghost use Rattle.dap_world.specs.Inner.Worlds.{IsWorld};
     ghost use Rattle.dap_world.specs.Links.{came_to, coming_to, left_link};
@@ -161,7 +161,7 @@ impl World {
 
     /// The DAP messages that B served: a prefix of those that were handed to A's link.
     pub fn taken(&self) -> &[Vec<u8>]
-        ensures { bodies result.now ≡ map canon (taken_of self.now) }
+        ensures { bodies result.now ≡ map canon (served_by_b self.now) }
     {
         &self.sent[..self.served]
     }

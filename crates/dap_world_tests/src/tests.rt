@@ -42,7 +42,7 @@ const TURNS: &[Told] = &[
 /// How many schedules there are, and how many events the longest has.
 const SCHEDULES: u32 = 200;
 
-const MOST_EVENTS: usize = 5000;
+const MAX_EVENTS: usize = 5000;
 
 /// The request that words say.
 fn request(alloc: Global, words: &str) -> Result<Request, WorldFault> {
@@ -132,7 +132,7 @@ fn asks(alloc: Global, world: &mut World, place: usize) -> bool {
 /// Plays events drawn by lot, and asks the next request where none is due: how many were asked.
 fn play_drawn(alloc: Global, world: &mut World, seed: &mut u32) -> usize {
     let mut asked: usize = 0;
-    for _ in 0..draw(seed, MOST_EVENTS) {
+    for _ in 0..draw(seed, MAX_EVENTS) {
         if asks(alloc, world, asked) {
             asked = asked.saturating_add(1);
         }

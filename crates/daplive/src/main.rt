@@ -2,10 +2,22 @@
 #![tactic(auto)]
 
 use cli_faults::{ErrorOutput, Output, exit_status};
+use linewise::{Outcome, finish, write_text};
 use live_cli::run_words;
 use std::cell::Cell;
 use std::io::{BufReader, BufWriter, ErrorKind};
 use std::process::ExitCode;
+
+/// The name of the program, and the version of the repository.
+const VERSION: &[u8] = b"daplive 1.1.0\n";
+
+/// Whether the word after the name of the program, and no other, asks for the version.
+fn asks_version(words: &[String]) -> bool {
+    match words {
+        [_, word] => word.as_str() == "--version" || word.as_str() == "-V",
+        _ => false,
+    }
+}
 
 /// Reports that memory ran out, and answers the exit status of that.
 fn no_memory(rt: &HostRuntime) -> ExitCode {
@@ -34,6 +46,11 @@ fn main(rt: HostRuntime) -> ExitCode {
     let Ok(mut writer) = BufWriter::new(alloc, Output::new(rt.stdout(), &is_closed)) else {
         return no_memory(&rt);
     };
+    if asks_version(&words) {
+        let told = write_text(VERSION, &mut writer).map(|()| Outcome::Good);
+        let status = finish(told, &mut ErrorOutput::new(rt.stderr(), &is_closed));
+        return ExitCode::from(exit_status(status, is_closed.get()));
+    }
     let mut error_writer = ErrorOutput::new(rt.stderr(), &is_closed);
     let status = run_words(alloc, &words, &mut reader, &mut writer, &mut error_writer);
     ExitCode::from(exit_status(status, is_closed.get()))

@@ -5,7 +5,7 @@ ghost use Rattle.decnet_frames.specs.Frames.{carried_of, counted, data_of, fitti
 ghost use Rattle.decnet_frames.specs.Frames.{FindsAs};
 
 use byteorder::{ByteOrder, LittleEndian};
-use dap_listing::PACKET_LIMIT;
+use dap_listing::MAX_PACKET;
 
 /// An NSP packet, and the nodes that sent and receive it.
 #[derive(Clone, Copy, Debug, PartialEq)]
@@ -24,7 +24,7 @@ pub enum Passed {
     CutShort,
     /// It has a routing message, as hello, and no data.
     OtherMessage,
-    /// The packet has more than `PACKET_LIMIT` bytes.
+    /// The packet has more than `MAX_PACKET` bytes.
     TooLong,
     /// The packet is one of a node to itself.
     ToItself,
@@ -84,7 +84,7 @@ fn take_counted(bytes: &[u8]) -> Result<&[u8], Passed>
 }
 
 /// The routing message after a type.
-fn behind_type(bytes: &[u8]) -> Result<&[u8], Passed>
+fn after_type(bytes: &[u8]) -> Result<&[u8], Passed>
     ensures { FindsAs (λ x. x.now) result (typed bytes.now) }
 {
     let [high, low, rest @ ..] = bytes else {
@@ -104,7 +104,7 @@ fn message(frame: &[u8]) -> Result<&[u8], Passed>
         return Err(Passed::OtherFrame);
     }
     let (_, tagged) = frame.split_at(STATIONS);
-    behind_type(untagged(tagged))
+    after_type(untagged(tagged))
 }
 
 /// A message without the padding before it, whose first byte has bit 7 and the count.
@@ -185,7 +185,7 @@ fn routed_message(message: &[u8]) -> Result<Carried<'_>, Passed>
 fn fit<'a>(carried: Carried<'a>) -> Result<Carried<'a>, Passed>
     ensures { FindsAs carried_of result (fitting (carried_of carried.entry)) }
 {
-    if carried.packet.len() > PACKET_LIMIT {
+    if carried.packet.len() > MAX_PACKET {
         return Err(Passed::TooLong);
     }
     if carried.source == carried.destination {
@@ -208,7 +208,7 @@ fn read_data(frame: &[u8]) -> Result<Carried<'_>, Passed>
     }
 }
 
-/// The NSP packet in an Ethernet frame (DECnet Phase IV, routing layer 2.0.0), of at most `PACKET_LIMIT` bytes and between two
+/// The NSP packet in an Ethernet frame (DECnet Phase IV, routing layer 2.0.0), of at most `MAX_PACKET` bytes and between two
 /// nodes; or why there is none. It takes no memory.
 pub fn read_frame(frame: &[u8]) -> Result<Carried<'_>, Passed>
     ensures { FindsAs carried_of result (nsp_packet_of frame.now) }

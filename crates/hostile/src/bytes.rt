@@ -21,7 +21,7 @@ pub const FIVE: &[u8] = &[2, 2, 0x0b, 0xa6, 4, 0, 2, 5, 0, 4, 0, 0, 0, 0];
 /// An Access that makes the file `F`, with the right to get, put and delete.
 pub const CREATE: &[u8] = &[3, 2, 8, 2, 0, 1, 0x46, 7, 0, 0, 0];
 
-/// The same, with all rights.
+/// An Access that makes the file `F`, with all rights.
 pub const CREATE_ALL: &[u8] = &[3, 2, 8, 2, 0, 1, 0x46, 15, 0, 0, 0];
 
 pub const OPEN: &[u8] = &[3, 2, 8, 1, 0, 1, 0x46, 15, 0, 0, 0];

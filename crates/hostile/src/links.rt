@@ -100,9 +100,9 @@ pub fn keep_next(
     }
 }
 
-/// The packet of a place, which is there.
-pub fn packet_of(packets: &[Vec<u8>], place: usize) -> &[u8] {
-    match packets.get(place) {
+/// The packet at an index, or no bytes where there is none.
+pub fn packet_of(packets: &[Vec<u8>], index: usize) -> &[u8] {
+    match packets.get(index) {
         Some(packet) => packet,
         None => &[],
     }

@@ -97,7 +97,7 @@ const ENDS: &[(u8, &[u8], End)] = &[
 ];
 
 /// The most bytes that the program tells.
-const MOST_TOLD: usize = 1024;
+const MAX_TOLD: usize = 1024;
 
 /// What an exit status and what was told say of the end.
 fn end_of(status: u8, told: &[u8]) -> Result<End, Trouble> {
@@ -122,7 +122,7 @@ fn run_words_over<R: Read, W: Write>(
     reader: &mut R,
     writer: &mut W,
 ) -> Result<End, Trouble> {
-    let mut told = Vec::with_capacity(alloc, MOST_TOLD)?;
+    let mut told = Vec::with_capacity(alloc, MAX_TOLD)?;
     let status = run_words(alloc, words, reader, writer, &mut told);
     end_of(status, &told)
 }

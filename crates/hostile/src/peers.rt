@@ -8,7 +8,7 @@ use crate::texts::Text;
 use dap_accessed::AddFault;
 use dap_accessing::{ReadFault, Report};
 use dap_end::{AskingEnd, EndFault, Heard, ServingEnd, TakeFault};
-use nsp_link::{LARGEST_LIMIT, LinkFault, LinkSetup};
+use nsp_link::{LinkFault, LinkSetup, MAX_LIMIT};
 use rec_file::{Refusal, Shape};
 use std::alloc::Global;
 
@@ -16,7 +16,7 @@ use std::alloc::Global;
 const BUFFER: u16 = 1024;
 
 /// The end that serves goes on while fewer bytes wait than this.
-const MOST_WAITING: u64 = 1 << 20;
+const MAX_WAITING: u64 = 1 << 20;
 
 /// What an end does with its link. Each packet that it writes is kept, in order from 0.
 #[derive(Clone, Copy)]
@@ -109,7 +109,7 @@ const ASKING: LinkSetup = LinkSetup {
     remote: 0x0202,
     seg_size: 8,
     window: 8,
-    max_message: LARGEST_LIMIT,
+    max_message: MAX_LIMIT,
 };
 
 const SERVING: LinkSetup = LinkSetup {
@@ -218,13 +218,13 @@ fn serving_takes(
     packet: &[u8],
     out: &mut Vec<Vec<u8>>,
 ) -> Result<(), Trouble> {
-    end.take(packet, MOST_WAITING, out)?;
+    end.take(packet, MAX_WAITING, out)?;
     Ok(())
 }
 
 /// The end that serves goes on.
 fn serving_goes_on(end: &mut ServingEnd, out: &mut Vec<Vec<u8>>) -> Result<(), Trouble> {
-    match end.go_on(MOST_WAITING, out) {
+    match end.go_on(MAX_WAITING, out) {
         Ok(()) => Ok(()),
         Err(fault) => Err(stopped(fault == LinkFault::NoMemory)),
     }

@@ -54,7 +54,7 @@ impl Text {
         self.keep(written);
     }
 
-    /// Appends a value as it is.
+    /// Appends the Debug text of a value.
     fn value<T: Debug>(&mut self, value: &T) {
         let written = write!(self.bytes, "{value:?}");
         self.keep(written);

@@ -2,7 +2,7 @@
 use Rattle.std.proofs.Common.{◌≡◌, ◌≤◌, ◌+◌, ◌∙◌, sym, ap, ℕ, List, [], ◌++◌, length, Option, Result, Ok, Err, refl, arith, length-append}
 use Rattle.std.specs.Io.KnownBytes.{Consumes}
 use Rattle.std.proofs.KnownBytes.{Consumes-nil, Consumes-trans}
-use Rattle.linewise.specs.Talks.{longest}
+use Rattle.linewise.specs.Talks.{max_line}
 use Rattle.linewise.specs.Gives.{TakesAnInput, TakesWithinLimit}
 use Rattle.linewise.specs.Input.{TakesBehind, TakesUpTo}
 
@@ -20,11 +20,11 @@ unfolding HasTaken
 taken_more count later old now new came before read counted =
     (before.0 ++ came, omega (arith, before.1, counted, length-append before.0 came), Consumes-trans old now new before.0 came before.2 read)
 
-pub taken_within : (count : ℕ) (old now : Option (List ℕ)) → HasTaken count old now → count ≤ longest + 1 → TakesWithinLimit old now
+pub taken_within : (count : ℕ) (old now : Option (List ℕ)) → HasTaken count old now → count ≤ max_line + 1 → TakesWithinLimit old now
 unfolding HasTaken
 taken_within count old now before within = (before.0, before.2, omega (arith, before.1, within))
 
-pub takes_none : (count : ℕ) (known : Option (List ℕ)) → count ≤ longest → TakesBehind count known known
+pub takes_none : (count : ℕ) (known : Option (List ℕ)) → count ≤ max_line → TakesBehind count known known
 unfolding TakesBehind
 takes_none count known within = ([], Consumes-nil known, omega (arith, within))
 
@@ -43,7 +43,7 @@ takes_more count later old now new taken counted before more =
 
 -- ---- No more than an input may have.
 
-pub up_none : (count : ℕ) (known : Option (List ℕ)) → count ≤ longest → TakesUpTo count known known
+pub up_none : (count : ℕ) (known : Option (List ℕ)) → count ≤ max_line → TakesUpTo count known known
 unfolding TakesUpTo
 up_none count known within = ([], Consumes-nil known, omega (arith, within))
 
@@ -58,7 +58,7 @@ unfolding HasTaken TakesUpTo
 up_behind count old now new before behind =
     (before.0 ++ behind.0, Consumes-trans old now new before.0 behind.0 before.2 behind.1, omega (arith, before.1, behind.2, length-append before.0 behind.0))
 
-pub up_within : (count : ℕ) (old now : Option (List ℕ)) → HasTaken count old now → count ≤ longest → TakesAnInput old now
+pub up_within : (count : ℕ) (old now : Option (List ℕ)) → HasTaken count old now → count ≤ max_line → TakesAnInput old now
 unfolding HasTaken
 up_within count old now before within = (before.0, before.2, omega (arith, before.1, within))
 

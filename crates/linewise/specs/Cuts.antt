@@ -10,7 +10,8 @@ MayFollow is_last follow = is_last ≡ true → follow ≡ []
 -- whatever may follow, the first line and the others
 abbrev pub IsCut : Bool → List ℕ → List ℕ → List ℕ → Type 0
 IsCut is_last bytes line after =
-    (follow : List ℕ) → MayFollow is_last follow → lines (bytes ++ follow) ≡ line ∷ lines (after ++ follow)
+    (follow : List ℕ) → MayFollow is_last follow
+    → lines (bytes ++ follow) ≡ line ∷ lines (after ++ follow)
 
 -- no line of the bytes has its end there
 abbrev pub HasNoEnd : List ℕ → Type 0

@@ -1,7 +1,7 @@
 -- What a command over a whole input does.
 use Rattle.std.specs.Prelude.{◌≡◌, ◌≢◌, OnErr, ℕ, ◌+◌, ◌<◌, ◌≤◌, List, [], length, slice_get, Option, Some, IfSome, Result, Ok, Err, ◌⊎◌}
 use Rattle.std.specs.Io.KnownBytes.{Appends, Consumes, Keeps}
-use Rattle.linewise.specs.Talks.{longest}
+use Rattle.linewise.specs.Talks.{max_line}
 use Rattle.linewise.specs.Output.{WritesFront}
 use Rattle.linewise.specs.declared.fault.Outcome.{Outcome}
 use Rattle.linewise.specs.declared.fault.Outcome.TheVariants.{Good, Stopped}
@@ -10,19 +10,19 @@ use Rattle.linewise.specs.declared.fault.CaptureFault.TheVariants.{BadLine, TooL
 
 -- A prefix of the reader's known bytes is read: at most one byte more than an input may have (16,777,216).
 abbrev pub TakesWithinLimit : Option (List ℕ) → Option (List ℕ) → Type 0
-TakesWithinLimit old new = (taken : List ℕ) × Consumes old new taken × (length taken ≤ longest + 1)
+TakesWithinLimit old new = (taken : List ℕ) × Consumes old new taken × (length taken ≤ max_line + 1)
 
 -- a prefix is read, no longer than an input may be
 abbrev pub TakesAnInput : Option (List ℕ) → Option (List ℕ) → Type 0
-TakesAnInput old new = (taken : List ℕ) × Consumes old new taken × (length taken ≤ longest)
+TakesAnInput old new = (taken : List ℕ) × Consumes old new taken × (length taken ≤ max_line)
 
 -- the input is within its limit, no line has a fault, and the text is as this says
 abbrev pub IsTextOf : List CaptureFault → (List ℕ → Type 0) → (input text : List ℕ) → Type 0
-IsTextOf faults IsText input text = (length input ≤ longest) × (faults ≡ []) × IsText text
+IsTextOf faults IsText input text = (length input ≤ max_line) × (faults ≡ []) × IsText text
 
 -- the input is within its limit, and this is the first fault of its lines
 abbrev pub HasLineFault : List CaptureFault → (input : List ℕ) → CaptureFault → Type 0
-HasLineFault faults input fault = (length input ≤ longest) × (slice_get faults 0 ≡ Some fault)
+HasLineFault faults input fault = (length input ≤ max_line) × (slice_get faults 0 ≡ Some fault)
 
 -- What a command does with an input, by the faults of its lines and by the texts of each outcome. The text was
 -- written; or a line has a fault, or the input is too large, and nothing was written; or the writer failed, and a
@@ -34,7 +34,7 @@ Gives faults IsText input old new (Ok outcome) =
 Gives faults IsText input old new (Err (BadLine number)) =
     HasLineFault faults input (BadLine number) × Keeps old new
 Gives faults IsText input old new (Err TooLarge) =
-    ((longest < length input) ⊎ HasLineFault faults input TooLarge) × Keeps old new
+    ((max_line < length input) ⊎ HasLineFault faults input TooLarge) × Keeps old new
 Gives faults IsText input old new (Err WriteFailed) =
     (outcome : Outcome) × (text : List ℕ) × IsTextOf faults (IsText outcome) input text × WritesFront old new text
 Gives faults IsText input old new (Err _) = Keeps old new

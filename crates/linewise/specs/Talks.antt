@@ -15,8 +15,8 @@ use Rattle.linewise.specs.declared.fault.CaptureFault.TheVariants.{ReadFailed, W
 -- ---- A line.
 
 -- how many bytes a line has at most, without its end (LF, CR LF or the end of the input)
-abbrev pub longest : ℕ
-longest = 16777216
+abbrev pub max_line : ℕ
+max_line = 16777216
 
 -- empty lines, and those that begin with `#`, say nothing
 abbrev pub is_skipped : List ℕ → Bool
@@ -76,10 +76,10 @@ GivesPiece pieces place text (Some next) = pieces place ≡ text ∷ pieces next
 -- it learns that there was one, and has no text.
 abbrev pub AnswersLine : {E : Type 0} → Answering E → (E → Option ℕ) → E → List ℕ → E → List ℕ → Option Became → Type 0
 AnswersLine answered waiting old line new text None =
-    (is_given (waiting old) line ≡ false) × (length line ≤ longest) × (new ≡ old) × (text ≡ [])
+    (is_given (waiting old) line ≡ false) × (length line ≤ max_line) × (new ≡ old) × (text ≡ [])
 AnswersLine answered waiting old line new text (Some became) =
-    ((((became ≡ BadLine) × (longest < length line)) ⊎ (became ≡ NoMemory)) × answered old None new text became × (text ≡ []))
-    ⊎ ((is_given (waiting old) line ≡ true) × (length line ≤ longest) × answered old (Some line) new text became)
+    ((((became ≡ BadLine) × (max_line < length line)) ⊎ (became ≡ NoMemory)) × answered old None new text became × (text ≡ []))
+    ⊎ ((is_given (waiting old) line ≡ true) × (length line ≤ max_line) × answered old (Some line) new text became)
 
 -- what is answered to a line
 pub record SaysTo {E : Type 0} (answered : Answering E) (waiting : E → Option ℕ) (old : E) (line : List ℕ) (new : E) (said : List ℕ) (became : Option Became) : Type 0 where

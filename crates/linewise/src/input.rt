@@ -1,18 +1,18 @@
 //! Reading a whole input.
 ghost use Rattle.std.specs.Prelude.{◌≡◌, ◌≤◌, ◌<◌, ◌+◌, ◌⊎◌, IfOk, IfErr, IsErrOf, OnOk, IfSome, length, take, true};
 ghost use Rattle.std.specs.Io.KnownBytes.{Consumes, IsAtEnd};
-ghost use Rattle.linewise.specs.Talks.{longest};
+ghost use Rattle.linewise.specs.Talks.{max_line};
 ghost use Rattle.linewise.specs.Gives.{TakesAnInput, TakesWithinLimit};
 ghost use Rattle.linewise.specs.declared.fault.CaptureFault.TheVariants.{NoMemory, ReadFailed, TooLarge};
 ghost use Rattle.linewise.specs.Input.{IsFaultAfter, TakesBehind, TakesUpTo};
 
 use crate::CaptureFault;
-use crate::reading::LONGEST;
+use crate::reading::MAX_LINE;
 use std::alloc::Global;
 use std::io::Read;
 
 /// The most bytes that an input may have: those of the longest line.
-pub const INPUT_LIMIT: usize = LONGEST;
+pub const MAX_INPUT: usize = MAX_LINE;
 
 /// How many bytes are read at a time.
 pub const CHUNK: usize = 65_536;
@@ -26,11 +26,11 @@ pub fn read_some<R: Read>(
     count: &mut usize,
 ) -> Result<usize, CaptureFault>
     requires chunk { 0 < length chunk.old }
-    requires count { count.old ≤ INPUT_LIMIT }
+    requires count { count.old ≤ MAX_INPUT }
     ensures chunk { length chunk.new ≡ length chunk.old }
     ensures came { IfOk result (λ came. came ≤ length chunk.new) }
     ensures count { IfOk result (λ came. count.new ≡ count.old + came) }
-    ensures small { OnOk result (count.new ≤ INPUT_LIMIT) }
+    ensures small { OnOk result (count.new ≤ MAX_INPUT) }
     ensures bytes { IfOk result (λ came.
         Consumes (R.remaining reader.old) (R.remaining reader.new) (take came chunk.new)) }
     ensures end { IfOk result (λ came. came ≡ 0 → IsAtEnd (R.remaining reader.new)) }
@@ -39,9 +39,9 @@ pub fn read_some<R: Read>(
         → TakesUpTo count.old (R.remaining reader.old) (R.remaining reader.new) }
     ensures fault { IfErr result (IsFaultAfter count.old (R.remaining reader.old)) }
 {
-    let room = chunk.len().min(INPUT_LIMIT + 1 - *count);
+    let room = chunk.len().min(MAX_INPUT + 1 - *count);
     match reader.read(&mut chunk[..room]) {
-        Ok(came) if *count + came > INPUT_LIMIT => Err(CaptureFault::TooLarge),
+        Ok(came) if *count + came > MAX_INPUT => Err(CaptureFault::TooLarge),
         Ok(came) => {
             *count += came;
             Ok(came)
@@ -57,9 +57,9 @@ fn skip_rest<R: Read>(
     count: &mut usize,
 ) -> Result<(), CaptureFault>
     requires chunk { 0 < length chunk.old }
-    requires count { count.old ≤ INPUT_LIMIT }
+    requires count { count.old ≤ MAX_INPUT }
     ensures small { OnOk result (IfSome (R.remaining reader.old)
-        (λ rest. count.old + length rest ≤ longest)) }
+        (λ rest. count.old + length rest ≤ max_line)) }
     ensures taken { TakesBehind count.old (R.remaining reader.old) (R.remaining reader.new) }
     ensures within { (IsErrOf result TooLarge → ⊥)
         → TakesUpTo count.old (R.remaining reader.old) (R.remaining reader.new) }
@@ -77,10 +77,10 @@ pub fn skip_unread<R: Read>(
     is_met: bool,
 ) -> Result<(), CaptureFault>
     requires chunk { 0 < length chunk.old }
-    requires count { count.old ≤ INPUT_LIMIT }
+    requires count { count.old ≤ MAX_INPUT }
     requires met { is_met ≡ true → IsAtEnd (R.remaining reader.old) }
     ensures small { OnOk result (IfSome (R.remaining reader.old)
-        (λ rest. count.old + length rest ≤ longest)) }
+        (λ rest. count.old + length rest ≤ max_line)) }
     ensures taken { TakesBehind count.old (R.remaining reader.old) (R.remaining reader.new) }
     ensures within { (IsErrOf result TooLarge → ⊥)
         → TakesUpTo count.old (R.remaining reader.old) (R.remaining reader.new) }
@@ -100,12 +100,12 @@ pub fn read_input<R: Read>(alloc: Global, reader: &mut R) -> Result<Vec<u8>, Cap
     ensures whole { IfOk result
         (λ input. IfSome (R.remaining reader.old) (λ bytes. input.items ≡ bytes)) }
     ensures end { OnOk result (IsAtEnd (R.remaining reader.new)) }
-    ensures limit { IfOk result (λ input. length input.items ≤ INPUT_LIMIT) }
+    ensures limit { IfOk result (λ input. length input.items ≤ MAX_INPUT) }
     ensures taken { TakesWithinLimit (R.remaining reader.old) (R.remaining reader.new) }
     ensures within { (IsErrOf result TooLarge → ⊥)
         → TakesAnInput (R.remaining reader.old) (R.remaining reader.new) }
     ensures too_large { IsErrOf result TooLarge
-        → IfSome (R.remaining reader.old) (λ bytes. longest < length bytes) }
+        → IfSome (R.remaining reader.old) (λ bytes. max_line < length bytes) }
     ensures fault { IfErr result
         (λ fault. (fault ≡ TooLarge) ⊎ ((fault ≡ ReadFailed) ⊎ (fault ≡ NoMemory))) }
 {

@@ -10,8 +10,8 @@ mod reading;
 mod talking;
 
 pub use fault::{CaptureFault, Outcome, finish};
-pub use input::{CHUNK, INPUT_LIMIT, read_input, read_some, skip_unread};
+pub use input::{CHUNK, MAX_INPUT, read_input, read_some, skip_unread};
 pub use lines::{cut_line, find_byte, is_skipped, next_line};
 pub use output::write_text;
-pub use reading::LONGEST;
+pub use reading::MAX_LINE;
 pub use talking::{Answer, Answers, Became, talk};

@@ -10,7 +10,7 @@ use std::alloc::Global;
 use std::io::{BufRead, Error, ErrorKind, Result};
 
 /// The most bytes of a line, without its end.
-pub const LONGEST: usize = 16_777_216;
+pub const MAX_LINE: usize = 16_777_216;
 
 /// A carriage return and a line feed.
 const END: usize = 2;
@@ -60,7 +60,8 @@ impl Line {
     /// Whether nothing was read, so that there is no line.
     pub(crate) fn is_over(&self) -> bool
         ensures over { result ≡ true → (read : List ℕ) → HoldsLine self.now read → read ≡ [] }
-        ensures more { result ≡ false → (read : List ℕ) → HoldsLine self.now read → 0 < length read }
+        ensures more { result ≡ false → (read : List ℕ) → HoldsLine self.now read
+            → 0 < length read }
     {
         self.kept == Kept::All && self.bytes.is_empty()
     }
@@ -72,7 +73,7 @@ impl Line {
         if self.kept != Kept::All || more.is_empty() {
             return;
         }
-        if self.bytes.len() + more.len() > LONGEST + END {
+        if self.bytes.len() + more.len() > MAX_LINE + END {
             self.kept = Kept::TooLong;
             return;
         }

@@ -14,7 +14,7 @@ ghost use Rattle.linewise.specs.Inner.Steps.{BeginsLine, Breaks, Completes, Talk
 use crate::CaptureFault;
 use crate::lines::{is_skipped, without_end};
 use crate::output::{write_answer, write_part};
-use crate::reading::{Kept, LONGEST, Line, read_line};
+use crate::reading::{Kept, Line, MAX_LINE, read_line};
 use std::alloc::{AllocError, Global};
 use std::io::{BufRead, Write};
 
@@ -110,9 +110,10 @@ fn answer_whole<E: Answers>(
     text: &mut Vec<u8>,
 ) -> Option<Answer<E::Place>>
     requires { text.old.items ≡ [] }
-    ensures { BeginsLine E.answered E.waiting E.pieces end.old line.now end.new text.new.items result }
+    ensures { BeginsLine E.answered E.waiting E.pieces
+        end.old line.now end.new text.new.items result }
 {
-    if line.len() > LONGEST {
+    if line.len() > MAX_LINE {
         return Some(miss(end, Became::BadLine));
     }
     if !is_given(end.waits(), line) {
@@ -125,7 +126,8 @@ fn answer_whole<E: Answers>(
 fn answer_read<E: Answers>(end: &mut E, line: &Line, text: &mut Vec<u8>) -> Option<Answer<E::Place>>
     requires { text.old.items ≡ [] }
     ensures { (raw : List ℕ) → HoldsLine line.now raw
-        → BeginsLine E.answered E.waiting E.pieces end.old (ended raw) end.new text.new.items result }
+        → BeginsLine E.answered E.waiting E.pieces
+        end.old (ended raw) end.new text.new.items result }
 {
     match line.kept {
         Kept::All => answer_whole(end, without_end(&line.bytes), text),

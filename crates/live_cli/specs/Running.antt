@@ -11,7 +11,7 @@ use Rattle.dap_accessed.specs.declared.setup.Names.TheVariants.{Exact, Folded}
 use Rattle.dap_accessed.specs.declared.setup.ServerSetup.{ServerSetup}
 use Rattle.dap_accessed.specs.Setup.{all_rights}
 use Rattle.dap_follow.specs.Following.{FollowGives}
-use Rattle.nsp_link.specs.Limits.{largest_limit}
+use Rattle.nsp_link.specs.Limits.{max_limit}
 use Rattle.linewise.specs.Gives.{HasStatus}
 use Rattle.dap_watch.specs.Watched.{WatchFails, WatchGives, is_refused}
 use Rattle.decnet_frames.specs.Listed.{IsListed, IsListedTo}
@@ -39,7 +39,7 @@ frames_status _ = 3
 
 -- how the link is set up
 abbrev pub link_setup : Options → LinkSetup
-link_setup o = record { local = o.local; remote = o.remote; seg_size = o.segment; window = o.window; max_message = largest_limit }
+link_setup o = record { local = o.local; remote = o.remote; seg_size = o.segment; window = o.window; max_message = max_limit }
 
 -- The end answers all lines of the input, and the status is 1 if some line was bad and 0 otherwise; or the reader or
 -- the writer fails, and it is 3.

@@ -12,8 +12,8 @@ use Rattle.clap.specs.declared.parser.matches.ValueSource.{ValueSource}
 use Rattle.clap.specs.declared.parser.matches.ValueSource.TheVariants.{CommandLine}
 use Rattle.cli_faults.specs.Programs.{new_program}
 use Rattle.clap.specs.declared.builder.value_parser.ValueParser.TheVariants as parser
-use Rattle.dap_msg.specs.BothEnds.{greatest_message, least_buffer}
-use Rattle.nsp_link.specs.Limits.{largest_segment, largest_window}
+use Rattle.dap_msg.specs.BothEnds.{max_nsp_message, min_buffer}
+use Rattle.nsp_link.specs.Limits.{max_segment, max_window}
 use Rattle.dap_text.specs.Text.{word_text}
 use Rattle.dap_text.specs.Words.{decimal_of, short}
 use Rattle.dap_live.specs.Orders.{address_of}
@@ -26,12 +26,12 @@ use Rattle.live_cli.specs.declared.words.Task.{Task}
 use Rattle.live_cli.specs.declared.words.Task.TheVariants.{End, Follow, Frames, Watch}
 
 -- how many bytes of answers may wait: at least this
-abbrev pub least_waiting : ℕ
-least_waiting = 64
+abbrev pub min_waiting : ℕ
+min_waiting = 64
 
 -- at most this
-abbrev pub greatest_waiting : ℕ
-greatest_waiting = 1073741824
+abbrev pub max_waiting : ℕ
+max_waiting = 1073741824
 
 -- and this where nothing is said
 abbrev pub usual_waiting : ℕ
@@ -42,8 +42,8 @@ abbrev pub usual_syscap : ℕ
 usual_syscap = 0x2001c3466
 
 -- how many links a server may have room for
-abbrev pub most_links : ℕ
-most_links = 1023
+abbrev pub max_links : ℕ
+max_links = 1023
 
 -- the name of an end, and its options by default
 abbrev pub usual : Role → Text × Options
@@ -96,8 +96,8 @@ number name usual least most = record (option name usual) { parser = Some (parse
 abbrev pub end_line : Text × Options → App
 end_line (word, o) = fold with_rule (new_app word)
     (option (codes "local") (word_text o.local) ∷ option (codes "remote") (word_text o.remote)
-    ∷ number (codes "segment") (decimal o.segment) 1 largest_segment ∷ number (codes "window") (decimal o.window) 1 largest_window
-    ∷ number (codes "buffer") (decimal o.buffer) least_buffer greatest_message
+    ∷ number (codes "segment") (decimal o.segment) 1 max_segment ∷ number (codes "window") (decimal o.window) 1 max_window
+    ∷ number (codes "buffer") (decimal o.buffer) min_buffer max_nsp_message
     ∷ number (codes "ostype") (decimal o.ostype) 0 255 ∷ number (codes "filesys") (decimal o.filesys) 0 255
     ∷ option (codes "syscap") (codes "2001c3466") ∷ [])
 
@@ -106,8 +106,8 @@ abbrev pub serve_line : App
 serve_line =
     with_rule
     (with_rule
-    (with_rule (end_line (usual Serve)) (number (codes "waiting") (decimal usual_waiting) least_waiting greatest_waiting))
-    (number (codes "links") (decimal 1) 1 most_links))
+    (with_rule (end_line (usual Serve)) (number (codes "waiting") (decimal usual_waiting) min_waiting max_waiting))
+    (number (codes "links") (decimal 1) 1 max_links))
     (option (codes "names") (codes "exact"))
 
 -- the subcommand `frames`, which has two nodes or none
@@ -156,14 +156,14 @@ syscap_of word =
 abbrev pub folded_of : Text → Option Bool
 folded_of word = if bytes_eq word (codes "exact") then Some false else if bytes_eq word (codes "folded") then Some true else None
 
--- the same of the words; `ask` has no such option
+-- whether the words say that names are compared by their folds; `ask` has no such option
 abbrev pub names_of : Role → List Row → Option Bool
 names_of Serve rows = option_and_then folded_of (first_of (codes "names") rows)
 names_of Ask rows = Some false
 
 -- how many bytes may wait; `ask` has no such option
 abbrev pub waiting_of : Role → List Row → Option ℕ
-waiting_of Serve rows = option_and_then (decimal_of greatest_waiting) (first_of (codes "waiting") rows)
+waiting_of Serve rows = option_and_then (decimal_of max_waiting) (first_of (codes "waiting") rows)
 waiting_of Ask rows = Some usual_waiting
 
 -- the value is in the words, and no default
@@ -208,7 +208,7 @@ options_of role rows =
       remote = remote;
       segment = segment;
       window = window;
-      buffer = max least_buffer buffer;
+      buffer = max min_buffer buffer;
       ostype = ostype;
       filesys = filesys;
       syscap = syscap;

@@ -5,6 +5,6 @@ mod laws;
 mod running;
 mod words;
 
-pub use laws::inputs_have_one_text;
+pub use laws::{ends_say_by_default_what_is_true, inputs_have_one_text};
 pub use running::{run_options, run_words};
 pub use words::{Options, Role, Task};

@@ -5,7 +5,7 @@ ghost use Rattle.std.specs.Io.KnownBytes.{Keeps};
 ghost use Rattle.clap.specs.Words.{fault_of};
 ghost use Rattle.cli_faults.specs.Mistakes.{AreMistakes};
 ghost use Rattle.dap_accessed.specs.Setup.{IsServerSetup};
-ghost use Rattle.dap_msg.specs.BothEnds.{least_buffer};
+ghost use Rattle.dap_msg.specs.BothEnds.{min_buffer};
 ghost use Rattle.dap_msg.specs.Fitting.{FieldsFit};
 ghost use Rattle.dap_msg.specs.declared.message.Message.TheVariants.{Config};
 ghost use Rattle.live_cli.specs.declared.words.Task.{Task as TheTask};
@@ -25,7 +25,7 @@ use dap_msg::Configuration;
 use dap_watch::watch;
 use decnet_frames::{Counts, Ends, FramesFault, list_frames};
 use linewise::{Answers, talk};
-use nsp_link::{LARGEST_LIMIT, LinkFault, LinkSetup};
+use nsp_link::{LinkFault, LinkSetup, MAX_LIMIT};
 use std::alloc::Global;
 use std::fmt::Display;
 use std::io::{BufRead, Write};
@@ -39,7 +39,7 @@ fn link_setup(options: Options) -> LinkSetup
         remote: options.remote,
         seg_size: options.segment as usize,
         window: options.window as usize,
-        max_message: LARGEST_LIMIT,
+        max_message: MAX_LIMIT,
     }
 }
 
@@ -106,7 +106,7 @@ fn comparing(folded: bool) -> Names
 
 /// How the server is set up.
 fn server_setup(options: Options) -> ServerSetup
-    requires room { least_buffer ≤ options.buffer }
+    requires room { min_buffer ≤ options.buffer }
     requires syscap { options.syscap < 2 ^ 84 }
     ensures is { result ≡ server_of options }
     ensures fits { IsServerSetup (server_of options) }
@@ -126,7 +126,7 @@ fn serve<R: BufRead, W: Write, E: Write>(
     writer: &mut W,
     error_writer: &mut E,
 ) -> u8
-    requires room { least_buffer ≤ options.buffer }
+    requires room { min_buffer ≤ options.buffer }
     requires syscap { options.syscap < 2 ^ 84 }
     ensures { IfSome (R.remaining reader.old) (λ input. ServesLines options input
         (W.contents writer.old) (W.contents writer.new) result
@@ -154,7 +154,7 @@ fn ask<R: BufRead, W: Write, E: Write>(
     writer: &mut W,
     error_writer: &mut E,
 ) -> u8
-    requires room { least_buffer ≤ options.buffer }
+    requires room { min_buffer ≤ options.buffer }
     requires syscap { options.syscap < 2 ^ 84 }
     ensures { IfSome (R.remaining reader.old) (λ input. GivesAs role.Ask options input
         (W.contents writer.old) (W.contents writer.new) result
@@ -175,7 +175,7 @@ pub fn run_options<R: BufRead, W: Write, E: Write>(
     writer: &mut W,
     error_writer: &mut E,
 ) -> u8
-    requires room { least_buffer ≤ options.buffer }
+    requires room { min_buffer ≤ options.buffer }
     requires syscap { options.syscap < 2 ^ 84 }
     ensures { IfSome (R.remaining reader.old) (λ input. TaskGives (Task.End options) input
         (W.contents writer.old) (W.contents writer.new) result) }

@@ -6,12 +6,12 @@ ghost use Rattle.std.specs.Int.{from_be_bytes, w128};
 ghost use Rattle.hex.specs.Hex.{decode_sized};
 ghost use Rattle.clap.specs.Words.{FailsBy, all_of, fault_of, first_of, found_of, kind_of, rows_of, rule_of, subcommand_of};
 ghost use Rattle.clap.specs.declared.builder.value_parser.ValueParser.TheVariants as parser;
-ghost use Rattle.dap_msg.specs.BothEnds.{greatest_message, least_buffer};
-ghost use Rattle.nsp_link.specs.Limits.{largest_segment, largest_window};
+ghost use Rattle.dap_msg.specs.BothEnds.{max_nsp_message, min_buffer};
+ghost use Rattle.nsp_link.specs.Limits.{max_segment, max_window};
 ghost use Rattle.dap_text.specs.Words.{short};
 ghost use Rattle.dap_live.specs.Orders.{address_of};
 ghost use Rattle.decnet_frames.specs.Nodes.{node_of};
-ghost use Rattle.live_cli.specs.Words.{code_of, folded_of, names_of, syscap_of, daplive, ends_of, greatest_waiting, has_address, has_value as is_given_in, is_word as is_in_words, least_waiting, links_of, most_links, option as option_rule, options_of, task_in as task_of_rows, task_of, has_words as words_wanted, waiting_of};
+ghost use Rattle.live_cli.specs.Words.{code_of, folded_of, names_of, syscap_of, daplive, ends_of, max_waiting, has_address, has_value as is_given_in, is_word as is_in_words, min_waiting, links_of, max_links, option as option_rule, options_of, task_in as task_of_rows, task_of, has_words as words_wanted, waiting_of};
 ghost use Rattle.live_cli.specs.Inner.CommandLine.{HasAddresses, HasCodes, HasIdentity, HasLimits, HasLinks, HasNames, HasBufferRoom, HasSyscap, HasWaiting, IsDapliveLine, IsEndLine, IsFollowLine, IsFramesLine, IsServeLine, IsWatchLine};
 ghost use Rattle.live_cli.specs.Inner.Spelling.{IsMisspelt};
 
@@ -20,10 +20,10 @@ use clap::error::ErrorKind;
 use clap::parser::ValueSource;
 use clap::{Arg, ArgAction, ArgMatches, Command, Error, value_parser};
 use dap_live::read_address;
-use dap_msg::{GREATEST_MESSAGE, LEAST_BUFFER};
+use dap_msg::{MAX_MESSAGE, MIN_BUFFER};
 use dap_text::{is, read_number, read_short};
 use decnet_frames::{Ends, read_node};
-use nsp_link::{LARGEST_SEGMENT, LARGEST_WINDOW};
+use nsp_link::{MAX_SEGMENT, MAX_WINDOW};
 use std::alloc::Global;
 use std::fmt;
 use std::fmt::Display;
@@ -167,58 +167,58 @@ fn number<'a>(
 
 /// The bytes that a segment may have at most: 1 to 1,400.
 fn segments<'a>() -> ValueParser<'a>
-    ensures { result ≡ parser.Signed (pos 1) (pos largest_segment) }
+    ensures { result ≡ parser.Signed (pos 1) (pos max_segment) }
 {
-    value_parser!(u16).range(1..=LARGEST_SEGMENT as i64)
+    value_parser!(u16).range(1..=MAX_SEGMENT as i64)
 }
 
 /// The segments that a window may have: 1 to 2,047.
 fn windows<'a>() -> ValueParser<'a>
-    ensures { result ≡ parser.Signed (pos 1) (pos largest_window) }
+    ensures { result ≡ parser.Signed (pos 1) (pos max_window) }
 {
-    value_parser!(u16).range(1..=LARGEST_WINDOW as i64)
+    value_parser!(u16).range(1..=MAX_WINDOW as i64)
 }
 
 /// The bytes that a buffer may have: 64 to 65,535.
 fn buffers<'a>() -> ValueParser<'a>
-    ensures { result ≡ parser.Signed (pos least_buffer) (pos greatest_message) }
+    ensures { result ≡ parser.Signed (pos min_buffer) (pos max_nsp_message) }
 {
-    value_parser!(u16).range(LEAST_BUFFER as i64..=GREATEST_MESSAGE as i64)
+    value_parser!(u16).range(MIN_BUFFER as i64..=MAX_MESSAGE as i64)
 }
 
 /// The bytes that may wait while an end serves more: 64 to 1,073,741,824.
-const LEAST_WAITING: i64 = 64;
+const MIN_WAITING: i64 = 64;
 
-const GREATEST_WAITING: u32 = 1 << 30;
+const MAX_WAITING: u32 = 1 << 30;
 
 /// What may wait where nothing is said: 1 MiB.
 const USUAL_WAITING: u32 = 1 << 20;
 
 /// The bytes that may wait.
 fn waitings<'a>() -> ValueParser<'a>
-    ensures { result ≡ parser.Signed (pos least_waiting) (pos greatest_waiting) }
+    ensures { result ≡ parser.Signed (pos min_waiting) (pos max_waiting) }
 {
-    value_parser!(u32).range(LEAST_WAITING..=GREATEST_WAITING as i64)
+    value_parser!(u32).range(MIN_WAITING..=MAX_WAITING as i64)
 }
 
 /// The links that a server may have room for: 1 to 1,023.
-const MOST_LINKS: i64 = 1023;
+const MAX_LINKS: i64 = 1023;
 
 /// The greatest OSTYPE and FILESYS.
-const GREATEST_CODE: u32 = 255;
+const MAX_CODE: u32 = 255;
 
 /// The links that there may be room for.
 fn link_counts<'a>() -> ValueParser<'a>
-    ensures { result ≡ parser.Signed (pos 1) (pos most_links) }
+    ensures { result ≡ parser.Signed (pos 1) (pos max_links) }
 {
-    value_parser!(u16).range(1..=MOST_LINKS)
+    value_parser!(u16).range(1..=MAX_LINKS)
 }
 
 /// A code of a Configuration: 0 to 255.
 fn codes_of<'a>() -> ValueParser<'a>
     ensures { result ≡ parser.Signed (pos 0) (pos 255) }
 {
-    value_parser!(u16).range(0..=GREATEST_CODE as i64)
+    value_parser!(u16).range(0..=MAX_CODE as i64)
 }
 
 /// The words with `--ostype` and `--filesys`, the codes of a Configuration.
@@ -609,7 +609,7 @@ fn code_in<'a>(matches: &ArgMatches<'a>, name: &'static str) -> Result<u8, Missp
 fn read_code(text: &str) -> Option<u8>
     ensures { result ≡ code_of text.now }
 {
-    let number = read_number(text.as_bytes(), GREATEST_CODE)?;
+    let number = read_number(text.as_bytes(), MAX_CODE)?;
     Some(number as u8)
 }
 
@@ -718,7 +718,7 @@ fn waiting_in<'a>(role: Role, matches: &ArgMatches<'a>) -> Result<u32, Misspelt<
         return Ok(USUAL_WAITING);
     }
     let value = text_in(matches, "waiting").unwrap_or("");
-    match read_number(value.as_bytes(), GREATEST_WAITING) {
+    match read_number(value.as_bytes(), MAX_WAITING) {
         Some(bytes) => Ok(bytes),
         None => {
             Err(Misspelt {
@@ -794,7 +794,7 @@ fn links_in<'a>(role: Role, matches: &ArgMatches<'a>) -> Result<u16, Misspelt<'a
 /// are several links, and last how names are compared.
 fn options_in<'a>(role: Role, matches: &ArgMatches<'a>) -> Result<Options, Misspelt<'a>>
     ensures options { result_ok result ≡ options_of role (rows_of (found_of matches.now)) }
-    ensures room { IfOk result (λ o. least_buffer ≤ o.buffer) }
+    ensures room { IfOk result (λ o. min_buffer ≤ o.buffer) }
     ensures syscap { IfOk result (λ o. o.syscap < 2 ^ 84) }
     ensures misspelt { IfErr result (IsMisspelt (rows_of (found_of matches.now))) }
 {
@@ -802,7 +802,7 @@ fn options_in<'a>(role: Role, matches: &ArgMatches<'a>) -> Result<Options, Missp
     let remote = address_in(matches, "remote")?;
     let segment = number_in(matches, "segment")?;
     let window = number_in(matches, "window")?;
-    let buffer = number_in(matches, "buffer")?.max(LEAST_BUFFER);
+    let buffer = number_in(matches, "buffer")?.max(MIN_BUFFER);
     let ostype = code_in(matches, "ostype")?;
     let filesys = code_in(matches, "filesys")?;
     let syscap = syscap_in(matches)?;

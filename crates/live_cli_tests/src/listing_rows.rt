@@ -23,7 +23,7 @@ pub(crate) const LISTING_ROWS: &[Row] = &[
 4 > segment middle dst=0202 src=0101 seg=2 acks=- len=1\n",
         b"",
     ),
-    // The same without the second.
+    // Without the second packet.
     (
         &["follow"],
         b"> 20020201010100010001020a\n\
@@ -234,7 +234,7 @@ frames reads a pcap or pcapng file\ntaken 0 passed 0\n",
         b"",
         b"daplive: 1.0: a node is an area, 1 to 63, a point, and a number, 1 to 1023, as 1.10\n",
     ),
-    // The same captures as their lines come; and a line at fault among others.
+    // Those captures as their lines come; and a line at fault among others.
     (
         &["watch"],
         b"> 20020201010100010001020a\n\
@@ -305,7 +305,7 @@ part > dst=0202 src=0101 seg=3..3 len=5\n",
         b"1 > bad truncated at=1\n2 > ack dst=0202 src=0101 acks=0:1\n",
         b"bad line 2\nbad line 3\n",
     ),
-    // The same in words; and a frame that a bad line is after, which tells of no packet.
+    // Those in words; and a frame that a bad line is after, which tells of no packet.
     (
         &["watch", "--words"],
         b"# frame 12 1600000000.123456 1.1 -> 1.2\n\

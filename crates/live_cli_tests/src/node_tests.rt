@@ -5,7 +5,7 @@ use dap_accessed::{ALL_RIGHTS, Names, ServerSetup};
 use dap_live::Node;
 use dap_msg::Configuration;
 use linewise::talk;
-use nsp_link::{LARGEST_LIMIT, LinkSetup};
+use nsp_link::{LinkSetup, MAX_LIMIT};
 use std::alloc::Global;
 use std::test::Fail;
 
@@ -15,7 +15,7 @@ const USUAL: LinkSetup = LinkSetup {
     remote: 0,
     seg_size: 512,
     window: 8,
-    max_message: LARGEST_LIMIT,
+    max_message: MAX_LIMIT,
 };
 
 /// What a server of this many links, which says what is true of it, answers to lines.

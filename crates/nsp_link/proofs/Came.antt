@@ -12,7 +12,7 @@ use Rattle.nsp_link.specs.declared.fault.LinkFault.TheVariants.{BadSequence, Exh
 use Rattle.nsp_link.specs.Coming.{Coming, with_all_taken, RefusesAll}
 use Rattle.nsp_link.specs.Cutting.{Piece}
 use Rattle.nsp_link.specs.Holding.{following}
-use Rattle.nsp_link.specs.Limits.{most_segments}
+use Rattle.nsp_link.specs.Limits.{max_segments}
 use Rattle.nsp_link.specs.Link.{LinkValue, IsLink, Stands, KeepsEarly, got_of, held_after, piece_of, with_acked}
 use Rattle.nsp_link.specs.Receiving.{segment_number, taking_in, run, Received, Receives}
 use Rattle.nsp_link.specs.Due.{IsDue, Delivered, MayRefuse, taken_after}
@@ -69,16 +69,16 @@ refused_next : (old : LinkValue) (p : Piece) (n : ℕ) (e : LinkFault) → n ≡
 refused_next old p n e next (inl memory) out =
     let few = (subst (RefusesAll old.setup.max_message old.coming (run old p)) memory out).1 in
     let same : following (old.coming.received + 1) old.held ≡ following n old.held = ap (λ (k : ℕ). following k old.held) (sym next) in
-    let within : n + length (following n old.held) ≤ most_segments = omega (arith, few, ap length same, next) in
+    let within : n + length (following n old.held) ≤ max_segments = omega (arith, few, ap length same, next) in
     inl (memory, inl next, rw (eq-eqb n (old.coming.received + 1) next) within)
 refused_next old p n e next (inr many) out =
     let over = (subst (RefusesAll old.setup.max_message old.coming (run old p)) many out).1 in
     let same : following (old.coming.received + 1) old.held ≡ following n old.held = ap (λ (k : ℕ). following k old.held) (sym next) in
-    let beyond : most_segments < n + length (following n old.held) = omega (arith, over, ap length same, next) in
+    let beyond : max_segments < n + length (following n old.held) = omega (arith, over, ap length same, next) in
     inr (many, next, rw (eq-eqb n (old.coming.received + 1) next) beyond)
 
 -- it was refused
-refused : (old new : LinkValue) (e : LinkFault) (size : ℕ) (messages given : List (List ℕ)) (p : Packet) (k : Option ℕ) (a : ℕ) → IsDue old size messages given p k a → old.coming.received ≤ most_segments → (e ≡ NoMemory) ⊎ (e ≡ Exhausted) → Received old p (Err e) new → MayRefuse old k e
+refused : (old new : LinkValue) (e : LinkFault) (size : ℕ) (messages given : List (List ℕ)) (p : Packet) (k : Option ℕ) (a : ℕ) → IsDue old size messages given p k a → old.coming.received ≤ max_segments → (e ≡ NoMemory) ⊎ (e ≡ Exhausted) → Received old p (Err e) new → MayRefuse old k e
 refused old new e size messages given p k a due few why (inl (out, _), _) = absurd (out due.2.way)
 refused old new e size messages given (DataAck s) k a due few why (inr (_, (_, bad)), _) = absurd (no_sequence e why bad)
 refused old new e size messages given (Segment s) k a due few why (inr (_, inl (_, bad)), _) = absurd (no_sequence e why bad)

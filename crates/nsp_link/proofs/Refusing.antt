@@ -11,7 +11,7 @@ use Rattle.nsp_link.specs.declared.link.Got.TheVariants.{Accepted}
 use Rattle.nsp_link.specs.declared.fault.LinkFault.{LinkFault}
 use Rattle.nsp_link.specs.declared.fault.LinkFault.TheVariants.{Malformed, WrongLink, BadSequence, MessageTooLong, Exhausted, NoMemory}
 use Rattle.nsp_link.specs.Cutting.{Piece}
-use Rattle.nsp_link.specs.Limits.{most_segments}
+use Rattle.nsp_link.specs.Limits.{max_segments}
 use Rattle.nsp_link.specs.Coming.{Coming, with_taken, with_all_taken, FitsNext, AllFitInOrder, Misfits, MisfitsOne, RefusesAll}
 use Rattle.nsp_link.specs.Link.{LinkValue, IsBetween, first_ack, got_of, piece_of, with_acked}
 use Rattle.nsp_link.specs.Receiving.{newly_acked, Received, Refuses, Acknowledges, segment_number, taking_in, run, stopped, ReceivedBytes, LetsGo, Bounded, BoundedBytes, Receives}
@@ -72,7 +72,7 @@ taken_count c [] = omega arith
 taken_count c (p ∷ ps) = omega (arith, taken_count (with_taken c p) ps)
 
 -- segments that were taken aren't refused
-taken_apart : (limit : ℕ) (c : Coming) (ps : List Piece) (e : LinkFault) → e ≢ NoMemory → AllFitInOrder limit c ps → (with_all_taken c ps).received ≤ most_segments → RefusesAll limit c ps e → ⊥
+taken_apart : (limit : ℕ) (c : Coming) (ps : List Piece) (e : LinkFault) → e ≢ NoMemory → AllFitInOrder limit c ps → (with_all_taken c ps).received ≤ max_segments → RefusesAll limit c ps e → ⊥
 taken_apart limit c ps BadSequence ne a few b = all_apart limit c ps BadSequence b a
 taken_apart limit c ps MessageTooLong ne a few b = all_apart limit c ps MessageTooLong b a
 taken_apart limit c ps Exhausted ne a few b = omega (arith, taken_count c ps, few, b.1)
@@ -92,16 +92,16 @@ received_one old one two (Segment s) g h (_, (a, _, acks)) (_, (b, _, others)) =
 received_one old one two (DataAck s) g h (_, (a, acks)) (_, (b, others)) = (a ∙ sym b, acks_one old old one two (first_ack (Some s.ack1) s.ack2) acks others)
 
 -- the next segment and those that follow it aren't refused where they were taken
-next_apart : (old one : LinkValue) (k : ℕ) (p : Piece) (g : Got) (e : LinkFault) (count : ℕ) → e ≢ NoMemory → one.coming.received ≤ most_segments → k ≡ old.coming.received + 1
+next_apart : (old one : LinkValue) (k : ℕ) (p : Piece) (g : Got) (e : LinkFault) (count : ℕ) → e ≢ NoMemory → one.coming.received ≤ max_segments → k ≡ old.coming.received + 1
     → g ≡ got_of old.coming.received (Some k) → (g ≡ Accepted → AllFitInOrder old.setup.max_message old.coming (run old p)) → one ≡ with_acked (taking_in old k p) count → RefusesAll old.setup.max_message old.coming (run old p) e → ⊥
 next_apart old one k p g e count ne few next same fits left out =
     let test : (k == old.coming.received + 1) ≡ true = eq-eqb k (old.coming.received + 1) next in
     let got : got_of old.coming.received (Some k) ≡ Accepted = rw test refl in
     let all : (taking_in old k p).coming.received ≡ (with_all_taken old.coming (run old p)).received = rw test refl in
-    taken_apart old.setup.max_message old.coming (run old p) e ne (fits (same ∙ got)) (subst (λ (n : ℕ). n ≤ most_segments) (ap (λ (v : LinkValue). v.coming.received) left ∙ all) few) out
+    taken_apart old.setup.max_message old.coming (run old p) e ne (fits (same ∙ got)) (subst (λ (n : ℕ). n ≤ max_segments) (ap (λ (v : LinkValue). v.coming.received) left ∙ all) few) out
 
 -- a packet that was taken isn't refused
-taken_or_not : (old one two : LinkValue) (p : Packet) (g : Got) (e : LinkFault) → e ≢ NoMemory → one.coming.received ≤ most_segments → Received old p (Ok g) one → Received old p (Err e) two → ⊥
+taken_or_not : (old one two : LinkValue) (p : Packet) (g : Got) (e : LinkFault) → e ≢ NoMemory → one.coming.received ≤ max_segments → Received old p (Ok g) one → Received old p (Err e) two → ⊥
 taken_or_not old one two (Segment s) g e ne few a (inl (out, _), _) = out a.0
 taken_or_not old one two (Segment s) g e ne few (_, (_, _, acks)) (inr (_, inl (none, _)), _) = let none-is : ⊥ = (let both = sym none ∙ acks.1 in cc) in none-is
 taken_or_not old one two (Segment s) g e ne few (_, (same, fits, acks)) (inr (_, inr (_, inl (next, out))), _) =
@@ -139,7 +139,7 @@ failed_by f = Err f
 abbrev malformed_by : SegFault → Result Got LinkFault
 malformed_by f = Err (Malformed f)
 
-packet_same : (old one two : LinkValue) (p : Packet) (r s : Result Got LinkFault) → r ≢ Err NoMemory → s ≢ Err NoMemory → one.coming.received ≤ most_segments → two.coming.received ≤ most_segments
+packet_same : (old one two : LinkValue) (p : Packet) (r s : Result Got LinkFault) → r ≢ Err NoMemory → s ≢ Err NoMemory → one.coming.received ≤ max_segments → two.coming.received ≤ max_segments
     → Received old p r one → Received old p s two → (r ≡ s) × (one ≡ two)
 packet_same old one two p (Ok g) (Ok h) nr ns few less a b =
     let same = received_one old one two p g h a b in (ap got_by same.0, same.1)
@@ -155,7 +155,7 @@ abbrev AreBytes : List ℕ → Type 0
 AreBytes bytes = (i : ℕ) → slice_index bytes i < 256
 
 -- what any end does that hasn't failed is determined, out of memory aside
-pub bytes_same : (old one two : LinkValue) (bytes : List ℕ) (r s : Result Got LinkFault) → AreBytes bytes → r ≢ Err NoMemory → s ≢ Err NoMemory → one.coming.received ≤ most_segments → two.coming.received ≤ most_segments
+pub bytes_same : (old one two : LinkValue) (bytes : List ℕ) (r s : Result Got LinkFault) → AreBytes bytes → r ≢ Err NoMemory → s ≢ Err NoMemory → one.coming.received ≤ max_segments → two.coming.received ≤ max_segments
     → ReceivedBytes old one bytes r → ReceivedBytes old two bytes s → (r ≡ s) × (one ≡ two)
 bytes_same old one two bytes r s fits nr ns few less (inl a) (inl b) =
     (a.1 ∙ ap malformed_by (fault-one a.0 b.0 bytes fits a.2 b.2) ∙ sym b.1, a.3 ∙ sym b.3)
@@ -187,14 +187,14 @@ let_go_same old one two (Segment s) (Err e) (Err f) (why, left) (also, right) =
     reason (inr a) (inr b) = a.2 ∙ sym b.2
 let_go_same old one two (DataAck s) r t a b = absurd a
 
-bounded_same : (old one two : LinkValue) (p : Packet) (r s : Result Got LinkFault) → r ≢ Err NoMemory → s ≢ Err NoMemory → one.coming.received ≤ most_segments → two.coming.received ≤ most_segments
+bounded_same : (old one two : LinkValue) (p : Packet) (r s : Result Got LinkFault) → r ≢ Err NoMemory → s ≢ Err NoMemory → one.coming.received ≤ max_segments → two.coming.received ≤ max_segments
     → Bounded old p r one → Bounded old p s two → (r ≡ s) × (one ≡ two)
 bounded_same old one two p r s nr ns few less (inl (_, a)) (inl (_, b)) = let_go_same old one two p r s a b
 bounded_same old one two p r s nr ns few less (inl (long, _)) (inr (fits, _)) = let both = sym long ∙ fits in absurd cc
 bounded_same old one two p r s nr ns few less (inr (fits, _)) (inl (long, _)) = let both = sym long ∙ fits in absurd cc
 bounded_same old one two p r s nr ns few less (inr (_, a)) (inr (_, b)) = packet_same old one two p r s nr ns few less a b
 
-bounded_bytes_same : (old one two : LinkValue) (bytes : List ℕ) (r s : Result Got LinkFault) → AreBytes bytes → r ≢ Err NoMemory → s ≢ Err NoMemory → one.coming.received ≤ most_segments → two.coming.received ≤ most_segments
+bounded_bytes_same : (old one two : LinkValue) (bytes : List ℕ) (r s : Result Got LinkFault) → AreBytes bytes → r ≢ Err NoMemory → s ≢ Err NoMemory → one.coming.received ≤ max_segments → two.coming.received ≤ max_segments
     → BoundedBytes old one bytes r → BoundedBytes old two bytes s → (r ≡ s) × (one ≡ two)
 bounded_bytes_same old one two bytes r s fits nr ns few less (inl a) (inl b) =
     (a.1 ∙ ap malformed_by (fault-one a.0 b.0 bytes fits a.2 b.2) ∙ sym b.1, a.3 ∙ sym b.3)

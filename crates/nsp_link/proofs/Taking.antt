@@ -15,7 +15,7 @@ use Rattle.nsp_link.specs.Inner.Whole.{AreWholeIn, HasWhole, begun_bytes}
 use Rattle.nsp_link.specs.Coming.{Coming, body_with, with_taken, with_all_taken, AllFitInOrder, Misfits, MisfitsOne, RefusesAll, FitsNext}
 use Rattle.nsp_link.specs.declared.fault.LinkFault.{LinkFault}
 use Rattle.nsp_link.specs.declared.fault.LinkFault.TheVariants.{BadSetup, Malformed, WrongLink, BadSequence, MessageTooLong, Failed, Exhausted, NoSuchSegment, NoMemory}
-use Rattle.nsp_link.specs.Limits.{most_segments}
+use Rattle.nsp_link.specs.Limits.{max_segments}
 use Rattle.nsp_link.proofs.Counts.{length-cut_message}
 
 -- the front of a list in two parts
@@ -232,7 +232,7 @@ fit-not limit c (p ∷ ps) e fit (inr out) = fit-not limit (with_taken c p) ps e
 
 -- segments that fit are refused for want of numbers or memory alone
 pub refuses-all : (limit : ℕ) (c : Coming) (ps : List Piece) (e : LinkFault) → AllFitInOrder limit c ps → RefusesAll limit c ps e
-    → ((e ≡ NoMemory) × (c.received + length ps ≤ most_segments)) ⊎ ((e ≡ Exhausted) × (most_segments < c.received + length ps))
+    → ((e ≡ NoMemory) × (c.received + length ps ≤ max_segments)) ⊎ ((e ≡ Exhausted) × (max_segments < c.received + length ps))
 refuses-all limit c ps BadSequence fit out = absurd (fit-not limit c ps BadSequence fit out)
 refuses-all limit c ps MessageTooLong fit out = absurd (fit-not limit c ps MessageTooLong fit out)
 refuses-all limit c ps Exhausted fit out = inr (refl, out.1)

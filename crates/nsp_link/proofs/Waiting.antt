@@ -10,7 +10,7 @@ use Rattle.std.proofs.Math.Seq.{take-append-add, drop-append-add}
 use Rattle.std.proofs.lemmas.Bool.{cases_lt, ne_eqb}
 use Rattle.std.proofs.lemmas.List.Sums.{sum_by-append, sum_by_push, sum_by-cons, sum_by-le}
 use Rattle.std.proofs.lemmas.List.FromFn.{map-range_with_len_more, take-map-range_with_len}
-use Rattle.nsp_link.specs.Limits.{largest_limit}
+use Rattle.nsp_link.specs.Limits.{max_limit}
 use Rattle.nsp_link.specs.Inner.Pieces.{Segment, piece, piece_values}
 use Rattle.nsp_link.specs.Cutting.{Piece, count_of, piece_at, cut_message, cut, total_length, bytes_in, part_after}
 use Rattle.nsp_seg.specs.declared.packet.Packet.{Packet}
@@ -67,11 +67,11 @@ messages_few size (m ∷ ms) =
     let both = length-append (cut_message size m) (cut size ms) in
     omega (arith, both, length-cut_message size m, messages_few size ms)
 
-pub bytes_few : (size limit : ℕ) (messages : List (List ℕ)) → limit ≤ largest_limit → All (λ m. length m ≤ limit) messages → total_length messages ≤ largest_limit * length (cut size messages)
+pub bytes_few : (size limit : ℕ) (messages : List (List ℕ)) → limit ≤ max_limit → All (λ m. length m ≤ limit) messages → total_length messages ≤ max_limit * length (cut size messages)
 bytes_few size limit messages le short =
     let all = sum_by-le (λ (m : List ℕ). length m) limit messages short in
     let few = messages_few size messages in
-    let one : length messages * limit ≤ length messages * largest_limit = mul-le-mul_left (length messages) le in
+    let one : length messages * limit ≤ length messages * max_limit = mul-le-mul_left (length messages) le in
     omega (arith, all, few, one)
 
 -- ---- What is left of a message.

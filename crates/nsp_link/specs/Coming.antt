@@ -3,7 +3,7 @@ use Rattle.std.specs.Prelude.{◌≡◌, ◌≢◌, ℕ, ◌+◌, ◌<◌, ◌�
 use Rattle.nsp_link.specs.declared.fault.LinkFault.{LinkFault}
 use Rattle.nsp_link.specs.declared.fault.LinkFault.TheVariants.{BadSequence, MessageTooLong, Exhausted, NoMemory}
 use Rattle.nsp_link.specs.Cutting.{Piece}
-use Rattle.nsp_link.specs.Limits.{most_segments}
+use Rattle.nsp_link.specs.Limits.{max_segments}
 
 -- How many segments were taken in order, the bytes of the message that is begun, and the whole messages that weren't
 -- returned.
@@ -60,6 +60,6 @@ MisfitsOne limit c (p ∷ ps) e = Misfits limit c p e ⊎ (FitsNext limit c p ×
 abbrev pub RefusesAll : ℕ → Coming → List Piece → LinkFault → Type 0
 RefusesAll limit c ps BadSequence = MisfitsOne limit c ps BadSequence
 RefusesAll limit c ps MessageTooLong = MisfitsOne limit c ps MessageTooLong
-RefusesAll limit c ps Exhausted = AllFitInOrder limit c ps × (most_segments < c.received + length ps)
-RefusesAll limit c ps NoMemory = AllFitInOrder limit c ps × (c.received + length ps ≤ most_segments)
+RefusesAll limit c ps Exhausted = AllFitInOrder limit c ps × (max_segments < c.received + length ps)
+RefusesAll limit c ps NoMemory = AllFitInOrder limit c ps × (c.received + length ps ≤ max_segments)
 RefusesAll limit c ps _ = ⊥

@@ -5,7 +5,7 @@ use Rattle.nsp_link.specs.declared.fault.LinkFault.{LinkFault}
 use Rattle.nsp_link.specs.declared.fault.LinkFault.TheVariants.{Exhausted, NoMemory}
 use Rattle.nsp_link.specs.Cutting.{Piece}
 use Rattle.nsp_link.specs.Holding.{following}
-use Rattle.nsp_link.specs.Limits.{most_segments}
+use Rattle.nsp_link.specs.Limits.{max_segments}
 use Rattle.nsp_link.specs.Link.{LinkValue, Stands, IsOfPeer, KeepsEarly, held_after}
 
 -- The end hasn't failed and has taken some of the peer's messages, and the packet is of that peer.
@@ -36,5 +36,5 @@ pub record Delivered (old new : LinkValue) (k : Option ℕ) (a : ℕ) : Type 0 w
 abbrev pub MayRefuse : LinkValue → Option ℕ → LinkFault → Type 0
 MayRefuse v None e = ⊥
 MayRefuse v (Some k) e =
-    ((e ≡ NoMemory) × ((k ≡ v.coming.received + 1) ⊎ KeepsEarly v k) × (taken_after v (Some k) ≤ most_segments))
-    ⊎ ((e ≡ Exhausted) × (k ≡ v.coming.received + 1) × (most_segments < taken_after v (Some k)))
+    ((e ≡ NoMemory) × ((k ≡ v.coming.received + 1) ⊎ KeepsEarly v k) × (taken_after v (Some k) ≤ max_segments))
+    ⊎ ((e ≡ Exhausted) × (k ≡ v.coming.received + 1) × (max_segments < taken_after v (Some k)))

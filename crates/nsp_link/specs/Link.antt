@@ -18,7 +18,7 @@ use Rattle.nsp_link.specs.declared.fault.LinkFault.TheVariants.{BadSetup, NoMemo
 use Rattle.nsp_link.specs.Cutting.{Piece, cut, bytes_in, part_after}
 use Rattle.nsp_link.specs.Coming.{Coming, nothing_came, with_all_taken}
 use Rattle.nsp_link.specs.Holding.{AreHeld, following}
-use Rattle.nsp_link.specs.Limits.{largest_segment, largest_window, greatest_age, least_limit, largest_limit, most_segments}
+use Rattle.nsp_link.specs.Limits.{max_segment, max_window, max_age, min_limit, max_limit, max_segments}
 
 -- what an end keeps
 pub record LinkValue : Type 0 where
@@ -38,8 +38,8 @@ pub record LinkValue : Type 0 where
 -- the limits of a setup: segments of 1 to 1,400 bytes, a window of 1 to 2,047, messages of 64 to 65,535 bytes
 abbrev pub IsSetup : LinkSetup → Type 0
 IsSetup s =
-    (1 ≤ s.seg_size) × (s.seg_size ≤ largest_segment) × (1 ≤ s.window) × (s.window ≤ largest_window)
-    × (least_limit ≤ s.max_message) × (s.max_message ≤ largest_limit)
+    (1 ≤ s.seg_size) × (s.seg_size ≤ max_segment) × (1 ≤ s.window) × (s.window ≤ max_window)
+    × (min_limit ≤ s.max_message) × (s.max_message ≤ max_limit)
 
 -- why no end is made
 abbrev pub SetupFault : LinkSetup → LinkFault → Type 0
@@ -64,8 +64,8 @@ pub record IsLink (v : LinkValue) : Type 0 where
   pub acked : v.acked ≤ v.sent
   pub within : v.sent ≤ v.acked + v.setup.window
   pub queued : v.sent ≤ v.acked + length v.queue
-  pub few_sent : v.acked + length v.queue ≤ most_segments
-  pub few_taken : v.coming.received ≤ most_segments
+  pub few_sent : v.acked + length v.queue ≤ max_segments
+  pub few_taken : v.coming.received ≤ max_segments
   pub partial : length (unwrap_or v.coming.partial []) ≤ v.setup.max_message
   -- those that are held lie above the next one, within the window
   pub held : AreHeld (v.coming.received + 1) (v.coming.received + 1 + v.setup.window) v.held
@@ -207,7 +207,7 @@ HandsOut old new message = (old.coming.inbox ≡ message ∷ new.coming.inbox) �
 -- The segment is at most 2,047 below the next one to be taken, and the acknowledgement at most 2,047 below the count
 -- acknowledged.
 abbrev pub IsTimely : LinkValue → Option ℕ → ℕ → Type 0
-IsTimely v k a = IfSome k (λ n. v.coming.received + 1 ≤ n + greatest_age) × (v.acked ≤ a + greatest_age)
+IsTimely v k a = IfSome k (λ n. v.coming.received + 1 ≤ n + max_age) × (v.acked ≤ a + max_age)
 
 -- how a segment is answered, or a packet without one
 abbrev pub got_of : ℕ → Option ℕ → Got
@@ -240,5 +240,5 @@ pub record IsOfPeer (v : LinkValue) (size : ℕ) (messages : List (List ℕ)) (p
   pub way : IsBetween v.setup.remote v.setup.local p
   pub carries : Carries p (cut size messages) k a
   pub fresh : IsTimely v k a
-  pub near : IfSome k (λ n. n ≤ v.coming.received + largest_window)
+  pub near : IfSome k (λ n. n ≤ v.coming.received + max_window)
   pub believable : a ≤ v.sent

@@ -13,7 +13,7 @@ use Rattle.nsp_link.specs.declared.link.Got.TheVariants.{Accepted, Early, AckOnl
 use Rattle.nsp_link.specs.Cutting.{Piece}
 use Rattle.nsp_link.specs.Coming.{with_all_taken, AllFitInOrder, RefusesAll}
 use Rattle.nsp_link.specs.Holding.{following}
-use Rattle.nsp_link.specs.Limits.{most_segments}
+use Rattle.nsp_link.specs.Limits.{max_segments}
 use Rattle.nsp_link.specs.Link.{LinkValue, got_of, held_after, Stands, SendsStill, failed_link, first_ack, piece_of, IsBetween, KeepsEarly, with_acked}
 use Rattle.nsp_link.specs.Due.{IsDue, Delivered, MayRefuse}
 
@@ -143,6 +143,6 @@ pub record Receives (old new : LinkValue) (bytes : List ℕ) (result : Result Go
   pub any : old.failed ≡ false → BoundedBytes old new bytes result
   pub due : ReceivedDue old new bytes result
   -- no end takes more segments than that
-  pub few : new.coming.received ≤ most_segments
+  pub few : new.coming.received ≤ max_segments
   -- the messages sent stay those that were sent
   pub sends : SendsStill old new

@@ -5,7 +5,7 @@ use Rattle.nsp_seg.specs.declared.packet.Packet.{Packet}
 use Rattle.nsp_link.specs.declared.fault.LinkFault.{LinkFault}
 use Rattle.nsp_link.specs.declared.fault.LinkFault.TheVariants.{MessageTooLong, Failed, Exhausted, NoMemory}
 use Rattle.nsp_link.specs.Cutting.{Piece, cut}
-use Rattle.nsp_link.specs.Limits.{most_segments}
+use Rattle.nsp_link.specs.Limits.{max_segments}
 use Rattle.nsp_link.specs.Link.{LinkValue, AreShort, may_send, Sends, Writes, IsSpelling, written_segment, written_ack}
 
 -- a segment under its number
@@ -43,7 +43,7 @@ queued_link v pieces = record v { queue = v.queue ++ pieces }
 abbrev pub may_queue : LinkValue → List (List ℕ) → Bool
 may_queue v messages =
     not v.failed && (list_all (λ m. nat_le (length m) v.setup.max_message) messages
-    && nat_le (v.acked + length v.queue + length (cut v.setup.seg_size messages)) most_segments)
+    && nat_le (v.acked + length v.queue + length (cut v.setup.seg_size messages)) max_segments)
 
 -- Why none of the messages is sent: the first reason in this order. An empty list is never out of memory.
 abbrev pub SendAllFault : LinkValue → List (List ℕ) → LinkFault → Type 0
@@ -51,6 +51,6 @@ SendAllFault v messages Failed = IsTrue v.failed
 SendAllFault v messages MessageTooLong =
     (v.failed ≡ false) × ((k : ℕ) × (k < length messages) × (v.setup.max_message < length (slice_index_or messages k [])))
 SendAllFault v messages Exhausted =
-    (v.failed ≡ false) × AreShort v messages × (most_segments < v.acked + length v.queue + length (cut v.setup.seg_size messages))
+    (v.failed ≡ false) × AreShort v messages × (max_segments < v.acked + length v.queue + length (cut v.setup.seg_size messages))
 SendAllFault v messages NoMemory = IsTrue (may_queue v messages) × (messages ≢ [])
 SendAllFault v messages _ = ⊥

@@ -12,7 +12,7 @@ ghost use Rattle.nsp_link.specs.declared.fault.LinkFault.{LinkFault as TheFault}
 ghost use Rattle.nsp_link.specs.declared.fault.LinkFault.TheVariants.{NoMemory};
 ghost use Rattle.nsp_link.specs.Cutting.{Piece, cut, total_length};
 ghost use Rattle.nsp_link.specs.Holding.{following, closed_up};
-ghost use Rattle.nsp_link.specs.Limits.{greatest_age, most_segments};
+ghost use Rattle.nsp_link.specs.Limits.{max_age, max_segments};
 ghost use Rattle.nsp_link.specs.Link.{LinkValue, IsLink, AreUnfinished, Carries, Sends, Stands, Writes, new_link, waiting_bytes};
 ghost use Rattle.nsp_link.specs.Receiving.{ReceivedBytes, Receives};
 ghost use Rattle.nsp_link.specs.Sending.{queued_link};
@@ -51,9 +51,9 @@ pub fn whole_messages_are_taken()
 pub fn distances_separate()
     ensures segment { (from to : LinkValue) (k : ℕ)
         → IsLink from → from.acked ≤ to.coming.received → k ≤ from.sent
-        → to.coming.received + 1 ≤ k + greatest_age → IsSegmentNear to.coming.received k }
+        → to.coming.received + 1 ≤ k + max_age → IsSegmentNear to.coming.received k }
     ensures ack { (v : LinkValue) (a : ℕ)
-        → IsLink v → a ≤ v.sent → v.acked ≤ a + greatest_age → IsAckNear v.acked a }
+        → IsLink v → a ≤ v.sent → v.acked ≤ a + max_age → IsAckNear v.acked a }
     ensures segments_apart { (received k l : ℕ)
         → IsSegmentNear received k → IsSegmentNear received l
         → residue k ≡ residue l → k ≡ l }
@@ -66,7 +66,7 @@ pub fn distances_separate()
 pub fn receiving_is_determined()
     ensures any { (old one two : LinkValue) (bytes : List ℕ) (r s : Result TheGot TheFault)
         → ((i : ℕ) → slice_index bytes i < 256) → r ≢ Err NoMemory → s ≢ Err NoMemory
-        → one.coming.received ≤ most_segments → two.coming.received ≤ most_segments
+        → one.coming.received ≤ max_segments → two.coming.received ≤ max_segments
         → ReceivedBytes old one bytes r → ReceivedBytes old two bytes s
         → (r ≡ s) × (one ≡ two) }
     ensures bounded { (old one two : LinkValue) (bytes : List ℕ) (r s : Result TheGot TheFault)

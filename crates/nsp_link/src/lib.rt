@@ -16,6 +16,4 @@ pub use laws::{
     distances_separate, held_by_number, messages_only_grow, receiving_is_determined,
     whole_messages_are_taken, whole_messages_wait,
 };
-pub use link::{
-    GREATEST_AGE, Got, LARGEST_LIMIT, LARGEST_SEGMENT, LARGEST_WINDOW, LinkEnd, LinkSetup, is_setup,
-};
+pub use link::{Got, LinkEnd, LinkSetup, MAX_AGE, MAX_LIMIT, MAX_SEGMENT, MAX_WINDOW, is_setup};

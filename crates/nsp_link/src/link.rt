@@ -42,19 +42,19 @@ pub enum Got {
 
 /// How old a segment or an acknowledgement is at most that its 12-bit number identifies (NSP 4.0.0, segment
 /// numbers).
-pub const GREATEST_AGE: u64 = 2047;
+pub const MAX_AGE: u64 = 2047;
 
 /// The bytes of a segment at most.
-pub const LARGEST_SEGMENT: usize = 1400;
+pub const MAX_SEGMENT: usize = 1400;
 
 /// The segments sent and not acknowledged at most: fewer than half of the 4,096 numbers.
-pub const LARGEST_WINDOW: usize = GREATEST_AGE as usize;
+pub const MAX_WINDOW: usize = MAX_AGE as usize;
 
-/// The limit on a message lies between this and [`LARGEST_LIMIT`].
-const LEAST_LIMIT: usize = 64;
+/// The limit on a message lies between this and [`MAX_LIMIT`].
+const MIN_LIMIT: usize = 64;
 
 /// The bytes of a message at most.
-pub const LARGEST_LIMIT: usize = 65535;
+pub const MAX_LIMIT: usize = 65535;
 
 /// One end of an open link (NSP 4.0.0, data segments and their acknowledgement). What it returns is a prefix of
 /// the messages that the other end sent, each once and in order, and no acknowledgement moves it beyond
@@ -203,7 +203,7 @@ pub fn is_setup(setup: &LinkSetup) -> bool
     ensures yes { result ≡ true → IsSetup setup.now }
     ensures no { result ≡ false → IsSetup setup.now → ⊥ }
 {
-    (1..=LARGEST_SEGMENT).contains(&setup.seg_size)
-        && (1..=LARGEST_WINDOW).contains(&setup.window)
-        && (LEAST_LIMIT..=LARGEST_LIMIT).contains(&setup.max_message)
+    (1..=MAX_SEGMENT).contains(&setup.seg_size)
+        && (1..=MAX_WINDOW).contains(&setup.window)
+        && (MIN_LIMIT..=MAX_LIMIT).contains(&setup.max_message)
 }

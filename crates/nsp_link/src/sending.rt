@@ -4,13 +4,13 @@ ghost use Rattle.std.specs.Prelude.{◌≡◌, ◌≢◌, ◌+◌, ◌-◌, ◌<
 ghost use Rattle.nsp_seg.specs.Packets.{IsWritable};
 ghost use Rattle.nsp_link.specs.declared.fault.LinkFault.TheVariants.{Failed, NoMemory, NoSuchSegment};
 ghost use Rattle.nsp_link.specs.Cutting.{cut, cut_message};
-ghost use Rattle.nsp_link.specs.Limits.{most_segments};
+ghost use Rattle.nsp_link.specs.Limits.{max_segments};
 ghost use Rattle.nsp_link.specs.Link.{SendsStill, SendsMore, StandsStill, may_send, Writes, IsSpelling, acknowledging};
 ghost use Rattle.nsp_link.specs.Sending.{WritesQueued, WritesSent, WritesNext, NextFault, ack_packet_of, queued_link, SendAllFault, may_queue};
 
 use crate::cutting::{check_all, queue_all, queue_message, segment_count, total_len};
 use crate::fault::LinkFault;
-use crate::incoming::MOST_SEGMENTS;
+use crate::incoming::MAX_SEGMENTS;
 use crate::link::LinkEnd;
 use nsp_seg::{AckField, AckFields, PacketValue, Payload, SegmentFields, Seq12, encode_value};
 
@@ -73,8 +73,8 @@ impl LinkEnd {
         self.send_checked(messages)
     }
 
-    /// The same of messages that `check_messages` lets through: they aren't looked at again. Fails only if memory
-    /// is refused, with nothing changed.
+    /// Queues messages that `check_messages` lets through, as `send_all` does: they aren't looked at again. Fails
+    /// only if memory is refused, with nothing changed.
     pub fn send_checked(&mut self, messages: &[Vec<u8>]) -> Result<(), LinkFault>
         requires { IsTrue (may_queue self.old (map (λ v. v.items) messages.now)) }
         ensures ok { OnOk result (self.new
@@ -116,9 +116,9 @@ impl LinkEnd {
 
     /// How many segments may still be queued.
     fn room(&self) -> u64
-        ensures { self.now.acked + length self.now.queue + result ≡ most_segments }
+        ensures { self.now.acked + length self.now.queue + result ≡ max_segments }
     {
-        MOST_SEGMENTS - self.acked - (self.queue.len() as u64)
+        MAX_SEGMENTS - self.acked - (self.queue.len() as u64)
     }
 
     /// Whether a segment that was never sent waits and the window has room, so that `next_packet` writes one,
@@ -198,8 +198,8 @@ impl LinkEnd {
         Ok(Some(packet))
     }
 
-    /// The same of an end that hasn't failed, and of a segment of which `may_send` says: neither is looked at
-    /// again. Fails only if memory is refused, with nothing changed.
+    /// The packet of the next segment, as `next_packet` writes it, where the end hasn't failed and `may_send` says
+    /// that it may go: neither is looked at again. Fails only if memory is refused, with nothing changed.
     pub fn write_next(&mut self) -> Result<Vec<u8>, LinkFault>
         requires works { self.old.failed ≡ false }
         requires may { IsTrue (may_send self.old) }

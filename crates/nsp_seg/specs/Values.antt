@@ -20,7 +20,7 @@ packet_value (packet.Segment first last dst src ack1 ack2 number payload) = Segm
 })
 packet_value (packet.DataAck dst src ack1 ack2) = DataAck (record { dst = dst; src = src; ack1 = ack1; ack2 = ack2 })
 
--- the same of an answer of `decode_packet`
+-- the answer of `decode_packet`, with the value of its packet
 abbrev pub packet_answer_value : Result Packet SegFault → Result PacketValue SegFault
 packet_answer_value (Ok packet) = Ok (packet_value packet)
 packet_answer_value (Err fault) = Err fault

@@ -137,8 +137,8 @@ pub fn encode_packet(packet: &Packet<'_>, out: &mut Vec<u8>) -> Result<(), SegFa
     ensures fits { OnOk result (FitsFields (packet_value packet.now)) }
     ensures err { OnErr result (out.new.items ≡ out.old.items) }
     ensures fault { IsOkUnless result NoMemory }
-    ensures room { vec_len out.old + length (spelling (packet_value packet.now)) ≤ vec_capacity out.old
-        → IsOk result }
+    ensures room { vec_len out.old + length (spelling (packet_value packet.now))
+        ≤ vec_capacity out.old → IsOk result }
     ensures capacity { vec_capacity out.old ≤ vec_capacity out.new }
 {
     encode_value(&packet.to_value(), out)

@@ -17,7 +17,7 @@ pub(crate) const FIRST: u8 = 0x20;
 pub(crate) const LAST: u8 = 0x40;
 /// From this number on a two-byte number is an acknowledgement field, since its bit 15 is set.
 pub(crate) const ACK_FIELD: u16 = 0x8000;
-/// The same of the higher of its bytes.
+/// The higher byte of such a number is at least this.
 pub(crate) const ACK_FIELD_HIGH: u8 = 0x80;
 /// What QUAL counts in an acknowledgement field, the number standing below it.
 pub(crate) const QUAL_UNIT: u16 = 0x1000;

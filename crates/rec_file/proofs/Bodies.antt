@@ -2,7 +2,7 @@
 use Rattle.std.proofs.Common.{◌≡◌, ℕ, ◌≤◌, Bool, true, false, cond, List, [], ◌∷◌, length, Some, None, refl, sym, ◌∙◌, inl, inr, arith}
 use Rattle.std.specs.List.{filter}
 use Rattle.std.specs.FinMap.{entries}
-use Rattle.rec_file.specs.Limits.{longest_record}
+use Rattle.rec_file.specs.Limits.{max_record}
 use Rattle.rec_file.specs.Files.{FileVal, IsFile, records_from}
 use Rattle.rec_file.proofs.Rising.{at, IsRising, at_below, at_first, at_tail, same_or_not}
 use Rattle.rec_file.proofs.RecordsLaws.{get_is_at, rising}
@@ -11,9 +11,9 @@ use Rattle.rec_file.proofs.FileLaws.{body_fits}
 -- each record is no longer than the longest
 abbrev pub AreShort : List (ℕ × List ℕ) → Type 0
 AreShort [] = Unit {0}
-AreShort (r ∷ records) = (length r.1 ≤ longest_record) × AreShort records
+AreShort (r ∷ records) = (length r.1 ≤ max_record) × AreShort records
 
-short_each : (es : List (ℕ × List ℕ)) → IsRising es → ((n : ℕ) (body : List ℕ) → at es n ≡ Some body → length body ≤ longest_record) → AreShort es
+short_each : (es : List (ℕ × List ℕ)) → IsRising es → ((n : ℕ) (body : List ℕ) → at es n ≡ Some body → length body ≤ max_record) → AreShort es
 short_each [] r h = tt
 short_each (e ∷ es) r h = (
   h e.0 e.1 (at_first e es e.0 refl),

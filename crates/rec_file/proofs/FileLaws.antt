@@ -7,7 +7,7 @@ use Rattle.std.specs.Cmp.{nat_cmp_total}
 use Rattle.std.specs.FinMap.{get, insert, remove, get-insert, get-remove, get-empty, empty, same_map, nat_cmp-IsAntisymmetric}
 use Rattle.std.proofs.lemmas.Bool.Decides.{nat_tests}
 use Rattle.rec_file.specs.declared.shapes.Shape.{Shape}
-use Rattle.rec_file.specs.Limits.{greatest_number, longest_record}
+use Rattle.rec_file.specs.Limits.{max_record_number, max_record}
 use Rattle.rec_file.specs.Shapes.{is_shape, has_length, is_seq, max_number, allows_length}
 use Rattle.rec_file.specs.Files.{FileVal, IsFile, Records, highest_of, stored, removed}
 use Rattle.rec_file.proofs.Rising.{same_or_not}
@@ -127,9 +127,9 @@ third : (a b c d : Bool) → (((a && b) && c) && d) ≡ true → c ≡ true
 third a b c d h = and_second (a && b) c (and_first ((a && b) && c) d h)
 
 -- no limit is above the greatest number
-pub limit_le : (s : Shape) → IsTrue (is_shape s) → max_number s ≤ greatest_number
+pub limit_le : (s : Shape) → IsTrue (is_shape s) → max_number s ≤ max_record_number
 limit_le s h =
-    let fits : nat_le s.mrn greatest_number ≡ true = third (has_length s.format s.mrs) (nat_le s.mrs longest_record) (nat_le s.mrn greatest_number) (not (is_seq s.org) || nat_eq s.mrn 0) h in
+    let fits : nat_le s.mrn max_record_number ≡ true = third (has_length s.format s.mrs) (nat_le s.mrs max_record) (nat_le s.mrn max_record_number) (not (is_seq s.org) || nat_eq s.mrn 0) h in
     grind (arith, nat_tests)
 
 -- an empty file of a shape
@@ -143,7 +143,7 @@ IsFile-empty s h = record {
 }
 
 -- an occupied number of a file is no greater than the greatest
-pub number_fits : (f : FileVal) (n : ℕ) → IsFile f → IsSome (get f.records n) → n ≤ greatest_number
+pub number_fits : (f : FileVal) (n : ℕ) → IsFile f → IsSome (get f.records n) → n ≤ max_record_number
 number_fits f n h some = let low = h.within n some in let top = limit_le f.shape h.shape in omega arith
 
 pub some_of : (f : FileVal) (n : ℕ) (body : List ℕ) → Some body ≡ get f.records n → IsSome (get f.records n)
@@ -154,20 +154,20 @@ not_both None none some = cc
 not_both (Some body) none some = cc
 
 -- and no record is longer than the longest
-pub body_fits : (f : FileVal) (n : ℕ) (body : List ℕ) → IsFile f → Some body ≡ get f.records n → length body ≤ longest_record
+pub body_fits : (f : FileVal) (n : ℕ) (body : List ℕ) → IsFile f → Some body ≡ get f.records n → length body ≤ max_record
 body_fits f n body h is =
     let allowed : IsTrue (allows_length f.shape (length body)) = subst (λ o. IfSome o (λ b. IsTrue (allows_length f.shape (length b)))) (sym is) (h.lengths n) in
-    let fits : nat_le (length body) longest_record ≡ true = and_first _ _ allowed in
+    let fits : nat_le (length body) max_record ≡ true = and_first _ _ allowed in
     grind (arith, nat_tests)
 
-pub copied_fits : (f : FileVal) (n : ℕ) (o : Option (Bor (List ℕ))) → IsFile f → option_copied o ≡ get f.records n → IfSome o (λ body. length body.now ≤ longest_record)
+pub copied_fits : (f : FileVal) (n : ℕ) (o : Option (Bor (List ℕ))) → IsFile f → option_copied o ≡ get f.records n → IfSome o (λ body. length body.now ≤ max_record)
 copied_fits f n None h is = tt
 copied_fits f n (Some body) h is = body_fits f n body.now h is
 
-pub record_fits : (f : FileVal) (n : ℕ) → IsFile f → IfSome (get f.records n) (λ body. length body ≤ longest_record)
+pub record_fits : (f : FileVal) (n : ℕ) → IsFile f → IfSome (get f.records n) (λ body. length body ≤ max_record)
 record_fits f n h = by (get f.records n) refl
   where
-    by : (o : Option (List ℕ)) → get f.records n ≡ o → IfSome o (λ body. length body ≤ longest_record)
+    by : (o : Option (List ℕ)) → get f.records n ≡ o → IfSome o (λ body. length body ≤ max_record)
     by None e = tt
     by (Some body) e = body_fits f n body h (sym e)
 

@@ -10,7 +10,7 @@ use Rattle.std.specs.FinMap.{get, insert as put, remove as take_out, from_entrie
 use Rattle.std.proofs.lemmas.Bool.{cases_lt, eqb-true}
 use Rattle.std.proofs.lemmas.Bool.Decides.{nat_tests}
 use Rattle.rec_file.specs.declared.shapes.Shape.{Shape}
-use Rattle.rec_file.specs.Limits.{greatest_number}
+use Rattle.rec_file.specs.Limits.{max_record_number}
 use Rattle.rec_file.specs.Files.{FileVal, IsFile, lowest_from, highest_of, stored, removed}
 use Rattle.rec_file.specs.Inner.Pages.{Cells, cell, paged, put_entry, paged_file, page_cell, cell_of, IsPage, IsFirstIn, IsLastIn, empty_cells, last_page, IsSpot}
 use Rattle.rec_file.specs.Pages.{page_of}
@@ -285,7 +285,7 @@ module _ (s : Shape) (ps : List (ℕ × Cells)) (f : FileVal) (h : HoldsFile s p
       none_there j = get-from_entries nat_cmp_total (paged []) j
 
   pub highest_in_page : (p : ℕ) (cells : Cells) (m : Option ℕ) → at ps p ≡ Some cells → ((j : ℕ) → p < j → at ps j ≡ None) → IsFile f → IfNone m ((k : ℕ) → cell cells k ≡ None)
-      → IfSome m (λ m. (1 ≤ m) × (page_of m ≡ p) × IsLastIn cells (cell_of m)) → (unwrap_or m 0 ≡ highest_of f.records) × (unwrap_or m 0 ≤ greatest_number)
+      → IfSome m (λ m. (1 ≤ m) × (page_of m ≡ p) × IsLastIn cells (cell_of m)) → (unwrap_or m 0 ≡ highest_of f.records) × (unwrap_or m 0 ≤ max_record_number)
   highest_in_page p cells None is none file empty last =
       let page = page_is ps p cells h.all is in
       absurd (not_both _ (sym (empty page.occupied.0)) page.occupied.1)

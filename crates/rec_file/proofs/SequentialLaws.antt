@@ -3,7 +3,7 @@ use Rattle.std.proofs.Common.{◌≡◌, ℕ, zero, suc, ◌+◌, ◌-◌, ◌<�
 use Rattle.std.specs.FinMap.{get, empty, get-empty}
 use Rattle.std.specs.Ordering.{nat_cmp}
 use Rattle.rec_file.specs.declared.shapes.Shape.{Shape}
-use Rattle.rec_file.specs.Limits.{greatest_number}
+use Rattle.rec_file.specs.Limits.{max_record_number}
 use Rattle.rec_file.specs.Shapes.{is_seq}
 use Rattle.rec_file.specs.Files.{FileVal, IsFile, lowest_from, highest_of, stored}
 use Rattle.rec_file.specs.Inner.Numbered.{numbered_records, sequential_file}
@@ -20,7 +20,7 @@ pub numbered-empty : numbered_records [] ≡ empty
 numbered-empty = same_records _ _ empty_at
 
 -- a file holds no more records than there are numbers
-pub count_fits : (s : Shape) (bs : List (List ℕ)) → IsFile (sequential_file s bs) → length bs ≤ greatest_number
+pub count_fits : (s : Shape) (bs : List (List ℕ)) → IsFile (sequential_file s bs) → length bs ≤ max_record_number
 count_fits s [] h = omega arith
 count_fits s (b ∷ bs) h = let last = h.within (length (b ∷ bs)) (some-numbered (b ∷ bs) _ (omega arith) (omega arith)) in let top = limit_le s h.shape in omega arith
 
@@ -38,7 +38,7 @@ module _ (s : Shape) (vs : List (Vec ℕ Global)) (f : FileVal) (e : sequential_
   pub highest_is_length : (n : ℕ) → n ≡ length vs → n ≡ highest_of f.records
   highest_is_length n is = is ∙ sym size ∙ sym (highest-numbered (bodies vs)) ∙ ap highest_of records_are
 
-  pub fits : (n : ℕ) → n ≡ length vs → IsFile (sequential_file s (bodies vs)) → n ≤ greatest_number
+  pub fits : (n : ℕ) → n ≡ length vs → IsFile (sequential_file s (bodies vs)) → n ≤ max_record_number
   fits n is h = let most = count_fits s (bodies vs) h in let same = size in omega arith
 
   pub first_is : (n k : ℕ) → n ≤ k → 1 ≤ k → (2 ≤ k → k ≡ n) → k ≤ length vs → Some k ≡ lowest_from f.records n

@@ -79,7 +79,11 @@ refusals_of (put_record None body) file stream =
     (not stream.rights.put, NotPermitted)
     ∷ (not (allows_length file.shape (length body)), BadLength)
     ∷ (out_of_range file.shape (free_place file stream), NumberOutOfRange)
-    ∷ (not (is_seq file.shape.org) && not (is_free_number file (free_place file stream)), RecordExists)
+    ∷ (
+      not (is_seq file.shape.org)
+          && not (is_free_number file (free_place file stream)),
+      RecordExists,
+    )
     ∷ []
 refusals_of (put_record (Some n) body) file stream =
     (not stream.rights.put, NotPermitted)

@@ -3,7 +3,7 @@ ghost use Rattle.std.specs.Prelude.{◌≡◌, ◌≤◌, ◌+◌, [], ◌∷◌
 ghost use Rattle.std.specs.Option.{option_copied};
 ghost use Rattle.std.specs.FinMap as map;
 ghost use Rattle.rec_file.specs.Shapes.{max_number, allows_length, is_seq};
-ghost use Rattle.rec_file.specs.Limits.{greatest_number, longest_record};
+ghost use Rattle.rec_file.specs.Limits.{max_record_number, max_record};
 ghost use Rattle.rec_file.specs.Files.{FileVal, IsFile, lowest_from, highest_of, records_from, stored, removed};
 
 use crate::shapes::Shape;
@@ -26,8 +26,8 @@ pub trait OneWalk {
             (λ r. lowest_from (value self.now).records number ≡ Some r.0) }
         ensures same { IfSome result
             (λ r. map.get (value self.now).records r.0 ≡ Some r.1.now) }
-        ensures within { IfSome result (λ r. r.0 ≤ greatest_number) }
-        ensures short { IfSome result (λ r. length r.1.now ≤ longest_record) };
+        ensures within { IfSome result (λ r. r.0 ≤ max_record_number) }
+        ensures short { IfSome result (λ r. length r.1.now ≤ max_record) };
 
     /// Stores a record under a number, in a sequential file under the next one: whether the number was free. Where it
     /// wasn't, nothing has changed. An error is out of memory: the number is free, and nothing has changed.
@@ -80,12 +80,12 @@ pub trait RecordFile: OneWalk {
     /// The record of a number, or None where the number is free.
     fn lookup(&self, number: u32) -> Option<&[u8]>
         ensures same { option_copied result ≡ map.get (Self.value self.now).records number }
-        ensures short { IfSome result (λ body. length body.now ≤ longest_record) };
+        ensures short { IfSome result (λ body. length body.now ≤ max_record) };
 
     /// The lowest occupied number from this one on, or None where there is none.
     fn first_from(&self, number: u32) -> Option<u32>
         ensures lowest { result ≡ lowest_from (Self.value self.now).records number }
-        ensures within { IfSome result (λ n. n ≤ greatest_number) }
+        ensures within { IfSome result (λ n. n ≤ max_record_number) }
     {
         let (first, _body) = self.record_from(number)?;
         Some(first)
@@ -94,7 +94,7 @@ pub trait RecordFile: OneWalk {
     /// The highest occupied number, or 0 where the file is empty.
     fn highest(&self) -> u32
         ensures same { result ≡ highest_of (Self.value self.now).records }
-        ensures within { result ≤ greatest_number };
+        ensures within { result ≤ max_record_number };
 
     /// Stores a record under a free number, in a sequential file under the next one. An error is
     /// out of memory: nothing has changed.
@@ -142,8 +142,8 @@ pub fn first_record<F: RecordFile>(file: &F, number: u32) -> Option<(u32, &[u8])
     ensures none { IfNone result (records_from (F.value file.now).records number ≡ []) }
     ensures some { IfSome result (λ r. records_from (F.value file.now).records number
         ≡ (r.0, r.1.now) ∷ records_from (F.value file.now).records (r.0 + 1)) }
-    ensures within { IfSome result (λ r. r.0 ≤ greatest_number) }
-    ensures short { IfSome result (λ r. length r.1.now ≤ longest_record) }
+    ensures within { IfSome result (λ r. r.0 ≤ max_record_number) }
+    ensures short { IfSome result (λ r. length r.1.now ≤ max_record) }
 {
     let (first, body) = file.record_from(number)?;
     Some((first, body))

@@ -9,7 +9,7 @@ ghost use Rattle.slab.specs.Slab.{get, slab_len};
 ghost use Rattle.rec_file.specs.Shapes.{is_shape, is_seq};
 ghost use Rattle.rec_file.specs.Pages.{occupied_pages};
 ghost use Rattle.rec_file.specs.Files.{lowest_from};
-ghost use Rattle.rec_file.specs.Limits.{longest_record};
+ghost use Rattle.rec_file.specs.Limits.{max_record};
 ghost use Rattle.rec_file.specs.Inner.Pages.{pages_at, page_cell, put_entry, HaveOwnSlots, IsPage, IsSpot};
 
 use crate::files::{OneWalk, RecordFile};
@@ -83,7 +83,7 @@ impl RelFile {
         ensures none { IfNone result (lowest_from self.now.records number ≡ None) }
         ensures spot { IfSome result (λ s. IsSpot self.now number s.0 s.1.now) }
         ensures short { IfSome result (λ s. IfSome (map.get self.now.records s.0)
-            (λ body. length body ≤ longest_record)) }
+            (λ body. length body ≤ max_record)) }
     {
         let least = number.max(1);
         let own = page_of(least);

@@ -4,7 +4,7 @@ ghost use Rattle.rec_file.specs.declared.refusals.Refusal.TheVariants.{NoCurrent
 ghost use Rattle.rec_file.specs.Files.{highest_of};
 ghost use Rattle.rec_file.specs.Shapes.{max_number, allows_length, is_seq};
 ghost use Rattle.std.specs.FinMap as map;
-ghost use Rattle.rec_file.specs.Limits.{greatest_number, longest_record};
+ghost use Rattle.rec_file.specs.Limits.{max_record_number, max_record};
 ghost use Rattle.rec_file.specs.Acts.{act, Acts, IsOutcome, is_free_number, is_no_memory, get_record, put_record, update_record, delete_record};
 
 use crate::files::RecordFile;
@@ -28,14 +28,14 @@ pub struct Stream {
 
 impl Model for Stream {
     ghost use Rattle.std.specs.Prelude.{◌≤◌, ◌+◌};
-    ghost use Rattle.rec_file.specs.Limits.{greatest_number};
+    ghost use Rattle.rec_file.specs.Limits.{max_record_number};
     ghost use Rattle.rec_file.specs.Acts.{StreamVal};
 
     ghost Value = { StreamVal };
 
     ghost view = { λ s. record { rights = s.rights; next = s.next; current = s.current } };
 
-    ghost invariant = { λ s. (1 ≤ s.next) × (s.next ≤ greatest_number + 1) };
+    ghost invariant = { λ s. (1 ≤ s.next) × (s.next ≤ max_record_number + 1) };
 
     ghost inverse = { λ v. record { rights = v.rights; next = v.next; current = v.current } };
 }
@@ -63,7 +63,7 @@ impl Stream {
     pub fn next(&self) -> u32
         ensures same { result ≡ self.now.next }
         ensures above { 1 ≤ result }
-        ensures within { result ≤ greatest_number + 1 }
+        ensures within { result ≤ max_record_number + 1 }
     {
         self.next
     }
@@ -71,7 +71,7 @@ impl Stream {
     /// The next get searches from n on, and no record is current.
     pub fn seek(&mut self, n: u32)
         requires above { 1 ≤ n }
-        requires within { n ≤ greatest_number + 1 }
+        requires within { n ≤ max_record_number + 1 }
         ensures { self.new ≡ record self.old { next = n; current = None } }
     {
         *self = Stream {
@@ -123,7 +123,7 @@ impl Stream {
             (act (get_record pick) (F.value file.now) self.old).reply ≡ Ok r.0) }
         ensures same { IfOk result
             (λ r. map.get (F.value file.now).records r.0 ≡ Some r.1.now) }
-        ensures short { IfOk result (λ r. length r.1.now ≤ longest_record) }
+        ensures short { IfOk result (λ r. length r.1.now ≤ max_record) }
         ensures stream { self.new ≡ (act (get_record pick) (F.value file.now) self.old).stream }
         ensures no_memory_wanted { IfErr result (λ refusal. is_no_memory (Err refusal) ≡ false) }
     {
@@ -148,8 +148,8 @@ impl Stream {
             (act (get_record pick) (F.value file.now) self.now).reply ≡ Ok r.0) }
         ensures same { IfOk result
             (λ r. map.get (F.value file.now).records r.0 ≡ Some r.1.now) }
-        ensures within { IfOk result (λ r. r.0 ≤ greatest_number) }
-        ensures short { IfOk result (λ r. length r.1.now ≤ longest_record) }
+        ensures within { IfOk result (λ r. r.0 ≤ max_record_number) }
+        ensures short { IfOk result (λ r. length r.1.now ≤ max_record) }
         ensures no_memory_wanted { IfErr result (λ refusal. is_no_memory (Err refusal) ≡ false) }
     {
         if !self.rights.get {

@@ -1,11 +1,11 @@
 //! The words of a call. Where a word isn't there, or isn't what is asked for, the call is none of the suite's.
 
 ghost use Rattle.std.specs.Prelude.{◌≤◌, IfSome, IsTrue};
-ghost use Rattle.dap_msg.specs.BothEnds.{least_buffer};
+ghost use Rattle.dap_msg.specs.BothEnds.{min_buffer};
 ghost use Rattle.rec_file.specs.Shapes.{is_shape};
 
 use dap_accessing::Request;
-use dap_msg::LEAST_BUFFER;
+use dap_msg::MIN_BUFFER;
 use dap_text::{Words, read_hex, read_number, read_request};
 use nsp_link::LinkSetup;
 use rec_file::Shape;
@@ -210,12 +210,12 @@ impl Call {
 
     /// The buffer of an end, which has at least 64 bytes.
     pub fn buffer(&mut self) -> u16
-        ensures { least_buffer ≤ result }
+        ensures { min_buffer ≤ result }
     {
         let bufsiz = self.short();
-        if bufsiz < LEAST_BUFFER {
+        if bufsiz < MIN_BUFFER {
             self.refuse();
-            return LEAST_BUFFER;
+            return MIN_BUFFER;
         }
         bufsiz
     }

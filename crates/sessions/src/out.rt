@@ -85,16 +85,16 @@ impl Out {
         }
     }
 
-    /// A refusal.
+    /// Appends a refusal.
     pub fn fault<E: Display>(&mut self, fault: &E) {
         if write!(self.text, "refused: {fault}").is_err() {
             self.is_short = true;
         }
     }
 
-    /// That a call is done, or a refusal.
-    pub fn done<E: Display + Drop>(&mut self, came: Result<(), E>) {
-        match came {
+    /// Appends that a call is done, or its refusal.
+    pub fn done<E: Display + Drop>(&mut self, outcome: Result<(), E>) {
+        match outcome {
             Ok(()) => self.put("done"),
             Err(fault) => self.fault(&fault),
         }

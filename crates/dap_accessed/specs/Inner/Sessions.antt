@@ -1,7 +1,7 @@
 -- What is true of a session, and what its calls do.
 use Rattle.std.specs.Prelude.{ℕ, ◌≡◌, ◌≤◌, List, Option, IfSome, IsTrue}
 use Rattle.std.specs.Global.{Vec}
-use Rattle.dap_msg.specs.BothEnds.{least_buffer}
+use Rattle.dap_msg.specs.BothEnds.{min_buffer}
 use Rattle.dap_msg.specs.Fitting.{FieldsFit}
 use Rattle.dap_msg.specs.declared.message.Message.{Message}
 use Rattle.dap_msg.specs.declared.message.Message.TheVariants.{Config}
@@ -16,7 +16,7 @@ pub record IsSession (own : ServerSetup) (limit : ℕ) (kept : Option Shape) : T
   pub setup : FieldsFit (Config own.identity)
   pub good : IfSome kept (λ shape. IsTrue (is_shape shape))
   -- every answer but a record goes to the peer
-  pub room : least_buffer ≤ limit
+  pub room : min_buffer ≤ limit
 
 -- the phase moved, and these are the answers
 pub record Enters (old : SessionValue) (phase : Phase) (messages : List Message) (new : SessionValue) (answers : Vec (Vec ℕ)) : Type 0 where

@@ -1,6 +1,6 @@
 -- What an item asks for in a phase.
 use Rattle.std.specs.Prelude.{ℕ, ◌≡◌, ◌<◌, ◌≤◌, ◌==◌, nat_lt, if◌then◌else◌, Bool, true, false, [], ◌∷◌, length, IfSome, IsTrue, Result, Ok, Err}
-use Rattle.dap_msg.specs.BothEnds.{least_buffer}
+use Rattle.dap_msg.specs.BothEnds.{min_buffer}
 use Rattle.dap_msg.specs.Codes as codes
 use Rattle.dap_msg.specs.declared.items.Item.{Item}
 use Rattle.dap_msg.specs.declared.message.Message.{Message}
@@ -58,7 +58,7 @@ step_move (steps.Store opened stream ordinal body) p =
 abbrev pub CanDo : Files → Step → Type 0
 CanDo files (steps.Enter next) = IsOpenIn files next
 CanDo files (steps.Reply answer next) = IsShortReply answer × IsOpenIn files next
-CanDo files (steps.Configure limit) = least_buffer ≤ limit
+CanDo files (steps.Configure limit) = min_buffer ≤ limit
 CanDo files (steps.Keep shape) = IfSome shape (λ s. IsTrue (is_shape s))
 CanDo files (steps.Access func name fac) = Unit {0}
 CanDo files (steps.Purge opened) = opened.at < length files

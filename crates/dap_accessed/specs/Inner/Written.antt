@@ -7,10 +7,10 @@ use Rattle.dap_msg.specs.declared.message.Message.{Message}
 use Rattle.dap_msg.specs.declared.message.Message.TheVariants.{Config, Ack, Filedata}
 use Rattle.dap_msg.specs.Canon.{canon}
 use Rattle.dap_msg.specs.Sizes.{file_data_size}
-use Rattle.dap_msg.specs.BothEnds.{four_bytes, least_buffer}
+use Rattle.dap_msg.specs.BothEnds.{four_bytes, min_buffer}
 use Rattle.dap_msg.specs.Fitting.{FieldsFit}
 use Rattle.dap_msg.specs.Blocked.{Blocked, all_joined, bodies, AllFit}
-use Rattle.rec_file.specs.Limits.{longest_record}
+use Rattle.rec_file.specs.Limits.{max_record}
 use Rattle.dap_accessed.specs.declared.answers.Answer.{Answer}
 use Rattle.dap_accessed.specs.declared.answers.Answer.TheVariants as answer
 use Rattle.dap_accessed.specs.declared.fault.NoMemory.{NoMemory}
@@ -32,7 +32,7 @@ reply_message (answer.Record number body) = Filedata number body.now
 abbrev pub IsWritableReply : Answer → Type 0
 IsWritableReply (answer.Config own) = FieldsFit (Config own)
 IsWritableReply (answer.Attributes shape mrn) = mrn ≡ four_bytes shape.mrn
-IsWritableReply (answer.Record number body) = length body.now ≤ longest_record
+IsWritableReply (answer.Record number body) = length body.now ≤ max_record
 IsWritableReply _ = Unit {0}
 
 -- every answer but a record is short
@@ -43,7 +43,7 @@ IsShortReply a = IsWritableReply a
 -- its message has no more bytes than these
 abbrev pub most_bytes : Answer → ℕ
 most_bytes (answer.Record number body) = file_data_size 4 (length body.now)
-most_bytes _ = least_buffer
+most_bytes _ = min_buffer
 
 -- the answer can be written, and is no longer than the limit
 abbrev pub FitsIn : ℕ → Answer → Type 0

@@ -6,7 +6,7 @@ use Rattle.dap_msg.specs.declared.message.Message.TheVariants.{Attrib, Accomp, F
 use Rattle.dap_msg.specs.declared.items.Item.{Item}
 use Rattle.dap_msg.specs.declared.items.Item.TheVariants.{Whole}
 use Rattle.dap_msg.specs.BothEnds.{number_of}
-use Rattle.rec_file.specs.Limits.{greatest_number}
+use Rattle.rec_file.specs.Limits.{max_record_number}
 use Rattle.dap_accessing.specs.declared.report.Report.{Report}
 use Rattle.dap_accessing.specs.declared.report.Report.TheVariants as report
 use Rattle.dap_accessing.specs.declared.pending.Pending.{Pending}
@@ -24,7 +24,7 @@ abbrev pub gather_attributes : List Item → Hearing
 gather_attributes [] = Waits
 gather_attributes (Whole (Other _ _) ∷ rest) = gather_attributes rest
 gather_attributes (Whole (Attrib a) ∷ rest) =
-    if nat_le (number_of (unwrap_or a.mrn [])) greatest_number then gather_opened (opened_as a) rest else Unexpected
+    if nat_le (number_of (unwrap_or a.mrn [])) max_record_number then gather_opened (opened_as a) rest else Unexpected
 gather_attributes (Whole (Status status) ∷ rest) = hear_refusal (Whole (Status status) ∷ rest)
 gather_attributes (_ ∷ rest) = Unexpected
 

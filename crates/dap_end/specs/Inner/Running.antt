@@ -24,7 +24,8 @@ pub record Grew (history now : ServerHistory) (old new : ServingValue) : Type 0 
   pub handed : Behind history.handed now.handed (AreShort old.port.link)
   -- what left the link was served
   pub given : now.given ++ new.port.link.coming.inbox ≡ history.given ++ old.port.link.coming.inbox
-  pub stands : (size : ℕ) (messages : List (List ℕ)) → Stands old.port.link size messages history.given
+  pub stands : (size : ℕ) (messages : List (List ℕ))
+      → Stands old.port.link size messages history.given
       → Stands new.port.link size messages now.given
 
 -- more was served and passed on
@@ -33,7 +34,8 @@ pub record ServedMore (old new : ServingValue) : Type 0 where
   pub link : new.port.link ≡ record (with_inbox old.port.link new.port.link.coming.inbox) { queue = new.port.link.queue }
   pub own : new.present.own ≡ old.present.own
   pub setup : new.present.setup ≡ old.present.setup
-  pub past : (history : ServerHistory) → IsAfter history old → (now : ServerHistory) × Grew history now old new
+  pub past : (history : ServerHistory) → IsAfter history old
+      → (now : ServerHistory) × Grew history now old new
 
 -- the setups of the two ends of one link: but for their segments and windows they differ in the addresses, exchanged
 pub record AreOpposite (s t : LinkSetup) : Type 0 where

@@ -12,7 +12,8 @@ counted_value c = record { place = c.place; packet = c.packet; first = c.first; 
 -- each sequence number is below those after it
 abbrev pub RisesCounted : List Counted → Type 0
 RisesCounted [] = ⊤
-RisesCounted (c ∷ others) = AllByRecursion (λ other. c.place < other.place) others × RisesCounted others
+RisesCounted (c ∷ others) =
+    AllByRecursion (λ other. c.place < other.place) others × RisesCounted others
 
 -- A segment stands in the place already, or it is put between those below and those above.
 abbrev pub IsPutIn : List Counted → Counted → List Counted → Type 0

@@ -33,7 +33,8 @@ abbrev pub ReadsMore : (in_words : Bool) → (before : List ℕ) → Direction �
 ReadsMore in_words before way digits old new =
     (seen : Seen) × IsSeen seen (digit_bytes digits)
     × ((told : List (List (List ℕ))) (packets : List Captured) → frame_of told (length packets + 1) ≡ frame_words before
-    → ReadsPackets in_words told packets old → ReadsPackets in_words told (packets ++ (way, seen) ∷ []) new)
+    → ReadsPackets in_words told packets old
+    → ReadsPackets in_words told (packets ++ (way, seen) ∷ []) new)
 
 -- all packets of an input without a fault were read
 pub record ReadsInput (in_words : Bool) (input : List ℕ) (r : Reading) : Type 0 where

@@ -1,7 +1,7 @@
 -- How far a listing came.
 use Rattle.std.specs.Prelude.{◌≡◌, ◌<◌, ◌+◌, ◌++◌, ◌⊎◌, ⊤, ℕ, false, List, length, Option, Some, None, Result, Ok, Err}
 use Rattle.std.specs.Global.{Vec}
-use Rattle.linewise.specs.Talks.{longest}
+use Rattle.linewise.specs.Talks.{max_line}
 use Rattle.linewise.specs.Gives.{HasLineFault, IsTextOf}
 use Rattle.dap_listing.specs.Listing.{CaptureLines, captures, line_limit, faults_from}
 use Rattle.linewise.specs.declared.fault.CaptureFault.{CaptureFault}
@@ -15,7 +15,7 @@ pub record IsUnderWay (listed : Listed) (input rest : List ℕ) (progress : Prog
   pub listing : progress.wants ≡ false → (more : List ℕ) → CaptureLines listed progress.number (captures (line_limit listed) rest) more
       → CaptureLines listed 1 (captures (line_limit listed) input) (progress.text.items ++ more)
 
--- the same of a known input of which this many bytes were read, and these of them are not listed
+-- A listing of a known input is under way: this many bytes of it were read, and these of them are not listed.
 abbrev pub StandsAt : Listed → ℕ → Option (List ℕ) → Option (List ℕ) → List ℕ → Progress → Type 0
 StandsAt listed count (Some input) (Some unread) bytes progress =
     (length input ≡ count + length unread) × IsUnderWay listed input (bytes ++ unread) progress
@@ -35,7 +35,8 @@ IsAllListed listed input progress =
 abbrev pub IsInputFault : Listed → List ℕ → CaptureFault → Type 0
 IsInputFault listed input (BadLine number) = HasLineFault (faults_from (line_limit listed) 1 input) input (BadLine number)
 IsInputFault listed input TooLarge =
-    (longest < length input) ⊎ HasLineFault (faults_from (line_limit listed) 1 input) input TooLarge
+    (max_line < length input)
+    ⊎ HasLineFault (faults_from (line_limit listed) 1 input) input TooLarge
 IsInputFault listed input ReadFailed = Unit {0}
 IsInputFault listed input NoMemory = Unit {0}
 IsInputFault listed input WriteFailed = ⊥

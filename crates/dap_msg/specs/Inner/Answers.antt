@@ -3,12 +3,12 @@ use Rattle.std.specs.Prelude.{ℕ, ◌^◌, ◌<◌, ◌≤◌, List, length}
 use Rattle.dap_msg.specs.Message.{Message, Configuration, StatusFields, Ack, Config, Status}
 use Rattle.dap_msg.specs.Fitting.{FieldsFit}
 use Rattle.dap_msg.specs.Canon.{canon, Fits}
-use Rattle.dap_msg.specs.BothEnds.{config_of, complete_with, attributes_of, data_message, least_buffer}
+use Rattle.dap_msg.specs.BothEnds.{config_of, complete_with, attributes_of, data_message, min_buffer}
 
 -- the message has a spelling, and that is short
 pub record IsShortAnswer (m : Message) : Type 0 where
   pub fits : Fits m
-  pub short : length (canon m) ≤ least_buffer
+  pub short : length (canon m) ≤ min_buffer
 
 -- What an end answers has a spelling.
 pub record AnswersFit : Type 0 where
@@ -18,4 +18,5 @@ pub record AnswersFit : Type 0 where
   pub ack : IsShortAnswer Ack
   pub complete : (func : ℕ) → func < 2 ^ 8 → IsShortAnswer (complete_with func)
   pub status : (s : StatusFields) → s.code < 2 ^ 16 → length s.rfa ≤ 4 → length s.recnum ≤ 4 → length s.stv ≤ 4 → IsShortAnswer (Status s)
-  pub filedata : (number : ℕ) (body : List ℕ) → length body ≤ 32767 → Fits (data_message number body)
+  pub filedata : (number : ℕ) (body : List ℕ) → length body ≤ 32767
+      → Fits (data_message number body)

@@ -2,7 +2,7 @@
 
 use dap_msg::codes::{REASON_BAD_KEY, REASON_FILE_EXISTS, invalid, out_of_place, unsupported};
 use dap_msg::{
-    GREATEST_MESSAGE, MessageValue, encoded_len, fits_value, is_too_small, limit_of, number_of,
+    MAX_MESSAGE, MessageValue, encoded_len, fits_value, is_too_small, limit_of, number_of,
 };
 
 #[test]
@@ -20,7 +20,7 @@ fn limits_and_numbers(rt: HostRuntime) {
     for (bufsiz, small) in BUFFERS {
         assert!(rt; is_too_small(*bufsiz) == *small, "{bufsiz}");
     }
-    assert!(rt; (limit_of(0), limit_of(1024)) == (GREATEST_MESSAGE, 1024));
+    assert!(rt; (limit_of(0), limit_of(1024)) == (MAX_MESSAGE, 1024));
     assert!(rt; number_of(&[1, 2]) == 513);
     assert!(rt; length(&MessageValue::complete_with(2)) == Some(5));
 }

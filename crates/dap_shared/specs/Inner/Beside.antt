@@ -2,7 +2,7 @@
 use Rattle.std.specs.Prelude.{ℕ, ◌≡◌, ◌≤◌, Bool, true, false, ◌||◌, nat_lt, if◌then◌else◌, List, [], ◌∷◌, length, map, Option, Some, None}
 use Rattle.std.specs.List.{list_any}
 use Rattle.std.specs.Global.{Vec}
-use Rattle.dap_msg.specs.BothEnds.{greatest_message}
+use Rattle.dap_msg.specs.BothEnds.{max_nsp_message}
 use Rattle.dap_msg.specs.declared.items.Item.{Item}
 use Rattle.dap_accessed.specs.declared.phase.OpenFile.{OpenFile}
 use Rattle.dap_accessed.specs.declared.phase.Phase.{Phase}
@@ -31,7 +31,7 @@ gone_by before after phase = if nat_lt (length after) (length before) then open_
 abbrev pub ServesOrRefuses : (locked : Bool) → Item → Files → SessionValue → Files → SessionValue → Vec (Vec ℕ) → Type 0
 ServesOrRefuses true item files s files' s' answers =
     (files' ≡ files) × (s' ≡ refused_session s) × Answered s.limit (bare_status file_locked ∷ []) answers
-    × (s.limit ≤ greatest_message)
+    × (s.limit ≤ max_nsp_message)
 ServesOrRefuses false item files s files' s' answers = ServesItem item (with_files files s) (with_files files' s') answers
 
 -- one link's session moved beside others, which are moved up where a file was removed
@@ -40,9 +40,14 @@ pub record MovesBeside (item : Item) (files : Files) (others : List SessionValue
   pub moved : others' ≡ map (session_moved_up (gone_by files files' s.phase)) others
   pub there : IsOpenIn files' s'.phase
 
--- the same beside those of the links before it and of the links after it
-pub record MovesAmong (item : Item) (files : Files) (before : List SessionValue) (s : SessionValue) (after : List SessionValue) (files' : Files) (before' : List SessionValue) (s' : SessionValue) (after' : List SessionValue) (answers : Vec (Vec ℕ)) : Type 0 where
-  pub does : ServesOrRefuses (is_barred before (asked_in s.setup files s.phase item) || is_barred after (asked_in s.setup files s.phase item)) item files s files' s' answers
+-- one link's session moved, beside those of the links before it and of the links after it
+pub record MovesAmong (item : Item) (files : Files) (before : List SessionValue) (s : SessionValue)
+    (after : List SessionValue) (files' : Files) (before' : List SessionValue) (s' : SessionValue)
+    (after' : List SessionValue) (answers : Vec (Vec ℕ)) : Type 0 where
+  pub does : ServesOrRefuses
+      (is_barred before (asked_in s.setup files s.phase item)
+      || is_barred after (asked_in s.setup files s.phase item))
+      item files s files' s' answers
   pub first : before' ≡ map (session_moved_up (gone_by files files' s.phase)) before
   pub rest : after' ≡ map (session_moved_up (gone_by files files' s.phase)) after
   pub there : IsOpenIn files' s'.phase

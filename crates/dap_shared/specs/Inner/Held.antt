@@ -3,7 +3,7 @@ use Rattle.std.specs.Prelude.{ℕ, ◌≡◌, ◌≤◌, List, get_or, set}
 use Rattle.std.specs.Global.{Vec}
 use Rattle.dap_accessed.specs.declared.setup.ServerSetup.{ServerSetup}
 use Rattle.dap_msg.specs.declared.items.Item.{Item}
-use Rattle.rec_file.specs.Limits.{greatest_number}
+use Rattle.rec_file.specs.Limits.{max_record_number}
 use Rattle.dap_accessed.specs.declared.phase.Phase.{Phase}
 use Rattle.dap_accessed.specs.declared.phase.Phase.TheVariants as phases
 use Rattle.dap_accessed.specs.Setup.{IsServerSetup}
@@ -18,7 +18,7 @@ session_at own link sessions = get_or sessions link (no_session own)
 
 -- a fetch stops at a record's number
 abbrev pub HasNumber : Phase → Type 0
-HasNumber (phases.Stopped opened stream) = stream.next ≤ greatest_number
+HasNumber (phases.Stopped opened stream) = stream.next ≤ max_record_number
 HasNumber phase = Unit {0}
 
 -- some history leaves this

@@ -108,7 +108,8 @@ Stays k ps = HoldsPieces k ps × (k.listed ≡ false → AllByRecursion (λ p. i
 -- all pieces of a stream, in order
 abbrev pub KeepsPieces : List Fragment → List Kept → Type 0
 KeepsPieces ps [] = ps ≡ []
-KeepsPieces ps (k ∷ ks) = (held rest : List Fragment) × (ps ≡ held ++ rest) × Stays k held × KeepsPieces rest ks
+KeepsPieces ps (k ∷ ks) =
+    (held rest : List Fragment) × (ps ≡ held ++ rest) × Stays k held × KeepsPieces rest ks
 
 -- ---- one between others
 
@@ -138,7 +139,8 @@ pub record Lists (index : ℕ) (old : List Kept) (message : Kept) (new : List Ke
   pub to : whole.to ≡ message.to
   pub digits_are : digits ≡ kept_digits message
   pub keeps : (xs zs : List Fragment) (m : Fragment) → is_message m ≡ true → message.from ≡ m.head.place → message.to ≡ (tail m).place
-      → KeepsPieces xs (take index old) → KeepsPieces zs (drop index old) → KeepsPieces (xs ++ m ∷ zs) new
+      → KeepsPieces xs (take index old) → KeepsPieces zs (drop index old)
+      → KeepsPieces (xs ++ m ∷ zs) new
 
 -- the place and the digits of a message
 pub record IsWholeMessage (digits : List ℕ) (w : Whole) (m : Fragment) : Type 0 where

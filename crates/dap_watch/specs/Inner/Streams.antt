@@ -23,7 +23,8 @@ pub record KeepsStreamOrdered (packets : List Captured) (stream : Stream) (order
   pub most : p.highest ≤ 8192 + 2048 * length packets
 
 -- those of each stream
-abbrev pub KeepsEachOrdered : List Captured → List Stream → List (List Placed) → List Places → Type 0
+abbrev pub KeepsEachOrdered : List Captured → List Stream → List (List Placed) → List Places
+    → Type 0
 KeepsEachOrdered packets [] [] [] = ⊤
 KeepsEachOrdered packets (s ∷ keys) (o ∷ orders) (p ∷ places) = KeepsStreamOrdered packets s o p × KeepsEachOrdered packets keys orders places
 KeepsEachOrdered packets _ _ _ = ⊥
@@ -34,7 +35,8 @@ pub record KeepsAllOrdered (packets : List Captured) (ordered : List (List Place
   pub each : KeepsEachOrdered packets s.names.keys ordered s.places.items
 
 -- a stream has a place among the others, in which nothing stands yet where it is new
-pub record IsIndexedStream (stream : Stream) (number : ℕ) (old new : Streams) (index : ℕ) : Type 0 where
+pub record IsIndexedStream (stream : Stream) (number : ℕ) (old new : Streams)
+    (index : ℕ) : Type 0 where
   pub small : number < 4096
   pub distinct : IsDistinct is_same new.names.keys
   pub has : HasStreamAt stream index new.names.keys

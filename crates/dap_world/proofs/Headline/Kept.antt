@@ -11,7 +11,7 @@ use Rattle.dap_msg.proofs.ForCallers.{messages_in-Blocked}
 use Rattle.dap_world.specs.Plain.{Answers, added, messages_of, Asked, IsAdmissible}
 use Rattle.dap_world.proofs.Plain.{Answers-more, Asked-more}
 use Rattle.dap_accessing.specs.Request.{Request}
-use Rattle.nsp_link.specs.Limits.{most_segments}
+use Rattle.nsp_link.specs.Limits.{max_segments}
 use Rattle.dap_world.specs.Agreement.{request_answers}
 use Rattle.dap_events.specs.declared.event.End.{End}
 use Rattle.dap_events.specs.declared.event.End.TheVariants.{A, B}
@@ -20,7 +20,7 @@ use Rattle.dap_events.specs.declared.event.Event.TheVariants as event
 use Rattle.dap_events.specs.declared.event.Step.{Step}
 use Rattle.dap_events.specs.declared.setup.WorldSetup.{WorldSetup}
 use Rattle.dap_world.specs.Setups.{IsWorldSetup}
-use Rattle.dap_world.specs.Machine.{files_of, reported, State, EndState, Sending, fresh, other_end, end_of, with_end, arrived, arrived_at, sent_by, taken_of, answers_read, asking, asked, posted, wrote, delivered, answering, served_one, with_read, segments_of, Steps, StepsFreely}
+use Rattle.dap_world.specs.Machine.{files_of, reported, State, EndState, Sending, fresh, other_end, end_of, with_end, arrived, arrived_at, sent_by, served_by_b, answers_read, asking, asked, posted, wrote, delivered, answering, served_one, with_read, segments_of, Steps, StepsFreely}
 use Rattle.dap_end.specs.Runs.{RunsBy}
 use Rattle.dap_accessed.specs.Present as accessed
 use Rattle.dap_accessed.specs.Groups as of_any
@@ -59,10 +59,10 @@ headline_of s h =
     }
 
 -- the files that the accessed end keeps
-pub files_are : (p : Parts) → p.accessed.setup ≡ plain_setup p.accessed.own → accessed.StandsAfter [] (map Whole (taken_of (state_of p))) p.accessed → p.accessed.files ≡ files_of (state_of p)
+pub files_are : (p : Parts) → p.accessed.setup ≡ plain_setup p.accessed.own → accessed.StandsAfter [] (map Whole (served_by_b (state_of p))) p.accessed → p.accessed.files ≡ files_of (state_of p)
 unfolding files_of
 files_are p plain stands =
-    ap (λ (v : accessed.Present). v.files) stands ∙ ap (λ (own : ServerSetup). of_any.After own [] (map Whole (taken_of (state_of p)))) plain
+    ap (λ (v : accessed.Present). v.files) stands ∙ ap (λ (own : ServerSetup). of_any.After own [] (map Whole (served_by_b (state_of p)))) plain
 
 -- ---- A new world.
 
@@ -89,10 +89,10 @@ is_fresh setup h =
 -- ---- Ask.
 
 -- what was served is a front of what was asked
-pub served-front : (s : State) → IsWorld s → (rest : List Message) × (taken_of s ++ rest ≡ Asked s.own_a s.requests)
+pub served-front : (s : State) → IsWorld s → (rest : List Message) × (served_by_b s ++ rest ≡ Asked s.own_a s.requests)
 served-front s h = (
   drop s.served (sent_by s.a) ++ messages_in s.a.waiting,
-  sym (append_assoc (taken_of s) (drop s.served (sent_by s.a)) (messages_in s.a.waiting))
+  sym (append_assoc (served_by_b s) (drop s.served (sent_by s.a)) (messages_in s.a.waiting))
       ∙ ap (λ (l : List Message). l ++ messages_in s.a.waiting) (take-append-drop s.served (sent_by s.a))
       ∙ sym (in_append s.a.handed s.a.waiting) ∙ h.asked,
 )
@@ -101,19 +101,19 @@ served-front s h = (
 pub served_there : (s : State) → IsWorld s → s.served ≤ length (sent_by s.a)
 served_there s h = omega (arith, h.served, came-handed s B)
 
-pub served_count : (s : State) → IsWorld s → length (taken_of s) ≡ s.served
+pub served_count : (s : State) → IsWorld s → length (served_by_b s) ≡ s.served
 served_count s h = length-take-le s.served (sent_by s.a) (served_there s h)
 
 -- what was read is a front of the answers to all that was asked
 pub read-front : (s : State) → IsWorld s → (back : List Item) × (answers_read s ++ back ≡ map Whole (request_answers s.own_a s.own_b s.requests))
 read-front s h =
     let asked = served-front s h in
-    let answers = Answers s.own_b [] (map Whole (taken_of s)) in
-    let more = answers-front s.own_b (map Whole (taken_of s)) (map Whole asked.0) in (
+    let answers = Answers s.own_b [] (map Whole (served_by_b s)) in
+    let more = answers-front s.own_b (map Whole (served_by_b s)) (map Whole asked.0) in (
       map Whole (drop s.read answers ++ more.0),
       sym (map-append Whole (take s.read answers) (drop s.read answers ++ more.0))
           ∙ ap (map Whole) (sym (append_assoc (take s.read answers) (drop s.read answers) more.0) ∙ ap (λ (l : List Message). l ++ more.0) (take-append-drop s.read answers)
-          ∙ more.1 ∙ ap (Answers s.own_b []) (sym (map-append Whole (taken_of s) asked.0) ∙ ap (map Whole) asked.1)),
+          ∙ more.1 ∙ ap (Answers s.own_b []) (sym (map-append Whole (served_by_b s) asked.0) ∙ ap (map Whole) asked.1)),
     )
 
 -- where a request is admissible all answers were read
@@ -214,7 +214,7 @@ kept-moves s B e h m =
       read = more_came s.seg_size s.a.taken s.read s.b.handed m.more e.handed m.handed h.read;
     }
 
-kept-posted : (s : State) (end : End) → IsWorld s → segments_of s.seg_size (posted (end_of s end)).handed ≤ most_segments → IsWorld (with_end s end (posted (end_of s end)))
+kept-posted : (s : State) (end : End) → IsWorld s → segments_of s.seg_size (posted (end_of s end)).handed ≤ max_segments → IsWorld (with_end s end (posted (end_of s end)))
 kept-posted s end h few =
     let e = end_of s end in
     kept-moves s end (posted e) h
@@ -265,14 +265,14 @@ kept-comes keep s end j p h at =
 -- ---- Serve and Read.
 
 -- the messages that B served, once it served the next
-pub taken-more : (s : State) (m : Message) → slice_get (arrived_at s B) s.served ≡ Some m → take (s.served + 1) (sent_by s.a) ≡ taken_of s ++ m ∷ []
+pub taken-more : (s : State) (m : Message) → slice_get (arrived_at s B) s.served ≡ Some m → take (s.served + 1) (sent_by s.a) ≡ served_by_b s ++ m ∷ []
 taken-more s m e =
     let f = arrived-front s.seg_size s.b.taken s.a.handed in
     take-next (sent_by s.a) s.served m (subst (λ (l : List Message). slice_get l s.served ≡ Some m) f.1 (get-front (arrived_at s B) f.0 s.served m e))
 
 kept-served : (s : State) (m : Message) → IsWorld s → s.b.waiting ≡ [] → slice_get (arrived_at s B) s.served ≡ Some m → IsWorld (served_one s m)
 kept-served s m h empty e =
-    let answers = added s.own_b [] (map Whole (taken_of s)) (Whole m) in
+    let answers = added s.own_b [] (map Whole (served_by_b s)) (Whole m) in
     record {
       window = h.window;
       some = h.some;
@@ -285,8 +285,8 @@ kept-served s m h empty e =
       answered = in_append s.b.handed (answering s m)
           ∙ ap (λ l. messages_in s.b.handed ++ l) (messages_in-Blocked _ answers)
           ∙ ap (λ l. l ++ answers) (ap messages_in (sym (append-nil s.b.handed) ∙ ap (λ (w : List NspMessage). s.b.handed ++ w) (sym empty)) ∙ h.answered)
-          ∙ sym (Answers-more s.own_b [] (map Whole (taken_of s)) (Whole m))
-          ∙ ap (Answers s.own_b []) (sym (map-append Whole (taken_of s) (m ∷ [])))
+          ∙ sym (Answers-more s.own_b [] (map Whole (served_by_b s)) (Whole m))
+          ∙ ap (Answers s.own_b []) (sym (map-append Whole (served_by_b s) (m ∷ [])))
           ∙ ap (λ l. Answers s.own_b [] (map Whole l)) (sym (taken-more s m e));
       served = omega (arith, slice_get_within _ s.served m e);
       read = h.read;

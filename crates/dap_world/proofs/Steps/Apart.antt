@@ -6,7 +6,7 @@ use Rattle.nsp_link.specs.Separation.{IsSegmentNear, IsAckNear}
 use Rattle.dap_events.specs.declared.event.End.{End}
 use Rattle.dap_world.specs.Machine.{State, Sending, end_of, other_end, is_old, MayDeliver}
 use Rattle.dap_world.specs.Runs.{IsReached}
-use Rattle.nsp_link.specs.Limits.{largest_window}
+use Rattle.nsp_link.specs.Limits.{max_window}
 use Rattle.dap_world.specs.Inner.Ways.{is_old_segment}
 use Rattle.dap_world.specs.Inner.Worlds.{IsWorld, WasSent}
 use Rattle.dap_world.proofs.Steps.Arriving.{young_segment, young_ack, neither}
@@ -45,7 +45,7 @@ reached_sound s r = runs_sound r.0 r.1 s r.2 r.3
 pub counts_in_order : (s : State) → IsReached s → (end : End) → ((end_of s end).acked ≤ (end_of s (other_end end)).taken) × ((end_of s (other_end end)).taken ≤ (end_of s end).sent)
 counts_in_order s r end = let counts = (direction s end (reached_sound s r)).counts in (counts.acked_taken, counts.taken_sent)
 
-pub within_window : (s : State) → IsReached s → (end : End) → ((end_of s end).sent ≤ (end_of s end).acked + s.window) × (s.window ≤ largest_window)
+pub within_window : (s : State) → IsReached s → (end : End) → ((end_of s end).sent ≤ (end_of s end).acked + s.window) × (s.window ≤ max_window)
 within_window s r end = let h = reached_sound s r in ((direction s end h).counts.within_window, h.window)
 
 pub are_near : (s : State) → IsReached s → (end : End) (j : ℕ) (p : Sending) → MayDeliver s end j p → IfSome p.segment (IsSegmentNear (end_of s end).taken) × IsAckNear (end_of s end).acked p.acks

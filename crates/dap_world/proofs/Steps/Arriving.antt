@@ -5,7 +5,7 @@ use Rattle.std.specs.List.{AllByRecursion}
 use Rattle.nsp_seg.specs.declared.packet.Packet.{Packet}
 use Rattle.nsp_seg.specs.Packets.{Spells}
 use Rattle.nsp_seg.specs.declared.packet.Packet.TheVariants.{Segment, DataAck}
-use Rattle.nsp_link.specs.Limits.{largest_window, most_segments}
+use Rattle.nsp_link.specs.Limits.{max_window, max_segments}
 use Rattle.nsp_link.specs.Link.{LinkValue, IsBetween}
 use Rattle.nsp_link.specs.Due.{IsDue, taken_after}
 use Rattle.nsp_link.specs.Cutting.{cut}
@@ -19,8 +19,8 @@ use Rattle.dap_world.specs.Inner.Ways.{IsWay, is_old_wired}
 -- A packet is no further ahead than the numbers tell, makes no more than 2^40 segments taken, and acknowledges nothing
 -- that was never sent.
 pub record IsNear (v : LinkValue) (w : Wired) : Type 0 where
-  pub segment : IfSome w.segment (λ k. k ≤ v.coming.received + largest_window)
-  pub few : taken_after v w.segment ≤ most_segments
+  pub segment : IfSome w.segment (λ k. k ≤ v.coming.received + max_window)
+  pub few : taken_after v w.segment ≤ max_segments
   pub acks : w.acks ≤ v.sent
 
 abbrev pub AllNear : LinkValue → List Wired → Type 0
@@ -31,7 +31,7 @@ pub record IsDueAs (v : LinkValue) (size : ℕ) (messages given : List (List ℕ
   pub value : Packet
   pub spelled : Spells value w.packet.items
   pub due : IsDue v size messages given value w.segment w.acks
-  pub few : taken_after v w.segment ≤ most_segments
+  pub few : taken_after v w.segment ≤ max_segments
 
 pub all_at : {X : Type 0} (P : X → Type 0) → (xs : List X) (j : ℕ) (x : X) → AllByRecursion P xs → slice_get xs j ≡ Some x → P x
 all_at P [] j x all e = let no : ⊥ = cc in absurd no

@@ -41,7 +41,7 @@ use Rattle.dap_events.specs.declared.event.Step.{Step}
 use Rattle.dap_events.specs.declared.event.Step.TheVariants as step
 use Rattle.dap_events.specs.declared.event.WorldFault.{WorldFault}
 use Rattle.dap_events.specs.declared.event.WorldFault.TheVariants as fault
-use Rattle.dap_world.specs.Machine.{State, sent_by, taken_of, answers_read, asking as asking_of, asked, reported, Steps, RefusesEvent}
+use Rattle.dap_world.specs.Machine.{State, sent_by, served_by_b, answers_read, asking as asking_of, asked, reported, Steps, RefusesEvent}
 use Rattle.dap_world.specs.Runs.{Went}
 use Rattle.dap_world.specs.Inner.Worlds.{IsWorld}
 use Rattle.dap_end.specs.Ports.{PortValue}
@@ -124,7 +124,7 @@ served_same : (p : Parts) (r : Request) → AreParts p → map Whole (take p.ser
 served_same p r h =
     let front = served-front (state_of p) h.world in
     let taken = served_count (state_of p) h.world in
-    let long = length-append (taken_of (state_of p)) front.0 in
+    let long = length-append (served_by_b (state_of p)) front.0 in
     let all = ap length front.1 in
     ap (λ (l : List Message). map Whole (take p.served l)) (Asked-more p.accessing.own p.requests r)
     ∙ ap (map Whole) (take-append-le p.served (Asked p.accessing.own p.requests) (messages_of p.accessing.own r) (omega (arith, taken, long, all)))
@@ -178,7 +178,7 @@ module _ (p : Parts) (h : AreParts p) (r : Request) (m : IsAdmissible p.accessin
         sent_is = h.sent_is ∙ ap (λ (x : State). map canon (sent_by x.a)) (sym state);
         reports_is = h.reports_is ∙ sym (same_told p.requests (answers_read s) p.accessing r h.asking.1.asking m.0) ∙ ap reported (sym state);
         asking = subst (λ (x : State). IsAskedAll (asking_end (q_of outbox after)) (p.requests ++ r ∷ []) (answers_read x)) (sym state) asking;
-        serving = subst (λ (x : State). IsServedAll (serving_end p) (map Whole (taken_of x))) (sym state) h.serving;
+        serving = subst (λ (x : State). IsServedAll (serving_end p) (map Whole (served_by_b x))) (sym state) h.serving;
       }
 
 -- A is a plain client

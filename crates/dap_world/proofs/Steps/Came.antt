@@ -7,7 +7,7 @@ use Rattle.std.proofs.lemmas.Bool.{cases_lt, cases_eq, ne_eqb}
 use Rattle.nsp_link.specs.Cutting.{Piece, cut}
 use Rattle.nsp_link.specs.Holding.{closed_up, following}
 use Rattle.std.specs.Map.{keys_of}
-use Rattle.nsp_link.specs.Limits.{most_segments, largest_window, largest_limit}
+use Rattle.nsp_link.specs.Limits.{max_segments, max_window, max_limit}
 use Rattle.nsp_link.specs.declared.link.LinkSetup.{LinkSetup}
 use Rattle.nsp_link.specs.Link.{LinkValue, Sends, KeepsEarly, got_of, held_after}
 use Rattle.nsp_link.specs.Due.{Delivered, MayRefuse, taken_after}
@@ -63,19 +63,19 @@ near_one : (k : Option ℕ) (sent n : ℕ) → WasSent sent k → sent ≤ n →
 near_one None sent n was le = tt
 near_one (Some k) sent n was le = omega (arith, was.1)
 
-near_all : (v : LinkValue) (sent acked : ℕ) (wire : List Wired) → AreTrue sent acked (map sending_of wire) → sent ≤ v.coming.received + largest_window → sent ≤ most_segments → acked ≤ v.sent
+near_all : (v : LinkValue) (sent acked : ℕ) (wire : List Wired) → AreTrue sent acked (map sending_of wire) → sent ≤ v.coming.received + max_window → sent ≤ max_segments → acked ≤ v.sent
     → v.coming.received ≤ sent → AreEarly (v.coming.received + 1) sent (keys_of v.held) → AllNear v wire
 near_all v sent acked [] h near few le low early = tt
 near_all v sent acked (w ∷ wire) h near few le low early =
     let most = taken_sent v w.segment sent h.0 low early in (
-      record { segment = near_one w.segment sent (v.coming.received + largest_window) h.0 near; few = omega (arith, most, few); acks = omega (arith, h.1) },
+      record { segment = near_one w.segment sent (v.coming.received + max_window) h.0 near; few = omega (arith, most, few); acks = omega (arith, h.1) },
       near_all v sent acked wire h.2 near few le low early,
     )
 
 pub all_near : (p : Parts) (end : End) → AreParts p → AllNear (side p end).link (side p (other_end end)).wire
 all_near p A h =
     let there = segments-handed p.a.link.setup.seg_size p.b.posted h.from_b.handed p.b.outbox (answers p) h.from_b.posted h.from_b.bytes in
-    let few : length _ ≤ most_segments = subst (λ (n : ℕ). length (cut n h.from_b.handed) ≤ most_segments) h.alike.size h.from_b.way.few in
+    let few : length _ ≤ max_segments = subst (λ (n : ℕ). length (cut n h.from_b.handed) ≤ max_segments) h.alike.size h.from_b.way.few in
     let counts = h.world.from_b.counts in
     let back = h.world.from_a.counts in
     near_all p.a.link p.b.link.sent p.b.link.coming.received p.b.wire h.world.from_b.wire
@@ -165,7 +165,7 @@ parts_came p A w v h d on sends still world =
       plain_b = h.plain_b;
       alike = subst (λ (s : LinkSetup). AreAlike p.b.link.setup s) (sym same) h.alike;
       limit = ap (λ (s : LinkSetup). s.max_message) same ∙ h.limit;
-      most = subst (λ (s : LinkSetup). s.max_message ≤ largest_limit) (sym same) h.most;
+      most = subst (λ (s : LinkSetup). s.max_message ≤ max_limit) (sym same) h.most;
       from_a = told_gives (asked_messages p) p.served p.a p.b h.from_a v w.segment w.acks d (sends h.from_a.handed h.from_a.way.sends);
       from_b = told_takes (answers p) p.read p.b p.a h.from_b v on;
       sent_is = h.sent_is;
@@ -212,7 +212,7 @@ takes_some v (Some k) (inl next) = rw (eq-eqb k (v.coming.received + 1) next) tt
 takes_some v (Some k) (inr keeps) = rw (ne_eqb k (v.coming.received + 1) (λ same. omega (arith, same, keeps.0)), lt-ltb v.coming.received k (omega (arith, keeps.0))) tt
 
 -- only memory was wanting
-not_exhausted : (v : LinkValue) (k : Option ℕ) (f : LinkFault) → taken_after v k ≤ most_segments → MayRefuse v k f → TakesIn v k
+not_exhausted : (v : LinkValue) (k : Option ℕ) (f : LinkFault) → taken_after v k ≤ max_segments → MayRefuse v k f → TakesIn v k
 not_exhausted v None f few refused = absurd refused
 not_exhausted v (Some k) f few (inl memory) = memory.1
 not_exhausted v (Some k) f few (inr many) = absurd (omega (arith, few, many.2))

@@ -6,7 +6,7 @@ use Rattle.nsp_link.specs.Holding.{closed_up}
 use Rattle.std.specs.declared.cmp.Ordering.TheVariants.{Less, Equal, Greater}
 use Rattle.std.specs.Ordering.{match_ordering, nat_cmp}
 use Rattle.std.specs.BTreeSet.{insert_key}
-use Rattle.nsp_link.specs.Limits.{most_segments}
+use Rattle.nsp_link.specs.Limits.{max_segments}
 use Rattle.dap_world.specs.Machine.{Sending, segments_of, taken_and_held}
 use Rattle.dap_world.specs.Inner.Worlds.{WasSent, AreTrue, AreEarly, IsDirection}
 
@@ -60,7 +60,7 @@ AreEarly-with (n ∷ held) k low sent a b h =
 
 module _ (window there sent acked taken : ℕ) (held : List ℕ) (back : ℕ) (wire : List Sending) (h : IsDirection window there sent acked taken held back wire) where
   -- more segments are there
-  pub kept-there : (more : ℕ) → there ≤ more → more ≤ most_segments → IsDirection window more sent acked taken held back wire
+  pub kept-there : (more : ℕ) → there ≤ more → more ≤ max_segments → IsDirection window more sent acked taken held back wire
   kept-there more le few =
       record {
         counts = record { acked_taken = h.counts.acked_taken; taken_sent = h.counts.taken_sent; within_window = h.counts.within_window; sent_there = omega (arith, h.counts.sent_there); few = few };

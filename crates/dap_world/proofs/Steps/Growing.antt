@@ -7,7 +7,7 @@ use Rattle.dap_msg.specs.Blocked.{NspMessage, blocked_bytes, all_joined, message
 use Rattle.dap_msg.specs.Canon.{canon}
 use Rattle.dap_accessed.specs.Served.{AllAtMost}
 use Rattle.nsp_link.specs.Cutting.{cut, count_of}
-use Rattle.nsp_link.specs.Limits.{largest_limit, most_segments}
+use Rattle.nsp_link.specs.Limits.{max_limit, max_segments}
 use Rattle.dap_end.proofs.ForCallers.{back_fit, fit-both, front_fit, in_append}
 use Rattle.nsp_link.specs.Link.{LinkValue, with_inbox}
 use Rattle.dap_world.specs.Inner.Sides.{SideValue, AreWithinLimit}
@@ -77,15 +77,15 @@ as_many_segments size [] = omega arith
 as_many_segments size (m ∷ messages) = omega (arith, as_many_segments size messages, segments-first size m messages, count_one size (length m))
 
 -- few were passed on
-pub few_posted : (from to : SideValue) (packets : List NspMessage) (count : ℕ) → IsCarried from to packets count → from.posted ≤ most_segments
+pub few_posted : (from to : SideValue) (packets : List NspMessage) (count : ℕ) → IsCarried from to packets count → from.posted ≤ max_segments
 few_posted from to packets count h = omega (arith, h.posted, as_many_segments from.link.setup.seg_size h.handed, h.way.few)
 
 as_many_bytes : (messages : List Message) → AllFit messages → length messages ≤ length (blocked_bytes messages)
 as_many_bytes [] fit = omega arith
 as_many_bytes (m ∷ messages) fit = omega (arith, some_bytes m fit.0, as_many_bytes messages fit.1, length-append (canon m) (blocked_bytes messages))
 
-all_few : (size : ℕ) (packets : List NspMessage) (most : ℕ) → AllFit (messages_in packets) → AreWithinLimit most (all_joined packets) → most ≤ largest_limit
-    → length (messages_in packets) ≤ largest_limit * length (cut size (all_joined packets))
+all_few : (size : ℕ) (packets : List NspMessage) (most : ℕ) → AllFit (messages_in packets) → AreWithinLimit most (all_joined packets) → most ≤ max_limit
+    → length (messages_in packets) ≤ max_limit * length (cut size (all_joined packets))
 all_few size [] most fit short le = omega arith
 all_few size (p ∷ packets) most fit short le =
     let first = short 0 (blocked_bytes p) (omega arith) in
@@ -101,6 +101,6 @@ all_few size (p ∷ packets) most fit short le =
       count_one size (length (blocked_bytes p)),
     )
 
-pub few_messages : (size : ℕ) (packets : List NspMessage) (n : ℕ) → n ≤ length (messages_in packets) → AllFit (messages_in packets) → (most : ℕ) → AreWithinLimit most (all_joined packets) → most ≤ largest_limit
-    → length (cut size (all_joined packets)) ≤ most_segments → n < 2 ^ 56
+pub few_messages : (size : ℕ) (packets : List NspMessage) (n : ℕ) → n ≤ length (messages_in packets) → AllFit (messages_in packets) → (most : ℕ) → AreWithinLimit most (all_joined packets) → most ≤ max_limit
+    → length (cut size (all_joined packets)) ≤ max_segments → n < 2 ^ 56
 few_messages size packets n le fit most short limit few = omega (arith, le, few, all_few size packets most fit short limit)

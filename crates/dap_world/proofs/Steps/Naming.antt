@@ -12,7 +12,7 @@ use Rattle.dap_events.specs.declared.event.Event.TheVariants as event
 use Rattle.dap_events.specs.declared.event.Step.{Step}
 use Rattle.dap_events.specs.declared.event.Step.TheVariants as step
 use Rattle.dap_events.specs.declared.event.WorldFault.{WorldFault}
-use Rattle.dap_world.specs.Machine.{State, EndState, end_of, with_end, wrote, taken_of, answers_read, reported, with_read, told_by, Steps}
+use Rattle.dap_world.specs.Machine.{State, EndState, end_of, with_end, wrote, served_by_b, answers_read, reported, with_read, told_by, Steps}
 use Rattle.dap_world.specs.Runs.{Went, writing_end}
 use Rattle.dap_world.specs.Naming.{NamedIsThere}
 use Rattle.dap_world.proofs.Headline.Kept.{now_at}
@@ -48,7 +48,7 @@ front_more (x ∷ xs) (suc n) = let more = front_more xs n in (more.0, ap (λ l.
 grows : (s : State) → length (reported s) ≤ length (reported (with_read s))
 unfolding reported
 grows s =
-    let answers = Answered s.own_b [] (map Whole (taken_of s)) in
+    let answers = Answered s.own_b [] (map Whole (served_by_b s)) in
     let more = front_more answers s.read in
     let next : suc s.read ≡ s.read + 1 = omega arith in
     let read = sym (map-append Whole (take s.read answers) more.0) ∙ ap (map Whole) (more.1 ∙ ap (λ (k : ℕ). take k answers) next) in

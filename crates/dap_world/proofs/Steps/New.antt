@@ -5,7 +5,7 @@ use Rattle.dap_accessing.specs.Present as accessing
 use Rattle.nsp_link.specs.declared.link.LinkSetup.{LinkSetup}
 use Rattle.nsp_link.proofs.ForCallers.{stands_new, sends_new}
 use Rattle.dap_events.specs.declared.setup.WorldSetup.{WorldSetup}
-use Rattle.dap_msg.specs.BothEnds.{least_buffer, plain_identity}
+use Rattle.dap_msg.specs.BothEnds.{min_buffer, plain_identity}
 use Rattle.dap_accessed.specs.Setup.{plain_setup}
 use Rattle.nsp_link.specs.Link.{IsSetup}
 use Rattle.dap_world.specs.declared.side.Wired.{Wired}
@@ -102,7 +102,7 @@ new_sound s v w wire_a wire_b requests sent reports ea eb er es ep h x y plain_a
     rw (x.1, y.1, ea, eb, er, es, ep) both
 
 -- the sizes that a world may have, by those that a link may
-pub world_setup : (s : WorldSetup) (end : End) → least_buffer ≤ s.bufsiz_a → least_buffer ≤ s.bufsiz_b → IsSetup (link_setup_of s end) → IsWorldSetup s
+pub world_setup : (s : WorldSetup) (end : End) → min_buffer ≤ s.bufsiz_a → min_buffer ≤ s.bufsiz_b → IsSetup (link_setup_of s end) → IsWorldSetup s
 world_setup s end a b h =
     record {
       some = h.0;

@@ -12,7 +12,7 @@ use Rattle.dap_msg.specs.Blocked.{NspMessage, blocked_bytes, all_joined, message
 use Rattle.dap_world.specs.Plain.{Answers}
 use Rattle.dap_accessing.specs.Told.{Told}
 use Rattle.nsp_link.specs.Cutting.{Piece, cut}
-use Rattle.nsp_link.specs.Limits.{most_segments}
+use Rattle.nsp_link.specs.Limits.{max_segments}
 use Rattle.nsp_link.specs.Link.{LinkValue, Sends, Writes}
 use Rattle.nsp_link.specs.Sending.{queued_link}
 use Rattle.nsp_link.proofs.ForCallers.{writes_more, stands_more, sends_all, may_queue_parts}
@@ -56,7 +56,7 @@ more_writes v pieces messages more (w ∷ wire) h =
 abbrev pub new_side : SideValue → SideValue
 new_side s = side_of (port_posted (port_of s)) (s.posted + length s.outbox) s.wire
 
-way_posted : (s : SideValue) (to : LinkValue) (handed given : List (List ℕ)) → IsWay s to handed given → AreWithinLimit to.setup.max_message s.outbox → segments_queued s ≤ most_segments
+way_posted : (s : SideValue) (to : LinkValue) (handed given : List (List ℕ)) → IsWay s to handed given → AreWithinLimit to.setup.max_message s.outbox → segments_queued s ≤ max_segments
     → IsWay (new_side s) to (handed ++ s.outbox) given
 way_posted s to handed given way short room =
     record {
@@ -122,7 +122,7 @@ state_posted : (p : Parts) (end : End) (more : List (List ℕ)) → AreParts p �
 state_posted p A more h = ap (λ (e : EndState). with_end (state_of p) A e) (posted_is p.a (asked_messages p) (counted p.a.posted h.from_a.handed p.a.outbox (asked_messages p) h.from_a.posted h.from_a.bytes))
 state_posted p B more h = ap (λ (e : EndState). with_end (state_of p) B e) (posted_is p.b (answers p) (counted p.b.posted h.from_b.handed p.b.outbox (answers p) h.from_b.posted h.from_b.bytes))
 
-posts : (p : Parts) (end : End) (more : List (List ℕ)) → AreParts p → 0 < length (side p end).outbox → segments_queued (side p end) ≤ most_segments
+posts : (p : Parts) (end : End) (more : List (List ℕ)) → AreParts p → 0 < length (side p end).outbox → segments_queued (side p end) ≤ max_segments
     → Steps (state_of p) (event.Post end) (step.Posted (length (side p end).outbox)) (state_of (posted_parts p end more))
 unfolding Steps
 posts p end more h some room =
@@ -150,7 +150,7 @@ among_more n m packets count place gone le h =
     shorter : (n m : ℕ) (packets : List NspMessage) → n ≤ m → take n (take m packets) ≡ take n packets
     shorter n m packets le = take-take n m packets le
 
-told_posted : (packets : List NspMessage) (count : ℕ) (from to : SideValue) → IsCarried from to packets count → AreWithinLimit to.link.setup.max_message from.outbox → segments_queued from ≤ most_segments
+told_posted : (packets : List NspMessage) (count : ℕ) (from to : SideValue) → IsCarried from to packets count → AreWithinLimit to.link.setup.max_message from.outbox → segments_queued from ≤ max_segments
     → IsCarried (new_side from) to packets count
 told_posted packets count from to h short room =
     record {
@@ -193,7 +193,7 @@ abbrev pub HandsOver : Parts → End → Type 0
 HandsOver p A = (past : ClientHistory) → HasAsked past (asking_end p) → HasAsked (record past { handed = past.handed ++ p.a.outbox }) (record { port = port_posted (port_of p.a); present = p.accessing })
 HandsOver p B = (past : ServerHistory) → IsAfter past (serving_end p) → IsAfter (record past { handed = past.handed ++ p.b.outbox }) (record { port = port_posted (port_of p.b); present = p.accessed })
 
-parts_posted : (p : Parts) (end : End) (more : List (List ℕ)) → AreParts p → segments_queued (side p end) ≤ most_segments → SentMore p end more → HandsOver p end → IsWorld (state_of (posted_parts p end more)) → AreParts (posted_parts p end more)
+parts_posted : (p : Parts) (end : End) (more : List (List ℕ)) → AreParts p → segments_queued (side p end) ≤ max_segments → SentMore p end more → HandsOver p end → IsWorld (state_of (posted_parts p end more)) → AreParts (posted_parts p end more)
 unfolding reported
 parts_posted p A more h room splits goes world =
     let short = subst (λ (n : ℕ). AreWithinLimit n p.a.outbox) (sym h.alike.limit) h.from_a.short in
@@ -230,7 +230,7 @@ parts_posted p B more h room splits goes world =
       serving = (record h.serving.0 { handed = h.serving.0.handed ++ p.b.outbox }, goes _ h.serving.1);
     }
 
-posted_step : (p : Parts) (end : End) (more : List (List ℕ)) → AreParts p → 0 < length (side p end).outbox → segments_queued (side p end) ≤ most_segments → SentMore p end more → HandsOver p end
+posted_step : (p : Parts) (end : End) (more : List (List ℕ)) → AreParts p → 0 < length (side p end).outbox → segments_queued (side p end) ≤ max_segments → SentMore p end more → HandsOver p end
     → AreThen p (event.Post end) (posted_parts p end more) (Ok (step.Posted (length (side p end).outbox)))
 unfolding Steps
 posted_step p end more h some room splits goes =

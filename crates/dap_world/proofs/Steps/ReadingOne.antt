@@ -12,13 +12,13 @@ use Rattle.dap_accessing.specs.Present as accessing
 use Rattle.dap_accessing.specs.Told.{Told, is_unexpected}
 use Rattle.dap_accessing.specs.declared.report.Report.{Report}
 use Rattle.nsp_link.specs.Cutting.{cut}
-use Rattle.nsp_link.specs.Limits.{most_segments}
+use Rattle.nsp_link.specs.Limits.{max_segments}
 use Rattle.dap_events.specs.declared.event.End.TheVariants.{A}
 use Rattle.dap_events.specs.declared.event.Event.TheVariants as event
 use Rattle.dap_events.specs.declared.event.Step.{Step}
 use Rattle.dap_events.specs.declared.event.Step.TheVariants as step
 use Rattle.dap_events.specs.declared.event.WorldFault.TheVariants as fault
-use Rattle.dap_world.specs.Machine.{RefusesEvent, State, arrived, arrived_at, taken_of, answers_read, with_read, next_to_read, told_by, reported, Steps}
+use Rattle.dap_world.specs.Machine.{RefusesEvent, State, arrived, arrived_at, served_by_b, answers_read, with_read, next_to_read, told_by, reported, Steps}
 use Rattle.dap_world.specs.Runs.{Went, TakesMemory, WantsMemory}
 use Rattle.dap_world.specs.Inner.Worlds.{IsWorld}
 use Rattle.dap_fields.specs.Spelling.{AreBytes}
@@ -27,7 +27,7 @@ use Rattle.dap_accessing.specs.declared.fault.ReadFault.{ReadFault}
 use Rattle.dap_accessing.specs.declared.fault.ReadFault.TheVariants as read_fault
 use Rattle.dap_end.specs.Ports.{PortValue}
 use Rattle.dap_end.specs.Going.{oldest_message}
-use Rattle.dap_end.specs.Going.{given_then}
+use Rattle.dap_end.specs.Going.{processed_after}
 use Rattle.dap_end.specs.Asking.{HasAsked, ReadNone, ReadOne}
 use Rattle.dap_end.specs.Done.{AskingValue}
 use Rattle.dap_end.proofs.ForCallers.{in_append}
@@ -45,7 +45,7 @@ use Rattle.dap_world.proofs.Steps.Serving.{full-take, fit-take}
 use Rattle.dap_world.proofs.Steps.Wrote.{AreThen, as_client, asking_parts, client_is}
 
 -- the answers to what B served
-all-answered : (p : Parts) → AreParts p → messages_in (take p.b.posted (answers p)) ++ messages_in (drop p.b.posted (answers p)) ≡ Answers p.accessed.own [] (map Whole (taken_of (state_of p)))
+all-answered : (p : Parts) → AreParts p → messages_in (take p.b.posted (answers p)) ++ messages_in (drop p.b.posted (answers p)) ≡ Answers p.accessed.own [] (map Whole (served_by_b (state_of p)))
 all-answered p h =
     sym (in_append (take p.b.posted (answers p)) (drop p.b.posted (answers p))) ∙ h.world.answered
 
@@ -66,7 +66,7 @@ read-more p m h next =
     let front = arrived-front s.seg_size s.a.taken s.b.handed in
     let here = subst (λ (l : List Message). slice_get l p.read ≡ Some m) front.1 (get-front (arrived_at s A) front.0 p.read m next) in
     let there = subst (λ (l : List Message). slice_get l p.read ≡ Some m) (all-answered p h) (get-front (messages_in s.b.handed) (messages_in s.b.waiting) p.read m here) in
-    ap (map Whole) (take-next (Answers p.accessed.own [] (map Whole (taken_of s))) p.read m there) ∙ map-append Whole (take p.read (Answers p.accessed.own [] (map Whole (taken_of s)))) (m ∷ [])
+    ap (map Whole) (take-next (Answers p.accessed.own [] (map Whole (served_by_b s))) p.read m there) ∙ map-append Whole (take p.read (Answers p.accessed.own [] (map Whole (served_by_b s)))) (m ∷ [])
 
 reads : (p : Parts) (m : Message) → next_to_read (state_of p) ≡ Some m → Steps (state_of p) event.Read (told_by (state_of p) (with_read (state_of p))) (with_read (state_of p))
 unfolding Steps
@@ -91,7 +91,7 @@ few_read p h =
     few_messages p.b.link.setup.seg_size packets p.read (omega (arith, h.world.read, ap length front.1, length-append (messages_in (arrived s.seg_size s.a.taken s.b.handed)) front.0))
     (fit-take p.b.posted (answers p) h.from_b.fit) p.a.link.setup.max_message
     (subst (AreWithinLimit p.a.link.setup.max_message) (handed-bytes p.b.posted h.from_b.handed p.b.outbox (answers p) h.from_b.posted h.from_b.bytes) h.from_b.way.short) h.most
-    (subst (λ (l : List (List ℕ)). length (cut p.b.link.setup.seg_size l) ≤ most_segments) (handed-bytes p.b.posted h.from_b.handed p.b.outbox (answers p) h.from_b.posted h.from_b.bytes) h.from_b.way.few)
+    (subst (λ (l : List (List ℕ)). length (cut p.b.link.setup.seg_size l) ≤ max_segments) (handed-bytes p.b.posted h.from_b.handed p.b.outbox (answers p) h.from_b.posted h.from_b.bytes) h.from_b.way.few)
 
 -- ---- None is read.
 
@@ -160,7 +160,7 @@ read_so p v report reports h o kept =
     let old = answers_read (state_of p) in
     let same : old ++ o.one.item ∷ [] ≡ answers_read (with_read (state_of p)) = ap (λ (i : Item). old ++ i ∷ []) (sym one.0) ∙ sym (read-more p m h next) in
     let past = record h.asking.0 { requests = p.requests; answers = old } in
-    let now = record h.asking.0 { given = given_then h.asking.0.given o.one.bytes o.one.next } in
+    let now = record h.asking.0 { given = processed_after h.asking.0.given o.one.bytes o.one.next } in
     let asking : IsAskedAll (asking_end q) p.requests (answers_read (with_read (state_of p))) =
     subst (λ (l : List Item). IsAskedAll (asking_end q) p.requests l) same (
       now,

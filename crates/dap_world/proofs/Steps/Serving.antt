@@ -17,7 +17,7 @@ use Rattle.dap_events.specs.declared.event.Event.TheVariants as event
 use Rattle.dap_events.specs.declared.event.Step.TheVariants as step
 use Rattle.dap_events.specs.declared.event.WorldFault.{WorldFault}
 use Rattle.dap_events.specs.declared.event.WorldFault.TheVariants as fault
-use Rattle.dap_world.specs.Machine.{State, arrived, taken_of, answers_read, answering, served_one, next_to_serve, Steps, RefusesEvent, reported}
+use Rattle.dap_world.specs.Machine.{State, arrived, served_by_b, answers_read, answering, served_one, next_to_serve, Steps, RefusesEvent, reported}
 use Rattle.dap_world.specs.Runs.{Went, WantsMemory}
 use Rattle.dap_world.specs.Inner.Worlds.{IsWorld}
 use Rattle.nsp_link.specs.Link.{with_inbox}
@@ -56,7 +56,7 @@ asked-split p =
     sym (in_append (take p.a.posted (asked_messages p)) (drop p.a.posted (asked_messages p))) ∙ ap messages_in (take-append-drop p.a.posted (asked_messages p))
     ∙ asked-all p.accessing.own p.accessed.own p.requests
 
-pub served_is : (p : Parts) → AreParts p → served_items p ≡ map Whole (taken_of (state_of p))
+pub served_is : (p : Parts) → AreParts p → served_items p ≡ map Whole (served_by_b (state_of p))
 served_is p h =
     let handed = take p.a.posted (asked_messages p) in
     let front = arrived-front p.a.link.setup.seg_size p.b.link.coming.received handed in
@@ -77,13 +77,13 @@ served_more p m next =
 -- ---- What A read stays when B serves more.
 
 read-stays : (p : Parts) (m : Message) → AreParts p
-    → take p.read (Answers p.accessed.own [] (map Whole (taken_of (state_of p) ++ m ∷ []))) ≡ take p.read (Answers p.accessed.own [] (map Whole (taken_of (state_of p))))
+    → take p.read (Answers p.accessed.own [] (map Whole (served_by_b (state_of p) ++ m ∷ []))) ≡ take p.read (Answers p.accessed.own [] (map Whole (served_by_b (state_of p))))
 read-stays p m h =
     let s = state_of p in
-    let items = map Whole (taken_of s) in
+    let items = map Whole (served_by_b s) in
     let front = arrived-front s.seg_size s.a.taken s.b.handed in
     let all = ap length (sym (in_append s.b.handed s.b.waiting) ∙ h.world.answered) in
-    ap (λ l. take p.read (Answers p.accessed.own [] l)) (map-append Whole (taken_of s) (m ∷ []))
+    ap (λ l. take p.read (Answers p.accessed.own [] l)) (map-append Whole (served_by_b s) (m ∷ []))
     ∙ ap (take p.read) (Answers-more p.accessed.own [] items (Whole m))
     ∙ take-append-le p.read (Answers p.accessed.own [] items) (added p.accessed.own [] items (Whole m))
     (omega (
@@ -143,27 +143,27 @@ module _ (p : Parts) (h : AreParts p) (m : Message) (next : next_to_serve (state
   serves = (m, none_waits, next, refl, refl)
 
   -- none of the NSP messages is longer than A takes
-  block_short : AreWithinLimit p.b.link.setup.max_message (all_joined (answer_to p.accessed.own [] (map Whole (taken_of (state_of p))) (Whole m)))
+  block_short : AreWithinLimit p.b.link.setup.max_message (all_joined (answer_to p.accessed.own [] (map Whole (served_by_b (state_of p))) (Whole m)))
   block_short =
       let s = state_of p in
       let front = served-front (served_one s m) (kept-step s (served_one s m) event.Serve (step.Served (length (answering s m))) serves h.world) in
-      let all : (taken_of s ++ m ∷ []) ++ front.0 ≡ Asked p.accessing.own p.requests = ap (λ (l : List Message). l ++ front.0) (sym (taken-more s m next)) ∙ front.1 in
+      let all : (served_by_b s ++ m ∷ []) ++ front.0 ≡ Asked p.accessing.own p.requests = ap (λ (l : List Message). l ++ front.0) (sym (taken-more s m next)) ∙ front.1 in
       all_short p.accessing.own p.b.link.setup.max_message _ (omega (arith, h.limit, h.alike.limit))
-      (answers-blocked p.accessing.own p.accessed.own h.world.own_a h.world.own_b p.requests (map Whole (taken_of s)) (map Whole front.0) (Whole m)
-      (sym (map-append Whole (taken_of s) (m ∷ front.0)) ∙ ap (map Whole) (sym (append_assoc (taken_of s) (m ∷ []) front.0) ∙ all)))
+      (answers-blocked p.accessing.own p.accessed.own h.world.own_a h.world.own_b p.requests (map Whole (served_by_b s)) (map Whole front.0) (Whole m)
+      (sym (map-append Whole (served_by_b s) (m ∷ front.0)) ∙ ap (map Whole) (sym (append_assoc (served_by_b s) (m ∷ []) front.0) ∙ all)))
 
   parts_served : (bytes : List ℕ) (later outbox : List (List ℕ)) (next_place : ℕ) (after : accessed.Present) (n : Next p.a p.b (asked_messages p) p.served bytes)
       → n.m ≡ m → p.b.link.coming.inbox ≡ bytes ∷ later → length (blocked_bytes n.begun) + length (canon n.m) ≡ next_place
-      → outbox ≡ all_joined (answer_to p.accessed.own [] (map Whole (taken_of (state_of p))) (Whole m)) → AllFit (added p.accessed.own [] (map Whole (taken_of (state_of p))) (Whole m))
+      → outbox ≡ all_joined (answer_to p.accessed.own [] (map Whole (served_by_b (state_of p))) (Whole m)) → AllFit (added p.accessed.own [] (map Whole (served_by_b (state_of p))) (Whole m))
       → (let s = handled_side p.b bytes later next_place in
-      IsServedAll (serving_end (q_of s.link.coming.inbox s.place outbox after)) (map Whole (taken_of (state_of p)) ++ Whole m ∷ []) → AreParts (q_of s.link.coming.inbox s.place outbox after))
+      IsServedAll (serving_end (q_of s.link.coming.inbox s.place outbox after)) (map Whole (served_by_b (state_of p)) ++ Whole m ∷ []) → AreParts (q_of s.link.coming.inbox s.place outbox after))
   unfolding reported
   parts_served bytes later outbox next_place after n same inbox goes outbox_is fit serving =
       let s = handled_side p.b bytes later next_place in
       let q = q_of s.link.coming.inbox s.place outbox after in
       let state = state_served s.link.coming.inbox s.place outbox after in
       let world = kept-step (state_of p) (served_one (state_of p) m) event.Serve (step.Served (length (answering (state_of p) m))) serves h.world in
-      let taken : taken_of (served_one (state_of p) m) ≡ taken_of (state_of p) ++ m ∷ [] = taken-more (state_of p) m next in
+      let taken : served_by_b (served_one (state_of p) m) ≡ served_by_b (state_of p) ++ m ∷ [] = taken-more (state_of p) m next in
       let b = answer_to p.accessed.own [] (served_items p) (Whole m) in
       let all = messages_in-Blocked (stands_after p.accessed.own [] (served_items p)).standing.scene.limit (added p.accessed.own [] (served_items p) (Whole m)) in
       let fit_block : AllFit (messages_in b) = subst AllFit (sym all) (subst (λ (l : List Item). AllFit (added p.accessed.own [] l (Whole m))) (sym (served_is p h)) fit) in
@@ -185,8 +185,8 @@ module _ (p : Parts) (h : AreParts p) (m : Message) (next : next_to_serve (state
         reports_is = h.reports_is ∙ ap (Told p.requests) (sym read) ∙ ap reported (sym state);
         asking = subst (λ (x : State). IsAskedAll (asking_end p) p.requests (answers_read x)) (sym state)
             (subst (λ (l : List Item). IsAskedAll (asking_end p) p.requests l) (sym read) h.asking);
-        serving = subst (λ (x : State). IsServedAll (serving_end q) (map Whole (taken_of x))) (sym state)
-            (subst (λ (l : List Item). IsServedAll (serving_end q) l) (sym (ap (map Whole) taken ∙ map-append Whole (taken_of (state_of p)) (m ∷ []))) serving);
+        serving = subst (λ (x : State). IsServedAll (serving_end q) (map Whole (served_by_b x))) (sym state)
+            (subst (λ (l : List Item). IsServedAll (serving_end q) l) (sym (ap (map Whole) taken ∙ map-append Whole (served_by_b (state_of p)) (m ∷ []))) serving);
       }
 
 -- what is read next from A is of its message
@@ -224,10 +224,10 @@ not_served p v f h same went = subst (λ (x : ServingValue). AreThen p event.Ser
 -- what B did, once it served one more
 module _ (p : Parts) (v : ServingValue) (n : ℕ) (h : AreParts p) (o : ServedOne (serving_end p) v n) (m : Message) (is : Whole m ≡ o.one.item) where
   abbrev taken : List Item
-  taken = map Whole (taken_of (state_of p))
+  taken = map Whole (served_by_b (state_of p))
 
   abbrev past : ServerHistory
-  past = record h.serving.0 { first = []; items = map Whole (taken_of (state_of p)) }
+  past = record h.serving.0 { first = []; items = map Whole (served_by_b (state_of p)) }
 
   abbrev now : ServerHistory
   now = served past o.one.bytes (Whole m) o.one.next
@@ -269,7 +269,7 @@ served_step p v n h o =
     let own = own_is p v n h o m one.0 in
     let is = outbox_is p v n h o m one.0 in
     let q = q_of p h m x.next o.idle t.link.coming.inbox t.place outbox v.present in
-    let serving : IsServedAll (serving_end q) (map Whole (taken_of (state_of p)) ++ Whole m ∷ []) =
+    let serving : IsServedAll (serving_end q) (map Whole (served_by_b (state_of p)) ++ Whole m ∷ []) =
     (now p v n h o m one.0, subst (λ (port : PortValue). IsAfter (now p v n h o m one.0) (record { port = port; present = as_server p v.present })) o.port (is_after p v n h o m one.0)) in
     let parts : AreParts q = parts_served p h m x.next o.idle o.one.bytes o.one.later outbox o.one.next v.present x refl o.one.came one.1 is (added_fit p v n h o m one.0) serving in
     let count : length (answering (state_of p) m) ≡ n = sym (length-map (answering (state_of p) m) blocked_bytes) ∙ ap length (sym is) ∙ sym o.count in

@@ -3,7 +3,7 @@ use Rattle.std.proofs.Common.{◌≡◌, ℕ, ◌≤◌, ◌<◌, refl, sym, ◌
 use Rattle.std.specs.Prelude.{Option}
 use Rattle.std.specs.List.{AllByRecursion}
 use Rattle.dap_msg.specs.Blocked.{NspMessage, all_joined}
-use Rattle.nsp_link.specs.Limits.{most_segments}
+use Rattle.nsp_link.specs.Limits.{max_segments}
 use Rattle.nsp_link.specs.Cutting.{cut}
 use Rattle.nsp_link.specs.declared.link.LinkSetup.{LinkSetup}
 use Rattle.nsp_link.specs.Link.{LinkValue, Sends, Stands, Writes, IsWrittenPacket}
@@ -57,7 +57,7 @@ gives from v' to messages given k a way took sends =
       sends = sends;
       stands = subst (λ (s : LinkSetup). Stands to s.seg_size messages given) (sym d.setup) way.stands;
       short = way.short;
-      few = subst (λ (s : LinkSetup). length (cut s.seg_size messages) ≤ most_segments) (sym d.setup) way.few;
+      few = subst (λ (s : LinkSetup). length (cut s.seg_size messages) ≤ max_segments) (sym d.setup) way.few;
       wire = same_writes from.link v' messages d.setup from.wire way.wire;
     }
 

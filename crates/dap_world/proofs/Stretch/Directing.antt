@@ -16,7 +16,7 @@ use Rattle.dap_events.specs.declared.event.Event.TheVariants as event
 use Rattle.dap_events.specs.declared.event.Step.{Step}
 use Rattle.dap_events.specs.declared.event.WorldFault.{WorldFault}
 use Rattle.dap_events.specs.declared.event.WorldFault.TheVariants as fault
-use Rattle.dap_world.specs.Machine.{State, answers_read, asked, files_of, reported, sent_by, taken_of, Steps, RefusesEvent}
+use Rattle.dap_world.specs.Machine.{State, answers_read, asked, files_of, reported, sent_by, served_by_b, Steps, RefusesEvent}
 use Rattle.dap_world.specs.Runs.{Went}
 use Rattle.dap_world.specs.Inner.Worlds.{IsWorld}
 use Rattle.dap_world.specs.Settling.{AllDone, AllTold, Finished, FinishFault, IsUnused, RanOut, StopsAtRequest}
@@ -39,7 +39,7 @@ fresh_told s h none =
     let order = (headline_of s h).sent_in_order in
     let all : Asked s.own_a s.requests ≡ [] = ap (Asked s.own_a) none in
     let sent : sent_by s.a ≡ Asked s.own_a s.requests = nothing (sent_by s.a) order.0 (Asked s.own_a s.requests) order.1 all in
-    let taken : taken_of s ≡ Asked s.own_a s.requests = take_all s.served (sent_by s.a) (omega (arith, ap length (sent ∙ all))) ∙ sent in
+    let taken : served_by_b s ≡ Asked s.own_a s.requests = take_all s.served (sent_by s.a) (omega (arith, ap length (sent ∙ all))) ∙ sent in
     record {
       sent = sent;
       taken = taken;

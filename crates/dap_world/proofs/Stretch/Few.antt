@@ -3,7 +3,7 @@ use Rattle.std.proofs.Common.{ℕ, ◌<◌, ◌≤◌, ◌^◌, arith, subst, ap
 use Rattle.std.proofs.lemmas.List.{length-append}
 use Rattle.dap_msg.specs.Blocked.{messages_in}
 use Rattle.nsp_link.specs.Cutting.{cut}
-use Rattle.nsp_link.specs.Limits.{most_segments}
+use Rattle.nsp_link.specs.Limits.{max_segments}
 use Rattle.std.specs.Prelude.{◌≢◌, Option, Some, None}
 use Rattle.dap_accessing.specs.declared.pending.Pending.{Pending}
 use Rattle.dap_accessing.specs.Present.{FitsDue}
@@ -25,7 +25,7 @@ few_served p h =
     few_messages p.a.link.setup.seg_size packets p.served (omega (arith, h.world.served, ap length front.1, length-append (messages_in (arrived s.seg_size s.b.taken s.a.handed)) front.0))
     (fit-take p.a.posted (asked_messages p) h.from_a.fit) p.b.link.setup.max_message
     (subst (AreWithinLimit p.b.link.setup.max_message) (handed-bytes p.a.posted h.from_a.handed p.a.outbox (asked_messages p) h.from_a.posted h.from_a.bytes) h.from_a.way.short) (omega (arith, h.most, h.alike.limit))
-    (subst (λ (l : List (List ℕ)). length (cut p.a.link.setup.seg_size l) ≤ most_segments) (handed-bytes p.a.posted h.from_a.handed p.a.outbox (asked_messages p) h.from_a.posted h.from_a.bytes) h.from_a.way.few)
+    (subst (λ (l : List (List ℕ)). length (cut p.a.link.setup.seg_size l) ≤ max_segments) (handed-bytes p.a.posted h.from_a.handed p.a.outbox (asked_messages p) h.from_a.posted h.from_a.bytes) h.from_a.way.few)
 
 -- at most one request has no report yet
 pub one_due : (p : Parts) → AreParts p → IsOneDue (state_of p)

@@ -11,7 +11,7 @@ use Rattle.dap_accessing.specs.Told.{Told}
 use Rattle.dap_world.specs.Agreement.{reports_of}
 use Rattle.dap_events.specs.declared.event.End.{End}
 use Rattle.dap_events.specs.declared.event.End.TheVariants.{A, B}
-use Rattle.dap_world.specs.Machine.{State, arrived_at, answers_read, files_of, next_to_read, reported, segments_of, sent_by, taken_of}
+use Rattle.dap_world.specs.Machine.{State, arrived_at, answers_read, files_of, next_to_read, reported, segments_of, sent_by, served_by_b}
 use Rattle.dap_world.specs.Inner.Worlds.{IsWorld}
 use Rattle.dap_world.specs.Settling.{AllTold, Finished, IsEmpty, IsFinished, RanBy, unacked}
 use Rattle.dap_world.specs.Inner.Settling.{NothingSent}
@@ -33,7 +33,7 @@ pub all_told : (s : State) → IsWorld s → IsFinished s → AllTold s
 unfolding reported files_of
 all_told s h f =
     let sent : sent_by s.a ≡ Asked s.own_a s.requests = handed_all s.a.handed s.a.waiting (Asked s.own_a s.requests) f.a.waiting h.asked in
-    let taken : taken_of s ≡ Asked s.own_a s.requests = f.served ∙ sent in
+    let taken : served_by_b s ≡ Asked s.own_a s.requests = f.served ∙ sent in
     let reports : Told s.requests (answers_read s) ≡ reports_of s.own_a s.own_b s.requests = ap (Told s.requests) (f.read ∙ ap (λ (l : List Message). map Whole (Answers s.own_b [] (map Whole l))) taken) in
     record {
       sent = sent;
@@ -59,11 +59,11 @@ empty_read s new B is e =
     }
 
 -- where all were read, no answer is left
-read_all : (s : State) → IsWorld s → IsEmpty s B → next_to_read s ≡ None → length (Answers s.own_b [] (map Whole (taken_of s))) ≤ s.read
+read_all : (s : State) → IsWorld s → IsEmpty s B → next_to_read s ≡ None → length (Answers s.own_b [] (map Whole (served_by_b s))) ≤ s.read
 read_all s h e none =
-    let all : sent_by s.b ≡ Answers s.own_b [] (map Whole (taken_of s)) = handed_all s.b.handed s.b.waiting (Answers s.own_b [] (map Whole (taken_of s))) e.waiting h.answered in
+    let all : sent_by s.b ≡ Answers s.own_b [] (map Whole (served_by_b s)) = handed_all s.b.handed s.b.waiting (Answers s.own_b [] (map Whole (served_by_b s))) e.waiting h.answered in
     let came = arrived_empty_b s h e in
-    most (length (Answers s.own_b [] (map Whole (taken_of s)))) s.read (λ lt. none_past (arrived_at s A) s.read (omega (arith, lt, ap length all, ap length came)) none)
+    most (length (Answers s.own_b [] (map Whole (served_by_b s)))) s.read (λ lt. none_past (arrived_at s A) s.read (omega (arith, lt, ap length all, ap length came)) none)
   where
     most : (a b : ℕ) → (b < a → ⊥) → a ≤ b
     most a b stop = omega (arith, stop)
@@ -71,7 +71,7 @@ read_all s h e none =
 is_finished : (s new : State) (n : ℕ) → IsWorld new → AreEmpty s → length (sent_by s.a) ≤ s.served → ReadEvery s new n → IsFinished new
 is_finished s new n w e all r =
     let b = empty_read s new B r.read e.1 in
-    let answers = Answers new.own_b [] (map Whole (taken_of new)) in
+    let answers = Answers new.own_b [] (map Whole (served_by_b new)) in
     record {
       a = empty_read s new A r.read e.0;
       b = b;
@@ -86,7 +86,7 @@ all_served s h f = omega (arith, ap length f.served, length-take-le s.served (se
 
 none_to_read : (s : State) → IsWorld s → IsFinished s → length (arrived_at s A) ≤ s.read
 none_to_read s h f =
-    let answers = Answers s.own_b [] (map Whole (taken_of s)) in
+    let answers = Answers s.own_b [] (map Whole (served_by_b s)) in
     omega (
       arith,
       ap length f.read,

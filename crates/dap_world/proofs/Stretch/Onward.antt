@@ -12,7 +12,7 @@ use Rattle.dap_events.specs.declared.event.End.TheVariants.{A, B}
 use Rattle.dap_events.specs.declared.event.Event.{Event}
 use Rattle.dap_events.specs.declared.event.Event.TheVariants as event
 use Rattle.dap_events.specs.declared.event.Step.{Step}
-use Rattle.dap_world.specs.Machine.{State, sent_by, taken_of, answers_read, reported, Steps}
+use Rattle.dap_world.specs.Machine.{State, sent_by, served_by_b, answers_read, reported, Steps}
 use Rattle.dap_world.specs.Runs.{Runs}
 use Rattle.dap_world.specs.Inner.Worlds.{IsWorld}
 use Rattle.dap_world.specs.Settling.{RanBy}
@@ -32,10 +32,10 @@ pub record Onward (old new : State) : Type 0 where
   pub requests : new.requests ≡ old.requests
   pub read : old.read ≤ new.read
   pub more : List Message
-  pub taken : taken_of new ≡ taken_of old ++ more
+  pub taken : served_by_b new ≡ served_by_b old ++ more
 
 on_none : (s : State) → Onward s s
-on_none s = record { seg_size = refl; window = refl; own_a = refl; own_b = refl; requests = refl; read = omega arith; more = []; taken = sym (append-nil (taken_of s)) }
+on_none s = record { seg_size = refl; window = refl; own_a = refl; own_b = refl; requests = refl; read = omega arith; more = []; taken = sym (append-nil (served_by_b s)) }
 
 on_is : (old mid new : State) → new ≡ mid → Onward old mid → Onward old new
 on_is old mid new is h = subst (Onward old) (sym is) h
@@ -50,7 +50,7 @@ on_both old mid new a b =
       requests = b.requests ∙ a.requests;
       read = omega (arith, a.read, b.read);
       more = a.more ++ b.more;
-      taken = b.taken ∙ ap (λ (l : List Message). l ++ b.more) a.taken ∙ append_assoc (taken_of old) a.more b.more;
+      taken = b.taken ∙ ap (λ (l : List Message). l ++ b.more) a.taken ∙ append_assoc (served_by_b old) a.more b.more;
     }
 
 on_same : (old new : State) → SameBut old new → Onward old new
@@ -63,7 +63,7 @@ on_same old new h =
       requests = h.requests;
       read = omega (arith, h.read);
       more = [];
-      taken = ap (λ (n : ℕ). take n (sent_by new.a)) h.served ∙ ap (λ (l : List NspMessage). take old.served (messages_in l)) (h.handed A) ∙ sym (append-nil (taken_of old));
+      taken = ap (λ (n : ℕ). take n (sent_by new.a)) h.served ∙ ap (λ (l : List NspMessage). take old.served (messages_in l)) (h.handed A) ∙ sym (append-nil (served_by_b old));
     }
 
 on_post : (old new : State) (end : End) (answer : Step) → IsWorld old → Steps old (event.Post end) answer new → Onward old new
@@ -78,11 +78,11 @@ on_post old new A answer h step =
       requests = refl;
       read = omega arith;
       more = [];
-      taken = served-stays old.served old.seg_size old.b.taken old.a.handed old.a.waiting h.served ∙ sym (append-nil (taken_of old));
+      taken = served-stays old.served old.seg_size old.b.taken old.a.handed old.a.waiting h.served ∙ sym (append-nil (served_by_b old));
     })
 on_post old new B answer h step =
     on_is old _ new step.3
-    (record { seg_size = refl; window = refl; own_a = refl; own_b = refl; requests = refl; read = omega arith; more = []; taken = sym (append-nil (taken_of old)) })
+    (record { seg_size = refl; window = refl; own_a = refl; own_b = refl; requests = refl; read = omega arith; more = []; taken = sym (append-nil (served_by_b old)) })
 
 on_resend : (old new : State) (end : End) (i : ℕ) (answer : Step) → Steps old (event.Resend end i) answer new → Onward old new
 unfolding Steps
@@ -98,7 +98,7 @@ on_read : (old new : State) (answer : Step) → Steps old event.Read answer new 
 unfolding Steps
 on_read old new answer step =
     on_is old _ new step.3
-    (record { seg_size = refl; window = refl; own_a = refl; own_b = refl; requests = refl; read = omega arith; more = []; taken = sym (append-nil (taken_of old)) })
+    (record { seg_size = refl; window = refl; own_a = refl; own_b = refl; requests = refl; read = omega arith; more = []; taken = sym (append-nil (served_by_b old)) })
 
 on_step : (old new : State) (e : Event) (events : List Event) (answer : Step) → AsksNothing (e ∷ events) → IsWorld old → Steps old e answer new → Onward old new × AsksNothing events
 on_step old new (event.Ask r) events answer quiet h step = absurd quiet
@@ -134,13 +134,13 @@ ran_still old new n r none = nothing r.events r.ran (r.count ∙ none)
 -- ---- What is reported.
 
 -- the answers that were read stay the first
-pub answers_stay : (old new : State) → IsWorld old → Onward old new → (k : ℕ) → k ≤ old.read → take k (Answers new.own_b [] (map Whole (taken_of new))) ≡ take k (Answers old.own_b [] (map Whole (taken_of old)))
+pub answers_stay : (old new : State) → IsWorld old → Onward old new → (k : ℕ) → k ≤ old.read → take k (Answers new.own_b [] (map Whole (served_by_b new))) ≡ take k (Answers old.own_b [] (map Whole (served_by_b old)))
 answers_stay old new h on k le =
-    let items = map Whole (taken_of old) in
+    let items = map Whole (served_by_b old) in
     let front = answers-front old.own_b items (map Whole on.more) in
-    let all : Answers new.own_b [] (map Whole (taken_of new)) ≡ Answers old.own_b [] items ++ front.0 =
-    ap (λ (n : ℕ). Answers n [] (map Whole (taken_of new))) on.own_b
-    ∙ ap (Answers old.own_b []) (ap (map Whole) on.taken ∙ map-append Whole (taken_of old) on.more) ∙ sym front.1 in
+    let all : Answers new.own_b [] (map Whole (served_by_b new)) ≡ Answers old.own_b [] items ++ front.0 =
+    ap (λ (n : ℕ). Answers n [] (map Whole (served_by_b new))) on.own_b
+    ∙ ap (Answers old.own_b []) (ap (map Whole) on.taken ∙ map-append Whole (served_by_b old) on.more) ∙ sym front.1 in
     let there = (headline_of old h).answers_there in
     ap (take k) all ∙ take-append-le k (Answers old.own_b [] items) front.0 (omega (arith, there, le))
 
@@ -151,7 +151,7 @@ told_same old new n h ran read =
     let on = ran_on old new n h ran in
     ap (λ (r : List Request). Told r (answers_read new)) on.requests
     ∙ ap (λ (l : List Message). Told old.requests (map Whole l))
-    (ap (λ (k : ℕ). take k (Answers new.own_b [] (map Whole (taken_of new)))) read ∙ answers_stay old new h on old.read (omega arith))
+    (ap (λ (k : ℕ). take k (Answers new.own_b [] (map Whole (served_by_b new)))) read ∙ answers_stay old new h on old.read (omega arith))
 
 pub ran_none_is : (old new : State) → new ≡ old → RanTo old new
 ran_none_is old new is = (0, subst (λ (s : State). RanBy old s 0) (sym is) (ran_none old))

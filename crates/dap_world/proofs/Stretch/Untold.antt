@@ -15,7 +15,7 @@ use Rattle.dap_accessing.proofs.ForCallers.{told_by, Told-told_by, reports_grow}
 use Rattle.dap_end.proofs.ForCallers.{in_append}
 use Rattle.dap_events.specs.declared.event.End.TheVariants.{A}
 use Rattle.dap_world.specs.Agreement.{request_answers}
-use Rattle.dap_world.specs.Machine.{State, arrived_at, sent_by, taken_of, answers_read, reported}
+use Rattle.dap_world.specs.Machine.{State, arrived_at, sent_by, served_by_b, answers_read, reported}
 use Rattle.dap_world.specs.Inner.Worlds.{IsWorld}
 use Rattle.dap_world.specs.Settling.{RanBy}
 use Rattle.dap_world.specs.Inner.Settling.{IsOneDue}
@@ -36,21 +36,21 @@ no_more [] answers = omega arith
 no_more (r ∷ rs) answers = omega (arith, ap length (Told-told_by r rs answers), no_more_by rs (hear r answers) (λ rest. no_more rs rest))
 
 -- how many answers there are
-pub answered_length : (s : State) → IsWorld s → length (arrived_at s A) ≤ length (Answers s.own_b [] (map Whole (taken_of s)))
+pub answered_length : (s : State) → IsWorld s → length (arrived_at s A) ≤ length (Answers s.own_b [] (map Whole (served_by_b s)))
 answered_length s h =
     let all = ap length (sym (in_append s.b.handed s.b.waiting) ∙ h.answered) in
     omega (arith, came-handed s A, length-append (sent_by s.b) (messages_in s.b.waiting), all)
 
 -- with an answer left, some request has no report
-pub some_due : (s : State) → IsWorld s → s.read < length (Answers s.own_b [] (map Whole (taken_of s))) → length (Told s.requests (answers_read s)) ≡ length s.requests → ⊥
+pub some_due : (s : State) → IsWorld s → s.read < length (Answers s.own_b [] (map Whole (served_by_b s))) → length (Told s.requests (answers_read s)) ≡ length s.requests → ⊥
 some_due s h lt none =
     let front = read-front s h in
     let all = all_told s.own_a s.own_b s.requests (answers_read s) front.0 (none-unexpected s.own_a s.own_b h.own_a h.own_b s.requests h.admissible) front.1 none in
     let asked = served-front s h in
-    let more = answers-front s.own_b (map Whole (taken_of s)) (map Whole asked.0) in
-    let same : Answers s.own_b [] (map Whole (taken_of s)) ++ more.0 ≡ request_answers s.own_a s.own_b s.requests =
-    more.1 ∙ ap (Answers s.own_b []) (sym (map-append Whole (taken_of s) asked.0) ∙ ap (map Whole) asked.1) in
-    let answers = Answers s.own_b [] (map Whole (taken_of s)) in
+    let more = answers-front s.own_b (map Whole (served_by_b s)) (map Whole asked.0) in
+    let same : Answers s.own_b [] (map Whole (served_by_b s)) ++ more.0 ≡ request_answers s.own_a s.own_b s.requests =
+    more.1 ∙ ap (Answers s.own_b []) (sym (map-append Whole (served_by_b s) asked.0) ∙ ap (map Whole) asked.1) in
+    let answers = Answers s.own_b [] (map Whole (served_by_b s)) in
     omega (
       arith,
       lt,
@@ -70,9 +70,9 @@ nothing_more xs (x ∷ more) le = absurd (omega (arith, le, length-append xs (x 
 told_read : (s new : State) → ReadPart s new → IsWorld new → length s.requests ≤ length (Told s.requests (answers_read s)) + 1 → Told new.requests (answers_read new) ≡ Told s.requests (answers_read s)
 told_read s new part h due =
     let is = part.read in
-    let answers = Answers s.own_b [] (map Whole (taken_of s)) in
+    let answers = Answers s.own_b [] (map Whole (served_by_b s)) in
     let same_requests : new.requests ≡ s.requests = ap (λ (t : State). t.requests) is in
-    let same_answers : answers_read new ≡ map Whole (take new.read answers) = ap (λ (t : State). map Whole (take new.read (Answers t.own_b [] (map Whole (taken_of t))))) is in
+    let same_answers : answers_read new ≡ map Whole (take new.read answers) = ap (λ (t : State). map Whole (take new.read (Answers t.own_b [] (map Whole (served_by_b t))))) is in
     let split : take s.read answers ++ drop s.read (take new.read answers) ≡ take new.read answers = front_of answers s.read new.read part.more in
     let grows = reports_grow s.requests (answers_read s) (map Whole (drop s.read (take new.read answers))) in
     let told : Told new.requests (answers_read new) ≡ Told s.requests (answers_read s) ++ grows.0 =

@@ -1,7 +1,7 @@
 -- How the two ends of an exchange without a network stand to each other.
 use Rattle.std.specs.Prelude.{ℕ, ◌≡◌, ◌≢◌, List, [], ◌∷◌, ◌++◌, map, None, true}
 use Rattle.dap_msg.specs.Blocked.{Blocked, all_joined}
-use Rattle.dap_msg.specs.BothEnds.{least_buffer, plain_identity}
+use Rattle.dap_msg.specs.BothEnds.{min_buffer, plain_identity}
 use Rattle.dap_accessed.specs.Setup.{plain_setup}
 use Rattle.dap_msg.specs.declared.items.Item.{Item}
 use Rattle.dap_msg.specs.declared.items.Item.TheVariants.{Whole}

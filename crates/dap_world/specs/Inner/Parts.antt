@@ -9,7 +9,7 @@ use Rattle.nsp_link.specs.declared.link.LinkSetup.{LinkSetup}
 use Rattle.dap_msg.specs.BothEnds.{plain_identity}
 use Rattle.dap_accessed.specs.Setup.{plain_setup}
 use Rattle.std.specs.Map.{keys_of}
-use Rattle.nsp_link.specs.Limits.{largest_limit}
+use Rattle.nsp_link.specs.Limits.{max_limit}
 use Rattle.dap_accessed.specs.Present as accessed
 use Rattle.dap_accessing.specs.Present as accessing
 use Rattle.dap_accessing.specs.Request.{Request}
@@ -17,7 +17,7 @@ use Rattle.dap_accessing.specs.declared.report.Report.{Report}
 use Rattle.dap_world.specs.Plain.{Asked, messages_of}
 use Rattle.dap_events.specs.declared.event.End.{End}
 use Rattle.dap_events.specs.declared.event.End.TheVariants.{A, B}
-use Rattle.dap_world.specs.Machine.{State, EndState, sent_by, taken_of, answers_read, reported}
+use Rattle.dap_world.specs.Machine.{State, EndState, sent_by, served_by_b, answers_read, reported}
 use Rattle.dap_world.specs.Inner.Worlds.{IsWorld}
 use Rattle.dap_end.specs.Asking.{HasAsked}
 use Rattle.dap_end.specs.Done.{AskingValue, ClientHistory}
@@ -155,11 +155,11 @@ pub record AreParts (p : Parts) : Type 0 where
   pub alike : AreAlike p.b.link.setup p.a.link.setup
   -- a link takes what either end may send
   pub limit : p.a.link.setup.max_message ≡ max p.accessing.own p.accessed.own
-  pub most : p.a.link.setup.max_message ≤ largest_limit
+  pub most : p.a.link.setup.max_message ≤ max_limit
   pub from_a : IsCarried p.a p.b (asked_messages p) p.served
   pub from_b : IsCarried p.b p.a (answers p) p.read
   pub sent_is : p.sent ≡ map canon (sent_by (state_of p).a)
   pub reports_is : p.reports ≡ reported (state_of p)
   -- the ends are as after what was asked, served and read
   pub asking : IsAskedAll (asking_end p) p.requests (answers_read (state_of p))
-  pub serving : IsServedAll (serving_end p) (map Whole (taken_of (state_of p)))
+  pub serving : IsServedAll (serving_end p) (map Whole (served_by_b (state_of p)))

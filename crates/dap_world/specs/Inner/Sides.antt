@@ -2,7 +2,7 @@
 use Rattle.std.specs.Prelude.{◌≡◌, ◌≢◌, ℕ, ◌+◌, ◌-◌, ◌<◌, ◌≤◌, List, [], ◌∷◌, ◌++◌, length, Option, Some, None, All, IsTrue, false}
 use Rattle.nsp_link.specs.Link.{LinkValue, may_send}
 use Rattle.nsp_link.specs.Cutting.{cut}
-use Rattle.nsp_link.specs.Limits.{most_segments}
+use Rattle.nsp_link.specs.Limits.{max_segments}
 use Rattle.nsp_link.specs.Sending.{WritesSent}
 use Rattle.dap_accessing.specs.Present.{ClientState}
 use Rattle.dap_accessing.specs.Calls.{AskRefused, IsAdmittedBy}
@@ -67,8 +67,8 @@ PostedSo waiting old new answer = (answer ≡ step.Posted (length waiting)) × (
 -- why nothing is passed on
 abbrev pub PostFault : LinkValue → (waiting : List (List ℕ)) → WorldFault → Type 0
 PostFault v waiting fault.NothingToDo = waiting ≡ []
-PostFault v waiting fault.Exhausted = (0 < length waiting) × (most_segments < segments_with v waiting)
-PostFault v waiting fault.NoMemory = (0 < length waiting) × (segments_with v waiting ≤ most_segments)
+PostFault v waiting fault.Exhausted = (0 < length waiting) × (max_segments < segments_with v waiting)
+PostFault v waiting fault.NoMemory = (0 < length waiting) × (segments_with v waiting ≤ max_segments)
 PostFault v waiting _ = ⊥
 
 -- the request was asked: this many NSP messages wait more

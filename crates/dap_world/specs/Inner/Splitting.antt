@@ -9,7 +9,7 @@ abbrev pub SplitsOne : List ℕ → List (List ℕ) → List (List ℕ) → Type
 SplitsOne bytes old new =
     (packet : NspMessage) → packet ≢ [] → AllFit packet → bytes ≡ blocked_bytes packet → new ≡ old ++ map canon packet
 
--- the same of several NSP messages
+-- whatever messages were joined into these NSP messages, they are added, each as its own bytes
 abbrev pub SplitsAll : List (List ℕ) → List (List ℕ) → List (List ℕ) → Type 0
 SplitsAll list old new =
     (packets : List NspMessage) → AreFull packets → AllFit (messages_in packets) → list ≡ all_joined packets → new ≡ old ++ map canon (messages_in packets)

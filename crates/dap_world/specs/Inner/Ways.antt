@@ -3,7 +3,7 @@ use Rattle.std.specs.Prelude.{◌≡◌, ◌⊎◌, ℕ, ◌+◌, ◌≤◌, ◌
 use Rattle.std.specs.List.{AllByRecursion}
 use Rattle.std.specs.Option.{option_map_or}
 use Rattle.nsp_link.specs.Cutting.{cut}
-use Rattle.nsp_link.specs.Limits.{most_segments}
+use Rattle.nsp_link.specs.Limits.{max_segments}
 use Rattle.nsp_link.specs.Link.{LinkValue, Sends, Stands, Writes}
 use Rattle.nsp_link.specs.declared.link.Got.{Got}
 use Rattle.nsp_link.specs.declared.fault.LinkFault.{LinkFault}
@@ -26,7 +26,7 @@ pub record IsWay (from : SideValue) (to : LinkValue) (messages given : List (Lis
   pub sends : Sends from.link messages
   pub stands : Stands to from.link.setup.seg_size messages given
   pub short : AreWithinLimit to.setup.max_message messages
-  pub few : length (cut from.link.setup.seg_size messages) ≤ most_segments
+  pub few : length (cut from.link.setup.seg_size messages) ≤ max_segments
   pub wire : AllByRecursion (λ w. Writes from.link messages w.segment w.acks w.packet.items) from.wire
 
 abbrev pub is_old_segment : ℕ → Option ℕ → Bool

@@ -3,10 +3,10 @@ use Rattle.std.specs.Prelude.{ℕ, ◌≡◌, ◌+◌, ◌≤◌, ◌<◌, List,
 use Rattle.dap_msg.specs.declared.items.Item.TheVariants.{Whole}
 use Rattle.dap_msg.specs.Blocked.{messages_in}
 use Rattle.dap_world.specs.Plain.{Answers, Asked}
-use Rattle.nsp_link.specs.Limits.{largest_window, most_segments}
+use Rattle.nsp_link.specs.Limits.{max_window, max_segments}
 use Rattle.dap_world.specs.Agreement.{IsBufsiz, AreAdmissible}
 use Rattle.dap_events.specs.declared.event.End.TheVariants.{A, B}
-use Rattle.dap_world.specs.Machine.{State, EndState, Sending, taken_of, arrived_at, segments_of}
+use Rattle.dap_world.specs.Machine.{State, EndState, Sending, served_by_b, arrived_at, segments_of}
 
 -- ---- Each direction.
 
@@ -16,7 +16,7 @@ pub record CountsInOrder (window there sent acked taken : ℕ) : Type 0 where
   pub taken_sent : taken ≤ sent
   pub within_window : sent ≤ acked + window
   pub sent_there : sent ≤ there
-  pub few : there ≤ most_segments
+  pub few : there ≤ max_segments
 
 -- what is held rises from above a number, and was sent
 abbrev pub AreEarly : ℕ → ℕ → List ℕ → Type 0
@@ -45,7 +45,7 @@ ReachesPeer seg_size window from to =
 -- ---- Both.
 
 pub record IsWorld (s : State) : Type 0 where
-  pub window : s.window ≤ largest_window
+  pub window : s.window ≤ max_window
   pub some : 1 ≤ s.window
   pub own_a : IsBufsiz s.own_a
   pub own_b : IsBufsiz s.own_b
@@ -56,6 +56,6 @@ pub record IsWorld (s : State) : Type 0 where
   -- what A asked is what was passed on, and what waits
   pub asked : messages_in (s.a.handed ++ s.a.waiting) ≡ Asked s.own_a s.requests
   -- what B answered likewise
-  pub answered : messages_in (s.b.handed ++ s.b.waiting) ≡ Answers s.own_b [] (map Whole (taken_of s))
+  pub answered : messages_in (s.b.handed ++ s.b.waiting) ≡ Answers s.own_b [] (map Whole (served_by_b s))
   pub served : s.served ≤ length (arrived_at s B)
   pub read : s.read ≤ length (arrived_at s A)

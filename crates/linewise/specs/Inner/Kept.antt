@@ -3,15 +3,15 @@ use Rattle.std.specs.Prelude.{◌≡◌, ◌≢◌, ℕ, ◌+◌, ◌<◌, ◌�
 use Rattle.std.specs.Io.{StopsAt, IsEmptyOrEndsWith}
 use Rattle.std.specs.Io.KnownBytes.{Consumes, IsAtEnd}
 use Rattle.std.specs.Io.BufRead.{take_through, ends_with_byte, strip_last, DropsThrough}
-use Rattle.linewise.specs.Talks.{longest}
+use Rattle.linewise.specs.Talks.{max_line}
 use Rattle.linewise.specs.declared.reading.Kept.{Kept}
 use Rattle.linewise.specs.declared.reading.Kept.TheVariants.{All as whole, TooLong, NoMemory}
 use Rattle.linewise.specs.declared.reading.Line.{Line}
 
 -- these bytes were read of it
 abbrev pub HoldsAs : Kept → List ℕ → List ℕ → Type 0
-HoldsAs whole kept read = (kept ≡ read) × (length kept ≤ longest + 2)
-HoldsAs TooLong kept read = longest + 2 < length read
+HoldsAs whole kept read = (kept ≡ read) × (length kept ≤ max_line + 2)
+HoldsAs TooLong kept read = max_line + 2 < length read
 HoldsAs NoMemory kept read = 0 < length read
 
 abbrev pub HoldsLine : Line → List ℕ → Type 0

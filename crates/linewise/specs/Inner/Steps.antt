@@ -49,7 +49,8 @@ TurnGoes answered waiting old new unread left written holds (Line became) =
 
 -- and where it fails
 abbrev pub TalkEnds : {E : Type 0} → Answering E → (E → Option ℕ) → E → E → (unread written holds : Option (List ℕ)) → CaptureFault → Type 0
-TalkEnds answered waiting old new unread written holds ReadFailed = (new ≡ old) × Keeps written holds
+TalkEnds answered waiting old new unread written holds ReadFailed =
+    (new ≡ old) × Keeps written holds
 TalkEnds answered waiting old new unread written holds WriteFailed =
     IfSome unread (λ rest. Breaks answered waiting old (first_line rest) new written holds)
 TalkEnds answered waiting old new unread written holds _ = ⊥

@@ -3,11 +3,11 @@ use Rattle.std.specs.Prelude.{◌≡◌, ◌≤◌, ◌<◌, ◌^◌, [], ◌∷
 use Rattle.clap.specs.declared.builder.command.Command.{Command}
 use Rattle.clap.specs.declared.builder.command.Command.TheViews.{out-Command}
 use Rattle.clap.specs.Words.{App, Text, app_of, new_app, with_rule}
-use Rattle.dap_msg.specs.BothEnds.{greatest_message, least_buffer}
-use Rattle.nsp_link.specs.Limits.{largest_segment, largest_window}
+use Rattle.dap_msg.specs.BothEnds.{max_nsp_message, min_buffer}
+use Rattle.nsp_link.specs.Limits.{max_segment, max_window}
 use Rattle.live_cli.specs.declared.words.Task.{Task}
 use Rattle.live_cli.specs.declared.words.Task.TheVariants.{End, Follow, Frames, Watch}
-use Rattle.live_cli.specs.Words.{daplive, follow_line, frames_line, greatest_waiting, least_waiting, most_links, number, option, watch_line}
+use Rattle.live_cli.specs.Words.{daplive, follow_line, frames_line, max_waiting, min_waiting, max_links, number, option, watch_line}
 
 -- the command is another with more words, none of them global
 pub record Becomes (before : Command) (line : App) (command : Command) : Type 0 where
@@ -23,9 +23,9 @@ HasLimits before =
     Becomes before
     (with_rule
     (with_rule
-    (with_rule (app_of before) (number (codes "segment") (codes "512") 1 largest_segment))
-    (number (codes "window") (codes "8") 1 largest_window))
-    (number (codes "buffer") (codes "1024") least_buffer greatest_message))
+    (with_rule (app_of before) (number (codes "segment") (codes "512") 1 max_segment))
+    (number (codes "window") (codes "8") 1 max_window))
+    (number (codes "buffer") (codes "1024") min_buffer max_nsp_message))
 
 abbrev pub HasCodes : Command → Command → Type 0
 HasCodes before =
@@ -50,18 +50,18 @@ HasIdentity before =
 abbrev pub end_line_by : (name own other : Text) → App
 end_line_by name own other =
     fold with_rule (new_app name)
-    (option (codes "local") own ∷ option (codes "remote") other ∷ number (codes "segment") (codes "512") 1 largest_segment
-    ∷ number (codes "window") (codes "8") 1 largest_window ∷ number (codes "buffer") (codes "1024") least_buffer greatest_message
+    (option (codes "local") own ∷ option (codes "remote") other ∷ number (codes "segment") (codes "512") 1 max_segment
+    ∷ number (codes "window") (codes "8") 1 max_window ∷ number (codes "buffer") (codes "1024") min_buffer max_nsp_message
     ∷ number (codes "ostype") (codes "18") 0 255 ∷ number (codes "filesys") (codes "13") 0 255 ∷ option (codes "syscap") (codes "2001c3466") ∷ [])
 
 -- a command with the option that only the end that serves has
 abbrev pub HasWaiting : Command → Command → Type 0
 HasWaiting before =
-    Becomes before (with_rule (app_of before) (number (codes "waiting") (codes "1048576") least_waiting greatest_waiting))
+    Becomes before (with_rule (app_of before) (number (codes "waiting") (codes "1048576") min_waiting max_waiting))
 
 -- a command with the other option of it
 abbrev pub HasLinks : Command → Command → Type 0
-HasLinks before = Becomes before (with_rule (app_of before) (number (codes "links") (codes "1") 1 most_links))
+HasLinks before = Becomes before (with_rule (app_of before) (number (codes "links") (codes "1") 1 max_links))
 
 -- a command with the third option of it
 abbrev pub HasNames : Command → Command → Type 0
@@ -77,8 +77,8 @@ abbrev pub serve_line_by : App
 serve_line_by =
     with_rule
     (with_rule
-    (with_rule (end_line_by (codes "serve") (codes "0202") (codes "0101")) (number (codes "waiting") (codes "1048576") least_waiting greatest_waiting))
-    (number (codes "links") (codes "1") 1 most_links))
+    (with_rule (end_line_by (codes "serve") (codes "0202") (codes "0101")) (number (codes "waiting") (codes "1048576") min_waiting max_waiting))
+    (number (codes "links") (codes "1") 1 max_links))
     (option (codes "names") (codes "exact"))
 
 -- a command that is the command line of the end that serves
@@ -109,7 +109,7 @@ pub record IsDapliveLine (command : Command) : Type 0 where
 
 -- an end's buffer has room for any message of a fixed length, and its SYSCAP has a place in a Configuration
 abbrev pub HasBufferRoom : Task → Type 0
-HasBufferRoom (End options) = (least_buffer ≤ options.buffer) × (options.syscap < 2 ^ 84)
+HasBufferRoom (End options) = (min_buffer ≤ options.buffer) × (options.syscap < 2 ^ 84)
 HasBufferRoom (Follow in_words) = Unit {0}
 HasBufferRoom (Watch in_words) = Unit {0}
 HasBufferRoom (Frames ends) = Unit {0}

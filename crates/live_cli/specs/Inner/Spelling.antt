@@ -7,14 +7,14 @@ use Rattle.decnet_frames.specs.Nodes.{node_of}
 use Rattle.live_cli.specs.declared.words.Digits.{Digits}
 use Rattle.live_cli.specs.declared.words.Digits.TheVariants.{Abilities, Address, Bytes, Code, Comparing, Node, Nowhere, Number}
 use Rattle.live_cli.specs.declared.words.Misspelt.{Misspelt}
-use Rattle.live_cli.specs.Words.{code_of, folded_of, greatest_waiting, has_value, syscap_of}
+use Rattle.live_cli.specs.Words.{code_of, folded_of, max_waiting, has_value, syscap_of}
 
 -- what a value says that has to be spelled so
 abbrev pub read_of : Digits → Text → Option ℕ
 read_of Address = address_of
 read_of Node = node_of
 read_of Number = short
-read_of Bytes = decimal_of greatest_waiting
+read_of Bytes = decimal_of max_waiting
 read_of Code = code_of
 read_of Abilities = syscap_of
 read_of Comparing = λ text. option_map (λ folded. 0) (folded_of text)

@@ -1,7 +1,7 @@
 -- What the fields of a link end stand for.
 use Rattle.std.specs.Prelude.{Some, None, ◌≡◌, ◌≤◌, ◌+◌, ◌*◌, length, slice_get}
 use Rattle.nsp_link.specs.declared.link.LinkEnd.TheInside.{Inside}
-use Rattle.nsp_link.specs.Limits.{largest_limit}
+use Rattle.nsp_link.specs.Limits.{max_limit}
 use Rattle.nsp_link.specs.Link.{LinkValue, IsLink, waiting_bytes}
 use Rattle.nsp_link.specs.Inner.Pieces.{piece_values, coming_of, held_from}
 
@@ -27,4 +27,4 @@ pub record IsLinkInside (a : Inside) : Type 0 where
   pub counted : a.early ≡ length (held_from (a.incoming.received + 1) a.held.items)
   -- the bytes that wait are counted; of each segment, acknowledged or not, there are no more than of the longest message
   pub waiting : a.waiting ≡ waiting_bytes (link_view a)
-  pub few_bytes : a.waiting ≤ largest_limit * (a.acked + length a.queue.items)
+  pub few_bytes : a.waiting ≤ max_limit * (a.acked + length a.queue.items)

@@ -20,7 +20,8 @@ begun_bytes size messages r n =
     let over = r - length (cut size (take n messages)) in
     if over == 0 then None else Some (take (size * over) (slice_index_or messages n []))
 
--- The same, by the messages that are whole and the one that is begun.
+-- Of these messages a receiving end has taken segments: those before `inbox` were given out, those in it are whole, and
+-- of the next one `partial` has the first bytes.
 pub record HasWhole (c : Coming) (size : ℕ) (messages given : List (List ℕ)) : Type 0 where
   pub count : ℕ
   pub whole : AreWholeIn size messages c.received count

@@ -8,7 +8,7 @@ use Rattle.std.specs.List.{filter_map}
 use Rattle.std.specs.Int.{bit_at}
 use Rattle.std.specs.FinMap.{from_entries, get}
 use Rattle.rec_file.specs.declared.shapes.Shape.{Shape}
-use Rattle.rec_file.specs.Limits.{greatest_number}
+use Rattle.rec_file.specs.Limits.{max_record_number}
 use Rattle.rec_file.specs.Files.{FileVal, lowest_from}
 use Rattle.rec_file.specs.Pages.{page_of}
 
@@ -64,7 +64,7 @@ cell_of n = (n - 1) % 64
 
 -- no record stands in a page above it
 abbrev pub last_page : ℕ
-last_page = page_of greatest_number
+last_page = page_of max_record_number
 
 -- the records of pages: page p begins with number 64 p + 1
 abbrev pub paged : List (ℕ × Cells) → List (ℕ × List ℕ)
@@ -126,4 +126,4 @@ pub record IsSpot (f : FileVal) (n m : ℕ) (cells : Cells) : Type 0 where
   pub above : 1 ≤ m
   pub lowest : lowest_from f.records n ≡ Some m
   pub same : cell cells (cell_of m) ≡ get f.records m
-  pub within : m ≤ greatest_number
+  pub within : m ≤ max_record_number

@@ -6,7 +6,7 @@ no : IsTrue false → ⊥
 no e = search rules
 
 pub returns-in_default : goal.returns-in_default
-returns-in_default c = rw c.is_empty.ensures (none_short c.args.limit c.args.records.now (c.longest_record.ensures.none c.in_default.is))
+returns-in_default c = rw c.is_empty.ensures (none_short c.args.limit c.args.records.now (c.max_record_within.ensures.none c.in_default.is))
 
 pub returns-then-len-longest : goal.returns-then-len-longest
 returns-then-len-longest c =

@@ -5,7 +5,7 @@ use Rattle.dap_accessing.proofs.ForCallers.{taken_out}
 use Rattle.dap_end.specs.Asking.{HasAsked}
 use Rattle.dap_end.specs.Done.{AskingValue}
 use Rattle.dap_end.specs.Each.{with_told}
-use Rattle.dap_end.specs.Going.{given_then}
+use Rattle.dap_end.specs.Going.{processed_after}
 use Rattle.dap_end.specs.Moved.{with_outbox_sent}
 use Rattle.dap_end.proofs.Asked.{handed_is, handed_past, still_received, still_sent}
 use Rattle.dap_end.proofs.Taking.{grown}
@@ -17,7 +17,7 @@ returns-clause-taken c = λ told past v h.
 
 pub returns-clause-read : goal.returns-clause-read
 returns-clause-read c = λ told past old new report batch h r. (
-  given_then past.given r.one.bytes r.one.next,
+  processed_after past.given r.one.bytes r.one.next,
   r.one.item,
   r.past_on told past batch h,
   r.told_on told past batch h,

@@ -1,7 +1,7 @@
 use Rattle.std.proofs.Common.{◌∷◌, ◌++◌, [], ap, ◌∙◌, subst, List, ℕ, arith, length, ◌≤◌}
 use Rattle.std.specs.Global.{Vec}
 use Rattle.dap_msg.specs.Canon.{canon}
-use Rattle.dap_msg.specs.BothEnds.{least_buffer}
+use Rattle.dap_msg.specs.BothEnds.{min_buffer}
 use Rattle.dap_msg.specs.declared.message.Message.{Message}
 use Rattle.dap_msg.specs.Blocked.{bodies}
 use Rattle.dap_msg.specs.Written.{Appends, no_memory}
@@ -13,7 +13,7 @@ pub returns : goal.returns
 returns c =
     let m = reply_message c.args.answer in
     let most : length (canon m) ≤ most_bytes c.args.answer = c.message.ensures.within in
-    let short : length (canon m) ≤ least_buffer = omega (arith, most, short_most c.args.answer c.requires.short) in
+    let short : length (canon m) ≤ min_buffer = omega (arith, most, short_most c.args.answer c.requires.short) in
     let appends : Appends no_memory (canon m) c.self.inside.bytes c.encode_value-written.new.out c.encode_value-written.result =
     subst (λ (m : Message). Appends no_memory (canon m) c.self.inside.bytes c.encode_value-written.new.out c.encode_value-written.result) c.message.ensures.same c.encode_value-written.ensures in
     answered_one c.args.limit m c.push_reserved.new.self c.message.ensures.fits (omega (arith, short, c.requires.room))

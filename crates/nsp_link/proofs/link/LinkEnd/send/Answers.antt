@@ -1,7 +1,7 @@
 use Rattle.std.proofs.Common.{◌≡◌, ◌+◌, ◌++◌, length, ◌≤◌, ◌∙◌, ap, arith, ℕ, subst, sym, [], ◌∷◌}
 use Rattle.std.proofs.lemmas.List.{length-append, length-map}
 use Rattle.nsp_link.specs.Cutting.{cut_message, bytes_in}
-use Rattle.nsp_link.specs.Limits.{largest_limit}
+use Rattle.nsp_link.specs.Limits.{max_limit}
 use Rattle.nsp_link.proofs.Taking.{count-positive}
 use Rattle.nsp_link.proofs.Waiting.{bytes-append, bytes-cut_message}
 use Rattle.nsp_link.specs.Link.{LinkValue, Sends}
@@ -22,7 +22,7 @@ invariant_of-self c =
     let size = c.self.inside.setup.seg_size in
     let bytes : bytes_in (piece_values c.queue_message.new.queue.items) ≡ bytes_in (piece_values before) + length c.args.message.now =
     ap bytes_in c.in-Ok.ensures.ok ∙ bytes-append (piece_values before) more ∙ ap (λ (n : ℕ). bytes_in (piece_values before) + n) (bytes-cut_message size c.args.message.now (omega (arith, link.setup.0))) in
-    let fits : length c.args.message.now ≤ largest_limit = omega (arith, c.if-message-self.false, link.setup) in
+    let fits : length c.args.message.now ≤ max_limit = omega (arith, c.if-message-self.false, link.setup) in
     let grown : length (piece_values c.queue_message.new.queue.items) ≡ length c.queue_message.new.queue.items = length-map c.queue_message.new.queue.items piece in
     record {
       link = record {

@@ -1,5 +1,5 @@
 use Rattle.std.proofs.Common.{◌≤◌, IfSome, length, sym, subst, ◌∙◌}
-use Rattle.rec_file.specs.Limits.{longest_record}
+use Rattle.rec_file.specs.Limits.{max_record}
 use Rattle.rec_file.proofs.RecordsLaws.{lowest_occupied}
 use Rattle.rec_file.proofs.relative.RelFileOneWalk.record_from.Goals as goal
 
@@ -8,4 +8,4 @@ unreachable-requires c = lowest_occupied _ _ _ c.in_ok-first.ensures.spot.lowest
 
 pub returns-clause-short : goal.returns-clause-short
 returns-clause-short c =
-    subst (λ o. IfSome o (λ body. length body ≤ longest_record)) (sym c.in_ok-first.ensures.spot.same ∙ sym (rw c.cell_of.ensures.same at c.in-Some.ensures)) c.in_ok-first.ensures.short
+    subst (λ o. IfSome o (λ body. length body ≤ max_record)) (sym c.in_ok-first.ensures.spot.same ∙ sym (rw c.cell_of.ensures.same at c.in-Some.ensures)) c.in_ok-first.ensures.short

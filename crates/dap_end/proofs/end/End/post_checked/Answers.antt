@@ -1,0 +1,7 @@
+use Rattle.dap_end.specs.By.{end_with}
+use Rattle.dap_end.proofs.Afterwards.{hands_over}
+use Rattle.dap_end.proofs.end.End.post_checked.Goals as goal
+
+pub returns-clause-ok : goal.returns-clause-ok
+returns-clause-ok g c =
+    rw (← c.self.view_is) (hands_over (end_with c.self.inside.port c.self.inside.role) c.post_checked.new.self c.post_checked.result c.post_checked.ensures.may c.post_checked.ensures.ok)
