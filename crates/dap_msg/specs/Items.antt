@@ -1,7 +1,7 @@
 -- The items of an NSP message: DAP messages, one after another.
 use Rattle.std.specs.Prelude.{◌≡◌, ℕ, ◌+◌, ◌<◌, ◌⊎◌, List, [], ◌∷◌, length, drop, slice_index}
--- A message; or the rest of the NSP message, of which no message can be read, with its first fault. The fault's
--- offset is counted from the start of the NSP message.
+-- A message; or the remaining bytes of the NSP message, of which no message can be read, with their first fault. The
+-- fault's offset is counted from the start of the NSP message.
 pub use Rattle.dap_msg.specs.declared.items.Item.{Item}
 pub use Rattle.dap_msg.specs.declared.items.Item.TheVariants.{Whole, Malformed}
 use Rattle.dap_msg.specs.Decoding.{StandsInFront, IsFault, IsSpelled}

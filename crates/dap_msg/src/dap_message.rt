@@ -43,7 +43,7 @@ pub enum Message<'a> {
         syscap: u128,
     },
     /// Type 2, Attributes. Each field is there exactly where its bit of ATTMENU is set. Images that stand for a number
-    /// have the least byte first.
+    /// have the lowest byte first.
     Attrib {
         /// DATATYPE: bit 0 ASCII, bit 1 image. An extensible field of at most 2 bytes, so below 2^14.
         datatype: Option<u16>,
@@ -55,7 +55,7 @@ pub enum Message<'a> {
         rat: Option<u32>,
         /// BLS, the block size in bytes.
         bls: Option<u16>,
-        /// MRS, the greatest record size in bytes.
+        /// MRS, the maximum record size in bytes.
         mrs: Option<u16>,
         /// ALQ, the allocation in blocks; at most 5 bytes.
         alq: Option<&'a [u8]>,
@@ -63,7 +63,7 @@ pub enum Message<'a> {
         bks: Option<u8>,
         /// FSZ, the size of the fixed control in bytes.
         fsz: Option<u8>,
-        /// MRN, the greatest record number; at most 5 bytes.
+        /// MRN, the maximum record number; at most 5 bytes.
         mrn: Option<&'a [u8]>,
         /// RUNSYS, the run-time system's name; at most 40 bytes.
         runsys: Option<&'a [u8]>,
@@ -140,7 +140,7 @@ pub enum Message<'a> {
     },
     /// Type 8, Data: a record.
     Filedata {
-        /// The record's number, at most 8 bytes, the least first.
+        /// The record's number, at most 8 bytes, the lowest first.
         recnum: &'a [u8],
         /// The record's bytes.
         payload: &'a [u8],
@@ -149,11 +149,11 @@ pub enum Message<'a> {
     Status {
         /// MACCODE and MICCODE, as [`crate::StatusCode`] separates them.
         code: u16,
-        /// The record file address, at most 8 bytes, the least first.
+        /// The record file address, at most 8 bytes, the lowest first.
         rfa: &'a [u8],
-        /// The record's number, at most 8 bytes, the least first.
+        /// The record's number, at most 8 bytes, the lowest first.
         recnum: &'a [u8],
-        /// The secondary status, at most 8 bytes, the least first.
+        /// The secondary status, at most 8 bytes, the lowest first.
         stv: &'a [u8],
     },
     /// A type that this crate reads no further.
@@ -258,7 +258,7 @@ impl<'a> Message<'a> {
     }
 }
 
-/// The message at the start of the input, and the number of its bytes (DAP 5.6.0, message format).
+/// Returns the message that the input begins with, and the number of its bytes (DAP 5.6.0, message format).
 ///
 /// A message with LENGTH ends where that says, and further bytes may follow it; one without takes all the bytes.
 /// The refusal names the first field in reading order that is at fault, with its offset in bytes from the input's

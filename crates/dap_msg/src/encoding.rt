@@ -26,7 +26,7 @@ pub(crate) enum Field<'a> {
     Word(u16),
     Extensible(u128),
     Image(&'a [u8]),
-    /// The rest of an operand.
+    /// The bytes of an operand after its other fields.
     Rest(&'a [u8]),
 }
 
@@ -193,7 +193,7 @@ fn is_there(field: Field) -> bool
     !matches!(field, Field::Absent)
 }
 
-/// The menu of fields of which these are there, the first at bit 0.
+/// Returns the menu of fields of which these are there, the first at bit 0.
 #[inline(always)]
 fn menu_bits(fields: &[Field]) -> u64
     requires { length fields.now ≤ 63 }
@@ -290,7 +290,7 @@ fn attributes_fields<'a>(here: &Attributes<'a>) -> [Field<'a>; 22]
     fields
 }
 
-/// What is made of the fields of the message's operand, which are in order.
+/// Makes something of the fields of the message's operand, which are in order.
 macro_rules! with_fields {
     ($message:expr, $make:ident $(, $more:expr)*) => {
         match $message {
@@ -353,8 +353,8 @@ fn encode_here(message: &Message<'_>, len: usize, out: &mut Vec<u8>) -> Result<(
     with_fields!(message, write_message, message.number(), len, out)
 }
 
-/// [`encode_here`] as a call of its own. A call clears the room for the fields of all messages that it may meet: so those
-/// with the most fields are written apart.
+/// Appends a message as [`encode_here`] does, in a separate call. A call clears the room for the fields of all
+/// messages that it may meet: so those with the most fields are written apart.
 #[inline(never)]
 fn encode_apart(message: &Message<'_>, len: usize, out: &mut Vec<u8>) -> Result<(), MsgFault>
     requires fits { KeepsLimits message.now }

@@ -22,7 +22,7 @@ pub(crate) trait Kind<'a, T>: Copy {
 
     ghost seen_option: { (k : Self) → Option T → Option (ValueOf (kind k)) };
 
-    /// The field in front, and the number of its bytes.
+    /// Returns the value of the field that the bytes begin with, and the number of its bytes.
     fn read(self, bytes: &'a [u8]) -> Result<(T, usize), FieldFault>
         requires { is_known self }
         ensures exact { ReadsAs (λ x. (seen self x.0, x.1)) result

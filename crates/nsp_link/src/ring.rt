@@ -1,4 +1,4 @@
-//! Places for early segments: the first is that of the number which is wanted next.
+//! Slots for early segments: the first is that of the sequence number that is expected next.
 
 ghost use Rattle.std.specs.Prelude.{◌≡◌, ◌<◌, ◌≤◌, [], ◌∷◌, ◌++◌, ◌+◌, ℕ, Some, None, false, IfOk, IfSome, MatchOption, is_none, length, drop, replicate, slice_get, slice_set};
 ghost use Rattle.nsp_link.specs.Inner.Pieces.{held_from, held_piece, leading};
@@ -9,7 +9,7 @@ use std::alloc::{AllocError, Global};
 
 pub(crate) type Ring = HeapCircularBuffer<Option<Held>>;
 
-/// This many free places.
+/// Returns a ring of this many free slots.
 pub(crate) fn free_places(alloc: Global, count: usize) -> Result<Ring, AllocError>
     ensures items { IfOk result (λ r. r.items ≡ replicate count None) }
     ensures capacity { IfOk result (λ r. r.capacity ≡ count) }
@@ -24,7 +24,7 @@ pub(crate) fn free_places(alloc: Global, count: usize) -> Result<Ring, AllocErro
     Ok(ring)
 }
 
-/// Fills the place.
+/// Fills the slot at an index.
 pub(crate) fn fill(ring: &mut Ring, place: usize, held: Held)
     requires { place < length ring.old.items }
     ensures items { ring.new.items ≡ slice_set ring.old.items place (Some held) }
@@ -35,7 +35,7 @@ pub(crate) fn fill(ring: &mut Ring, place: usize, held: Held)
     }
 }
 
-/// Whether the place is there, and free.
+/// Returns whether there is a slot at an index, and it is free.
 pub(crate) fn is_free(ring: &Ring, place: usize) -> bool
     ensures { MatchOption (slice_get ring.now.items place) (result ≡ false)
         (λ o. result ≡ is_none o) }
@@ -43,7 +43,7 @@ pub(crate) fn is_free(ring: &Ring, place: usize) -> bool
     ring.get(place).is_some_and(Option::is_none)
 }
 
-/// The front places leave, and free ones come after the last.
+/// Removes this many slots from the start, and adds as many free ones after the last.
 pub(crate) fn advance(ring: &mut Ring, count: usize)
     requires full { length ring.old.items ≡ ring.old.capacity }
     requires some { count ≤ length ring.old.items }
@@ -56,7 +56,7 @@ pub(crate) fn advance(ring: &mut Ring, count: usize)
     }
 }
 
-/// The segment at the place, if one is there.
+/// Returns the segment in the slot at an index, if there is one.
 pub(crate) fn held_at(ring: &Ring, place: usize) -> Option<&Held>
     ensures there { IfSome result (λ h. place < length ring.now.items) }
     ensures leads { MatchOption result (leading (drop place ring.now.items) ≡ [])

@@ -17,7 +17,7 @@ use std::marker::Model;
 /// How many pages have numbers of one group.
 const GROUP: u32 = 4096;
 
-/// The places of pages, by the pages' numbers, in order. Pages whose numbers have the same quotient are a group.
+/// The slots of pages, by the pages' numbers, in order. Pages whose numbers have the same quotient are a group.
 #[derive(Drop)]
 pub(crate) struct Places {
     groups: BTreeMap<u32, Vec<(u32, usize)>>,
@@ -38,10 +38,10 @@ impl Model for Places {
         × HavePages (bare a.groups.entries) };
 }
 
-/// How many places to each side of the likely one are looked at first.
+/// How many entries to each side of the likely index are looked at first.
 const NEAR: usize = 4;
 
-/// A part of a group outside of which a page isn't: near the place where it would be if the pages were spread
+/// Returns a part of a group outside of which a page isn't: near the index where it would be if the pages were spread
 /// evenly over the group, or else all up to there, or after it.
 fn part(group: &[(u32, usize)], page: u32) -> (usize, usize)
     requires { IsInOrder (map (λ e. e.0) group.now) }
@@ -64,7 +64,7 @@ fn part(group: &[(u32, usize)], page: u32) -> (usize, usize)
     (low, high)
 }
 
-/// Where a page is in its group, or where it would.
+/// Returns the index of a page in its group, or the index where it would be.
 fn seek(group: &[(u32, usize)], page: u32) -> Result<usize, usize>
     requires { IsInOrder (map (λ e. e.0) group.now) }
     ensures found { IfOk result (IsIndexOf (map (λ e. e.0) group.now) page) }
@@ -77,7 +77,7 @@ fn seek(group: &[(u32, usize)], page: u32) -> Result<usize, usize>
     }
 }
 
-/// The place of a page in its group.
+/// Returns the slot of a page in its group.
 fn place_in(group: &[(u32, usize)], page: u32) -> Option<usize>
     requires { is_sorted nat_cmp group.now ≡ true }
     ensures { result ≡ slot_of group.now page }
@@ -91,13 +91,13 @@ fn place_in(group: &[(u32, usize)], page: u32) -> Option<usize>
 /// What a put of a page found.
 #[derive(Drop)]
 pub(crate) enum Put {
-    /// The page is kept, at this place.
+    /// The page is kept, in this slot.
     Kept(usize),
-    /// The page now has the next place of the pages, for which there is room, as for its first record.
+    /// The page now has the next slot, for which there is room, as for its first record.
     Begun(Vec<u8>),
 }
 
-/// Makes room for a page more, with a record: its place, and the record. An error is a refused allocation.
+/// Makes room for one more page with a record, and returns its slot and the record. An error is a refused allocation.
 fn room_for(
     pages: &mut Slab<Page>,
     alloc: Global,
@@ -142,7 +142,8 @@ fn put_in(
     }
 }
 
-/// Empties a cell of a page of the group, where it is occupied; a page that has no record then goes. Whether it was.
+/// Empties a cell of a page of the group, where it is occupied, and returns whether it was; a page that has no record
+/// then is removed.
 fn clear_in(group: &mut Vec<(u32, usize)>, page: u32, cell: usize, pages: &mut Slab<Page>) -> bool
     requires sorted { is_sorted nat_cmp group.old.items ≡ true }
     requires within { cell < 64 }
@@ -167,7 +168,7 @@ fn clear_in(group: &mut Vec<(u32, usize)>, page: u32, cell: usize, pages: &mut S
     true
 }
 
-/// The pages of a group from one on.
+/// Returns the pages of a group from one on.
 fn rest_from(group: &[(u32, usize)], page: u32) -> &[(u32, usize)]
     requires { is_sorted nat_cmp group.now ≡ true }
     ensures { result.now ≡ slots_from page group.now }
@@ -179,7 +180,7 @@ fn rest_from(group: &[(u32, usize)], page: u32) -> &[(u32, usize)]
 }
 
 impl Places {
-    /// No places. It takes no memory.
+    /// Returns no slots. It takes no memory.
     pub(crate) fn new(alloc: Global) -> Places
         ensures { result ≡ [] }
     {
@@ -188,7 +189,7 @@ impl Places {
         }
     }
 
-    /// The place of a page.
+    /// Returns the slot of a page.
     pub(crate) fn get(&self, page: u32) -> Option<usize>
         ensures { result ≡ slot_of self.now page }
     {
@@ -225,7 +226,8 @@ impl Places {
         Ok(Put::Begun(record))
     }
 
-    /// Empties a cell of a page, where it is occupied; a page that has no record then goes. Whether it was.
+    /// Empties a cell of a page, where it is occupied, and returns whether it was; a page that has no record then is
+    /// removed.
     pub(crate) fn clear(&mut self, page: u32, cell: usize, pages: &mut Slab<Page>) -> bool
         requires within { cell < 64 }
         requires stands { IfSome (slot_of self.old page) (λ i. IsSome (get pages.old i)) }
@@ -242,7 +244,7 @@ impl Places {
         cleared
     }
 
-    /// The last page, and its place.
+    /// Returns the last page, and its slot.
     pub(crate) fn last(&self) -> Option<(u32, usize)>
         ensures none { IfNone result (self.now ≡ []) }
         ensures some { IfSome result (IsLastSlot self.now) }
@@ -254,7 +256,7 @@ impl Places {
         Some(*last)
     }
 
-    /// The pages from one on, and their places.
+    /// Returns the pages from one on, and their slots.
     pub(crate) fn from(&self, page: u32) -> PlacesFrom<'_>
         ensures { result ≡ slots_from page self.now }
     {
@@ -272,7 +274,7 @@ impl Places {
     }
 }
 
-/// Pages and their places, in order: those of a group, and those of the groups after it.
+/// Pages and their slots, in order: those of a group, and those of the groups after it.
 #[derive(Drop)]
 pub(crate) struct PlacesFrom<'a> {
     rest: &'a [(u32, usize)],
@@ -291,7 +293,7 @@ impl<'a> Model for PlacesFrom<'a> {
 }
 
 impl<'a> PlacesFrom<'a> {
-    /// Takes the first page that is left, and its place.
+    /// Takes the first page that is left, and its slot.
     pub(crate) fn pop_first(&mut self) -> Option<(u32, usize)>
         ensures none { IfNone result (self.old ≡ []) }
         ensures some { IfSome result (λ first. self.old ≡ first ∷ self.new) }

@@ -20,9 +20,9 @@ use slab::Slab;
 use std::alloc::{AllocError, Global};
 use std::marker::Model;
 
-/// A relative file (in the manner of RMS): each number from 1 to the limit has a record or
-/// none. Number n is in cell `(n - 1) % 64` of page `(n - 1) / 64`; a page is kept while it has
-/// a record, and the places of the pages are kept in the order of their numbers.
+/// A relative file (in the manner of RMS): each number from 1 to the limit has a record or none. Number n is in cell
+/// `(n - 1) % 64` of page `(n - 1) / 64`; a page is kept while it has a record, and the slots of the pages are kept in
+/// the order of the pages' numbers.
 #[derive(Drop)]
 pub struct RelFile {
     shape: Shape,
@@ -57,7 +57,7 @@ impl Model for RelFile {
 }
 
 impl RelFile {
-    /// An empty file of a relative shape that [`Shape::check`] gives. It takes no memory.
+    /// Returns an empty file of a relative shape that [`Shape::check`] gives. It takes no memory.
     pub fn new(alloc: Global, shape: Shape) -> RelFile
         requires valid { IsTrue (is_shape shape) }
         requires relative { is_seq shape.org ≡ false }
@@ -71,14 +71,14 @@ impl RelFile {
         }
     }
 
-    /// How many pages are kept: as many as the occupied numbers n have different values of `(n - 1) / 64`.
+    /// Returns how many pages are kept: as many as the occupied numbers n have different values of `(n - 1) / 64`.
     pub fn page_count(&self) -> usize
         ensures { result ≡ occupied_pages self.now.records }
     {
         self.pages.len()
     }
 
-    /// The lowest occupied number from this one on, and its page.
+    /// Returns the lowest occupied number from this one on, and its page.
     fn spot_from(&self, number: u32) -> Option<(u32, &Page)>
         ensures none { IfNone result (lowest_from self.now.records number ≡ None) }
         ensures spot { IfSome result (λ s. IsSpot self.now number s.0 s.1.now) }
@@ -109,8 +109,8 @@ impl RelFile {
     }
 }
 
-/// Stores a record in a page that is kept, or else in a new one: whether its cell was empty. An error is a refused
-/// allocation: the cell is empty. Where it wasn't stored nothing has changed.
+/// Stores a record in a page that is kept, or else in a new one, and returns whether its cell was empty. An error is a
+/// refused allocation: the cell is empty. Where the record wasn't stored, nothing has changed.
 fn put_in(
     places: &mut Places,
     pages: &mut Slab<Page>,

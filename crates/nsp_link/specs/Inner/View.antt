@@ -17,7 +17,7 @@ link_view a = record {
   failed = a.failed;
 }
 
--- What holds of the fields: a place for each number of the window, that of the next one is free, and the
+-- What holds of the fields: there is a slot for each number of the window, that of the next one is free, and the
 -- filled ones are counted.
 pub record IsLinkInside (a : Inside) : Type 0 where
   pub link : IsLink (link_view a)
@@ -25,6 +25,6 @@ pub record IsLinkInside (a : Inside) : Type 0 where
   pub capacity : a.held.capacity ≡ a.setup.window
   pub free : slice_get a.held.items 0 ≡ Some None
   pub counted : a.early ≡ length (held_from (a.incoming.received + 1) a.held.items)
-  -- the bytes that wait are counted; of each segment, acknowledged or not, there are no more than of the longest message
+  -- the bytes that wait are counted; of each segment, acknowledged or not, there are no more than a message may have
   pub waiting : a.waiting ≡ waiting_bytes (link_view a)
   pub few_bytes : a.waiting ≤ max_limit * (a.acked + length a.queue.items)

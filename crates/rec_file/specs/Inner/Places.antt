@@ -1,4 +1,4 @@
--- The places of pages in groups by the pages' numbers.
+-- The slots of pages, in groups by the pages' numbers.
 use Rattle.std.specs.Prelude.{◌≡◌, ◌≢◌, ◌<◌, ◌⊎◌, ℕ, ◌+◌, ◌/◌, ◌++◌, Bool, true, false, List, [], ◌∷◌, Option, Some, None, IfSome, IsSome, is_some, map, slice_set, if◌then◌else◌}
 use Rattle.std.specs.List.{filter, AllByRecursion}
 use Rattle.std.specs.Global.{Vec}
@@ -15,7 +15,7 @@ use Rattle.rec_file.specs.declared.places.Put.TheVariants.{Kept, Begun}
 abbrev pub group_of : ℕ → ℕ
 group_of page = page / 4096
 
--- the places of groups, one group after the other
+-- the pages and slots of groups, one group after the other
 abbrev pub listed : List (ℕ × List (ℕ × ℕ)) → List (ℕ × ℕ)
 listed [] = []
 listed (g ∷ gs) = g.1 ++ listed gs
@@ -33,7 +33,7 @@ abbrev pub AreOfGroup : ℕ → List (ℕ × ℕ) → Type 0
 AreOfGroup g [] = Unit {0}
 AreOfGroup g (e ∷ es) = (group_of e.0 ≡ g) × AreOfGroup g es
 
--- a group has its own pages alone, in order
+-- a group has the pages of its number alone, in order
 pub record IsGroup (g : ℕ) (es : List (ℕ × ℕ)) : Type 0 where
   pub own : AreOfGroup g es
   pub sorted : is_sorted nat_cmp es ≡ true
@@ -42,15 +42,15 @@ abbrev pub ArePageGroups : List (ℕ × List (ℕ × ℕ)) → Type 0
 ArePageGroups [] = Unit {0}
 ArePageGroups (g ∷ gs) = IsGroup g.0 g.1 × ArePageGroups gs
 
--- the place of a page
+-- the slot of a page
 abbrev pub slot_of : List (ℕ × ℕ) → ℕ → Option ℕ
 slot_of es page = lookup (is_at (nat_cmp page)) es
 
--- with this place for a page that has none
+-- with this slot for a page that has none
 abbrev pub with_slot : List (ℕ × ℕ) → ℕ → ℕ → List (ℕ × ℕ)
 with_slot es page place = if is_some (slot_of es page) then es else insert_entry nat_cmp es page place
 
--- the place that a page had
+-- the slot that a page had
 abbrev pub had_of : Put → Option ℕ
 had_of (Kept place) = Some place
 had_of (Begun body) = None
@@ -60,18 +60,18 @@ abbrev pub IsBegunWith : List ℕ → Put → Type 0
 IsBegunWith body (Kept place) = Unit {0}
 IsBegunWith body (Begun first) = first.items ≡ body
 
--- the places of the pages from one on
+-- the slots of the pages from one on
 abbrev pub slots_from : ℕ → List (ℕ × ℕ) → List (ℕ × ℕ)
 slots_from page es = filter (λ e. is_le (nat_cmp page e.0)) es
 
--- no page above this one has a place
+-- no page above this one has a slot
 pub record IsLastSlot (es : List (ℕ × ℕ)) (e : ℕ × ℕ) : Type 0 where
   pub here : slot_of es e.0 ≡ Some e.1
   pub none_above : (page : ℕ) → e.0 < page → slot_of es page ≡ None
 
--- ---- A record less.
+-- ---- Removing a record.
 
--- a page whose cell was emptied, and the place of the page
+-- a page whose cell was emptied, and the slot of the page
 pub record HasEmptied (es : List (ℕ × ℕ)) (pages : Slab Cells) (page k : ℕ) : Type 0 where
   pub place : ℕ
   pub has : slot_of es page ≡ Some place
