@@ -37,7 +37,7 @@ IsNone format interfaces rest kind =
     ⊎ ((unit more : List ℕ) × (extent : Extent) × (rest ≡ unit ++ more) × IsUnit format extent unit
     × (meaning_of format interfaces (kept_prefix extent unit) ≡ Err kind))
 
--- a count, or 2^64 - 1 where it is greater
+-- a count, or 2^64 - 1 where that is less
 abbrev pub clamped : ℕ → ℕ
 clamped offset = min offset 18446744073709551615
 

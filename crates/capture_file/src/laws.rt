@@ -8,8 +8,8 @@ ghost use Rattle.capture_file.specs.Written.{FitsFrame, Frame, pcap_bytes, recor
 ghost use Rattle.capture_file.specs.declared.fault.FaultKind.{FaultKind};
 ghost use Rattle.capture_file.specs.declared.units.Order.{Order as TheOrder};
 
-/// Bytes are a whole file, or one at fault, or one that is cut short, and only one of these: with one list of records, and the fault
-/// or the cut at one offset.
+/// States that bytes are a whole file, or one at fault, or one that is cut short, and only one of these: with one list
+/// of records, and the fault or the cut at one offset.
 pub fn files_have_one_reading()
     ensures whole { (bytes : List ℕ) (records others : List Record) → IsWhole bytes records
         → IsWhole bytes others → records ≡ others }
@@ -27,7 +27,7 @@ pub fn files_have_one_reading()
         (at place : ℕ) → IsCutShort bytes records place → Stops bytes others kind at → ⊥ }
 {}
 
-/// A pcap file of frames, as a plain writer writes it, is read as these frames.
+/// States that a pcap file of frames, as a plain writer writes it, is read as these frames.
 pub fn written_files_are_read()
     ensures { (order : TheOrder) (frames : List Frame) → AllByRecursion FitsFrame frames
         → IsWhole (pcap_bytes order frames) (map record_of_frame frames) }

@@ -51,7 +51,7 @@ packet_line in_words frame number packet =
 abbrev pub frame_of : List (List (List ℕ)) → ℕ → List (List ℕ)
 frame_of frames number = get_or frames (number - 1) []
 
--- the lines of a packet: its own, and those of the messages that it completes
+-- the lines of a packet: the line of the packet itself, and those of the messages that it completes
 abbrev pub IsFollowedPacketText : (in_words : Bool) → (frames : List (List (List ℕ))) → (all : List Message) → ℕ × Captured → List ℕ → Type 0
 IsFollowedPacketText in_words frames all (number, packet) text =
     (texts : List (List ℕ)) × AllZip (λ m. IsMessageText in_words m.piece) (filter (λ m. m.packet == number) all) texts

@@ -46,7 +46,7 @@ abbrev pub latest : List Placed → ℕ
 latest [] = 0
 latest (s ∷ others) = max s.packet (latest others)
 
--- A message is listed under the packet with which it is whole: the latest of those of its own segments.
+-- A message is listed under the packet with which it is whole: the latest of those of its segments.
 abbrev pub fragment_message : Fragment → Message
 fragment_message p = record { packet = latest (p.head ∷ p.others); piece = p }
 

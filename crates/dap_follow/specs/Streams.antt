@@ -39,7 +39,7 @@ came_as stream number packet =
 abbrev pub came_in : Stream → List Captured → List (ℕ × SegmentFields)
 came_in stream packets = filter_map (λ (number, packet). came_as stream number packet) (enumerate_from 1 packets)
 
--- ---- places
+-- ---- sequence numbers
 
 -- a segment with its sequence number without modulus (`place`), and the number of its packet
 pub record Placed : Type 0 where

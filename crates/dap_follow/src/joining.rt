@@ -15,14 +15,14 @@ use dap_listing::{arrow, push_messages};
 use dap_text::{push_number, push_str, push_word};
 use std::alloc::{AllocError, Global};
 
-/// Whether two neighbours have neither a hole nor a mark between them.
+/// Returns whether two neighbours have neither a hole nor a mark between them.
 fn joins(one: &Counted<'_>, other: &Counted<'_>) -> bool
     ensures { result ≡ do_join (counted_value one.now) (counted_value other.now) }
 {
     other.place > one.place && other.place - one.place == 1 && !one.last && !other.first
 }
 
-/// How many segments the first piece of segments in order has.
+/// Returns how many segments the first piece of segments in order has.
 fn piece_len(segments: &[Counted<'_>]) -> usize
     requires { 0 < length segments.now }
     ensures some { 0 < result }
@@ -36,7 +36,7 @@ fn piece_len(segments: &[Counted<'_>]) -> usize
     end
 }
 
-/// The first and the last segment of a piece.
+/// Returns the first and the last segment of a piece.
 fn ends<'a, 'b>(piece: &'b [Counted<'a>]) -> (&'b Counted<'a>, &'b Counted<'a>)
     requires { 0 < length piece.now }
     ensures first { (p : Fragment) → IsPiece p piece.now → counted_value result.0.now ≡ p.head }
@@ -45,7 +45,7 @@ fn ends<'a, 'b>(piece: &'b [Counted<'a>]) -> (&'b Counted<'a>, &'b Counted<'a>)
     (&piece[0], &piece[piece.len() - 1])
 }
 
-/// The latest packet of a piece.
+/// Returns the latest packet of a piece.
 fn latest_packet(piece: &[Counted<'_>]) -> usize
     ensures { result ≡ latest (values piece.now) }
 {
@@ -64,7 +64,7 @@ pub(crate) struct Room {
 }
 
 impl Room {
-    /// Room for no bytes yet. It takes no memory.
+    /// Returns room for no bytes yet. It takes no memory.
     pub(crate) fn new(alloc: Global) -> Self {
         Room {
             digits: Vec::new(alloc),
@@ -73,7 +73,7 @@ impl Room {
     }
 }
 
-/// The digits of a piece, one segment after the other.
+/// Puts the digits of a piece into a cleared vector, one segment after the other.
 fn gather(piece: &[Counted<'_>], digits: &mut Vec<u8>) -> Result<(), AllocError>
     ensures { OnOk result (digits.new.items ≡ payload_digits piece.now) }
 {
@@ -84,7 +84,7 @@ fn gather(piece: &[Counted<'_>], digits: &mut Vec<u8>) -> Result<(), AllocError>
     Ok(())
 }
 
-/// Appends the numbers of two places.
+/// Appends two sequence numbers.
 pub fn push_range(text: &mut Vec<u8>, from: u64, to: u64) -> Result<(), AllocError>
     ensures { OnOk result (Adds text.old text.new (range_text from to)) }
 {
@@ -179,7 +179,7 @@ fn list_piece(
     }
 }
 
-/// Appends the places that are missing between a piece and the next.
+/// Appends the sequence numbers that are missing between a piece and the next.
 fn push_gap(
     text: &mut Vec<u8>,
     stream: &Stream,

@@ -6,10 +6,10 @@ ghost use Rattle.nsp_seg.specs.declared.packet.SegmentFields.{SegmentFields as S
 ghost use Rattle.dap_follow.specs.Streams.{ArePlaced, IsOrdered, Placed, at, first_place};
 ghost use Rattle.dap_follow.specs.Joined.{messages, payload};
 
-/// A message that was cut is listed, in whatever order its segments came. The segments of its stream came each with
-/// its true place, from 2,047 below to 2,048 above the highest before it; and from some place on, what came first
-/// in each place has the marks and the bytes of the message's segments, as a link cuts it. Then one of the stream's
-/// messages carries the message's bytes.
+/// States that a message that was cut is listed, in whatever order its segments came. The segments of its stream came
+/// each with its true sequence number, from 2,047 below to 2,048 above the highest before it; and from some sequence
+/// number on, what came first with each number has the marks and the bytes of the message's segments, as a link cuts
+/// it. Then one of the stream's messages carries the message's bytes.
 pub fn cut_messages_are_listed()
     ensures { (size start highest : ℕ) (message : List ℕ) (came : List (ℕ × Segment))
         (sent ordered : List Placed) → 0 < size → IsOrdered came ordered

@@ -1,4 +1,4 @@
-//! The segments of a stream that count, in the order of their places.
+//! The segments of a stream that count, in the order of their sequence numbers.
 
 ghost use Rattle.std.specs.Prelude.{◌≡◌, ◌≤◌, ◌<◌, ◌+◌, ◌%◌, ◌^◌, [], OnOk};
 ghost use Rattle.dap_follow.specs.Inner.Placing.{IsPutIn, RisesCounted};
@@ -9,13 +9,15 @@ use nsp_link::MAX_AGE;
 use nsp_seg::{MODULUS, Seq12};
 use std::alloc::{AllocError, Global};
 
-/// This many numbers of segments there are.
+/// How many numbers of segments there are.
 pub(crate) const ROUND: u64 = MODULUS as u64;
 
-/// How far below the highest place before it a segment may lie: as far as its number identifies it.
+/// How far a segment's sequence number may be below the highest one before it: as far as its 12-bit number identifies
+/// it.
 const BELOW: u64 = MAX_AGE;
 
-/// A segment that counts: its place, the number of its packet, its marks, and the hex digits of its payload.
+/// A segment that counts: its sequence number (`place`), the number of its packet, its marks, and the hex digits of
+/// its payload.
 #[derive(Clone, Copy)]
 pub(crate) struct Counted<'a> {
     pub(crate) place: u64,
@@ -25,7 +27,7 @@ pub(crate) struct Counted<'a> {
     pub(crate) payload: &'a [u8],
 }
 
-/// The place of a number, from 2,047 below to 2,048 above the highest one before it.
+/// Returns the sequence number of a 12-bit number, from 2,047 below to 2,048 above the highest one before it.
 fn place_near(highest: u64, number: Seq12) -> u64
     requires low { 4096 ≤ highest }
     requires high { highest < 2 ^ 62 }
@@ -37,7 +39,7 @@ fn place_near(highest: u64, number: Seq12) -> u64
     lowest + u64::from(number.ahead_of(Seq12::of(lowest)))
 }
 
-/// Puts a segment in its place, unless another is there.
+/// Puts a segment under its sequence number, unless another has it.
 fn put_in<'a>(ordered: &mut Vec<Counted<'a>>, counted: Counted<'a>) -> Result<(), AllocError>
     requires { RisesCounted ordered.old.items }
     ensures { OnOk result (IsPutIn ordered.old.items counted.entry ordered.new.items) }
@@ -59,7 +61,7 @@ pub(crate) struct Places<'a> {
 }
 
 impl<'a> Places<'a> {
-    /// Those of a stream whose first segment has the number, before it came.
+    /// Returns those of a stream whose first segment has the number, before it came.
     pub(crate) fn new(alloc: Global, number: Seq12) -> Self
         ensures highest { result.highest ≡ number + 4096 }
         ensures ordered { result.ordered.items ≡ [] }
@@ -70,7 +72,7 @@ impl<'a> Places<'a> {
         }
     }
 
-    /// Takes the segment of a packet, unless another is in its place.
+    /// Takes the segment of a packet, unless another has its sequence number.
     pub(crate) fn add(
         &mut self,
         packet: usize,

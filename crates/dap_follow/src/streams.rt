@@ -29,7 +29,7 @@ pub(crate) struct Streams<'a> {
 }
 
 impl<'a> Streams<'a> {
-    /// No streams. It takes no memory.
+    /// Returns no streams. It takes no memory.
     pub(crate) fn new(alloc: Global) -> Self
         ensures { KeepsAll [] result }
     {
@@ -40,7 +40,8 @@ impl<'a> Streams<'a> {
         }
     }
 
-    /// Where the segments of a stream are kept, which begins with the number where it is new.
+    /// Returns the index at which the segments of a stream are kept. Where the stream is new, it begins with the
+    /// number.
     fn place_of(&mut self, stream: Stream, number: Seq12) -> Result<usize, AllocError>
         ensures { IfOk result (IsIndexed stream number self.old self.new) }
     {

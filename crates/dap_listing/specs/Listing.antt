@@ -30,7 +30,7 @@ faults_from limit number bytes =
 abbrev pub captures : ℕ → List ℕ → List Capture
 captures limit input = filter_map (λ line. result_unwrap_or (line_of limit line) None) (lines input)
 
--- Of each packet in these lines, the words of the line directly before it; this line stood before the first one.
+-- Of each packet in these lines, the words of the line directly before it; this line was before the first one.
 abbrev pub frames_after : ℕ → (before : List ℕ) → List (List ℕ) → List (List (List ℕ))
 frames_after limit before [] = []
 frames_after limit before (line ∷ others) =
@@ -56,11 +56,11 @@ IsCapturedText Packets bytes text = IsPacketText bytes text
 IsCapturedText Messages bytes text = (messages : List ℕ) × IsMessagesText false bytes messages
     × (text ≡ concat (codes "message len=" ∷ decimal (length bytes) ∷ line_feed ∷ []) ++ messages)
 
--- how many bytes a packet has at most
+-- the maximum of a packet in bytes
 abbrev pub packet_limit : ℕ
 packet_limit = 4096
 
--- how many bytes a line may have in hex
+-- the maximum of the bytes that a line has in hex
 abbrev pub line_limit : Listed → ℕ
 line_limit Packets = packet_limit
 line_limit Messages = max_nsp_message

@@ -20,7 +20,7 @@ pub enum Direction {
 pub(crate) enum Head<'a> {
     /// The line says nothing: it is empty or a comment.
     Skipped,
-    /// What follows are to be the hex digits of captured bytes.
+    /// What follows has to be the hex digits of captured bytes.
     Digits(Direction, &'a [u8]),
     /// The line has no meaning.
     Malformed,

@@ -10,7 +10,7 @@ use dap_accessed::FileTable;
 use rec_file::{Format, Org, RecordFile, Shape, first_record};
 use std::alloc::AllocError;
 
-/// The word for an organization.
+/// Returns the word for an organization.
 fn org_word(org: Org) -> &'static str
     ensures { result.now ≡ org_text org }
 {
@@ -20,7 +20,7 @@ fn org_word(org: Org) -> &'static str
     }
 }
 
-/// The word for a record format.
+/// Returns the word for a record format.
 fn format_word(format: Format) -> &'static str
     ensures { result.now ≡ format_text format }
 {
@@ -83,16 +83,16 @@ fn push_record(text: &mut Vec<u8>, number: u32, body: &[u8]) -> Result<(), Alloc
     push_str(text, "\n")
 }
 
-/// A place in the listing of the files.
+/// A position in the listing of the files: what is listed next.
 #[derive(Clone, Copy, PartialEq, Eq)]
 pub enum FilesPlace {
-    /// Before the line of the file at this place of the table.
+    /// Before the line of the file at this index of the table.
     File(usize),
     /// Before the line of that file's first record from this number on.
     Record(usize, u32),
 }
 
-/// Appends the line of the file at a place of the table, where there is one; what is next then.
+/// Appends the line of the file at an index of the table, where there is one, and returns the next position.
 #[tactic(auto, unfolding(crate::specs::Adding::StillBegins))]
 fn push_file_at(
     text: &mut Vec<u8>,
@@ -110,7 +110,7 @@ fn push_file_at(
     Ok(Some(FilesPlace::Record(at, 0)))
 }
 
-/// Appends the line of a file's first record from a number on, or of the next file; what is next then.
+/// Appends the line of a file's first record from a number on, or of the next file, and returns the next position.
 #[tactic(auto, unfolding(crate::specs::Adding::StillBegins))]
 fn push_record_from(
     text: &mut Vec<u8>,
@@ -134,8 +134,8 @@ fn push_record_from(
     }
 }
 
-/// Appends the line at a place in the listing of all files; the place of the next one. Where all lines are before
-/// it, nothing.
+/// Appends the line at a position in the listing of all files, and returns the position of the next one. Where all
+/// lines are before it, nothing is appended.
 #[tactic(auto, unfolding(crate::specs::Adding::StillBegins))]
 pub fn push_files_line(
     text: &mut Vec<u8>,

@@ -48,7 +48,7 @@ heard_lines input = filter (λ line. nat_le (length line) max_line) (lines input
 abbrev pub heard_frames : List ℕ → List (List (List ℕ))
 heard_frames input = frames_after packet_limit [] (heard_lines input)
 
--- a line that is none of a capture, or that is too long: it is told, and has no packet
+-- a line that is none of a capture, or that is too long: it is reported, and has no packet
 abbrev pub is_refused : List ℕ → Bool
 is_refused line = nat_lt max_line (length line) || is_err (line_of packet_limit line)
 

@@ -1,4 +1,5 @@
-//! What is kept of a stream: the segments of messages that aren't whole, and the places of those that are listed.
+//! What is kept of a stream: the segments of messages that aren't whole, and the sequence numbers of those that are
+//! listed.
 
 ghost use Rattle.std.specs.Prelude.{◌≡◌, ◌&&◌, true, ◌≤◌, ◌<◌, ◌+◌, ◌/◌, ◌^◌, [], IfOk, IfSome, OnOk, drop, length, take};
 ghost use Rattle.std.specs.List.{AllByRecursion};
@@ -11,10 +12,11 @@ use nsp_seg::{MODULUS, Seq12};
 use std::alloc::{AllocError, Global};
 use std::marker::Model;
 
-/// This many numbers of segments there are.
+/// How many numbers of segments there are.
 const ROUND: u64 = MODULUS as u64;
 
-/// How far below the highest place before it a segment may lie: as far as its number identifies it.
+/// How far a segment's sequence number may be below the highest one before it: as far as its 12-bit number identifies
+/// it.
 const BELOW: u64 = MAX_AGE;
 
 /// The hex digits of a payload, two for each byte.
@@ -38,7 +40,7 @@ impl Payload {
     ghost use Rattle.std.specs.Prelude.{◌≡◌, ◌++◌, ◌/◌, OnOk, IfOk, length};
     ghost use Rattle.dap_listing.specs.Captured.{Spell};
 
-    /// The payload that the digits spell.
+    /// Returns the payload that the digits spell.
     fn of(alloc: Global, digits: &[u8]) -> Result<Self, AllocError>
         requires { Spell digits.now (length digits.now / 2) }
         ensures { IfOk result (λ payload. payload ≡ digits.now) }
@@ -56,8 +58,8 @@ impl Payload {
     }
 }
 
-/// Places in a row. They are those of segments, with the marks at both ends and the hex digits of each payload; or those of
-/// messages that are listed, with no payloads.
+/// Sequence numbers in a row. They are those of segments, with the marks at both ends and the hex digits of each
+/// payload; or those of messages that are listed, with no payloads.
 #[derive(Drop)]
 pub(crate) struct Kept {
     pub(crate) from: u64,
@@ -69,7 +71,7 @@ pub(crate) struct Kept {
 }
 
 impl Kept {
-    /// A segment in its place.
+    /// Returns a segment under its sequence number.
     fn segment(alloc: Global, place: u64, segment: &CapturedSegment<'_>) -> Result<Self, AllocError>
         requires { Spell segment.now.digits.now (length segment.now.digits.now / 2) }
         ensures { IfOk result (IsSegment place segment.now) }
@@ -87,7 +89,7 @@ impl Kept {
         })
     }
 
-    /// The places of a message that is listed. It takes no memory.
+    /// Returns the sequence numbers of a message that is listed. It takes no memory.
     fn listed(alloc: Global, from: u64, to: u64) -> Self
         ensures from { result.from ≡ from }
         ensures to { result.to ≡ to }
@@ -103,7 +105,7 @@ impl Kept {
         }
     }
 
-    /// Whether others are in a row with these: of a message that isn't whole, or listed as these are.
+    /// Returns whether others are in a row with these: of a message that isn't whole, or listed as these are.
     fn joins(&self, other: &Kept) -> bool
         ensures { result ≡ do_join self.now other.now }
     {
@@ -127,14 +129,14 @@ impl Kept {
         Ok(())
     }
 
-    /// Whether these are all segments of a message.
+    /// Returns whether these are all segments of a message.
     fn is_message(&self) -> bool
         ensures { result ≡ (self.now.first && self.now.last) }
     {
         self.first && self.last
     }
 
-    /// The digits of all payloads.
+    /// Puts the digits of all payloads into a cleared vector.
     pub(crate) fn gather(&self, digits: &mut Vec<u8>) -> Result<(), AllocError>
         ensures gathered { OnOk result (digits.new.items ≡ kept_digits self.now) }
         ensures spelled { OnOk result
@@ -148,7 +150,7 @@ impl Kept {
     }
 }
 
-/// The place of a number, from 2,047 below to 2,048 above the highest one before it.
+/// Returns the sequence number of a 12-bit number, from 2,047 below to 2,048 above the highest one before it.
 fn place_near(highest: u64, number: Seq12) -> u64
     ensures { 4096 ≤ highest → highest < 2 ^ 62 → IsNear highest number result }
 {
@@ -156,7 +158,7 @@ fn place_near(highest: u64, number: Seq12) -> u64
     lowest.saturating_add(u64::from(number.ahead_of(Seq12::of(lowest))))
 }
 
-/// How many are below a place.
+/// Returns how many are below a sequence number.
 fn count_below(kept: &[Kept], place: u64) -> usize
     ensures within { result ≤ length kept.now }
     ensures below { Ascends kept.now
@@ -167,7 +169,7 @@ fn count_below(kept: &[Kept], place: u64) -> usize
     kept.partition_point(|one| one.to < place)
 }
 
-/// Whether a segment has this sequence number, where this many are below it.
+/// Returns whether a segment has this sequence number, where this many are below it.
 fn is_taken(kept: &[Kept], below: usize, place: u64) -> bool
     ensures { result ≡ takes place (drop below kept.now) }
 {
@@ -214,14 +216,14 @@ fn join(kept: &mut Vec<Kept>, index: usize, mut piece: Kept) -> Result<(usize, K
     join_before(kept, index, piece)
 }
 
-/// A message that is whole: its first and last place.
+/// A message that is whole: its first and last sequence number.
 #[derive(Clone, Copy)]
 pub(crate) struct Whole {
     pub(crate) from: u64,
     pub(crate) to: u64,
 }
 
-/// Keeps a message as listed; gives the digits of its bytes.
+/// Keeps a message as listed, and puts the digits of its bytes into a cleared vector.
 fn list_at(
     alloc: Global,
     kept: &mut Vec<Kept>,
@@ -263,7 +265,7 @@ fn put_in(
     Ok(None)
 }
 
-/// What is kept of a stream, in the order of the places.
+/// What is kept of a stream, in the order of the sequence numbers.
 #[derive(Drop)]
 pub(crate) struct Places {
     pub(crate) alloc: Global,
@@ -272,7 +274,7 @@ pub(crate) struct Places {
 }
 
 impl Places {
-    /// Those of a stream whose first segment has the number, before it came. It takes no memory.
+    /// Returns what is kept of a stream whose first segment has the number, before it came. It takes no memory.
     pub(crate) fn new(alloc: Global, number: Seq12) -> Self
         ensures highest { result.highest ≡ number + 4096 }
         ensures kept { result.kept.items ≡ [] }
@@ -284,7 +286,8 @@ impl Places {
         }
     }
 
-    /// Takes a segment, unless another has its place; returns the message that is whole with it, and its digits.
+    /// Takes a segment, unless another has its sequence number; returns the message that is whole with it, and its
+    /// digits.
     pub(crate) fn add(
         &mut self,
         segment: &CapturedSegment<'_>,

@@ -22,7 +22,7 @@ pub(crate) struct Streams {
 }
 
 impl Streams {
-    /// No streams. It takes no memory.
+    /// Returns no streams. It takes no memory.
     pub(crate) fn new(alloc: Global) -> Self
         ensures { KeepsAllOrdered [] [] result }
     {
@@ -33,7 +33,7 @@ impl Streams {
         }
     }
 
-    /// Where what is kept of a stream stands, which begins with the number where it is new.
+    /// Returns the index at which a stream is kept. Where the stream is new, it begins with the number.
     fn place_of(&mut self, stream: Stream, number: Seq12) -> Result<usize, AllocError>
         ensures within { IfOk result (λ index. index < length self.new.places.items) }
         ensures indexed { length self.old.names.keys ≡ length self.old.places.items

@@ -31,10 +31,11 @@ use linewise::{Answer, Answers, Became, CaptureFault, talk, write_text};
 use std::alloc::{AllocError, Global};
 use std::io::{BufRead, Write};
 
-/// The most packets of a capture.
+/// The maximum number of packets of a capture.
 const MAX_PACKETS: usize = 1 << 50;
 
-/// A capture as far as its lines came: whether words are wanted, how many packets there were, and what is kept of each stream.
+/// A capture as far as its lines were read: whether words are wanted, how many packets there were, and what is kept of
+/// each stream.
 #[derive(Drop)]
 pub(crate) struct Watching {
     pub(crate) in_words: bool,
@@ -69,7 +70,7 @@ fn push_whole(
 }
 
 impl Watching {
-    /// Nothing came yet. It takes no memory.
+    /// Returns a listing of which no line was read yet. It takes no memory.
     fn new(alloc: Global, in_words: bool) -> Self
         ensures words { result.in_words ≡ in_words }
         ensures starts { Starts result }

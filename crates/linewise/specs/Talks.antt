@@ -23,7 +23,7 @@ abbrev pub is_skipped : List ℕ → Bool
 is_skipped [] = true
 is_skipped (first ∷ others) = first == 35
 
--- An end isn't given a line that says nothing, unless its answers have no ending: by these it learns what stands between
+-- An end isn't given a line that says nothing, unless its answers have no ending: by these it learns what is between
 -- other lines. (What an end waits for is a count, or it names none.)
 abbrev pub is_given : Option ℕ → List ℕ → Bool
 is_given (Some count) line = not (is_skipped line)
@@ -59,15 +59,15 @@ ComesIn pieces text Done = text ≡ concat pieces
 ComesIn pieces text BadLine = ⊥
 ComesIn pieces text NoMemory = (front rest : List (List ℕ)) × (pieces ≡ front ++ rest) × (0 < length rest) × (text ≡ concat front)
 
--- What was done by a line, and its whole text; or a prefix of the text, which is an answer together with whatever
--- comes of the pieces from a place on.
+-- What was done by a line, and its whole text; or a prefix of the text, which is an answer together with whatever is
+-- written of the pieces from a position on.
 abbrev pub Begins : {E L P : Type 0} → (answered : E → L → E → List ℕ → Became → Type 0) → (pieces : E → P → List (List ℕ))
     → E → L → E → List ℕ → Answer P → Type 0
 Begins answered pieces old line new text (Whole became) = answered old line new text became
 Begins answered pieces old line new text (Begun place) =
     (more : List ℕ) (became : Became) → ComesIn (pieces new place) more became → answered old line new (text ++ more) became
 
--- The text is the piece at this place, and the other pieces are those from the next place on; or there is none.
+-- The text is the piece at this position, and the other pieces are those from the next position on; or there is none.
 abbrev pub GivesPiece : {P : Type 0} → (pieces : P → List (List ℕ)) → P → List ℕ → Option P → Type 0
 GivesPiece pieces place text None = (pieces place ≡ []) × (text ≡ [])
 GivesPiece pieces place text (Some next) = pieces place ≡ text ∷ pieces next
@@ -94,7 +94,7 @@ abbrev pub is_bad : Option Became → Bool
 is_bad (Some BadLine) = true
 is_bad _ = false
 
--- The end answered the lines of an input, one after another, up to this rest. The text is its answers, joined, and
+-- The end answered the lines of an input, one after another, up to this suffix. The text is its answers, joined, and
 -- the list is what became of the lines.
 pub data Talked {E : Type 0} (answered : Answering E) (waiting : E → Option ℕ) : E → List ℕ → E → List ℕ → List ℕ → List (Option Became) → Type 0 where
   begins : {e : E} {input : List ℕ} → Talked answered waiting e input e input [] []

@@ -11,14 +11,14 @@ use crate::reading::MAX_LINE;
 use std::alloc::Global;
 use std::io::Read;
 
-/// The most bytes that an input may have: those of the longest line.
+/// The maximum of an input in bytes: that of a line.
 pub const MAX_INPUT: usize = MAX_LINE;
 
 /// How many bytes are read at a time.
 pub const CHUNK: usize = 65_536;
 
-/// Reads on into the front of the chunk, no further than the byte that breaks the limit, and answers how many bytes
-/// came: 0 at the end. The count is of the bytes that were read before.
+/// Reads on into the start of the chunk, no further than the byte that breaks the limit, and returns how many bytes
+/// were read: 0 at the end. The count is of the bytes that were read before.
 #[tactic(auto, unfolding(crate::specs::Input::TakesBehind, crate::specs::Input::TakesUpTo))]
 pub fn read_some<R: Read>(
     reader: &mut R,
@@ -92,8 +92,8 @@ pub fn skip_unread<R: Read>(
     skip_rest(reader, chunk, count)
 }
 
-/// All that the reader has left, where it is no more than the limit. No byte past the one that breaks the limit is
-/// read.
+/// Returns all that the reader has left, where it is no more than the limit. No byte past the one that breaks the
+/// limit is read.
 ///
 /// `TooLarge`: there is more. `ReadFailed`: the reader failed. `NoMemory`: a growth was refused.
 pub fn read_input<R: Read>(alloc: Global, reader: &mut R) -> Result<Vec<u8>, CaptureFault>

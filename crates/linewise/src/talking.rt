@@ -23,9 +23,9 @@ use std::io::{BufRead, Write};
 pub enum Became {
     /// It was answered.
     Done,
-    /// It is none of the end's.
+    /// The end doesn't know such a line.
     BadLine,
-    /// Memory was refused, and what was done before that stays done.
+    /// Out of memory; what was done before that stays done.
     NoMemory,
 }
 
@@ -34,7 +34,7 @@ pub enum Became {
 pub enum Answer<P> {
     /// The text is the whole of it, and this became of the line.
     Whole(Became),
-    /// The text is its front, and the pieces from this place on follow.
+    /// The text is a prefix of it, and the pieces from this position on follow.
     Begun(P),
 }
 
@@ -43,7 +43,7 @@ pub trait Answers {
     ghost use Rattle.linewise.specs.declared.talking.Became.{Became};
     ghost use Rattle.linewise.specs.Talks.{Begins, GivesPiece};
 
-    /// Where an answer that is said piece by piece goes on.
+    /// The position in an answer at which the next piece begins, where it is said piece by piece.
     type Place: Copy;
 
     // What it may come to by a line, the text of its answer, and what became of the line. `None` is a line that it missed,
@@ -54,7 +54,7 @@ pub trait Answers {
     // no ending.
     ghost waiting: { Self → Option ℕ };
 
-    // The pieces of an answer from a place on.
+    // The pieces of an answer from a position on.
     ghost pieces: { Self → Self.Place → List (List ℕ) };
 
     /// Answers a line, which comes without its end, or begins to. The text comes empty.
@@ -62,13 +62,13 @@ pub trait Answers {
         requires { text.old.items ≡ [] }
         ensures { Begins answered pieces self.old (Some line.now) self.new text.new.items result };
 
-    /// Misses a line, which is too long, or to which memory was refused while it was read. The answer is that, and how many
-    /// packets the end waits for then.
+    /// Misses a line, which is too long, or to which memory was refused while it was read. The answer says that, and
+    /// how many packets the end waits for then.
     fn miss(&mut self)
         ensures { (became : Became) → answered self.old None self.new [] became };
 
-    /// The next piece of an answer, and where it goes on after that; nothing where all is said. The text comes
-    /// empty.
+    /// Appends the next piece of an answer to the text, which comes empty, and returns the position after it; or
+    /// returns None where all is said.
     fn more(
         &self,
         place: Self::Place,
@@ -78,13 +78,13 @@ pub trait Answers {
         ensures piece { IfOk result (GivesPiece (pieces self.now) place text.new.items) }
         ensures refused { OnErr result (0 < length (pieces self.now place)) };
 
-    /// How many packets it waits to be acknowledged, and one more where it has something left to do. `None`: its answers have
-    /// no ending, and it is given all lines that aren't too long, also those that say nothing.
+    /// Returns how many packets it waits to be acknowledged, and one more where it has something left to do. `None`:
+    /// its answers have no ending, and it is given all lines that aren't too long, also those that say nothing.
     fn waits(&self) -> Option<usize>
         ensures { result ≡ waiting self.now };
 }
 
-/// Whether an end is given a line, by the number of packets that it waits for.
+/// Returns whether an end is given a line, by the number of packets that it waits for.
 fn is_given(waits: Option<usize>, line: &[u8]) -> bool
     ensures { result ≡ given_by waits line.now }
 {
@@ -94,7 +94,7 @@ fn is_given(waits: Option<usize>, line: &[u8]) -> bool
     }
 }
 
-/// The answer to a line that wasn't read whole, which the end misses.
+/// Returns the answer to a line that wasn't read whole, which the end misses.
 fn miss<E: Answers>(end: &mut E, became: Became) -> Answer<E::Place>
     ensures missed { E.answered end.old None end.new [] became }
     ensures whole { result ≡ TheAnswer.Whole became }
@@ -136,8 +136,8 @@ fn answer_read<E: Answers>(end: &mut E, line: &Line, text: &mut Vec<u8>) -> Opti
     }
 }
 
-/// Writes the text and the pieces from a place on, each before the next is asked for; what became of the line. The text
-/// is empty then.
+/// Writes the text and the pieces from a position on, each before the next is asked for, and returns what became of
+/// the line. The text is empty then.
 fn write_pieces<E: Answers, W: Write>(
     end: &E,
     first: E::Place,
@@ -167,7 +167,7 @@ fn write_pieces<E: Answers, W: Write>(
     }
 }
 
-/// Writes all of an answer but the last text and its ending; what became of the line.
+/// Writes all of an answer but the last text and its ending, and returns what became of the line.
 fn write_begun<E: Answers, W: Write>(
     end: &E,
     answer: Answer<E::Place>,
@@ -188,7 +188,7 @@ fn write_begun<E: Answers, W: Write>(
     }
 }
 
-/// Tells a bad line at once. What the error writer does with it changes nothing.
+/// Reports a bad line at once. What the error writer does with it changes nothing.
 fn tell_bad<F: Write>(became: Became, number: u64, error_writer: &mut F) {
     if became == Became::BadLine {
         let _ = writeln!(error_writer, "bad line {number}");
@@ -261,14 +261,14 @@ fn answer_next<E: Answers, R: BufRead, W: Write, F: Write>(
     Ok(Next::Line(became))
 }
 
-/// Whether a line was bad.
+/// Returns whether a line was bad.
 fn is_bad(became: Option<Became>) -> bool
     ensures { result ≡ is_bad_line became }
 {
     matches!(became, Some(Became::BadLine))
 }
 
-/// Whether a line's answer can't say that memory was refused to it.
+/// Returns whether a line's answer can't say that memory was refused to it.
 fn ends_talk<E: Answers>(end: &E, became: Option<Became>) -> bool
     ensures memory { result ≡ true → became ≡ Some TheBecame.NoMemory }
     ensures waiting { result ≡ true → E.waiting end.now ≡ None }

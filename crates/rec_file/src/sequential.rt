@@ -72,7 +72,7 @@ impl OneWalk for SeqFile {
         Ok(true)
     }
 
-    /// Is never called of a relative file: no file is sequential and relative.
+    /// Is never called: no file is sequential and relative.
     fn remove_if_occupied(&mut self, _number: u32) -> bool {
         let _ = &self.shape;
         unreachable!()

@@ -18,7 +18,7 @@ use Rattle.dap_follow.specs.declared.streams.Streams.{Streams}
 abbrev pub stream_of : Captured → Option Stream
 stream_of packet = option_map (λ p. p.0) (segment_in packet)
 
--- a segment was put in its place, which is near the highest before it
+-- a segment was put under its sequence number, which is near the highest one before it
 pub record IsAdded (packet : ℕ) (c : CapturedSegment) (old new : Places) : Type 0 where
   pub counted : Counted
   pub low : old.highest ≤ counted.place + 2047
@@ -68,7 +68,7 @@ pub record KeepsAll (packets : List Captured) (s : Streams) : Type 0 where
 abbrev pub KeepsSome : ℕ → Streams → Type 0
 KeepsSome packet s = (packets : List Captured) × KeepsAll packets s × (packet ≡ length packets + 1) × (packet < 2 ^ 32)
 
--- a stream has a place among the others, in which nothing stands yet where it is new
+-- a stream has an index among the others; where the stream is new, no segment of it is kept yet
 pub record IsIndexed (stream : Stream) (number : ℕ) (old new : Streams) (index : ℕ) : Type 0 where
   pub small : number < 4096
   pub distinct : IsDistinct is_same new.names.keys

@@ -1,4 +1,4 @@
--- How the program keeps the segments of a stream in the order of their places.
+-- How the program keeps the segments of a stream in the order of their sequence numbers.
 use Rattle.std.specs.Prelude.{◌≡◌, ◌<◌, ◌⊎◌, ⊤, List, [], ◌∷◌, ◌++◌}
 use Rattle.std.specs.List.{AllByRecursion}
 use Rattle.dap_listing.specs.Captured.{digit_bytes}
@@ -15,7 +15,7 @@ RisesCounted [] = ⊤
 RisesCounted (c ∷ others) =
     AllByRecursion (λ other. c.place < other.place) others × RisesCounted others
 
--- A segment stands in the place already, or it is put between those below and those above.
+-- A segment has the sequence number already, or it is put between those below and those above.
 abbrev pub IsPutIn : List Counted → Counted → List Counted → Type 0
 IsPutIn old c new =
     ((new ≡ old) × (front back : List Counted) × (other : Counted) × (old ≡ front ++ other ∷ back) × (other.place ≡ c.place))

@@ -28,7 +28,7 @@ abbrev pub item_with_record : Item → List ℕ → Item
 item_with_record (Whole m) body = Whole (with_other_record m body)
 item_with_record (Malformed fault) body = Malformed fault
 
--- how many bytes of a record are its last
+-- how many bytes at the end of a message are its record
 abbrev pub message_record_size : Message → ℕ
 message_record_size (Filedata recnum payload) = length payload
 message_record_size m = 0

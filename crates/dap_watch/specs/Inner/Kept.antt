@@ -22,7 +22,7 @@ kept_digits k = flat_map (λ payload. payload) k.payloads.items
 abbrev pub do_join : Kept → Kept → Bool
 do_join a b = (b.from == a.to + 1) && (if a.listed then b.listed else (not b.listed && not a.last && not b.first))
 
--- a segment in its place
+-- a segment under its sequence number
 pub record IsSegment (place : ℕ) (c : CapturedSegment) (k : Kept) : Type 0 where
   pub from : k.from ≡ place
   pub to : k.to ≡ place
@@ -40,7 +40,7 @@ pub record IsAbsorbed (one other joined : Kept) : Type 0 where
   pub listed : joined.listed ≡ one.listed
   pub digits : kept_digits joined ≡ kept_digits one ++ kept_digits other
 
--- a place of the number near the highest place
+-- a sequence number with this 12-bit number, near the highest one
 abbrev pub IsNear : ℕ → ℕ → ℕ → Type 0
 IsNear highest number place = (highest ≤ place + 2047) × (place ≤ highest + 2048) × (place % 4096 ≡ number)
 
@@ -49,7 +49,7 @@ abbrev pub Ascends : List Kept → Type 0
 Ascends [] = ⊤
 Ascends (k ∷ others) = AllByRecursion (λ other. k.to < other.to) others × Ascends others
 
--- the place is in the first of those that don't end below it
+-- the sequence number is in the first of those that don't end below it
 abbrev pub is_taken : ℕ → List Kept → Bool
 is_taken place [] = false
 is_taken place (k ∷ others) = nat_le k.from place
@@ -81,7 +81,7 @@ AbsorbsBefore index old piece now new joined =
 
 -- ---- what it stands for
 
--- messages one after another without a gap, from one place to another
+-- messages one after another without a gap, from one sequence number to another
 abbrev pub AreListed : ℕ → ℕ → List Fragment → Type 0
 AreListed from to [] = ⊥
 AreListed from to (m ∷ []) = (is_message m ≡ true) × (m.head.place ≡ from) × ((tail m).place ≡ to)
@@ -113,8 +113,8 @@ KeepsPieces ps (k ∷ ks) =
 
 -- ---- one between others
 
--- It took the neighbours that it joins: what was before it, its own and what was after it are now these. Where it isn't listed, no
--- message became of it or was lost but in the middle.
+-- It took the neighbours that it joins: the pieces before it, its pieces and those after it are now these. Where it
+-- isn't listed, no message became of it or was lost but in the middle.
 pub record Regroups (xs ys zs : List Fragment) (piece : Kept) (front : List Kept) (joined : Kept) (back : List Kept) : Type 0 where
   pub before : List Fragment
   pub these : List Fragment
@@ -142,7 +142,7 @@ pub record Lists (index : ℕ) (old : List Kept) (message : Kept) (new : List Ke
       → KeepsPieces xs (take index old) → KeepsPieces zs (drop index old)
       → KeepsPieces (xs ++ m ∷ zs) new
 
--- the place and the digits of a message
+-- the sequence numbers and the digits of a message
 pub record IsWholeMessage (digits : List ℕ) (w : Whole) (m : Fragment) : Type 0 where
   pub message : is_message m ≡ true
   pub from : w.from ≡ m.head.place
@@ -150,7 +150,7 @@ pub record IsWholeMessage (digits : List ℕ) (w : Whole) (m : Fragment) : Type 
   pub bytes : digit_bytes digits ≡ payload m
   pub spelled : Spell digits (length digits / 2)
 
--- it is a message, and told; or it is none
+-- it is a message, and returned; or it is none
 abbrev pub IsListedPiece : List ℕ → Option Whole → Fragment → Type 0
 IsListedPiece digits None m = is_message m ≡ false
 IsListedPiece digits (Some w) m = IsWholeMessage digits w m
@@ -180,12 +180,12 @@ pub record KeepsPlaces (packet : ℕ) (ordered : List Placed) (p : Places) : Typ
   pub numbered : AllByRecursion (λ s. s.packet < packet) ordered
   pub low : 4096 ≤ p.highest
 
--- the messages that are whole with the packet: none, or the one that is told
+-- the messages that are whole with the packet: none, or the one that is returned
 abbrev pub AreTold : ℕ → List ℕ → Option Whole → List Fragment → Type 0
 AreTold packet digits None ms = ms ≡ []
 AreTold packet digits (Some w) ms = (m : Fragment) × (ms ≡ m ∷ []) × (whole_with m ≡ packet) × IsWholeMessage digits w m
 
--- the segment of a packet was put in its place, and messages became whole with it
+-- the segment of a packet was put under its sequence number, and messages became whole with it
 pub record Found (packet : ℕ) (c : CapturedSegment) (ordered : List Placed) (old new : Places) (digits : List ℕ) (found : Option Whole) : Type 0 where
   pub place : ℕ
   pub near : IsNear old.highest c.number place

@@ -24,7 +24,7 @@ abbrev pub Rises : List Placed → Type 0
 Rises [] = ⊤
 Rises (s ∷ others) = AllByRecursion (λ other. s.place < other.place) others × Rises others
 
--- A segment stands in the place already, or it is put between those below and those above.
+-- A segment has the sequence number already, or it is put between those below and those above.
 abbrev pub IsPut : List Placed → Placed → List Placed → Type 0
 IsPut old s new =
     ((new ≡ old) × (front back : List Placed) × (other : Placed) × (old ≡ front ++ other ∷ back) × (other.place ≡ s.place))

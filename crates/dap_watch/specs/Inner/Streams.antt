@@ -34,7 +34,7 @@ pub record KeepsAllOrdered (packets : List Captured) (ordered : List (List Place
   pub names : s.names.keys ≡ streams packets
   pub each : KeepsEachOrdered packets s.names.keys ordered s.places.items
 
--- a stream has a place among the others, in which nothing stands yet where it is new
+-- a stream has an index among the others; where the stream is new, no segment of it is kept yet
 pub record IsIndexedStream (stream : Stream) (number : ℕ) (old new : Streams)
     (index : ℕ) : Type 0 where
   pub small : number < 4096
@@ -44,7 +44,7 @@ pub record IsIndexedStream (stream : Stream) (number : ℕ) (old new : Streams)
       ⊎ ((list_any (is_same stream) old.names.keys ≡ false) × (new.names.keys ≡ old.names.keys ++ stream ∷ [])
       × (p : Places) × (new.places.items ≡ old.places.items ++ p ∷ []) × (p.highest ≡ number + 4096) × (p.kept.items ≡ []))
 
--- messages were added that are whole with a packet: none, or the one that is told
+-- messages were added that are whole with a packet: none, or the one that is returned
 pub record AreAdded (packet : ℕ) (digits : List ℕ) (found : Option Whole) (old new : List Message) : Type 0 where
   pub front : List Message
   pub back : List Message
