@@ -12,9 +12,9 @@ use crate::units::{
     pcap_of,
 };
 
-/// When a frame was captured. A second has 10 to the power of the resolution parts, or, where the resolution is above 127, 2 to
-/// that of what it is above 128 (`if_tsresol` of pcapng). The offset is in seconds, as two's complement (`if_tsoffset`).
-/// The sum of both counts from the beginning of 1970.
+/// When a frame was captured. A second has 10 to the power of the resolution parts, or, where the resolution is above
+/// 127, 2 to that of what it is above 128 (`if_tsresol` of pcapng). The offset is in seconds, as two's complement
+/// (`if_tsoffset`). The sum of both counts from the beginning of 1970.
 #[derive(Clone, Copy, Debug, PartialEq, Eq)]
 pub struct Time {
     pub parts: u64,
@@ -32,8 +32,8 @@ pub struct Interface {
     pub offset: u64,
 }
 
-/// A captured frame: its time, if the file has one; whether it is one of Ethernet; and where its bytes are in what is kept
-/// of its unit.
+/// A captured frame: its time, if the file has one; whether it is one of Ethernet; and where its bytes are in what is
+/// kept of its unit.
 #[derive(Clone, Copy, Debug, PartialEq, Eq)]
 pub struct Given {
     pub time: Option<Time>,

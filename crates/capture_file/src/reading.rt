@@ -12,8 +12,8 @@ use crate::units::{Extent, Format, TAIL, extent_of, head_len};
 use crate::{FaultKind, FileFault};
 use std::alloc::Global;
 
-/// A file, as far as it was read. What is kept is at most a unit, of at most 262,168 bytes, and the interfaces of a section,
-/// of which there are at most 1,024.
+/// A file, as far as it was read. What is kept is at most a unit, of at most 262,168 bytes, and the interfaces of a
+/// section, of which there are at most 1,024.
 #[derive(Drop)]
 pub struct Reading {
     pub(crate) format: Format,
@@ -217,8 +217,8 @@ impl Reading {
         }
     }
 
-    /// Takes bytes of a piece, at least one of them if there are any, but none after the end of the unit that is read. The frame
-    /// that is whole with them, if there is one, is what [`Reading::frame`] returns until more is taken.
+    /// Takes bytes of a piece, at least one of them if there are any, but none after the end of the unit that is read.
+    /// The frame that is whole with them, if there is one, is what [`Reading::frame`] returns until more is taken.
     ///
     /// Faults: the file is at fault, whatever follows; or memory was refused. Nothing can be taken after a fault.
     pub fn take(&mut self, piece: &[u8]) -> Result<Step, FileFault>

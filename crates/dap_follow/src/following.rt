@@ -105,8 +105,8 @@ fn follow_input(alloc: Global, input: &[u8], in_words: bool) -> Result<Vec<u8>, 
 }
 
 /// Reads a capture of NSP packets, of at most 4,096 bytes each, to its end and writes its listing, in which the DAP
-/// messages are under the packet with which their NSP message is whole; and with what the lines say in words, if these are
-/// wanted.
+/// messages are under the packet with which their NSP message is whole; and with what the lines say in words, if these
+/// are wanted.
 ///
 /// The whole input is read, and all lines are checked, before anything is written. `TooLarge`: the input has more
 /// than 16,777,216 bytes, of which no more than one is read, or the first line at fault a packet that is too long.

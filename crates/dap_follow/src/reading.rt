@@ -33,8 +33,8 @@ fn fault_of(seen: &Result<CapturedPacket<'_>, SegFault>) -> Option<SegFault>
     }
 }
 
-/// Appends the line of the packet that has the number, to a text that is empty; with its words, if these are wanted: those of
-/// the line directly before it, and of what is no segment. Fails only if memory is refused.
+/// Appends the line of the packet that has the number, to a text that is empty; with its words, if these are wanted:
+/// those of the line directly before it, and of what is no segment. Fails only if memory is refused.
 pub fn push_packet_line(
     text: &mut Vec<u8>,
     number: usize,

@@ -18,8 +18,8 @@ use std::alloc::AllocError;
 /// The maximum of a packet in a capture, in bytes.
 pub const MAX_PACKET: usize = 4096;
 
-/// A captured packet among lines: the way that it went and the hex digits of its bytes; the line directly before it, which
-/// is empty where the packet is the first line; and the number of the line after it, and what is there.
+/// A captured packet among lines: the way that it went and the hex digits of its bytes; the line directly before it,
+/// which is empty where the packet is the first line; and the number of the line after it, and what is there.
 #[derive(Clone, Copy, PartialEq)]
 pub struct Found<'a> {
     pub way: Direction,
@@ -83,7 +83,8 @@ pub fn next_packet<'a>(at: usize, bytes: &'a [u8]) -> Result<Option<Found<'a>>, 
 /// Returns the captured packet of a line, which comes without its line feed: its direction and the hex digits of its
 /// bytes; None where the line is skipped. Takes no memory.
 ///
-/// Refused: `BadLine`, with this number, where the line isn't one of a capture; `TooLarge`, where its packet is too long.
+/// Refused: `BadLine`, with this number, where the line isn't one of a capture; `TooLarge`, where its packet is too
+/// long.
 pub fn line_packet(number: usize, line: &[u8]) -> Result<Option<(Direction, &[u8])>, CaptureFault>
     ensures says { IfOk result (λ read.
         line_of packet_limit line.now ≡ Ok (option_map (λ has. (has.0, has.1.now)) read)) }

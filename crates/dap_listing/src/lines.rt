@@ -26,7 +26,7 @@ pub(crate) enum Head<'a> {
     Malformed,
 }
 
-/// What the first bytes of a line say.
+/// Returns what the first bytes of a line say.
 pub(crate) fn parse_head(line: &[u8]) -> Head<'_>
     ensures { (limit : ℕ) → line_of_head limit result ≡ line_of limit line.now }
 {

@@ -217,8 +217,8 @@ fn comment_word(line: &[u8]) -> Word<'_>
     }
 }
 
-/// Puts the words of a packet's line before its end, which is that of the text: those of the line directly before the packet in
-/// its capture, and those of what it is where it can't be read. Fails only if memory is refused.
+/// Puts the words of a packet's line before its end, which is that of the text: those of the line directly before the
+/// packet in its capture, and those of what it is where it can't be read. Fails only if memory is refused.
 pub fn add_packet_words(
     text: &mut Vec<u8>,
     before: &[u8],

@@ -26,10 +26,10 @@ const VERNUM: u8 = 5;
 
 const ECONUM: u8 = 6;
 
-/// What both ends can do, as bits of SYSCAP (DAP 5.6.0, Configuration message; the table of bits is from memory): sequential
-/// and relative files (1, 2), sequential transfer (5), access by record number (6) and by record file address (10),
-/// switching the access (12), append (13), blocking up to a response and without limit (18, 19), two bytes of LENGTH
-/// (20), sequential record access (33).
+/// What both ends can do, as bits of SYSCAP (DAP 5.6.0, Configuration message; the table of bits is from memory):
+/// sequential and relative files (1, 2), sequential transfer (5), access by record number (6) and by record file
+/// address (10), switching the access (12), append (13), blocking up to a response and without limit (18, 19), two
+/// bytes of LENGTH (20), sequential record access (33).
 const ABILITIES: u128 = 1 << 1
     | 1 << 2
     | 1 << 5

@@ -71,7 +71,7 @@ pub const CONFUNC_RESUME: u8 = 4;
 
 /// CMPFUNC (DAP 5.6.0, Access Complete message): to close the file.
 pub const CMPFUNC_CLOSE: u8 = 1;
-/// The answer to an Access Complete.
+/// The response to an Access Complete.
 pub const CMPFUNC_RESPONSE: u8 = 2;
 /// To close the file, and to remove it where this Access made it.
 pub const CMPFUNC_PURGE: u8 = 3;
@@ -140,28 +140,31 @@ const OUT_OF_PLACE: u16 = 0xa000;
 /// is a choice of this implementation).
 const TYPE_UNIT: u16 = 64;
 
-/// The STSCODE where a message of this type asks for what is not supported: MACCODE 2 (DAP 5.6.0, Status message).
+/// Returns the STSCODE where a message of this type asks for what is not supported: MACCODE 2 (DAP 5.6.0, Status
+/// message).
 pub fn unsupported(message_type: u8) -> u16
     ensures { result ≡ codes.unsupported message_type }
 {
     UNSUPPORTED + TYPE_UNIT * u16::from(message_type)
 }
 
-/// The STSCODE where a message of this type has a value that is not allowed: MACCODE 9 (DAP 5.6.0, Status message).
+/// Returns the STSCODE where a message of this type has a value that is not allowed: MACCODE 9 (DAP 5.6.0, Status
+/// message).
 pub fn invalid(message_type: u8) -> u16
     ensures { result ≡ codes.invalid message_type }
 {
     INVALID + TYPE_UNIT * u16::from(message_type)
 }
 
-/// The STSCODE where a message of this type is out of sequence in the exchange: MACCODE 10, with the type as MICCODE.
+/// Returns the STSCODE where a message of this type is out of sequence in the exchange: MACCODE 10, with the type as
+/// MICCODE.
 pub fn out_of_place(message_type: u8) -> u16
     ensures { result ≡ codes.out_of_place message_type }
 {
     OUT_OF_PLACE + u16::from(message_type)
 }
 
-/// The STSCODE where no message of this type can be read: MACCODE 8 (DAP 5.6.0, Status message).
+/// Returns the STSCODE where no message of this type can be read: MACCODE 8 (DAP 5.6.0, Status message).
 pub(crate) fn malformed(message_type: u8) -> u16
     ensures { result ≡ codes.status_code_for message_type }
 {

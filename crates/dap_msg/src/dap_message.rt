@@ -19,8 +19,8 @@ use crate::message::{
     StatusFields,
 };
 
-/// A DAP message (DAP 5.6.0, message formats), for programs that read or write messages: its fields have that document's
-/// names, and its images and bytes are slices of the input. It is copied freely.
+/// A DAP message (DAP 5.6.0, message formats), for programs that read or write messages: its fields have that
+/// document's names, and its images and bytes are slices of the input. It is copied freely.
 ///
 /// Contracts say its value, the [`MessageValue`] with the same fields, in which bytes are lists of numbers.
 #[derive(Clone, Copy, PartialEq, Eq)]
@@ -165,14 +165,14 @@ pub enum Message<'a> {
     },
 }
 
-/// The bytes of an image as a value, where the image is there.
+/// Returns the bytes of an image as a value, where the image is there.
 fn image_value<'a>(image: Option<&'a [u8]>) -> Option<Bytes<'a>>
     ensures { result ≡ option_copied image.entry }
 {
     image.map(|image| Bytes(image))
 }
 
-/// The image that has this value, where it is there.
+/// Returns the image that has this value, where it is there.
 fn image_of<'a>(value: Option<Bytes<'a>>) -> Option<&'a [u8]>
     ensures { option_copied result ≡ value.entry }
 {
@@ -243,14 +243,14 @@ macro_rules! message_by_names {
 }
 
 impl<'a> Message<'a> {
-    /// The value of the message. Made into a message again it has the same fields.
+    /// Returns the value of the message. Made into a message again it has the same fields.
     pub fn to_value(&self) -> MessageValue<'a>
         ensures { result ≡ message_value self.now }
     {
         by_names!(value_by_names, *self)
     }
 
-    /// The message that has this value.
+    /// Returns the message that has this value.
     pub fn from_value(value: MessageValue<'a>) -> Message<'a>
         ensures { message_value result ≡ value.entry }
     {
@@ -282,8 +282,8 @@ pub fn decode(input: &[u8]) -> Result<(Message<'_>, usize), MsgFault>
     }
 }
 
-/// Whether the message has a spelling, the condition of [`encode`]: every value fits its field, the number of an
-/// `Other` is 10 to 16, and the operand has at most 65,535 bytes (the fields are those of DAP 5.6.0, message
+/// Returns whether the message has a spelling, the condition of [`encode`]: every value fits its field, the number of
+/// an `Other` is 10 to 16, and the operand has at most 65,535 bytes (the fields are those of DAP 5.6.0, message
 /// formats).
 pub fn fits(message: &Message<'_>) -> bool
     ensures { IsTrue result ↔ Fits (message_value message.now) }

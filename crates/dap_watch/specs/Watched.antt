@@ -26,8 +26,8 @@ abbrev pub whole_at : ℕ → List Placed → List Fragment
 whole_at packet ordered = filter (is_whole_with packet) (fragments_of ordered)
 
 -- What is written when these lines came, and what would be written if the capture ended with them. By the law
--- `watched_captures_are_followed` both together are the listing of `follow`. The frames are the words of the line directly
--- before each packet.
+-- `watched_captures_are_followed` both together are the listing of `follow`. The frames are the words of the line
+-- directly before each packet.
 pub record IsWatched (in_words : Bool) (captured : List Capture) (frames : List (List (List ℕ))) (written rest : List ℕ) : Type 0 where
   pub packets : List Captured
   pub ordered : List (List Placed)
@@ -42,9 +42,9 @@ pub record IsWatched (in_words : Bool) (captured : List Capture) (frames : List 
 abbrev pub heard_lines : List ℕ → List (List ℕ)
 heard_lines input = filter (λ line. nat_le (length line) max_line) (lines input)
 
--- Of each packet of an input, the words of the line directly before it. A line that is too long counts as none: it is as if
--- the lines around it were one after the other. By the law `short_inputs_have_their_frames` an input without such a line, as
--- each that `follow` takes, has the frames that it has there.
+-- Of each packet of an input, the words of the line directly before it. A line that is too long counts as none: it is
+-- as if the lines around it were one after the other. By the law `short_inputs_have_their_frames` an input without
+-- such a line, as each that `follow` takes, has the frames that it has there.
 abbrev pub heard_frames : List ℕ → List (List (List ℕ))
 heard_frames input = frames_after packet_limit [] (heard_lines input)
 
@@ -62,8 +62,8 @@ abbrev pub WatchGives : (in_words : Bool) → (input : List ℕ) → (held holds
 WatchGives in_words input held holds =
     (written rest : List ℕ) × IsWatched in_words (captures packet_limit input) (heard_frames input) written rest × Appends held holds (written ++ rest)
 
--- What the writer holds where that failed: the lines of the packets so far, or a prefix of them where it is the writer that failed.
--- A line at fault doesn't end the listing.
+-- What the writer holds where that failed: the lines of the packets so far, or a prefix of them where it is the writer
+-- that failed. A line at fault doesn't end the listing.
 abbrev pub WatchFails : (in_words : Bool) → (input : List ℕ) → (held holds : Option (List ℕ)) → CaptureFault → Type 0
 WatchFails in_words input held holds WriteFailed =
     (left : List Capture) × (written rest : List ℕ) × IsWatchedTo in_words input left written rest

@@ -41,7 +41,7 @@ pub(crate) struct Watching {
     pub(crate) in_words: bool,
     pub(crate) packets: usize,
     pub(crate) streams: Streams,
-    /// The line directly before, where it tells a frame; else nothing.
+    /// The line directly before, where it describes a frame; else nothing.
     pub(crate) before: Vec<u8>,
     /// The digits of a message.
     pub(crate) digits: Vec<u8>,
@@ -107,7 +107,7 @@ impl Watching {
         push_whole(text, whole, &self.digits, &mut self.room, self.in_words)
     }
 
-    /// Takes a captured packet, and appends its lines. It tells no frame of the packet after it.
+    /// Takes a captured packet, and appends its lines. Its line describes no frame for the packet after it.
     fn push_packet(
         &mut self,
         text: &mut Vec<u8>,
@@ -153,7 +153,7 @@ impl Watching {
 }
 
 impl Watching {
-    /// Takes a line without a packet: it is kept where it tells a frame, and the one before it isn't.
+    /// Takes a line without a packet: it is kept where it describes a frame, and the one before it is dropped.
     fn keep_line(&mut self, line: &[u8]) -> Result<(), AllocError>
         ensures { OnOk result (PassesBy line.now self.old self.new) }
     {
@@ -257,16 +257,16 @@ fn watch_all<R: BufRead, W: Write, F: Write>(
     }
 }
 
-/// Lists the packets of a capture, each before the next line is read, and at the end of the input what is left of each stream;
-/// returns whether some line was bad.
+/// Lists the packets of a capture, each before the next line is read, and at the end of the input what is left of each
+/// stream; returns whether some line was bad.
 ///
-/// Messages are listed under the packet with which they are whole, as `follow` lists them, and with what the lines say in words,
-/// if these are wanted. The comment before a packet is kept until the packet comes. A bad line is reported to the error
-/// writer by its number, from 1, and has no packet. What is kept is the segments of messages that aren't whole, and 48 bytes for
-/// each gap. A capture has at most 2^50 packets; one more is refused as memory is.
+/// Messages are listed under the packet with which they are whole, as `follow` lists them, and with what the lines say
+/// in words, if these are wanted. The comment before a packet is kept until the packet comes. A bad line is reported
+/// to the error writer by its number, from 1, and has no packet. What is kept is the segments of messages that aren't
+/// whole, and 48 bytes for each gap. A capture has at most 2^50 packets; one more is refused as memory is.
 ///
-/// Faults: as `linewise::talk`. What was written then is the lines of the packets so far, or a prefix of them where the writer
-/// failed.
+/// Faults: as `linewise::talk`. What was written then is the lines of the packets so far, or a prefix of them where
+/// the writer failed.
 pub fn watch<R: BufRead, W: Write, F: Write>(
     alloc: Global,
     reader: &mut R,

@@ -221,13 +221,14 @@ fn list_all<R: Read, W: Write>(
     Err(FramesFault::ReadFailed)
 }
 
-/// Reads a capture file to its end, and writes the NSP packets between two nodes as lines of a capture, each with a comment:
-/// those between the ends, or between the nodes of the first packet. The lines of a frame are written and flushed before more
-/// is read. Returns how many frames were listed, and how many passed over.
+/// Reads a capture file to its end, and writes the NSP packets between two nodes as lines of a capture, each with a
+/// comment: those between the ends, or between the nodes of the first packet. The lines of a frame are written and
+/// flushed before more is read. Returns how many frames were listed, and how many passed over.
 ///
-/// `File`: the file is at fault, and the lines of the frames before it are written. `ReadFailed`, `NoMemory`: lines of frames
-/// that were read are written, and no part of a line. `WriteFailed`: a prefix of such lines is. What is kept of the file is at
-/// most a frame or block of `MAX_UNIT` bytes, 64 KiB of input, the lines of that, and `MAX_INTERFACES` interfaces.
+/// `File`: the file is at fault, and the lines of the frames before it are written. `ReadFailed`, `NoMemory`: lines of
+/// frames that were read are written, and no part of a line. `WriteFailed`: a prefix of such lines is. What is kept of
+/// the file is at most a frame or block of `MAX_UNIT` bytes, 64 KiB of input, the lines of that, and `MAX_INTERFACES`
+/// interfaces.
 pub fn list_frames<R: Read, W: Write>(
     alloc: Global,
     ends: Option<Ends>,

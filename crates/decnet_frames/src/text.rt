@@ -13,8 +13,8 @@ use dap_text::{push_decimal, push_hex, push_number, push_str};
 use itoa::Buffer;
 use std::alloc::AllocError;
 
-/// The two nodes whose packets are listed, `>` from the first one and `<` from the other: each an area in the upper six bits,
-/// and a number in it.
+/// The two nodes whose packets are listed, `>` from the first one and `<` from the other: each an area in the upper
+/// six bits, and a number in it.
 #[derive(Clone, Copy, Debug, PartialEq, Eq)]
 pub struct Ends {
     pub first: u16,
@@ -179,7 +179,7 @@ pub struct Listing {
 }
 
 impl Listing {
-    /// How many frames were listed, and how many passed over.
+    /// Returns how many frames were listed, and how many passed over.
     pub fn counts(&self) -> Counts
         ensures taken { result.taken ≡ self.now.taken }
         ensures passed { result.passed ≡ self.now.count - self.now.taken }
@@ -230,8 +230,8 @@ impl Listing {
         push_data(text, way, carried.packet)
     }
 
-    /// Appends the lines of the next frame, if it has an NSP packet between the ends; otherwise nothing. Where memory is
-    /// refused, part of them may be appended.
+    /// Appends the lines of the next frame, if it has an NSP packet between the ends; otherwise nothing. Where memory
+    /// is refused, part of them may be appended.
     pub fn push_frame(
         &mut self,
         text: &mut Vec<u8>,

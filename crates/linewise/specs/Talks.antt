@@ -48,8 +48,8 @@ abbrev pub said_of : List ℕ → Option Became → Option ℕ → List ℕ
 said_of text None count = []
 said_of text (Some became) count = text ++ ending_of became count
 
--- What an end does by a line: the end then, its text, and what became of the line. `None` is a line that it missed, since it
--- wasn't read whole.
+-- What an end does by a line: the end then, its text, and what became of the line. `None` is a line that it missed,
+-- since it wasn't read whole.
 abbrev pub Answering : Type 0 → Type 1
 Answering E = E → Option (List ℕ) → E → List ℕ → Became → Type 0
 
@@ -72,8 +72,8 @@ abbrev pub GivesPiece : {P : Type 0} → (pieces : P → List (List ℕ)) → P 
 GivesPiece pieces place text None = (pieces place ≡ []) × (text ≡ [])
 GivesPiece pieces place text (Some next) = pieces place ≡ text ∷ pieces next
 
--- What comes of a line. A line that is too long is a bad line. The end misses it, and a line to which memory was refused:
--- it learns that there was one, and has no text.
+-- What comes of a line. A line that is too long is a bad line. The end misses it, and a line to which memory was
+-- refused: it learns that there was one, and has no text.
 abbrev pub AnswersLine : {E : Type 0} → Answering E → (E → Option ℕ) → E → List ℕ → E → List ℕ → Option Became → Type 0
 AnswersLine answered waiting old line new text None =
     (is_given (waiting old) line ≡ false) × (length line ≤ max_line) × (new ≡ old) × (text ≡ [])
@@ -103,7 +103,8 @@ pub data Talked {E : Type 0} (answered : Answering E) (waiting : E → Option �
       → SaysTo answered waiting now (first_line rest) new more became
       → Talked answered waiting old input new (drop_through 10 rest) (said ++ more) (lines ++ became ∷ [])
 
--- An answerer whose answers never have an ending was out of memory at none of these lines: a conversation ends with such a line.
+-- An answerer whose answers never have an ending was out of memory at none of these lines: a conversation ends with
+-- such a line.
 abbrev pub IsUnbroken : {E : Type 0} → (E → Option ℕ) → List (Option Became) → Type 0
 IsUnbroken {E} waiting lines = ((e : E) → waiting e ≡ None) → AllByRecursion (λ became. became ≢ Some NoMemory) lines
 
@@ -116,8 +117,8 @@ HaveOneText answered waiting AreSame =
     → AllByRecursion (λ became. became ≢ Some NoMemory) (lines ++ others) → (text ≡ more) × (lines ≡ others)
 
 -- What was written where a conversation ended before its input. The reader failed: the answers to all lines before.
--- The writer failed: these, and a prefix of the next answer. Memory was refused to an answer that has no ending to say so: all
--- answers with that one. A conversation ends with no other fault.
+-- The writer failed: these, and a prefix of the next answer. Memory was refused to an answer that has no ending to say
+-- so: all answers with that one. A conversation ends with no other fault.
 abbrev pub Fails : {E : Type 0} → Answering E → (E → Option ℕ) → E → List ℕ → E → Option (List ℕ) → Option (List ℕ) → CaptureFault → Type 0
 Fails answered waiting old input new written holds ReadFailed =
     (rest said : List ℕ) × (lines : List (Option Became)) × Talked answered waiting old input new rest said lines × Appends written holds said

@@ -46,12 +46,12 @@ pub trait Answers {
     /// The position in an answer at which the next piece begins, where it is said piece by piece.
     type Place: Copy;
 
-    // What it may come to by a line, the text of its answer, and what became of the line. `None` is a line that it missed,
-    // since it wasn't read whole.
+    // What it may come to by a line, the text of its answer, and what became of the line. `None` is a line that it
+    // missed, since it wasn't read whole.
     ghost answered: { Self → Option (List ℕ) → Self → List ℕ → Became → Type 0 };
 
-    // How many packets it waits to be acknowledged, and one more where it has something left to do; or that its answers have
-    // no ending.
+    // How many packets it waits to be acknowledged, and one more where it has something left to do; or that its
+    // answers have no ending.
     ghost waiting: { Self → Option ℕ };
 
     // The pieces of an answer from a position on.

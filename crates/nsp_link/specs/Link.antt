@@ -218,8 +218,8 @@ got_of received (Some k) = if k == received + 1 then Accepted else (if nat_lt re
 abbrev pub KeepsEarly : LinkValue → ℕ → Type 0
 KeepsEarly v k = (v.coming.received + 1 < k) × (k < v.coming.received + 1 + v.setup.window) × AllByRecursion (λ h. h.0 ≢ k) v.held
 
--- What is held once the k-th segment came, which says this: what follows it without a hole is taken with it, and an
--- early one within the window is held, the first copy of it.
+-- What is held once the k-th segment was received, which says this: what follows it without a hole is taken with it,
+-- and an early one within the window is held, the first copy of it.
 abbrev pub held_after : LinkValue → Option ℕ → Piece → List (ℕ × Piece)
 held_after v None p = v.held
 held_after v (Some k) p =

@@ -76,7 +76,7 @@ Takes old (Segment s) got new =
     × Acknowledges old (first_ack s.ack1 s.ack2) (taking_in old k (piece_of s)) new
 Takes old (DataAck s) got new = (got ≡ AckOnly) × Acknowledges old (first_ack (Some s.ack1) s.ack2) old new
 
--- What an end that hasn't failed does with any packet: what it answers, and what it is afterwards.
+-- What an end that hasn't failed does with any packet: what it returns, and what it is afterwards.
 abbrev pub Received : LinkValue → Packet → Result Got LinkFault → LinkValue → Type 0
 Received old p (Ok got) new = IsBetween old.setup.remote old.setup.local p × Takes old p got new
 Received old p (Err e) new =

@@ -80,9 +80,9 @@ impl LinkEnd {
         }
     }
 
-    /// As [`LinkEnd::receive`], save that an early segment with more than `max_message` bytes isn't held: it is
-    /// answered as early, and of its packet the acknowledgement alone is taken. No message that this end takes has
-    /// such a segment, and a peer can't fill the window with them.
+    /// Receives as [`LinkEnd::receive`] does, save that an early segment with more than `max_message` bytes isn't
+    /// held: it is answered as early, and of its packet the acknowledgement alone is taken. No message that this end
+    /// takes has such a segment, and a peer can't fill the window with them.
     pub fn receive_bounded(&mut self, packet: &[u8]) -> Result<Got, LinkFault>
         ensures failed { IsTrue self.old.failed → (result ≡ Err Failed) × (self.new ≡ self.old) }
         // Any packet, by the numbers that it shows, and its length.

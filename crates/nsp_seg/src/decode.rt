@@ -23,7 +23,7 @@ fn take_word(bytes: &[u8], at: usize) -> Result<(u16, &[u8]), SegFault>
     Ok((LittleEndian::read_u16(front), rest))
 }
 
-/// The acknowledgement field that a number with its high bit set is.
+/// Returns the acknowledgement field that a number with its high bit set is.
 fn ack_field(word: u16) -> Option<AckField>
     ensures { result ≡ ack_of word }
 {
@@ -60,7 +60,7 @@ fn take_tail(bytes: &[u8]) -> Result<Tail<'_>, SegFault>
     Err(SegFault::BadNumber(9))
 }
 
-/// The segment with this flag byte before these bytes.
+/// Reads the segment with this flag byte before these bytes.
 #[tactic(auto, unfolding(crate::specs::Inner::Reading::read_segment))]
 fn segment(flag: u8, bytes: &[u8]) -> Result<Packet<'_>, SegFault>
     ensures { result ≡ read_segment flag bytes.now }
@@ -97,7 +97,7 @@ fn second_ack(bytes: &[u8]) -> Result<Option<AckField>, SegFault>
     }
 }
 
-/// The data acknowledgement with these bytes after its flag byte.
+/// Reads the data acknowledgement with these bytes after its flag byte.
 #[tactic(auto, unfolding(crate::specs::Inner::Reading::data_ack_of))]
 fn data_ack(bytes: &[u8]) -> Result<Packet<'_>, SegFault>
     ensures { result ≡ data_ack_of bytes.now }
@@ -117,7 +117,7 @@ fn data_ack(bytes: &[u8]) -> Result<Packet<'_>, SegFault>
     }))
 }
 
-/// The packet that the bytes spell, or their fault.
+/// Reads the packet that the bytes spell, or their fault.
 #[tactic(auto, unfolding(crate::specs::Inner::Reading::read_packet))]
 fn packet(bytes: &[u8]) -> Result<Packet<'_>, SegFault>
     ensures { result ≡ read_packet bytes.now }

@@ -1,4 +1,4 @@
--- How far a listing came.
+-- A listing under way: what is listed so far.
 use Rattle.std.specs.Prelude.{◌≡◌, ◌<◌, ◌+◌, ◌++◌, ◌⊎◌, ⊤, ℕ, false, List, length, Option, Some, None, Result, Ok, Err}
 use Rattle.std.specs.Global.{Vec}
 use Rattle.linewise.specs.Talks.{max_line}
@@ -41,7 +41,7 @@ IsInputFault listed input ReadFailed = Unit {0}
 IsInputFault listed input NoMemory = Unit {0}
 IsInputFault listed input WriteFailed = ⊥
 
--- what a listing of the input answers before it is written
+-- what a listing of the input returns before it is written
 abbrev pub TextGives : Listed → List ℕ → Result (Vec ℕ) CaptureFault → Type 0
 TextGives listed input (Ok text) = IsTextOf (faults_from (line_limit listed) 1 input) (IsListing listed input) input text.items
 TextGives listed input (Err fault) = IsInputFault listed input fault

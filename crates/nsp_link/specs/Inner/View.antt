@@ -1,4 +1,4 @@
--- What the fields of a link end stand for.
+-- The value of a link end's fields.
 use Rattle.std.specs.Prelude.{Some, None, ◌≡◌, ◌≤◌, ◌+◌, ◌*◌, length, slice_get}
 use Rattle.nsp_link.specs.declared.link.LinkEnd.TheInside.{Inside}
 use Rattle.nsp_link.specs.Limits.{max_limit}

@@ -89,7 +89,7 @@ abbrev pub HaveOwnSlots : List (ℕ × ℕ) → Type 0
 HaveOwnSlots [] = Unit {0}
 HaveOwnSlots (e ∷ es) = NoneAt e.1 es × HaveOwnSlots es
 
--- the record of a number, through its page and cell: what a reader may take for the meaning of pages
+-- the record of a number, by its page and cell: what a reader may take for the meaning of pages
 abbrev pub page_cell : Option Cells → ℕ → Option (List ℕ)
 page_cell None k = None
 page_cell (Some cells) k = cell cells k
