@@ -74,7 +74,7 @@ paged (p ∷ ps) = numbered_cells (64 * p.0 + 1) p.1 ++ paged ps
 abbrev pub paged_file : Shape → List (ℕ × Cells) → FileVal
 paged_file shape pages = record { shape = shape; records = from_entries (paged pages) }
 
--- the pages in slots, by the pages' numbers and their slots
+-- the pages of a list of page numbers and slots, with their numbers
 abbrev pub pages_at : (ℕ → Option Cells) → List (ℕ × ℕ) → List (ℕ × Cells)
 pages_at kept [] = []
 pages_at kept (e ∷ es) = (e.0, unwrap_or (kept e.1) []) ∷ pages_at kept es
