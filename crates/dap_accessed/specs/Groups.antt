@@ -51,7 +51,7 @@ answers_in (group ∷ past) = answers_in past ++ group.answers
 abbrev pub stands_after : (own : ServerSetup) → Files → List Item → Grouped
 stands_after own first items = grouped own (start first) items
 
--- the longest message that the peer takes then
+-- the maximum length of a message to the peer then
 abbrev pub limit_for : (own : ServerSetup) → Files → List Item → ℕ
 limit_for own first items = (stands_after own first items).standing.scene.limit
 

@@ -65,8 +65,9 @@ pub fn names_stay_apart()
         → NamesAreApart own.names first → NamesAreApart own.names (After own first items) }
 {}
 
-/// Two servers that differ in what they say of themselves alone, of whatever BUFSIZ, do the same: the files after any messages
-/// are the same, so is the longest message that they send, and so are the answers, but that each sends its own Configuration.
+/// Two servers that differ in what they say of themselves alone, of whatever BUFSIZ, do the same: the files after any
+/// messages are the same, so is the maximum length of a message that they send, and so are the answers, but that each
+/// sends its own Configuration.
 pub fn identity_is_told_alone()
     ensures files { (one other : ServerSetup) (first : Files) (items : List TheItem)
         → AreTwins one other → After one first items ≡ After other first items }
