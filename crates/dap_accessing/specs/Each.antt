@@ -31,7 +31,7 @@ kept_behind told o = o
 abbrev pub put_back : (told : List (ℕ × List ℕ)) → ClientState → ClientState
 put_back told p = record p { pending = kept_behind told p.pending }
 
--- a report of a batch with these records before its own
+-- a report of a batch with these records before its records
 abbrev pub reported_behind : (told : List (ℕ × List ℕ)) → Report → Report
 reported_behind told (report.Batch records ending) = report.Batch (told ++ records) ending
 reported_behind told done = done

@@ -65,7 +65,7 @@ impl Model for Accessing {
 }
 
 impl Accessing {
-    /// An end that nothing was asked of, with a buffer of this many bytes, at least 64. It takes no memory.
+    /// Creates an end that nothing was asked of, with a buffer of this many bytes, at least 64. It takes no memory.
     pub fn new(alloc: Global, bufsiz: u16) -> Accessing
         requires low { min_buffer ≤ bufsiz }
         requires high { bufsiz ≤ max_nsp_message }
@@ -76,8 +76,8 @@ impl Accessing {
         Accessing::with_identity(alloc, Configuration::plain(bufsiz))
     }
 
-    /// An end that nothing was asked of and that says this of itself in its Configuration, with a BUFSIZ of at least 64.
-    /// It takes no memory.
+    /// Returns an end that nothing was asked of and that says this of itself in its Configuration, with a BUFSIZ of at
+    /// least 64. It takes no memory.
     pub fn with_identity(alloc: Global, identity: Configuration) -> Accessing
         requires low { min_buffer ≤ identity.bufsiz }
         requires fits { FieldsFit (Config identity) }
@@ -107,8 +107,8 @@ impl Accessing {
         self.pending = None;
     }
 
-    /// The messages of a request, joined to NSP messages as far as the peer's limit goes (DAP 5.6.0, message
-    /// sequences and blocking).
+    /// Asks a request, and returns its messages, joined to NSP messages as far as the peer's limit goes (DAP 5.6.0,
+    /// message sequences and blocking).
     ///
     /// Refusals in order: Failed, Busy, WrongPhase, TooLarge, NoMemory; each leaves the end
     /// unchanged.
@@ -124,7 +124,7 @@ impl Accessing {
         self.ask_prepared(request, prepared)
     }
 
-    /// Whether `ask` would take the request, memory aside; refused as there. It takes no memory.
+    /// Checks whether `ask` would take the request, memory aside; refused as there. It takes no memory.
     pub fn check(&self, request: &Request) -> Result<(), AskFault>
         ensures works { OnOk result (self.now.failed ≡ false) }
         ensures admissible { OnOk result (IsAdmittedBy self.now request.now) }
@@ -136,7 +136,8 @@ impl Accessing {
         }
     }
 
-    /// What `ask_prepared` needs of a request that `ask` would take, memory aside; refused as there. It takes no memory.
+    /// Prepares what `ask_prepared` needs of a request that `ask` would take, memory aside; refused as there. It takes
+    /// no memory.
     pub fn prepare(&self, request: &Request) -> Result<Prepared, AskFault>
         ensures works { OnOk result (self.now.failed ≡ false) }
         ensures admissible { OnOk result (IsAdmittedBy self.now request.now) }
@@ -217,8 +218,7 @@ impl Accessing {
         }
     }
 
-    /// Reads the one DAP message that begins at `at`, in bytes, as the next answer (DAP 5.6.0, message
-    /// sequences).
+    /// Reads the one DAP message that begins at the offset `at` as the next answer (DAP 5.6.0, message sequences).
     ///
     /// Refusals: Failed; Unexpected, after which the end has failed, and keeps nothing of its requests; NoMemory, which changes nothing.
     pub fn read(&mut self, nsp_message: &[u8], at: usize) -> Result<ReadStep, ReadFault>
@@ -248,14 +248,15 @@ impl Accessing {
         }
     }
 
-    /// Whether an unexpected answer failed this end, so that every request is refused as Failed until `renew`.
+    /// Returns whether an unexpected answer failed this end, so that every request is refused as Failed until `renew`.
     pub fn has_failed(&self) -> bool
         ensures { result ≡ self.now.failed }
     {
         self.failed
     }
 
-    /// The records that are kept of a batch under way: those that came and weren't taken out. None where no batch is under way.
+    /// Returns the records that are kept of a batch under way: those that came and weren't taken out. None where no
+    /// batch is under way.
     pub fn records(&self) -> &[(u64, Octets)]
         ensures { result.now ≡ records_kept self.now.pending }
     {
@@ -279,8 +280,8 @@ impl Accessing {
         }
     }
 
-    /// What `read` answers where there is no room for a report: why the one DAP message that begins at `at` isn't
-    /// read. In order: Failed; Unexpected, after which the end has failed, and keeps nothing of its requests;
+    /// Returns what `read` answers where there is no room for a report: why the one DAP message that begins at `at`
+    /// isn't read. In order: Failed; Unexpected, after which the end has failed, and keeps nothing of its requests;
     /// NoMemory, which changes nothing.
     pub fn refuse(&mut self, nsp_message: &[u8], at: usize) -> ReadFault
         requires { IsPlace at nsp_message.now }
@@ -300,7 +301,7 @@ impl Accessing {
         ReadFault::Unexpected
     }
 
-    /// Whether what was read is a message, and expected as the next answer.
+    /// Returns whether what was read is a message, and expected as the next answer.
     fn may_come(&self, item: &Item<'_>) -> bool
         requires { (m : TheMessage) → item.now ≡ Whole m → IsSpelled m }
         ensures yes { result ≡ true → (p : ThePending) × (self.now.pending ≡ Some p)

@@ -23,7 +23,7 @@ use Rattle.dap_shared.specs.Sharing.{file_locked, open_in, asks_to_open, barred_
 
 -- an exchange: where a server of one link stands, but for the files
 pub record Exchange : Type 0 where
-  -- the most that an Access on it may ask for
+  -- the rights that an Access on it may ask for
   pub most : Rights
   pub limit : ℕ
   pub place : Place
@@ -146,7 +146,7 @@ with_record_at at number body files = with_file at (stored (file_at at files) nu
 
 -- ---- A history.
 
--- An item of a link was served; a link began anew, with the most that an Access on it may ask for, or ended: what it
+-- An item of a link was served; a link began anew, with the rights that an Access on it may ask for, or ended: what it
 -- had open is closed; a file without records was given, or a record of the file at an index; the file at an index was
 -- dropped, unless a link has it open.
 pub data Event : Type 0 where

@@ -19,7 +19,7 @@ pub record NotedValue : Type 0 where
   -- of each Access that was refused so, in their order
   pub locked : List ℕ
 
--- the least number of those that pass a test, of this many; none where none passes
+-- the lowest number of those that pass a test, of this many; none where none passes
 abbrev pub LeastOf : (test : ℕ → Bool) → (number : ℕ → ℕ) → (count : ℕ) → Option ℕ → Type 0
 LeastOf test number count None = (i : ℕ) → i < count → test i ≡ false
 LeastOf test number count (Some n) =

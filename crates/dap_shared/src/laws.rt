@@ -19,7 +19,7 @@ pub fn one_link_is_as_before()
         → FilesAfter own first 1 (map (Serves 0) items) ≡ After own first items }
     ensures answers { (own : ServerSetup) (first : Files) (items : List TheItem)
         → AnswersOn 0 own first 1 (map (Serves 0) items) ≡ Answers own first items }
-    // Where the link began with rights of its own, the server has these.
+    // Where the link began with other rights than the setup's, the server has these.
     ensures rights { (own : ServerSetup) (most : Rights) (first : Files) (items : List TheItem)
         → end_at 0 (node_after own first 1 (Begins 0 most ∷ map (Serves 0) items))
         ≡ stands_after (setup_with most own) first items }
