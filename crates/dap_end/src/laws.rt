@@ -48,15 +48,15 @@ ghost use Rattle.dap_end.specs.Headline.{AreWrittenOf, Arrival, IsFromPeer, Writ
 ghost use Rattle.dap_end.specs.Joined.{IsBrought, Pair};
 ghost use Rattle.dap_end.specs.Calls.{AskingRuns, PairRuns, ServerRuns};
 
-/// What follows for a server that is as after something: its files are those after the items that it served; these are a
-/// prefix of the items in the NSP messages that came, and the next one is at the port's place; what waited counts as handed
-/// over once it was; and what was served on comes after what was served before.
+/// What follows for a server that is as after something: its files are those after the items that it served; these are
+/// a prefix of the items in the NSP messages that came, and the next one is at the port's offset; what waited counts as
+/// passed on once it was; and what was served on comes after what was served before.
 pub fn serving_ends_stand()
     ensures files { (history : ServerHistory) (v : ServingValue) → IsAfter history v
         → v.present.files ≡ After v.present.setup history.first history.items }
     ensures front { (history : ServerHistory) (v : ServingValue) → IsAfter history v
         → AreFrontOf (history.given ++ v.port.link.coming.inbox) history.items }
-    // The next item is the one at the port's place.
+    // The next item is the one at the port's offset.
     ensures next { (history : ServerHistory) (v : ServingValue) (bytes : List ℕ)
         (later : List (List ℕ))
         (rest : List Item) → IsAfter history v → v.port.link.coming.inbox ≡ bytes ∷ later
@@ -87,13 +87,13 @@ pub fn serving_ends_stand()
         → messages_in (answers_to own first [] items) ≡ Answers own first items }
 {}
 
-/// What follows for a client that has asked something: what it read is a prefix of the items in the NSP messages that came,
-/// and the next one is at the port's place; one request more that was asked, and what waited once it was passed on, count
-/// too; and what was read on comes after what was read before, with the reports that it adds.
+/// What follows for a client that has asked something: what it read is a prefix of the items in the NSP messages that
+/// came, and the next one is at the port's offset; one request more that was asked, and what waited once it was passed
+/// on, count too; and what was read on comes after what was read before, with the reports that it adds.
 pub fn asking_ends_stand()
     ensures front { (history : ClientHistory) (v : AskingValue) → HasAsked history v
         → AreFrontOf (history.given ++ v.port.link.coming.inbox) history.answers }
-    // The next answer is the one at the port's place.
+    // The next answer is the one at the port's offset.
     ensures next { (history : ClientHistory) (v : AskingValue) (bytes : List ℕ)
         (later : List (List ℕ)) (rest : List Item) → HasAsked history v
         → v.port.link.coming.inbox ≡ bytes ∷ later → ItemsFrom bytes v.port.place rest
@@ -254,9 +254,9 @@ pub fn asking_calls_are_runs()
         × (all ≡ out ++ written_bytes wrote) × (after ≡ before ++ reports) }
 {}
 
-/// Whatever bytes come to an end that served nothing yet, and whatever it was called to do, there is a list of
-/// items that it served: its files are those after them, what it handed to its link is a prefix of the answers to
-/// them, and each packet that it wrote carries its segment of that.
+/// Whatever bytes come to an end that served nothing yet, and whatever it was called to do, there is a list of items
+/// that it served: its files are those after them, what it passed to its link is a prefix of the answers to them, and
+/// each packet that it wrote carries its segment of that.
 pub fn every_run_is_served()
     ensures { (came : List Arrival) (first : Files) (old new : ServingValue)
         (wrote : List Written) → IsAfter (nothing_yet first) old → ServerRuns came old new wrote
@@ -369,10 +369,10 @@ pub fn posting_is_determined()
         → SendAllFault old.link old.outbox f → SendAllFault old.link old.outbox g → f ≡ g }
 {}
 
-/// Whatever bytes come to an end of which nothing was asked, and whatever is asked of it, up to the first answer
-/// that is out of sequence: its reports are those of the definition for the requests and of the answers that it
-/// read, what it handed to its link is a prefix of the requests' messages, and each packet that it wrote carries
-/// its segment of that.
+/// Whatever bytes come to an end of which nothing was asked, and whatever is asked of it, up to the first answer that
+/// is out of sequence: its reports are those of the definition for the requests and of the answers that it read, what
+/// it passed to its link is a prefix of the requests' messages, and each packet that it wrote carries its segment of
+/// that.
 pub fn every_run_is_told()
     ensures { (came : List Arrival) (requests : List TheRequest) (old new : AskingValue)
         (reports : List TheReport) (wrote : List Written)
