@@ -111,7 +111,7 @@ abbrev pub one_link : List (Option PortValue) → Option ℕ
 one_link (Some p ∷ []) = Some 0
 one_link ports = None
 
--- the link that a line means: the one that has this own address; or the only one, where the line names none
+-- the link that a line means: the one that has this local address; or the only one, where the line names none
 abbrev pub meant : (local : Option ℕ) → List (Option PortValue) → Option ℕ
 meant None ports = one_link ports
 meant (Some local) ports = position (has_local local) ports
@@ -221,7 +221,8 @@ abbrev pub RenewsOn : (link : ℕ) → Option Between → Node → Node → List
 RenewsOn link anew old new text became = AtPort link old.node (λ p.
     BeginsOn link (setup_anew p.link.setup anew) (most_anew (rights_on link old.node.noted.shared) anew) (about link old) new text became)
 
--- the link that has this own address is renewed; or one is added, with the usual setup and every right where nothing else is named
+-- the link that has this local address is renewed; or one is added, with the usual setup and every right where nothing
+-- else is named
 abbrev pub Renews : Between → Node → Node → List ℕ → Became → Type 0
 Renews b old new text became = MatchOption (position (has_local b.local) old.node.ports)
     (AddsLink (setup_beside old.usual b) (most_beside all_rights b) old new text became)
@@ -363,7 +364,7 @@ abbrev pub answered : Node → Option (List ℕ) → Node → List ℕ → Becam
 answered old None new text became = new ≡ before_line old
 answered old (Some line) new text became = DoesNodeOrder (before_line old) (node_order_of (is_alone old.node) line) new text became
 
--- the lines of the files from a place on
+-- the lines of what is left to list of the files
 abbrev pub pieces : Node → FilesPlace → List (List ℕ)
 pieces node place = lines_from node.node.noted.shared.files place
 

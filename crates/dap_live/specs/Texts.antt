@@ -96,7 +96,7 @@ remove_refusal removing.Busy = refused_with (codes "busy")
 
 -- ---- What was done.
 
--- for each Access that was refused, as another link has the file open, the own address of a link that locks it out
+-- for each Access that was refused, as another link has the file open, the local address of a link that locks it out
 abbrev pub locked_text : List ℕ → List ℕ
 locked_text locked = flat_map (λ local. concat (codes "locked " ∷ word_text local ∷ line_feed ∷ [])) locked
 

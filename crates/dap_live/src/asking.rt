@@ -49,7 +49,7 @@ pub struct Asking {
 }
 
 impl Asking {
-    /// An end of which nothing was asked, which says this of itself, with a BUFSIZ of at least 64. Refused as
+    /// Creates an end of which nothing was asked, which says this of itself, with a BUFSIZ of at least 64. Refused as
     /// [`AskingEnd::with_identity`] is.
     pub fn new(
         alloc: Global,
@@ -91,7 +91,7 @@ pub(crate) enum Came {
     Untold(Became),
 }
 
-/// Takes a packet, and goes on.
+/// Receives a packet, and goes on.
 fn take(
     end: &mut AskingEnd,
     bytes: &[u8],
@@ -105,7 +105,7 @@ fn take(
     end.take(bytes, packets, reports)
 }
 
-/// The answer to a packet has the reports where the link took it.
+/// Returns what became of a packet: the answer has the reports where the link took it.
 fn came_of(taken: Result<Got, TakeFault>, became: Became) -> Came
     ensures { result ≡ came_by taken became }
 {
@@ -115,7 +115,7 @@ fn came_of(taken: Result<Got, TakeFault>, became: Became) -> Came
     }
 }
 
-/// The answer to a packet.
+/// Writes the answer to a packet.
 fn take_packet(
     asking: &mut Asking,
     digits: &Text<'_>,
@@ -181,7 +181,7 @@ fn go_on_behind(asking: &mut Asking, front: Front, text: &mut Vec<u8>) -> Result
     Ok(Came::Told(push_done(text, asking, &packets, gone)?))
 }
 
-/// Whether something is left to do for the client: a message that came isn't read, or something isn't sent.
+/// Returns whether something is left to do for the client: a message that came isn't read, or something isn't sent.
 fn has_more(end: &AskingEnd) -> bool
     ensures { result ≡ has_more_of end.now }
 {
@@ -240,7 +240,7 @@ fn resend(asking: &mut Asking, text: &mut Vec<u8>) -> Result<Came, AllocError>
     resend_running(asking, text)
 }
 
-/// Whether each record is told by itself after this request, which says so or doesn't.
+/// Returns whether each record is told by itself after this request, which says so or doesn't.
 fn is_each_after(each: bool, request: &Request, before: bool) -> bool
     ensures { result ≡ each_after each request.now before }
 {
@@ -280,7 +280,7 @@ fn ask_request(
     }
 }
 
-/// Whether reports wait that would be told in another way after a request that says this.
+/// Returns whether reports wait that would be told in another way after a request that says this.
 fn has_untold(asking: &Asking, each: bool) -> bool
     ensures { result
         ≡ ((each || asking.now.is_each) && nat_lt 0 (length asking.now.reports.items)) }
@@ -378,7 +378,7 @@ fn note_told(asking: &mut Asking)
     }
 }
 
-/// Where the answer has the reports, none waits.
+/// Returns what became of an order. Where its answer has the reports, none waits any more.
 fn end_answer(asking: &mut Asking, came: Came) -> Became
     ensures { Ends came asking.old asking.new result }
 {
@@ -416,14 +416,14 @@ fn answer_order(asking: &mut Asking, order: Option<AskOrder<'_>>, text: &mut Vec
     }
 }
 
-/// Whether something waits to be told.
+/// Returns whether something waits to be told.
 fn has_told(asking: &Asking) -> bool
     ensures { result ≡ waits_told asking.now }
 {
     !asking.reports.is_empty() || (asking.is_each && asking.told < asking.end.records().len())
 }
 
-/// Whether something is left to do for the client, or to be reported.
+/// Returns whether something is left to do for the client, or to be reported.
 fn is_behind(asking: &Asking) -> bool
     ensures { result ≡ (has_more_of asking.now.end || waits_told asking.now) }
 {
