@@ -36,9 +36,9 @@ pub record Network : Type 0 where
 
 -- ---- Events.
 
--- The peer of a link is called. Or the node is called on a link; it begins a link with a setup, the most that an Access on
--- it may ask for, and another peer, or ends one; it is given a file without records, or a record of the file at an index; or
--- the file at an index is dropped.
+-- The peer of a link is called. Or the node is called on a link; it begins a link with a setup, the rights that an
+-- Access on it may ask for, and another peer, or ends one; it is given a file without records, or a record of the file
+-- at an index; or the file at an index is dropped.
 pub data NetworkEvent : Type 0 where
   AtPeer : (link : ℕ) → AskingEvent → NetworkEvent
   AtNode : (link : ℕ) → EndEvent → NetworkEvent

@@ -84,7 +84,7 @@ abbrev pub end_of : State → End → EndState
 end_of s A = s.a
 end_of s B = s.b
 
--- the state with this end in the place of one of the two
+-- the state with this end in place of one of the two
 abbrev pub with_end : State → End → EndState → State
 with_end s A e = record s { a = e }
 with_end s B e = record s { b = e }
@@ -156,7 +156,7 @@ taken_and_held keep taken held None = (taken, held)
 taken_and_held keep taken held (Some k) =
     if k == taken + 1 then closed_up k held else (taken, if nat_lt taken k && keep then insert_key nat_cmp held k else held)
 
--- a packet comes; the greatest acknowledgement counts
+-- a packet comes; the highest acknowledgement counts
 abbrev pub delivered : (keep : Bool) → EndState → Sending → EndState
 delivered keep e p =
     let got = taken_and_held keep e.taken e.held p.segment in record e { acked = max e.acked p.acks; taken = got.0; held = got.1 }

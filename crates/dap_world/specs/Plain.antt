@@ -37,7 +37,7 @@ IsRefused own requests answers request fault = phase.IsRefused (plain_identity o
 abbrev pub stands_after : (own : ℕ) → Files → List Item → Grouped
 stands_after own first items = accessed.stands_after (plain_setup own) first items
 
--- the longest message that the peer of such a server takes after these items
+-- the maximum length of a message to the peer of such a server after these items
 abbrev pub limit_for : (own : ℕ) → Files → List Item → ℕ
 limit_for own first items = accessed.limit_for (plain_setup own) first items
 

@@ -44,7 +44,7 @@ Runs old events new = RunsBy Steps old events new
 abbrev pub IsReached : State → Type 0
 IsReached s = (setup : WorldSetup) × (events : List Event) × IsWorldSetup setup × RunsBy StepsFreely (fresh setup) events s
 
--- the event at this place was refused, and those before it were run
+-- the event at this index was refused, and those before it were run
 pub record StopsAt (events : List Event) (old new : State) (stop : ℕ × WorldFault) : Type 0 where
   pub ran : Runs old (take stop.0 events) new
   pub event : Event

@@ -1,4 +1,4 @@
--- Which files of captured frames their first bytes tell.
+-- Which files of captured frames there are, by their first bytes.
 use Rattle.std.specs.Prelude.{ℕ, List, [], ◌∷◌, Option, Some, None, if◌then◌else◌, bytes_eq}
 use Rattle.std.specs.List.{list_any}
 use Rattle.cli_faults.specs.declared.files.FileKind.{FileKind}

@@ -1,4 +1,4 @@
--- How the two ends of an exchange without a network stand to each other.
+-- How the two ends of an exchange without a network agree.
 use Rattle.std.specs.Prelude.{ℕ, ◌≡◌, ◌≢◌, List, [], ◌∷◌, ◌++◌, map, None, true}
 use Rattle.dap_msg.specs.Blocked.{Blocked, all_joined}
 use Rattle.dap_msg.specs.BothEnds.{min_buffer, plain_identity}

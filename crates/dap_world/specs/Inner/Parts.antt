@@ -121,8 +121,8 @@ pub record AreAlike (s t : LinkSetup) : Type 0 where
   pub window : s.window ≡ t.window
   pub limit : s.max_message ≡ t.max_message
 
--- Of the first messages in NSP messages this many were handled: all those of some NSP messages, which left the link, and
--- the first of the next one, which stays while one of it is left; the place is after these.
+-- Of the first messages in NSP messages this many were processed: all those of some NSP messages, which left the link,
+-- and the first of the next one, which stays while one of it is left; the offset is after these.
 pub record IsAmong (packets : List NspMessage) (count place : ℕ) (gone : List NspMessage) : Type 0 where
   pub begun : List Message
   pub rest : List NspMessage

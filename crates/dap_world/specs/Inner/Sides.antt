@@ -18,7 +18,7 @@ use Rattle.dap_events.specs.declared.event.Step.TheVariants as step
 use Rattle.dap_events.specs.declared.event.WorldFault.{WorldFault}
 use Rattle.dap_events.specs.declared.event.WorldFault.TheVariants as fault
 
--- an end's port, how many NSP messages it handed to its link, and the packets that it wrote
+-- an end's port, how many NSP messages it passed to its link, and the packets that it wrote
 pub record SideValue : Type 0 where
   pub link : LinkValue
   pub outbox : List (List ℕ)

@@ -107,7 +107,7 @@ pub record IsDapliveLine (command : Command) : Type 0 where
   pub local : (out-Command command).has_globals ≡ false
   pub required : (out-Command command).subcommand_required ≡ true
 
--- an end's buffer has room for any message of a fixed length, and its SYSCAP has a place in a Configuration
+-- an end's buffer has room for any message of a fixed length, and its SYSCAP fits into a Configuration
 abbrev pub HasBufferRoom : Task → Type 0
 HasBufferRoom (End options) = (min_buffer ≤ options.buffer) × (options.syscap < 2 ^ 84)
 HasBufferRoom (Follow in_words) = Unit {0}
