@@ -29,7 +29,7 @@ fn serve_all(end: &mut Accessed, out: &mut Lines) -> Result<(), Trouble> {
     Ok(())
 }
 
-/// A new end serves them.
+/// Lets a new end serve them.
 pub fn call(alloc: Global, out: &mut Lines) -> Result<(), Trouble> {
     let mut end = Accessed::new(alloc, 1024);
     serve_all(&mut end, out)

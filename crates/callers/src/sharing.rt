@@ -53,7 +53,7 @@ fn drop_file(shared: &mut SharedFiles, out: &mut Lines) {
     }
 }
 
-/// A link begins anew, on which an Access may only ask for GET: what it had open is closed.
+/// Begins a link anew, on which an Access may only ask for GET: what it had open is closed.
 fn begin_to_read(shared: &mut SharedFiles, link: usize) -> Result<(), Trouble> {
     if link >= shared.links() {
         return Err(Trouble("a link"));

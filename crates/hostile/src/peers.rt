@@ -118,7 +118,7 @@ const SERVING: LinkSetup = LinkSetup {
     ..ASKING
 };
 
-/// What is left to do where memory was wanted after a part of the way.
+/// Returns what is left to do where memory was wanted after a part of the way.
 fn stopped(is_memory: bool) -> Trouble {
     if is_memory {
         Trouble::Stopped
@@ -201,7 +201,7 @@ fn serve(end: &mut ServingEnd) -> Result<(), Trouble> {
     }
 }
 
-/// The end that asks takes a packet.
+/// Lets the client receive a packet.
 fn asking_takes(
     end: &mut AskingEnd,
     packet: &[u8],
@@ -212,7 +212,7 @@ fn asking_takes(
     Ok(())
 }
 
-/// The end that serves takes a packet.
+/// Lets the server receive a packet.
 fn serving_takes(
     end: &mut ServingEnd,
     packet: &[u8],
@@ -222,7 +222,7 @@ fn serving_takes(
     Ok(())
 }
 
-/// The end that serves goes on.
+/// Lets the server go on.
 fn serving_goes_on(end: &mut ServingEnd, out: &mut Vec<Vec<u8>>) -> Result<(), Trouble> {
     match end.go_on(MAX_WAITING, out) {
         Ok(()) => Ok(()),
@@ -230,7 +230,7 @@ fn serving_goes_on(end: &mut ServingEnd, out: &mut Vec<Vec<u8>>) -> Result<(), T
     }
 }
 
-/// What the end that asks writes, for which there is room.
+/// Makes room for a packet, and lets the client write it.
 fn asking_writes(end: &mut AskingEnd, deed: Deed, out: &mut Vec<Vec<u8>>) -> Result<(), Trouble> {
     out.reserve(1)?;
     match deed {
@@ -240,7 +240,7 @@ fn asking_writes(end: &mut AskingEnd, deed: Deed, out: &mut Vec<Vec<u8>>) -> Res
     }
 }
 
-/// What the end that serves writes, for which there is room.
+/// Makes room for a packet, and lets the server write it.
 fn serving_writes(end: &mut ServingEnd, deed: Deed, out: &mut Vec<Vec<u8>>) -> Result<(), Trouble> {
     out.reserve(1)?;
     match deed {
@@ -250,7 +250,7 @@ fn serving_writes(end: &mut ServingEnd, deed: Deed, out: &mut Vec<Vec<u8>>) -> R
     }
 }
 
-/// What a call on a link came to, apart from its number.
+/// Returns what a call on a link came to, apart from its number.
 fn linked<T: Copy>(done: Result<T, LinkFault>) -> Result<(), Trouble> {
     match done {
         Ok(_) => Ok(()),
@@ -279,7 +279,7 @@ impl Peers {
         }
     }
 
-    /// What the end that asks does with its link.
+    /// Lets the client do something with its link.
     fn asking_does(&mut self, deed: Deed) -> Result<(), Trouble> {
         let Some(Pair { asking: end, .. }) = &mut self.pair else {
             return Err(Trouble::Wrong);
@@ -295,7 +295,7 @@ impl Peers {
         }
     }
 
-    /// What the end that serves does with its link.
+    /// Lets the server do something with its link.
     fn serving_does(&mut self, deed: Deed) -> Result<(), Trouble> {
         let Some(Pair { serving: end, .. }) = &mut self.pair else {
             return Err(Trouble::Wrong);
