@@ -221,7 +221,7 @@ fn tells_bad_lines(rt: HostRuntime) {
     }
 }
 
-/// What a schedule of a setup and this line comes to.
+/// Returns what a schedule of a setup and this line comes to.
 fn behind_setup(alloc: Global, line: &[u8]) -> Result<Result<Outcome, CaptureFault>, AllocError> {
     let lines = joined(alloc, b"setup 512 8 1024 1024\n", line)?;
     let mut reader = lines.as_slice();

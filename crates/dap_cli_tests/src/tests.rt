@@ -7,7 +7,7 @@ use std::io::{ErrorKind, Read, Write};
 use std::process::Abort;
 use std::test::Fail;
 
-/// What a run left: its exit status, what it wrote, and what it told.
+/// What a run left: its exit status, what it wrote, and what it printed as errors.
 #[derive(Drop)]
 struct Left {
     status: u8,
@@ -15,7 +15,7 @@ struct Left {
     told: Vec<u8>,
 }
 
-/// The program's name, and words after it.
+/// Returns the program's name, and words after it.
 fn words_of(alloc: Global, words: &[&str]) -> Result<Vec<String>, Fail> {
     let mut list = Vec::new(alloc);
     list.push(String::from_str(alloc, "dapnsp")?)?;
@@ -25,7 +25,7 @@ fn words_of(alloc: Global, words: &[&str]) -> Result<Vec<String>, Fail> {
     Ok(list)
 }
 
-/// Runs the program on words and devices: its exit status, and what it told.
+/// Runs the program on words and devices. Returns its exit status, and what it printed as errors.
 fn run_over<R: Read, W: Write>(
     alloc: Global,
     words: &[&str],
@@ -50,7 +50,7 @@ fn run(alloc: Global, words: &[&str], input: &[u8]) -> Result<Left, Fail> {
     })
 }
 
-/// Whether a run left this status, wrote this, and told this.
+/// Returns whether a run left this status, wrote this, and printed this as errors.
 fn leaves(left: &Left, status: u8, written: &[u8], told: &[u8]) -> bool {
     left.status == status && left.written.as_slice() == written && left.told.as_slice() == told
 }
@@ -180,7 +180,8 @@ fn names_files_of_captured_frames(rt: HostRuntime) -> Result<(), Fail> {
     Ok(())
 }
 
-/// Words, inputs that are no file of captured frames, and what is told of them: too short, one byte else, one in front.
+/// Words, inputs that are no file of captured frames, and what is printed of them: too short, one byte else, one before
+/// them.
 const OTHERS: &[(&str, &[u8], &[u8])] = &[
     (
         "show",

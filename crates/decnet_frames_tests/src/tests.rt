@@ -29,7 +29,7 @@ impl Read for Pieces<'_> {
     }
 }
 
-/// What a row says that comes of its file.
+/// Returns what a row says that comes of its file.
 fn outcome(row: &Row) -> Result<Counts, FramesFault> {
     match row.4 {
         Ok((taken, passed)) => Ok(Counts { taken, passed }),
@@ -47,7 +47,7 @@ fn ends(row: &Row) -> Option<Ends> {
     }
 }
 
-/// Whether a row holds where this many bytes come at a time.
+/// Returns whether a row holds where this many bytes come at a time.
 fn holds(alloc: Global, row: &Row, most: usize) -> bool {
     let mut reader = Pieces {
         left: row.2,

@@ -79,7 +79,7 @@ refused bad-line\nwaits 0\nrefused bad-line\nwaits 0\nrefused bad-setup\nwaits 0
 refused bad-line\nwaits 0\nrefused bad-line\nwaits 0\n",
         b"bad line 1\nbad line 2\nbad line 3\n",
     ),
-    // Addresses and numbers that aren't spelled as they have to be, of which the first is told.
+    // Addresses and numbers that aren't spelled as they have to be, of which the first is reported.
     (
         &["serve", "--local", "12345"],
         b"files\n",
@@ -140,7 +140,7 @@ waits 0\nrefused no-links\nwaits 0\nwaits 0\n",
         b"refused bad-line\nwaits 0\nrefused bad-line\nwaits 0\nwaits 0\n< 04010103030080\nwaits 0\n",
         b"bad line 1\nbad line 2\n",
     ),
-    // Addresses have no place beside several links, and the number of links is one from 1 to 1,023.
+    // No address is allowed beside several links, and the number of links is one from 1 to 1,023.
     (
         &["serve", "--links", "2", "--local", "0303"],
         b"files\n",

@@ -2,7 +2,7 @@
 
 use crate::rows::Row;
 
-/// What is told of a pcap file.
+/// What is reported of a pcap file.
 const PCAP: &[u8] = b"bad line 1\ndaplive: line 1: a pcap file; daplive frames turns it into lines \
 for dapnsp show and daplive follow\n";
 
@@ -204,7 +204,7 @@ for dapnsp show and daplive follow\n",
         b"# frame 1 7.000005 1.1 -> 1.2\n< 0402010103ff8f\n",
         b"bad cut-short at=69\ntaken 1 passed 0\n",
     ),
-    // Lines in the place of a capture file, and words that name no nodes.
+    // Lines in place of a capture file, and words that name no nodes.
     (
         &["frames"],
         b"> 600201040305800100060200\n",

@@ -108,7 +108,8 @@ accepted\n< 60010102020180010001020e0004120d0506000000e6e8f08020\nwaits 1\n\
 refused busy\nwaits 0\nrefused busy\nwaits 0\nwaits 0\nrefused 4000 11\nwaits 0\n\
 waits 0\nwaits 0\nrefused 5000 6\nwaits 0\nfile 46 seq variable 0 0\n  1 41\nwaits 0\n",
     ),
-    // Each link has its own rights, and a file that some link has open isn't dropped; those after one that is dropped move up.
+    // Each link has its rights, and a file that some link has open isn't dropped; those after one that is dropped move
+    // up.
     (
         2,
         b"file 45 seq variable 0 0\nfile 46 seq variable 0 0\n  1 41\nnew 0202 0101 512 2\nnew 0303 0404\n\
