@@ -16,8 +16,8 @@ use dap_msg::MIN_BUFFER;
 use rec_file::{AnyFile, OneWalk, RecordFile, Refusal, Rights, Shape};
 
 impl Accessed {
-    /// Begins another link, over the same files: the end waits for a peer's Config again, an open file is closed, and a PUT
-    /// or an UPDATE that waits for its record is dropped.
+    /// Begins another link, over the same files: the end waits for a peer's Config again, an open file is closed, and a
+    /// PUT or an UPDATE that waits for its record is dropped.
     pub fn renew(&mut self)
         ensures own { self.new.own ≡ self.old.own }
         ensures setup { self.new.setup ≡ self.old.setup }

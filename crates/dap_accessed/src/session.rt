@@ -156,8 +156,8 @@ impl Session {
         }
     }
 
-    /// Begins another link, with the same setup: the open file is closed, and a PUT or an UPDATE that waits for its record
-    /// is dropped.
+    /// Begins another link, with the same setup: the open file is closed, and a PUT or an UPDATE that waits for its
+    /// record is dropped.
     pub fn renew(&mut self)
         ensures session { self.new ≡ session_with self.old.setup }
         ensures own { self.new.own ≡ self.old.own }
@@ -344,7 +344,8 @@ impl Session {
         Ok(answers)
     }
 
-    /// Answers an Access that opens a file. It is refused where there is none, and then where it asks for a right too many.
+    /// Answers an Access that opens a file. It is refused where there is none, and then where it asks for a right too
+    /// many.
     fn open(
         &mut self,
         files: &mut FileTable,
@@ -368,8 +369,8 @@ impl Session {
         Ok(answers)
     }
 
-    /// Answers an Access that creates a file. It is refused where there is one, then where it asks for a right too many, and
-    /// then where its attributes are bad.
+    /// Answers an Access that creates a file. It is refused where there is one, then where it asks for a right too
+    /// many, and then where its attributes are bad.
     fn create(
         &mut self,
         files: &mut FileTable,

@@ -220,7 +220,8 @@ impl Accessing {
 
     /// Reads the one DAP message that begins at the offset `at` as the next answer (DAP 5.6.0, message sequences).
     ///
-    /// Refusals: Failed; Unexpected, after which the end has failed, and keeps nothing of its requests; NoMemory, which changes nothing.
+    /// Refusals: Failed; Unexpected, after which the end has failed, and keeps nothing of its requests; NoMemory, which
+    /// changes nothing.
     pub fn read(&mut self, nsp_message: &[u8], at: usize) -> Result<ReadStep, ReadFault>
         requires { IsPlace at nsp_message.now }
         ensures reads { IfOk result (λ read. Reads nsp_message.now at self.old self.new read) }
@@ -266,8 +267,8 @@ impl Accessing {
         }
     }
 
-    /// Takes the records out that are kept of a batch under way: those that came since the last call. The report of the batch
-    /// has the others alone. None where no batch is under way. It takes no memory.
+    /// Takes the records out that are kept of a batch under way: those that came since the last call. The report of the
+    /// batch has the others alone. None where no batch is under way. It takes no memory.
     pub fn take_records(&mut self) -> Numbered
         ensures records { result ≡ records_kept self.old.pending }
         ensures rest { self.new ≡ record self.old { pending = none_kept self.old.pending } }
@@ -323,8 +324,8 @@ pub fn reports_grow()
         × (Told requests (answers ++ more) ≡ Told requests answers ++ reports) }
 {}
 
-/// What is asked depends on the client's Configuration only where that is sent, and which requests are admissible doesn't
-/// depend on it.
+/// What is asked depends on the client's Configuration only where that is sent, and which requests are admissible
+/// doesn't depend on it.
 pub fn identity_is_told_by_hello()
     ensures hello { (own : Own) → messages_of own Hello ≡ Config own ∷ [] }
     ensures others { (one two : Own) (request : TheRequest) → request ≢ Hello
@@ -334,7 +335,7 @@ pub fn identity_is_told_by_hello()
         → IsAdmissible one requests answers request → IsAdmissible two requests answers request }
 {}
 
-/// What an end keeps follows from the requests and answers that it is after, and from its own Configuration; and it works.
+/// What an end keeps follows from the requests and answers that it is after, and from its Configuration; and it works.
 pub fn standing_is_one()
     ensures one { (requests : List TheRequest) (answers : List TheItem) (one two : ClientState)
         → ClientAfter requests answers one → ClientAfter requests answers two

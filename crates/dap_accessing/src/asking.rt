@@ -306,8 +306,8 @@ impl<'a> Outgoing<'a> {
     }
 }
 
-/// What [`crate::Accessing::prepare`] learned of a request: the number that it carries, in four bytes, and what was counted
-/// of its messages.
+/// What [`crate::Accessing::prepare`] learned of a request: the number that it carries, in four bytes, and what was
+/// counted of its messages.
 #[derive(Drop)]
 pub struct Prepared {
     pub(crate) number: [u8; 4],

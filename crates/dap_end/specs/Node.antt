@@ -14,7 +14,8 @@ use Rattle.dap_end.specs.Ports.{EndValue, HasCome, PortValue, new_port}
 use Rattle.dap_end.specs.Turns.{EndOf}
 use Rattle.dap_end.specs.By.{serves_by}
 
--- what is kept of all exchanges, the address of each link, what was noted of locks, and the port of each link that is there
+-- what is kept of all exchanges, the address of each link, what was noted of locks, and the port of each link that is
+-- there
 pub record NodeValue : Type 0 where
   pub noted : NotedValue
   pub ports : List (Option PortValue)

@@ -142,8 +142,8 @@ impl End<Accessing> {
         self.role.prepare(request)
     }
 
-    /// Asks a request that `prepare` looked at, as `ask` does. It isn't looked at again, and this fails only if memory is
-    /// refused, with nothing changed.
+    /// Asks a request that `prepare` looked at, as `ask` does. It isn't looked at again, and this fails only if memory
+    /// is refused, with nothing changed.
     pub fn ask_prepared(&mut self, request: &Request, prepared: Prepared) -> Result<usize, AskFault>
         requires { IsPrepared self.old.present request.now prepared }
         ensures ok { IfOk result (λ n. AskedOne request.now self.old self.new n) }
@@ -172,9 +172,9 @@ impl End<Accessing> {
         }
     }
 
-    /// Reads the next answer of the oldest NSP message that came, and gives the report that it completes; nothing, where
-    /// nothing is left to read (DAP 5.6.0, message sequences). Refused: `Failed`; `Unexpected`, after which the end has
-    /// failed; `NoMemory`, which changes nothing.
+    /// Reads the next answer of the oldest NSP message that came, and gives the report that it completes; nothing,
+    /// where nothing is left to read (DAP 5.6.0, message sequences). Refused: `Failed`; `Unexpected`, after which the
+    /// end has failed; `NoMemory`, which changes nothing.
     pub fn read(&mut self) -> Result<Heard, ReadFault>
         ensures nothing { result ≡ Ok Nothing
             → (self.old.port.link.coming.inbox ≡ []) × (self.new ≡ self.old) }
@@ -211,8 +211,8 @@ impl End<Accessing> {
         self.role.records()
     }
 
-    /// Takes out the records that were read so far of a batch under way, and weren't taken: the report of the batch comes
-    /// without them. None where no batch is under way. It takes no memory.
+    /// Takes out the records that were read so far of a batch under way, and weren't taken: the report of the batch
+    /// comes without them. None where no batch is under way. It takes no memory.
     pub fn take_records(&mut self) -> Numbered
         ensures records { result ≡ records_kept self.old.present.pending }
         ensures rest { self.new ≡ record self.old {

@@ -66,8 +66,8 @@ pub fn serving_ends_stand()
         → IsAfter history old
         → HandsOver old new n
         → IsAfter (record history { handed = history.handed ++ old.port.outbox }) new }
-    // What was served on counts after that, and so does what was passed on. Of the link only what came and what is queued
-    // moved.
+    // What was served on counts after that, and so does what was passed on. Of the link only what came and what is
+    // queued moved.
     ensures served_on { (most : ℕ) (history : ServerHistory) (old new : ServingValue)
         → IsAfter history old
         → ServedInTurn most old new → (given handed : List (List ℕ)) × (items : List Item)
@@ -88,7 +88,7 @@ pub fn serving_ends_stand()
 {}
 
 /// What follows for a client that has asked something: what it read is a prefix of the items in the NSP messages that
-/// came, and the next one is at the port's offset; one request more that was asked, and what waited once it was passed
+/// came, and the next one is at the port's offset; one more request that was asked, and what waited once it was passed
 /// on, count too; and what was read on comes after what was read before, with the reports that it adds.
 pub fn asking_ends_stand()
     ensures front { (history : ClientHistory) (v : AskingValue) → HasAsked history v
@@ -122,8 +122,9 @@ pub fn asking_ends_stand()
         × (new.port.link ≡ with_inbox old.port.link new.port.link.coming.inbox) }
 {}
 
-/// Records of a batch under way may be taken out as they come. With all that were taken put back, a client stands as one that
-/// keeps them, whatever it does on its link and whatever it reads; but the report of the batch has the others alone.
+/// Records of a batch under way may be taken out as they come. With all that were taken put back, a client is as one
+/// that keeps them, whatever it does on its link and whatever it reads; but the report of the batch has the others
+/// alone.
 pub fn taken_records_count()
     ensures taken { (told : List (ℕ × List ℕ)) (history : ClientHistory) (v : AskingValue)
         → HasAsked history (with_told told v)
@@ -198,8 +199,8 @@ pub fn calls_are_runs()
         × (all ≡ out ++ written_bytes wrote) }
 {}
 
-/// Each call of a client is a run, refused or not, but one in which an answer is out of sequence. No call is one, and two
-/// are one where the second begins as the first ends.
+/// Each call of a client is a run, refused or not, but one in which an answer is out of sequence. No call is one, and
+/// two are one where the second begins as the first ends.
 pub fn asking_calls_are_runs()
     ensures none { (v : AskingValue) → AskingRuns [] [] v v [] [] }
     ensures more { (came later : List Arrival) (requests others : List TheRequest)
@@ -394,8 +395,9 @@ pub fn a_peer_is_heard_in_order()
         → (history : ClientHistory) × HasAsked history new × AreFrontOf messages history.answers }
 {}
 
-/// What an end holds follows from what it did, from its port, and from its setup or its Configuration. So whatever a call leaves by which an
-/// end is as after something known, as those do that make it, renew it or give it files, is determined.
+/// What an end holds follows from what it did, from its port, and from its setup or its Configuration. So whatever a
+/// call leaves by which an end is as after something known, as those do that make it, renew it or give it files, is
+/// determined.
 pub fn ends_are_one()
     ensures serving { (history : ServerHistory) (one two : ServingValue) → IsAfter history one
         → IsAfter history two
@@ -405,8 +407,8 @@ pub fn ends_are_one()
         → one ≡ two }
 {}
 
-/// What taking a packet in leaves, and what is answered, follows from the end and the packet, out of memory aside; and so does
-/// the next segment that an end writes, or that there is none.
+/// What taking a packet in leaves, and what is answered, follows from the end and the packet, out of memory aside; and
+/// so does the next segment that an end writes, or that there is none.
 pub fn packets_are_determined()
     ensures serving { (old one two : ServingValue) (bytes : List ℕ) (r s : Result TheGot TheFault)
         → AreBytes bytes → r ≢ Err fault.NoMemory → s ≢ Err fault.NoMemory
@@ -421,8 +423,8 @@ pub fn packets_are_determined()
         → may_send old.link ≡ false → ⊥ }
 {}
 
-/// A packet of a peer that sends some NSP messages, and nothing too old or too far ahead, is refused where memory is, or where
-/// the end would have taken more than 2^40 segments, and for nothing else; and then it changes nothing.
+/// A packet of a peer that sends some NSP messages, and nothing too old or too far ahead, is refused where memory is,
+/// or where the end would have taken more than 2^40 segments, and for nothing else; and then it changes nothing.
 pub fn peers_are_taken_in()
     ensures serving { (setup : TheSetup) (first : Files) (size : ℕ) (messages : List (List ℕ))
         (came : List Arrival) (old mid new : ServingValue) (wrote : List Written)
@@ -489,8 +491,8 @@ pub fn two_ends_keep_the_headline()
         × (new.reports ≡ Told new.requests (map Whole read)) }
 {}
 
-/// No answer between two such ends is unexpected, so that `two_ends_keep_the_headline` speaks of every list of their calls: where
-/// the files that the server had at first are files, and both have a BUFSIZ that an end may have.
+/// No answer between two such ends is unexpected, so that `two_ends_keep_the_headline` speaks of every list of their
+/// calls: where the files that the server had at first are files, and both have a BUFSIZ that an end may have.
 pub fn no_answer_is_unexpected()
     ensures { (s t : TheSetup) (first : Files) (a : AskingValue) (b : ServingValue) (new : Pair)
         (after : AskingValue) (f : TheReadFault) → IsSetup s → IsSetup t → t ≡ record s {

@@ -91,8 +91,8 @@ abbrev pub AsksNot : Asking → Asking → List ℕ → Came → AskFault → Ty
 AsksNot old new text came Busy = GoesOn old (ask_refusal Busy).0 new text came
 AsksNot old new text came f = (new ≡ old) × (text ≡ (ask_refusal f).0) × (came ≡ Untold (ask_refusal f).1)
 
--- The request is asked, the number of its messages is answered, and the client goes on; or it isn't asked. It says that each
--- record is told by itself, or doesn't.
+-- The request is asked, the number of its messages is answered, and the client goes on; or it isn't asked. It says that
+-- each record is told by itself, or doesn't.
 abbrev pub AnswersAsk : (each : Bool) → Asking → Request → Asking → List ℕ → Came → Type 0
 AnswersAsk each old request new text came =
     ((count : ℕ) × (mid : AskingValue) × AskedOne request old.end mid count

@@ -53,8 +53,8 @@ waits_told asking = nat_lt 0 (length asking.reports.items) || (asking.is_each &&
 abbrev pub told_after : Asking → ℕ
 told_after asking = if asking.is_each then length (kept asking) else asking.told
 
--- Each record is told by itself after a request, where this one says so or this was so before. A fetch says it or doesn't,
--- and a Continue goes on as the fetch before it.
+-- Each record is told by itself after a request, where this one says so or this was so before. A fetch says it or
+-- doesn't, and a Continue goes on as the fetch before it.
 abbrev pub each_after : (each : Bool) → Request → (before : Bool) → Bool
 each_after each Fetch before = each
 each_after each request before = before

@@ -1,5 +1,5 @@
--- What a server does by a line, and what it answers. A line concerns one link, or none; where there is room for one link
--- alone, that link.
+-- What a server does by a line, and what it answers. A line concerns one link, or none; where there is room for one
+-- link alone, that link.
 use Rattle.std.specs.Prelude.{◌≡◌, ◌⊎◌, ◌++◌, ◌==◌, Bool, false, true, ℕ, length, MatchBool, MatchOption, MatchResult, List, [], ◌∷◌, codes, replicate, set, slice_get, if◌then◌else◌, Option, Some, None, Result, Ok, Err}
 use Rattle.std.specs.List.{list_any, position}
 use Rattle.rec_file.specs.Shapes.{checked_shape}
@@ -57,7 +57,8 @@ first_events links = if links == 1 then Begins 0 all_rights ∷ [] else []
 abbrev pub first_ports : (links : ℕ) → LinkSetup → List (Option PortValue)
 first_ports links usual = if links == 1 then Some (new_port usual) ∷ [] else replicate links None
 
--- A node without files that is set up so, with room for this many links. Where that is one, it is there, with every right.
+-- A node without files that is set up so, with room for this many links. Where that is one, it is there, with every
+-- right.
 pub record IsNewNode (own : ServerSetup) (links : ℕ) (usual : LinkSetup) (most : ℕ) (node : Node) : Type 0 where
   pub stands : SharedAfter [] (first_events links) node.node.noted.shared
   pub setup : node.node.noted.shared.setup ≡ own
@@ -313,7 +314,8 @@ DropsFile old name new text became =
 
 -- ---- A line.
 
--- What the node does by each order, and its answer. It comes with the only link, or none, and then the line concerns that.
+-- What the node does by each order, and its answer. It comes with the only link, or none, and then the line concerns
+-- that.
 abbrev pub NodeDoes : Node → NodeOrder → Node → List ℕ → Became → Type 0
 NodeDoes old (order.Packet bytes) new text became = TakesPacketOf old bytes new text became
 NodeDoes old (order.Resend local) new text became = OnMeant (meant local old.node.ports) (λ link. AtPort link old.node (λ p.
@@ -338,7 +340,8 @@ named_by node (order.Renew anew) = one_link node.node.ports
 named_by node (order.New between) = position (has_local between.local) node.node.ports
 named_by node o = None
 
--- the node where an order isn't done: the line concerns the link that it means, and a file that isn't added takes no records
+-- the node where an order isn't done: the line concerns the link that it means, and a file that isn't added takes no
+-- records
 abbrev pub undone : Node → NodeOrder → Node
 undone old (order.File file) = ungiven old
 undone old o = about_any (named_by old o) old

@@ -368,7 +368,8 @@ fn act(asking: &mut Asking, order: AskOrder<'_>, text: &mut Vec<u8>) -> Result<C
     }
 }
 
-/// Notes that all was told that waited: the reports, and where each record is told by itself those of a batch under way.
+/// Notes that all was told that waited: the reports, and where each record is told by itself those of a batch under
+/// way.
 fn note_told(asking: &mut Asking)
     ensures { WasTold asking.old asking.new }
 {

@@ -1,5 +1,6 @@
--- A serving node, the peer of each of its links, and a network that loses, repeats and reorders packets. The headline is
--- the law `many_links_keep_the_headline`. A peer is a client of this implementation, or a stranger, which may send anything.
+-- A serving node, the peer of each of its links, and a network that loses, repeats and reorders packets. The headline
+-- is the law `many_links_keep_the_headline`. A peer is a client of this implementation, or a stranger, which may send
+-- anything.
 use Rattle.std.specs.Prelude.{◌≡◌, ◌⊎◌, ℕ, List, [], ◌∷◌, ◌++◌, set, IfSome, Option, Some, None, slice_get}
 use Rattle.rec_file.specs.declared.shapes.Shape.{Shape}
 use Rattle.rec_file.specs.declared.picks.Rights.{Rights}
@@ -20,8 +21,8 @@ use Rattle.dap_end.specs.Calls.{AskingEvent, AskingStepped, EndEvent, EndStepped
 use Rattle.dap_end.specs.Node.{BeganOn, EndedOn, HasPort, NodeValue}
 use Rattle.dap_end.specs.Runs.{RunsBy}
 
--- The peer of a link, every packet that it and the node wrote on the link, what was asked of the peer, and what it reported:
--- all of it since the link began.
+-- The peer of a link, every packet that it and the node wrote on the link, what was asked of the peer, and what it
+-- reported: all of it since the link began.
 pub record Peer : Type 0 where
   pub client : AskingValue
   pub from_peer : List Written

@@ -1,5 +1,5 @@
--- Files of several links, which have addresses. Each Access that is refused, as its file is locked, is noted by the lowest
--- address of a link that locks it out.
+-- Files of several links, which have addresses. Each Access that is refused, as its file is locked, is noted by the
+-- lowest address of a link that locks it out.
 use Rattle.std.specs.Prelude.{ℕ, ◌≡◌, ◌<◌, ◌≤◌, ◌++◌, Bool, false, IsTrue, List, length, get_or, Option, Some, None}
 use Rattle.std.specs.Option.{option_to_list}
 use Rattle.std.specs.Global.{Vec}

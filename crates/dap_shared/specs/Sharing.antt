@@ -10,7 +10,8 @@ use Rattle.dap_accessed.specs.declared.phase.OpenFile.{OpenFile}
 use Rattle.dap_accessed.specs.Standing.{Files, Place, Fresh, Ready, Opened, Connected, Store, Stopped}
 use Rattle.dap_accessed.specs.Sessions.{moved_up, would_open}
 
--- MACCODE 4, MICCODE octal 60: the file is locked by another user. The number is from memory of DAP 5.6.0, Status message.
+-- MACCODE 4, MICCODE octal 60: the file is locked by another user. The number is from memory of DAP 5.6.0, Status
+-- message.
 abbrev pub file_locked : ℕ
 file_locked = 0x4030
 

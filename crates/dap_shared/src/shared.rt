@@ -305,7 +305,8 @@ impl SharedFiles {
         self.files.add_record(at, number, body)
     }
 
-    /// Removes the file of this name: those after it move up, also where a link has one of them open. It takes no memory.
+    /// Removes the file of this name: those after it move up, also where a link has one of them open. It takes no
+    /// memory.
     ///
     /// Refusals in order: NoFile; Busy where a link has the file open. Each leaves all unchanged.
     pub fn remove(&mut self, name: &[u8]) -> Result<(), RemoveFault>

@@ -170,7 +170,7 @@ is_old number now = nat_lt (number + max_age) now
 abbrev pub is_stale : EndState → Sending → Bool
 is_stale e p = option_map_or (λ k. is_old k (e.taken + 1)) p.segment false || is_old p.acks e.acked
 
--- the answers to one message more, joined within the limit of A that B knows
+-- the answers to one more message, joined within the limit of A that B knows
 abbrev pub answering : State → Message → List NspMessage
 answering s m = let taken = map Whole (served_by_b s) in Blocked (limit_for s.own_b [] taken) (added s.own_b [] taken (Whole m))
 
@@ -182,7 +182,7 @@ served_one s m = record s { b = record s.b { waiting = answering s m }; served =
 abbrev pub with_read : State → State
 with_read s = record s { read = s.read + 1 }
 
--- whether there is a report more
+-- whether there is one more report
 abbrev pub told_by : State → State → Step
 told_by old new = if length (reported new) == length (reported old) then step.Nothing else step.Reported
 

@@ -1,5 +1,5 @@
--- The ends of a world are plain ones: each has a BUFSIZ, and of what it says of itself nothing else is asked. These are the
--- definitions of both ends, of such ends.
+-- The ends of a world are plain ones: each has a BUFSIZ, and of what it says of itself nothing else is asked. These are
+-- the definitions of both ends, of such ends.
 use Rattle.std.specs.Prelude.{ℕ, List}
 use Rattle.dap_msg.specs.BothEnds.{plain_identity}
 use Rattle.dap_msg.specs.declared.message.Message.{Message}
@@ -49,6 +49,6 @@ After own first items = accessed.After (plain_setup own) first items
 abbrev pub Answers : (own : ℕ) → Files → List Item → List Message
 Answers own first items = accessed.Answers (plain_setup own) first items
 
--- the answers that one item more adds
+-- the answers that one more item adds
 abbrev pub added : (own : ℕ) → Files → List Item → Item → List Message
 added own first items item = accessed.added (plain_setup own) first items item

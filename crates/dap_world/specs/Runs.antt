@@ -23,7 +23,8 @@ TakesMemory answer = Unit {0}
 abbrev pub WantsMemory : State → Event → Type 0
 WantsMemory s e = (answer : Step) × (new : State) × Steps s e answer new × TakesMemory answer
 
--- It is a step of the machine; or the machine has none, for this reason; or memory was refused. A refusal changes nothing.
+-- It is a step of the machine; or the machine has none, for this reason; or memory was refused. A refusal changes
+-- nothing.
 abbrev pub Went : State → Event → Result Step WorldFault → State → Type 0
 Went old e (Ok answer) new = Steps old e answer new
 Went old e (Err fault.NoMemory) new = WantsMemory old e × (new ≡ old)

@@ -1,5 +1,5 @@
-//! Schedules drawn by lot, and what they come to once all is finished: the same as without a loss. Schedules that are written
-//! out are the sessions of `crates/sessions/data/worlds.txt`.
+//! Schedules drawn by lot, and what they come to once all is finished: the same as without a loss. Schedules that are
+//! written out are the sessions of `crates/sessions/data/worlds.txt`.
 
 ghost use Rattle.std.specs.Prelude.{◌<◌};
 
@@ -212,8 +212,8 @@ fn whatever_was_lost(rt: HostRuntime) -> Result<(), Fail> {
     Ok(())
 }
 
-/// What a run of a new world comes to, whether the world is fresh then, and how many requests were asked, messages sent, and
-/// messages read.
+/// What a run of a new world comes to, whether the world is fresh then, and how many requests were asked, messages
+/// sent, and messages read.
 type Run = (Result<(), (usize, WorldFault)>, (bool, usize, usize, u64));
 
 /// Returns the run of these events.

@@ -48,7 +48,8 @@ enum Act {
 
 use Act::*;
 
-/// A file is opened and fetched call by call, packets come late, twice and in another order; then both links are renewed.
+/// A file is opened and fetched call by call, packets come late, twice and in another order; then both links are
+/// renewed.
 const ACTS: &[Act] = &[
     Add(b"F"),
     AddRecord(3, b"three"),

@@ -313,11 +313,11 @@ fn refuse_word<E: Write>(misspelt: Misspelt<'_>, error_writer: &mut E) -> u8
 
 /// Does what the words name, the program's name first, and returns the exit status.
 ///
-/// 0: the input ended, or help was asked for and written. 1: the input ended, and some line was none of the end's;
-/// of a capture, that some line is at fault, or too large, which is reported; of a capture file, that it is at fault.
-/// 2: the words name nothing. 3: the reader or the writer failed, or memory was refused; of an end, before the first line. Nothing is read where the
-/// words name nothing or ask for help. What is wrong is reported to the error writer, whose failure changes
-/// nothing.
+/// 0: the input ended, or help was asked for and written. 1: the input ended, and some line was none of the end's; of a
+/// capture, that some line is at fault, or too large, which is reported; of a capture file, that it is at fault. 2: the
+/// words name nothing. 3: the reader or the writer failed, or memory was refused; of an end, before the first line.
+/// Nothing is read where the words name nothing or ask for help. What is wrong is reported to the error writer, whose
+/// failure changes nothing.
 pub fn run_words<R: BufRead, W: Write, E: Write>(
     alloc: Global,
     words: &[String],

@@ -115,7 +115,8 @@ refused bad-line\nwaits 0\nrefused bad-line\nwaits 0\n",
         b"",
         b"daplive: --window 00000000008: a number is decimal digits, ten at most\n",
     ),
-    // Room for several links: lines name their link, and the server begins without one; with room for one all is as ever.
+    // Room for several links: lines name their link, and the server begins without one; with room for one all is as
+    // ever.
     (
         &["serve", "--links", "2", "--segment", "10"],
         b"ack\nack 0202\nnew 0202 0101\nack 0202\n> 60020201010080010001020a00040703050600000000\n\

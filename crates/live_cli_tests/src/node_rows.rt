@@ -77,7 +77,8 @@ refused failed\nwaits 0\n\
 accepted\n< 60040403030180010001020e0004120d0506000000e6e8f08020\nwaits 1\n\
 < 60040403030180010001020e0004120d0506000000e6e8f08020\nwaits 1\nwaits 0\n< 04010102020080\nwaits 0\n",
     ),
-    // The bytes of a segment stay those of the link; a refused `new` of a link that is there ends with what waits on it.
+    // The bytes of a segment stay those of the link; a refused `new` of a link that is there ends with what waits on
+    // it.
     (
         2,
         b"new 0202 0101 10\n> 60020201010080010001020a00040703050600000000\n\

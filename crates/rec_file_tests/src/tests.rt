@@ -1,5 +1,5 @@
-//! What isn't a session: the pages of a relative file, and a list of numbers and records beside which they are tried. The scripts
-//! over each kind of file are the sessions of `crates/sessions/data/files.txt`.
+//! What isn't a session: the pages of a relative file, and a list of numbers and records beside which they are tried.
+//! The scripts over each kind of file are the sessions of `crates/sessions/data/files.txt`.
 
 mod list_file;
 

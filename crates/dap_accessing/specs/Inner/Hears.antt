@@ -80,7 +80,8 @@ abbrev pub HasNoPlace : Item → Option Pending → Type 0
 HasNoPlace item None = Unit {0}
 HasNoPlace item (Some p) = (rest : List Item) → gather p (item ∷ rest) ≡ Unexpected
 
--- What the next answer does to an end that works: it waits for more, or reports, or is out of sequence; or there is no memory, and nothing is changed.
+-- What the next answer does to an end that works: it waits for more, or reports, or is out of sequence; or there is no
+-- memory, and nothing is changed.
 abbrev pub HearsNext : Item → ClientState → ClientState → Result (Option Report) ReadFault → Type 0
 HearsNext item old new (Ok None) =
     (p : Pending) × (next : Pending) × (old.pending ≡ Some p) × ((rest : List Item) → gather p (item ∷ rest) ≡ gather next rest)

@@ -29,7 +29,7 @@ Agree own_a own_b requests = AreAgreed (plain_identity own_a) (plain_setup own_b
 abbrev pub NothingUnexpected : (own_a own_b : ℕ) → List Request → Type 0
 NothingUnexpected own_a own_b requests = AreExpected (plain_identity own_a) (plain_setup own_b) [] requests
 
--- none of the NSP messages of one request more that is admissible is longer than the accessed end takes
+-- none of the NSP messages of one more request that is admissible is longer than the accessed end takes
 abbrev pub NextWithin : (own_a own_b : ℕ) → List Request → Type 0
 NextWithin own_a own_b requests =
     (request : Request) → IsNext own_a own_b requests request

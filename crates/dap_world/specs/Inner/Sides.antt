@@ -32,7 +32,8 @@ side_of port posted wire = record { link = port.link; outbox = port.outbox; post
 abbrev pub port_of : SideValue → PortValue
 port_of s = record { link = s.link; outbox = s.outbox; place = s.place }
 
--- A packet was written after the others. It carries the k-th segment of what was passed on, or none, and what was taken.
+-- A packet was written after the others. It carries the k-th segment of what was passed on, or none, and what was
+-- taken.
 pub record WroteWired (v : LinkValue) (old new : List Wired) (k : Option ℕ) (answer : Step) : Type 0 where
   pub place : answer ≡ step.Packet (length old)
   pub wired : Wired

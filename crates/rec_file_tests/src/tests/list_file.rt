@@ -1,5 +1,5 @@
-//! Relative files as a list of numbers and records, in the order of the numbers: the plain form beside which the pages are
-//! tried.
+//! Relative files as a list of numbers and records, in the order of the numbers: the plain form beside which the pages
+//! are tried.
 
 ghost use Rattle.std.specs.Prelude.{◌≡◌, false, length, IsTrue};
 ghost use Rattle.std.specs.FinMap as map;
