@@ -76,7 +76,7 @@ fn read(alloc: Global, listing: &mut Listing, out: &mut Lines) -> Result<(), Tro
     Ok(())
 }
 
-/// Both ends, by their addresses.
+/// Returns both ends, by their addresses.
 fn ends() -> Option<Ends> {
     match (read_node(b"1.2"), read_node(b"1.1")) {
         (Some(first), Some(other)) => Some(Ends { first, other }),

@@ -85,7 +85,7 @@ fn exchange(
     Ok(())
 }
 
-/// Asks; the packet is lost and written again; the answer comes, and is acknowledged.
+/// Asks a request: its packet is lost and written again; the answer comes, and is acknowledged.
 pub fn call(alloc: Global, out: &mut Lines) -> Result<(), Trouble> {
     let mut asking = AskingEnd::new(alloc, 1024, setup(0x0101, 0x0202))?;
     let mut serving = ServingEnd::new(alloc, 1024, setup(0x0202, 0x0101))?;

@@ -70,8 +70,7 @@ fn begin_to_read(shared: &mut SharedFiles, link: usize) -> Result<(), Trouble> {
     Ok(())
 }
 
-/// Two links are served, one message after another. Then the file is dropped, once the link that has it open begins
-/// anew.
+/// Serves two links, one message after another. Then drops the file, once the link that has it open begins anew.
 pub fn call(alloc: Global, out: &mut Lines) -> Result<(), Trouble> {
     let mut shared = SharedFiles::new(alloc, 1024, 2)?;
     for (link, message) in MESSAGES {

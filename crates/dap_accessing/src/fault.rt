@@ -45,7 +45,7 @@ pub enum ReadFault {
 }
 
 impl ReadFault {
-    /// What is printed of it.
+    /// Returns what is printed of it.
     fn text(self) -> &'static str {
         match self {
             ReadFault::Failed => "an earlier answer had no place, so the end has failed",

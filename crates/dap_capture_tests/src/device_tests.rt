@@ -71,7 +71,7 @@ const WRITING: &[(Engine, &[u8], usize, &[u8])] = &[
     (Engine::Run, b"\n", 0, b""),
 ];
 
-/// What a run of an engine answers, and what it writes to a device.
+/// Returns what a run of an engine answers, and what it writes to a device.
 fn answer<R: Read>(
     alloc: Global,
     engine: Engine,

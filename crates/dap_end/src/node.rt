@@ -147,8 +147,8 @@ impl ServingNode {
         self.noted.files()
     }
 
-    /// Of each Access that the last [`ServingNode::take`] or [`ServingNode::go_on`] refused, as another link has the
-    /// file open: the lowest address of a link that locks it out. In the order of the Accesses.
+    /// Returns, for each Access that the last [`ServingNode::take`] or [`ServingNode::go_on`] refused as another link
+    /// has the file open, the lowest address of a link that locks it out. They are in the order of the Accesses.
     pub fn locked(&self) -> &[u16]
         ensures { result.now ≡ self.now.noted.locked }
     {

@@ -39,7 +39,7 @@ fn outcome(row: &Row) -> Result<Counts, FramesFault> {
     }
 }
 
-/// Both ends that a row names.
+/// Returns both ends that a row names.
 fn ends(row: &Row) -> Option<Ends> {
     match row.1 {
         Some((first, other)) => Some(Ends { first, other }),

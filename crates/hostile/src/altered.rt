@@ -113,7 +113,7 @@ pub fn alter<T: Taking>(
     Ok(())
 }
 
-/// They were taken, or refused.
+/// Returns that the bytes were taken, or that they were refused.
 fn whether_taken(is_whole: bool) -> Outcome {
     if is_whole {
         Outcome::Taken

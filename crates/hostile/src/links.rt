@@ -74,7 +74,7 @@ fn setup(local: u16, remote: u16) -> LinkSetup {
     }
 }
 
-/// Both ends, new.
+/// Makes both ends.
 fn new_pair(alloc: Global) -> Result<Pair, LinkFault> {
     let a = LinkEnd::new(alloc, setup(0x0101, 0x0202))?;
     let b = LinkEnd::new(alloc, setup(0x0202, 0x0101))?;

@@ -162,7 +162,7 @@ struct Pair {
     serving: ServingEnd,
 }
 
-/// Both ends, new.
+/// Makes both ends.
 fn new_pair(alloc: Global) -> Result<Pair, LinkFault> {
     let asking = AskingEnd::new(alloc, BUFFER, ASKING)?;
     let serving = ServingEnd::new(alloc, BUFFER, SERVING)?;

@@ -81,7 +81,7 @@ fn puts_each(rt: &impl Abort, file: &mut RelFile, stream: &mut Stream) {
     }
 }
 
-/// Four records are put, found and removed.
+/// Puts, finds and removes four records.
 fn four_records(rt: &impl Abort, file: &mut RelFile) {
     assert!(rt; sizes(file) == (0, 0, None));
     puts_each(rt, file, &mut Stream::new(ALL));
