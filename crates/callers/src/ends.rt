@@ -6,7 +6,7 @@ use dap_end::{AskingEnd, ServingEnd};
 use nsp_link::{LinkSetup, MAX_LIMIT};
 use std::alloc::Global;
 
-/// The end that serves goes on while fewer bytes wait than this: 1 MiB.
+/// The server goes on while fewer bytes wait than this: 1 MiB.
 const MAX_WAITING: u64 = 1 << 20;
 
 /// Returns the limits of the link of an end with these addresses.
@@ -28,7 +28,7 @@ fn ask(alloc: Global, end: &mut AskingEnd, request: &Request) -> Result<Vec<u8>,
     Ok(end.resend(0)?)
 }
 
-/// Gives a packet to the end that serves, and returns the packets that answer it.
+/// Gives a packet to the server, and returns the packets that answer it.
 fn serve(
     alloc: Global,
     end: &mut ServingEnd,
@@ -42,7 +42,7 @@ fn serve(
     Ok(back)
 }
 
-/// Gives a packet to the end that asks, and returns the packets that answer it.
+/// Gives a packet to the client, and returns the packets that answer it.
 fn read(
     alloc: Global,
     end: &mut AskingEnd,

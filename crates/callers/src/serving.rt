@@ -1,4 +1,4 @@
-//! `dap_accessed`: the end that serves, without a link.
+//! `dap_accessed`: the server, without a link.
 
 use crate::trouble::{Lines, Trouble};
 use dap_accessed::Accessed;

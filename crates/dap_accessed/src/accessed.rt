@@ -1,4 +1,4 @@
-//! The accessed end.
+//! The server.
 
 ghost use Rattle.std.specs.Prelude.{◌≡◌, ◌≤◌, ◌<◌, ℕ, List, [], length, IfOk, IsOk, OnErr};
 ghost use Rattle.dap_msg.specs.BothEnds.{max_nsp_message, min_buffer};
@@ -22,9 +22,8 @@ use dap_msg::{Item, item_at};
 use std::alloc::Global;
 use std::marker::Model;
 
-/// The end that is accessed: it holds the files, and serves one message after another (DAP 5.6.0,
-/// message sequences). It keeps no list of what it served: it is as after any messages that
-/// leave what it keeps.
+/// The server: it holds the files, and serves one message after another (DAP 5.6.0, message sequences). It keeps no
+/// list of what it served: it is as after any messages that leave what it keeps.
 #[derive(Drop)]
 pub struct Accessed {
     pub(crate) files: FileTable,

@@ -1,4 +1,4 @@
-//! Where the accessed end is between two messages.
+//! The phase of a server between two messages.
 
 ghost use Rattle.std.specs.Prelude.{◌≡◌};
 ghost use Rattle.dap_accessed.specs.Inner.Steps.{phase_behind};

@@ -1,4 +1,4 @@
-//! What the accessed end keeps of one link.
+//! What a server keeps of one link.
 
 ghost use Rattle.std.specs.Prelude.{◌≡◌, ◌≤◌, [], ◌∷◌, Some, IfOk, IsOk, OnOk, OnErr, true};
 ghost use Rattle.dap_msg.specs.BothEnds.{max_nsp_message, min_buffer};
@@ -410,7 +410,7 @@ impl Session {
         ensures no_memory { OnErr result (self.new ≡ self.old) }
         ensures most { self.old.limit ≤ max_nsp_message }
     {
-        // Only for the prover: it reads the invariant of the limit here, from which the bound in the contract follows.
+        // This line is only for the prover: it lets a proof see what is true of every session.
         let _ = &self.limit;
         self.refuse_access(files, Answer::Status(code))
     }

@@ -1,4 +1,4 @@
-//! The end that asks.
+//! The client.
 
 ghost use Rattle.std.specs.Prelude.{◌≡◌, ◌≢◌, ◌≤◌, ◌<◌, ◌+◌, ◌-◌, ℕ, List, [], ◌∷◌, Ok, Err, Some, None, true, false, length, IfOk, IfErr, OnOk, IsErrOf, IsTrue, ◌++◌, option_to_list, vec_len, vec_capacity};
 ghost use Rattle.dap_msg.specs.BothEnds.{min_buffer, plain_identity};
@@ -50,7 +50,7 @@ pub enum Heard {
     Report(Report),
 }
 
-/// The end that asks, with its link.
+/// The client, with its link.
 pub type AskingEnd = End<Accessing>;
 
 impl End<Accessing> {

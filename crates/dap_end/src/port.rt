@@ -59,7 +59,7 @@ impl Port {
         ensures kept { IsPort self.old → IsPort self.new }
     {
         let received = self.link.receive_bounded(packet);
-        // Only for the prover: the contract of `unacked` says what is true of the link.
+        // This line is only for the prover: the contract of `unacked` says what is true of the link.
         let _ = self.link.unacked();
         received
     }
@@ -131,7 +131,7 @@ impl Port {
         ensures yes { result ≡ true → may_send self.now.link ≡ false }
         ensures no { result ≡ false → IsTrue (may_send self.now.link) }
     {
-        // Only for the prover: the contract of `unacked` says what is true of the link.
+        // This line is only for the prover: the contract of `unacked` says what is true of the link.
         let _ = self.link.unacked();
         !self.link.may_send()
     }

@@ -1,4 +1,4 @@
-//! The end that asks, over lines.
+//! The client, over lines.
 
 ghost use Rattle.std.specs.Prelude.{◌≡◌, ◌≤◌, ◌⊎◌, [], ℕ, List, Some, OnOk, OnErr, IfOk, IfErr, MatchBool, ◌||◌, ◌&&◌, false, length, nat_lt};
 ghost use Rattle.dap_msg.specs.BothEnds.{min_buffer};
@@ -32,7 +32,7 @@ use linewise::{Answer, Answers, Became};
 use nsp_link::{Got, LinkFault, LinkSetup};
 use std::alloc::{AllocError, Global};
 
-/// The end that asks, as an answerer of lines.
+/// The client, as an answerer of lines.
 #[derive(Drop)]
 pub struct Asking {
     alloc: Global,

@@ -13,7 +13,7 @@ use Rattle.dap_accessing.specs.declared.fault.AskFault.{AskFault}
 use Rattle.dap_accessing.specs.Asked as accessing
 use Rattle.dap_accessing.specs.Phase as phase
 
--- ---- The end that asks.
+-- ---- The client.
 
 -- the messages of a request
 abbrev pub messages_of : (own : ℕ) → Request → List Message
@@ -31,7 +31,7 @@ IsAdmissible own requests answers request = phase.IsAdmissible (plain_identity o
 abbrev pub IsRefused : (own : ℕ) → List Request → List Item → Request → AskFault → Type 0
 IsRefused own requests answers request fault = phase.IsRefused (plain_identity own) requests answers request fault
 
--- ---- The end that serves.
+-- ---- The server.
 
 -- its state after these items, with these files at first
 abbrev pub stands_after : (own : ℕ) → Files → List Item → Grouped

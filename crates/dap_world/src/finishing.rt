@@ -37,7 +37,7 @@ impl World {
         ensures place { due_after self.now.requests (answers_read self.now) ≢ Wrong }
         ensures quiet { self.now.requests ≡ [] → IsQuiet self.now }
     {
-        // Only for the prover: it reads the invariant of a world here, from which the contract follows.
+        // This line is only for the prover: it lets a proof see what is true of every world.
         let _ = &self.read;
     }
 

@@ -1,4 +1,4 @@
-//! The end that asks and the end that holds the files, each by itself.
+//! The client and the server, each by itself.
 
 use crate::bytes::*;
 use crate::growing::{Growing, Trouble, at};
@@ -52,7 +52,7 @@ pub enum Line {
     Hear(&'static [u8]),
 }
 
-/// An end that asks.
+/// A client.
 #[derive(Drop)]
 pub struct Asking {
     alloc: Global,

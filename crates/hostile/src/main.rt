@@ -127,7 +127,7 @@ fn grow_serving(alloc: Global, seen: &mut Seen) -> Result<(), Ending> {
     make_all("sharing files", Sharing::new(alloc, SHARED), seen)
 }
 
-/// Makes the calls on ends that ask.
+/// Makes the calls on clients.
 fn grow_asking(alloc: Global, seen: &mut Seen) -> Result<(), Ending> {
     for (name, lines) in ASKED {
         make_all(name, Asking::new(alloc, lines), seen)?;

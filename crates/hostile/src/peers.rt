@@ -1,4 +1,4 @@
-//! The end that asks and the end that serves, each with its link, over a line between them.
+//! The client and the server, each with its link, over a line between them.
 
 use crate::growing::{Growing, Trouble, at, put};
 use crate::links::{keep, keep_next, packet_of};
@@ -15,7 +15,7 @@ use std::alloc::Global;
 /// The buffer of each end.
 const BUFFER: u16 = 1024;
 
-/// The end that serves goes on while fewer bytes wait than this.
+/// The server goes on while fewer bytes wait than this.
 const MAX_WAITING: u64 = 1 << 20;
 
 /// What an end does with its link. Each packet that it writes is kept, in order from 0.
@@ -36,7 +36,7 @@ use Deed::*;
 /// What is done.
 #[derive(Clone, Copy)]
 enum Act {
-    /// The end that serves is given a relative file, and a record of it.
+    /// The server is given a relative file, and a record of it.
     Add(&'static [u8]),
     AddRecord(u32, &'static [u8]),
     Ask(&'static str),

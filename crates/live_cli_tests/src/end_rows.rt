@@ -47,7 +47,7 @@ accepted\n< 60010102020180010001020e0004120d0506000000e6e8f08020\nwaits 1\nrefus
 waits 0\nfile 46 rel variable 0 3\n  3 41\nwaits 0\n",
         b"",
     ),
-    // The end that asks: its packet again, its peer's answer, and an answer that is out of sequence.
+    // The client: its packet again, its peer's answer, and an answer that is out of sequence.
     (
         &["ask"],
         b"ask hello\nask hello\nresend\n> 60010102020180010001020a00040703050600000000\nask get\n\

@@ -1,4 +1,4 @@
-//! The suite `asking`: the end that asks, without a link.
+//! The suite `asking`: the client, without a link.
 
 use crate::call::Call;
 use crate::out::Out;
@@ -6,7 +6,7 @@ use crate::playing::Suite;
 use dap_accessing::{Accessing, AskFault, Octets, ReadFault, ReadStep, Request};
 use dap_msg::Configuration;
 
-/// An end that asks, if there is one.
+/// A client, if there is one.
 #[derive(Drop)]
 pub struct Asking {
     pub end: Option<Accessing>,

@@ -1,4 +1,4 @@
-//! The suite `serving`: the end that holds the files, without a link.
+//! The suite `serving`: the server, without a link.
 
 use crate::call::Call;
 use crate::out::Out;
@@ -6,7 +6,7 @@ use crate::playing::Suite;
 use dap_accessed::{Accessed, Names, NoMemory, Served, ServerSetup, rights_of_fac};
 use dap_msg::Configuration;
 
-/// An end that serves, if there is one.
+/// A server, if there is one.
 #[derive(Drop)]
 pub struct Serving {
     pub end: Option<Accessed>,
