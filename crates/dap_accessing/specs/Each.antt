@@ -1,4 +1,4 @@
--- Records of a batch that are told one by one, as they come. A client from which they are taken out is as one that
+-- Records of a batch that are reported one by one, as they come. A client from which they are taken out is as one that
 -- keeps them, but that the report of the batch has the others alone.
 use Rattle.std.specs.Prelude.{ℕ, ◌≡◌, List, [], ◌∷◌, ◌++◌, Option, Some, option_map, option_to_list}
 use Rattle.dap_msg.specs.Items.{ItemAt}

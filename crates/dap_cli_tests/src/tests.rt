@@ -75,7 +75,7 @@ fn lists_what_is_captured(rt: HostRuntime) -> Result<(), Fail> {
     Ok(())
 }
 
-/// Wants a status, nothing written and a line told.
+/// Wants a status, nothing written and a line of error output.
 fn fails(rt: &impl Abort, left: &Left, status: u8, line: &str) {
     assert!(rt; leaves(left, status, b"", line.as_bytes()));
 }
@@ -136,7 +136,7 @@ fn runs_a_schedule(rt: HostRuntime) -> Result<(), Fail> {
     Ok(())
 }
 
-/// Runs the program on a command and a reader, and tells what helps.
+/// Runs the program on a command and a reader, and prints what helps.
 fn run_helping<R: Read>(alloc: Global, command: &str, reader: &mut R) -> Result<Left, Fail> {
     let list = words_of(alloc, &[command])?;
     let mut written = Vec::new(alloc);
@@ -158,7 +158,7 @@ const PCAPNG: &[u8] =
     b"bad line 2\ndapnsp: line 1: a pcapng file; daplive frames turns it into lines \
 for dapnsp show and daplive follow\n";
 
-/// How files of captured frames begin, and what is told of them.
+/// How files of captured frames begin, and what is printed of them.
 const FILES: &[(&[u8], &[u8])] = &[
     (b"\xa1\xb2\xc3\xd4\x00\x02\x00\x04", PCAP),
     (b"\xd4\xc3\xb2\xa1\x02\x00\x04\x00", PCAP),
@@ -326,7 +326,7 @@ impl Write for Broken {
     }
 }
 
-/// Some kinds of errors. Each is told as the others are, at once.
+/// Some kinds of errors. Each is reported as the others are, at once.
 const KINDS: &[ErrorKind] = &[
     ErrorKind::Other,
     ErrorKind::BrokenPipe,

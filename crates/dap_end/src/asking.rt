@@ -292,8 +292,8 @@ impl End<Accessing> {
     /// segments that were never sent, as far as the window allows; or where a segment came and none is written, one
     /// acknowledgement. The packets follow those in `out`, the reports those in `reports`.
     ///
-    /// Refusals: `Refused` as `receive` is, and nothing of the packet was taken; `Unfinished`, once it was taken
-    /// in: `go_on` does what is left, and the same packet is answered again.
+    /// Refusals: `Refused` as `receive` is, and nothing of the packet was taken; `Unfinished`, once it was received:
+    /// `go_on` does what is left, and the same packet is answered again.
     pub fn take(
         &mut self,
         packet: &[u8],

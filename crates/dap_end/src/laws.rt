@@ -338,8 +338,8 @@ pub fn asking_is_determined()
         → (one ≡ two) × (r ≡ s) × (xs ≡ ys) × (rs ≡ ss) × HasDone one }
 {}
 
-/// A packet that is taken in leaves one end, and is answered by one list of packets, and of reports, by what the
-/// end did before; so is one that is refused, or of which not all is done, unless memory is refused.
+/// A packet that is received leaves one end, and is answered by one list of packets, and of reports, by what the end
+/// did before; so is one that is refused, or of which not all is done, unless memory is refused.
 pub fn taking_is_determined()
     ensures serving { (most : ℕ) (history : ServerHistory) (old one two : ServingValue)
         (bytes : List ℕ)
@@ -407,7 +407,7 @@ pub fn ends_are_one()
         → one ≡ two }
 {}
 
-/// What taking a packet in leaves, and what is answered, follows from the end and the packet, out of memory aside; and
+/// What receiving a packet leaves, and what is answered, follows from the end and the packet, out of memory aside; and
 /// so does the next segment that an end writes, or that there is none.
 pub fn packets_are_determined()
     ensures serving { (old one two : ServingValue) (bytes : List ℕ) (r s : Result TheGot TheFault)

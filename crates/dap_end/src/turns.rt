@@ -121,7 +121,7 @@ pub(crate) fn go_on<S: Serving>(
     port.emit_all(out)
 }
 
-/// Serves and writes as `go_on` does, and then writes what answers a packet that was taken in.
+/// Serves and writes as `go_on` does, and then writes what answers a packet that was received.
 pub(crate) fn answer<S: Serving>(
     port: &mut Port,
     server: &mut S,

@@ -381,6 +381,6 @@ abbrev pub waits_on : (most : ℕ) → Option ℕ → NodeValue → ℕ
 waits_on most None v = 0
 waits_on most (Some link) v = port_waits most (slice_get v.ports link)
 
--- what `waits` tells after an answer
+-- what `waits` returns after an answer
 abbrev pub waiting : Node → Option ℕ
 waiting node = Some (waits_on node.most_waiting node.last node.node)

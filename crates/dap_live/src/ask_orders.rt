@@ -17,7 +17,7 @@ pub(crate) enum AskOrder<'a> {
     /// A new link between the addresses of the last one, or between these.
     New(Option<Between>),
     Ask(RequestText<'a>),
-    /// A fetch of which each record is told by itself.
+    /// A fetch of which each record is reported by itself.
     FetchEach,
 }
 

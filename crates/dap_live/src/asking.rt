@@ -42,9 +42,9 @@ pub struct Asking {
     pub setup: LinkSetup,
     /// The reports that wait to be printed: more than those of one line only where memory was refused.
     pub reports: Vec<Report>,
-    /// Each record of a fetch is told by itself.
+    /// Each record of a fetch is reported by itself.
     pub is_each: bool,
-    /// How many records of the batch under way were told by themselves.
+    /// How many records of the batch under way were reported by themselves.
     pub told: usize,
 }
 
@@ -199,7 +199,7 @@ fn go_on_again(asking: &mut Asking, text: &mut Vec<u8>) -> Result<Came, AllocErr
     Ok(Came::Told(push_done(text, asking, &packets, gone)?))
 }
 
-/// Goes on where something is left, or prints what waits to be told.
+/// Goes on where something is left, or prints what waits to be reported.
 fn go_on_if_left(asking: &mut Asking, text: &mut Vec<u8>) -> Result<Came, AllocError>
     ensures ok { IfOk result (λ came. MatchBool (has_more_of asking.old.end)
         (GoesOn asking.old text.old.items asking.new text.new.items came)
@@ -240,7 +240,7 @@ fn resend(asking: &mut Asking, text: &mut Vec<u8>) -> Result<Came, AllocError>
     resend_running(asking, text)
 }
 
-/// Returns whether each record is told by itself after this request, which says so or doesn't.
+/// Returns whether each record is reported by itself after this request, which says so or doesn't.
 fn is_each_after(each: bool, request: &Request, before: bool) -> bool
     ensures { result ≡ each_after each request.now before }
 {
@@ -250,7 +250,7 @@ fn is_each_after(each: bool, request: &Request, before: bool) -> bool
     }
 }
 
-/// Notes that a request was asked: none of its records was told.
+/// Notes that a request was asked: none of its records was reported.
 fn begin_request(asking: &mut Asking, each: bool, request: &Request)
     ensures { asking.new ≡ begun each request.now asking.old }
 {
@@ -280,7 +280,7 @@ fn ask_request(
     }
 }
 
-/// Returns whether reports wait that would be told in another way after a request that says this.
+/// Returns whether reports wait that would be reported in another way after a request that says this.
 fn has_untold(asking: &Asking, each: bool) -> bool
     ensures { result
         ≡ ((each || asking.now.is_each) && nat_lt 0 (length asking.now.reports.items)) }
@@ -288,8 +288,8 @@ fn has_untold(asking: &Asking, each: bool) -> bool
     (each || asking.is_each) && !asking.reports.is_empty()
 }
 
-/// Asks a request, which says that each record is told by itself or doesn't, on a link that runs. While reports wait to
-/// which memory was refused, none is asked that would have them told in another way.
+/// Asks a request, which says that each record is reported by itself or doesn't, on a link that runs. While reports
+/// wait to which memory was refused, none is asked that would have them reported in another way.
 fn ask_running(
     asking: &mut Asking,
     each: bool,
@@ -321,7 +321,7 @@ fn ask(asking: &mut Asking, asked: &RequestText<'_>, text: &mut Vec<u8>) -> Resu
     ask_running(asking, false, &request, text)
 }
 
-/// Asks for all records, each of which is told by itself.
+/// Asks for all records, each of which is reported by itself.
 fn fetch_each(asking: &mut Asking, text: &mut Vec<u8>) -> Result<Came, AllocError>
     requires { text.old.items ≡ [] }
     ensures ok { IfOk result (AskingDoes asking.old AskOrder.FetchEach asking.new text.new.items) }
@@ -368,8 +368,8 @@ fn act(asking: &mut Asking, order: AskOrder<'_>, text: &mut Vec<u8>) -> Result<C
     }
 }
 
-/// Notes that all was told that waited: the reports, and where each record is told by itself those of a batch under
-/// way.
+/// Notes that all was reported that waited: the reports, and where each record is reported by itself those of a batch
+/// under way.
 fn note_told(asking: &mut Asking)
     ensures { WasTold asking.old asking.new }
 {
@@ -417,7 +417,7 @@ fn answer_order(asking: &mut Asking, order: Option<AskOrder<'_>>, text: &mut Vec
     }
 }
 
-/// Returns whether something waits to be told.
+/// Returns whether something waits to be reported.
 fn has_told(asking: &Asking) -> bool
     ensures { result ≡ waits_told asking.now }
 {

@@ -67,7 +67,7 @@ fn push_reports(text: &mut Vec<u8>, reports: &Vec<Report>) -> Result<(), AllocEr
     Ok(())
 }
 
-/// Appends the lines of records that are told one by one.
+/// Appends the lines of records that are reported one by one.
 fn push_records(text: &mut Vec<u8>, records: &[(u64, Octets)]) -> Result<(), AllocError>
     ensures { OnOk result (Adds text.old text.new (records_text records.now)) }
 {
@@ -101,7 +101,7 @@ fn untold(records: &[(u64, Octets)], told: usize) -> &[(u64, Octets)]
     }
 }
 
-/// Appends the line of a batch of this many records, each of which was told by itself.
+/// Appends the line of a batch of this many records, each of which was reported by itself.
 fn push_batch_line(text: &mut Vec<u8>, count: usize, ending: Ending) -> Result<(), AllocError>
     ensures { OnOk result (Adds text.old text.new (batch_line count ending)) }
 {
@@ -110,7 +110,7 @@ fn push_batch_line(text: &mut Vec<u8>, count: usize, ending: Ending) -> Result<(
     push_ending(text, ending)
 }
 
-/// Appends the lines of a report where each record is told by itself, and this many of a batch were.
+/// Appends the lines of a report where each record is reported by itself, and this many of a batch were.
 fn push_each(text: &mut Vec<u8>, told: usize, report: &Report) -> Result<(), AllocError>
     ensures { OnOk result (Adds text.old text.new (each_text told report.now)) }
 {
@@ -123,7 +123,7 @@ fn push_each(text: &mut Vec<u8>, told: usize, report: &Report) -> Result<(), All
     }
 }
 
-/// Appends the lines of reports where each record is told by itself.
+/// Appends the lines of reports where each record is reported by itself.
 fn push_eaches(text: &mut Vec<u8>, told: usize, reports: &Vec<Report>) -> Result<(), AllocError>
     ensures { OnOk result (Adds text.old text.new (flat_map (each_text told) reports.now.items)) }
 {
@@ -133,8 +133,8 @@ fn push_eaches(text: &mut Vec<u8>, told: usize, reports: &Vec<Report>) -> Result
     Ok(())
 }
 
-/// Appends the lines of what waits to be told: the reports, and records of a batch under way where each is told by
-/// itself.
+/// Appends the lines of what waits to be reported: the reports, and records of a batch under way where each is reported
+/// by itself.
 pub(crate) fn push_told(text: &mut Vec<u8>, asking: &Asking) -> Result<(), AllocError>
     ensures { OnOk result (Adds text.old text.new (told_text asking.now)) }
 {
@@ -218,7 +218,7 @@ fn push_end_refusal(text: &mut Vec<u8>, fault: EndFault) -> Result<Became, Alloc
     }
 }
 
-/// Says what was done: what waits to be told, the packets, and why not all was done.
+/// Says what was done: what waits to be reported, the packets, and why not all was done.
 pub(crate) fn push_done(
     text: &mut Vec<u8>,
     asking: &Asking,

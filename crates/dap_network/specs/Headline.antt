@@ -14,7 +14,7 @@ use Rattle.dap_network.specs.History.{IsHistory}
 
 -- Of a link, since it began. What was served are the first of the messages that the requests of its peer ask, each once
 -- and in order. The peer read the first of the answers that the history gives on this link, and its reports are what
--- the definition tells of these.
+-- the definition gives for these.
 pub record LinkHeadline (link : ℕ) (own : ServerSetup) (first : Files) (links : ℕ) (history : List Event) (peer : Peer) : Type 0 where
   pub taken : List Message
   pub served : items_on link history ≡ map Whole taken

@@ -16,7 +16,7 @@ const BUFFER: u16 = 1024;
 
 /// What takes bytes, whatever they are.
 pub trait Taking {
-    /// Takes the bytes, and tells what became of them.
+    /// Takes the bytes, and returns what became of them.
     fn take(&mut self, bytes: &[u8]) -> Result<Outcome, Trouble>;
 }
 

@@ -107,7 +107,7 @@ impl Asking {
     }
 }
 
-/// Requests of each phase: what an end says of them tells its phase.
+/// Requests of each phase: what an end says of them shows its phase.
 const PROBES: [Request; 5] = [
     Request::Hello,
     Request::Connect,

@@ -194,7 +194,7 @@ impl From<Trouble> for Ending {
     }
 }
 
-/// What the readers answered before a call and after it, and where that is written and told.
+/// What the readers answered before a call and after it, and where that is written and printed.
 #[derive(Drop)]
 pub struct Seen {
     before: Text,

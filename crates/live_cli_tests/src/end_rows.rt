@@ -340,7 +340,7 @@ For more information, try '--help'.\n",
         b"",
         b"daplive: --filesys +13: a number is decimal digits, ten at most\n",
     ),
-    // Each record of a fetch by itself, and then together; what was told before an unexpected answer stays.
+    // Each record of a fetch by itself, and then together; what was reported before an unexpected answer stays.
     (
         &["ask"],
         b"ask hello\n> 60010102020180010001020a00040703050600000000\nask open 46 2\n\

@@ -49,7 +49,7 @@ asked_packets own_a own_b (request ∷ requests) = Blocked own_b (messages_of ow
 abbrev pub answer_packets : (own : ℕ) → (before items : List Item) → List NspMessage
 answer_packets own before items = answers_to (plain_setup own) [] before items
 
--- the messages that B served, as its number tells
+-- the messages that B served, by their number
 abbrev pub served_items : Parts → List Item
 served_items p = map Whole (take p.served (Asked p.accessing.own p.requests))
 
