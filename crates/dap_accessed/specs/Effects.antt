@@ -1,4 +1,4 @@
--- What each message does in each place, and its answers (DAP 5.6.0, message sequences). The answers to a message that
+-- What each message does in each phase, and its answers (DAP 5.6.0, message sequences). The answers to a message that
 -- is out of sequence are a choice of this implementation.
 use Rattle.std.specs.Prelude.{ℕ, Bool, if◌then◌else◌, List, [], ◌∷◌, Option}
 use Rattle.dap_msg.specs.Codes as codes
@@ -48,7 +48,7 @@ control_status verb = bare_status (codes.out_of_place codes.types.control)
 abbrev pub refuse_control : Verb → Scene → Place → Effect
 refuse_control verb scene place = enters scene place (control_status verb ∷ [])
 
--- what a message does while a file is open, if the place doesn't say otherwise
+-- what a message does while a file is open, unless the phase says otherwise
 abbrev pub common_effect : Scene → OpenFile → Place → Message → Effect
 common_effect scene opened place (Control control) = refuse_control (verb_of control) scene place
 common_effect scene opened place (Accomp c) = complete c.func scene opened place
@@ -82,7 +82,7 @@ abbrev pub control_opened : Verb → Scene → OpenFile → Effect
 control_opened verbs.Connect scene opened = enters scene (Connected opened (new_stream opened.rights)) (Ack ∷ [])
 control_opened verb scene opened = refuse_control verb scene (Opened opened)
 
--- a Control, or what is common to all places with an open file
+-- a Control, or what is common to all phases with an open file
 abbrev pub effect_opened : Scene → OpenFile → Message → Effect
 effect_opened scene opened (Control control) = control_opened (verb_of control) scene opened
 effect_opened scene opened message = common_effect scene opened (Opened opened) message
@@ -111,7 +111,7 @@ control_connected verbs.Rewind scene opened stream control =
     Does (enters scene (Connected opened (at_number 1 stream)) (bare_status codes.stscode.success ∷ []))
 control_connected verb scene opened stream control = Does (refuse_control verb scene (Connected opened stream))
 
--- a Control, or what is common to all places with an open file
+-- a Control, or what is common to all phases with an open file
 abbrev pub turn_connected : Scene → OpenFile → StreamVal → Message → Turn
 turn_connected scene opened stream (Control control) =
     control_connected (verb_of control) scene opened stream control
@@ -134,9 +134,9 @@ abbrev pub effect_stopped : Scene → OpenFile → StreamVal → Message → Eff
 effect_stopped scene opened stream (Contran func) = continue_fetch func scene opened stream
 effect_stopped scene opened stream message = common_effect scene opened (Stopped opened stream) message
 
--- ---- All places. Only in Connected does a message begin a group of two.
+-- ---- All phases. Only in Connected does a message begin a group of two.
 
--- what a message does in a place
+-- what a message does in a phase
 abbrev pub turn_in : (own : ServerSetup) → Scene → (past : List Group) → Place → Message → Turn
 turn_in own scene past Fresh message = Does (effect_fresh own scene message)
 turn_in own scene past Ready message = Does (effect_ready own scene (asked_shape (kept_attributes past)) message)

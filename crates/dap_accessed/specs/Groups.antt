@@ -51,7 +51,7 @@ answers_in (group ∷ past) = answers_in past ++ group.answers
 abbrev pub stands_after : (own : ServerSetup) → Files → List Item → Grouped
 stands_after own first items = grouped own (start first) items
 
--- the longest message that the peer takes then
+-- the maximum length of a message to the peer then
 abbrev pub limit_for : (own : ServerSetup) → Files → List Item → ℕ
 limit_for own first items = (stands_after own first items).standing.scene.limit
 
@@ -63,11 +63,11 @@ After own first items = (stands_after own first items).standing.scene.files
 abbrev pub Answers : (own : ServerSetup) → Files → List Item → List Message
 Answers own first items = answers_in (stands_after own first items).standing.past
 
--- the answers that one item more adds
+-- the answers that one more item adds
 abbrev pub added : (own : ServerSetup) → Files → List Item → Item → List Message
 added own first items item = drop (length (Answers own first items)) (Answers own first (items ++ item ∷ []))
 
--- ---- One item more finishes the group that was begun, or is a group, or begins one.
+-- ---- One more item finishes the group that was begun, or is a group, or begins one.
 
 -- the state after a group, or with one begun
 abbrev pub next_group : Standing → Item → Turn → Grouped
@@ -79,7 +79,7 @@ abbrev pub more_after : (own : ServerSetup) → Standing → Option Begun → It
 more_after own s None item = next_group s item (turn_of own s item)
 more_after own s (Some begun) item = record { standing = after_two s begun item; begun = None }
 
--- the state after one item more
+-- the state after one more item
 abbrev pub after_item : (own : ServerSetup) → Grouped → Item → Grouped
 after_item own c item = more_after own c.standing c.begun item
 

@@ -12,12 +12,12 @@ use Rattle.rec_file.specs.declared.shapes.Shape.{Shape}
 use Rattle.rec_file.specs.Shapes.{checked_shape}
 use Rattle.dap_accessed.specs.Standing.{Place, Ready, Store, Group}
 
--- the place is Ready
+-- the phase is Ready
 abbrev pub is_ready : Place → Bool
 is_ready Ready = true
 is_ready _ = false
 
--- the place is Store
+-- the phase is Store
 abbrev pub is_store : Place → Bool
 is_store (Store _ _) = true
 is_store _ = false
@@ -63,7 +63,7 @@ asked_shape a = with_defaults checked_shape a
 abbrev pub this_store : List Group → List Group
 this_store past = take_while (λ group. is_store group.place) past
 
--- the ordinal stays at the largest number of 4 bytes
+-- the ordinal stays at the maximum of 4 bytes
 abbrev pub max_ordinal : ℕ
 max_ordinal = 4294967295
 

@@ -33,7 +33,7 @@ pub record Memory : Type 0 where
   pub dropping : Bool
   pub ordinal : ℕ
 
--- what counts of the past in this place
+-- what counts of the past in this phase
 abbrev pub looked_back : Place → List Group → Memory
 looked_back place past =
     record {

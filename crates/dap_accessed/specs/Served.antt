@@ -18,7 +18,8 @@ use Rattle.dap_accessed.specs.Present.{Present, StandsAfter}
 abbrev pub AllAtMost : ℕ → List (List ℕ) → Type 0
 AllAtMost limit list = AllByRecursion (λ bytes. length bytes ≤ limit) list
 
--- NSP messages with these messages, each of which has a spelling, joined as far as the limit goes, and none longer than it
+-- NSP messages with these messages, each of which has a spelling, joined as far as the limit goes, and none longer than
+-- it
 pub record Answered (limit : ℕ) (messages : List Message) (answers : Vec (Vec ℕ)) : Type 0 where
   pub bytes : bodies answers.items ≡ all_joined (Blocked limit messages)
   pub within : AllAtMost limit (bodies answers.items)

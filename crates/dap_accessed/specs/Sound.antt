@@ -26,7 +26,7 @@ pub record AreFiles (table : Files) : Type 0 where
 pub record IsSoundAt (scene : Scene) (place : Place) : Type 0 where
   pub files : AreFiles scene.files
   pub opened : IsOpenAt scene.files place
-  -- what a peer takes is not less than the least, and not more than any end takes
+  -- what a peer takes is not less than the minimum, and not more than the maximum
   pub least : min_buffer ≤ scene.limit
   pub most : scene.limit ≤ max_nsp_message
 

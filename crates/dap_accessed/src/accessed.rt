@@ -1,4 +1,4 @@
-//! The accessed end.
+//! The server.
 
 ghost use Rattle.std.specs.Prelude.{◌≡◌, ◌≤◌, ◌<◌, ℕ, List, [], length, IfOk, IsOk, OnErr};
 ghost use Rattle.dap_msg.specs.BothEnds.{max_nsp_message, min_buffer};
@@ -22,9 +22,8 @@ use dap_msg::{Item, item_at};
 use std::alloc::Global;
 use std::marker::Model;
 
-/// The end that is accessed: it holds the files, and serves one message after another (DAP 5.6.0,
-/// message sequences). It keeps no list of what it served: it is as after any messages that
-/// leave what it keeps.
+/// The server: it holds the files, and serves one message after another (DAP 5.6.0, message sequences). It keeps no
+/// list of what it served: it is as after any messages that leave what it keeps.
 #[derive(Drop)]
 pub struct Accessed {
     pub(crate) files: FileTable,
@@ -46,7 +45,7 @@ impl Model for Accessed {
 }
 
 impl Accessed {
-    /// An end with no files that waits for the peer's Config, with a buffer of this many bytes, at least 64. It
+    /// Creates an end with no files that waits for the peer's Config, with a buffer of this many bytes, at least 64. It
     /// takes no memory.
     pub fn new(alloc: Global, bufsiz: u16) -> Accessed
         requires low { min_buffer ≤ bufsiz }
@@ -58,7 +57,7 @@ impl Accessed {
         Accessed::with_setup(alloc, ServerSetup::plain(bufsiz))
     }
 
-    /// An end with this setup, which has no files, and of which no message was served. It takes no memory.
+    /// Creates an end with this setup, which has no files, and of which no message was served. It takes no memory.
     pub fn with_setup(alloc: Global, setup: ServerSetup) -> Accessed
         requires { IsServerSetup setup }
         ensures setup { result.setup ≡ setup }
@@ -71,7 +70,7 @@ impl Accessed {
         }
     }
 
-    /// The files, in the order in which they were made: what all groups of messages so far have made of them.
+    /// Returns the files, in the order in which they were made: what all groups of messages so far have made of them.
     pub fn files(&self) -> &FileTable
         ensures held { result.now ≡ self.now.files }
         ensures after { (first : Files) (items : List TheItem) → StandsAfter first items self.now

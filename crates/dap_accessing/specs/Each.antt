@@ -1,4 +1,4 @@
--- Records of a batch that are told one by one, as they come. A client from which they are taken out stands as one that
+-- Records of a batch that are reported one by one, as they come. A client from which they are taken out is as one that
 -- keeps them, but that the report of the batch has the others alone.
 use Rattle.std.specs.Prelude.{ℕ, ◌≡◌, List, [], ◌∷◌, ◌++◌, Option, Some, option_map, option_to_list}
 use Rattle.dap_msg.specs.Items.{ItemAt}
@@ -31,7 +31,7 @@ kept_behind told o = o
 abbrev pub put_back : (told : List (ℕ × List ℕ)) → ClientState → ClientState
 put_back told p = record p { pending = kept_behind told p.pending }
 
--- a report of a batch with these records before its own
+-- a report of a batch with these records before its records
 abbrev pub reported_behind : (told : List (ℕ × List ℕ)) → Report → Report
 reported_behind told (report.Batch records ending) = report.Batch (told ++ records) ending
 reported_behind told done = done
@@ -40,8 +40,8 @@ reported_behind told done = done
 abbrev pub IsBatch : ClientState → Type 0
 IsBatch p = (records : List (ℕ × List ℕ)) × (p.pending ≡ Some (pending.Batch records))
 
--- The answer at this offset was read while a batch was under way. Whatever records had been taken out before, the client
--- stands as one that keeps them, and reports the batch without them.
+-- The answer at this offset was read while a batch was under way. Whatever records had been taken out before, the
+-- client is as one that keeps them, and reports the batch without them.
 pub record ReadsOn (bytes : List ℕ) (at : ℕ) (old new : ClientState)
     (read : ReadStep) : Type 0 where
   pub answer : Item

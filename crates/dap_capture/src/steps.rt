@@ -16,7 +16,7 @@ use dap_text::{ask_word, got_word, push_decimal, push_hex, push_number, push_rep
 use dap_world::{End, Step, World, WorldFault};
 use std::alloc::AllocError;
 
-/// The word for an end.
+/// Returns the word for an end.
 fn end_word(end: End) -> &'static str
     ensures { result.now ≡ end_text end }
 {
@@ -26,7 +26,7 @@ fn end_word(end: End) -> &'static str
     }
 }
 
-/// The word for a refusal; out of memory has none.
+/// Returns the word for a refusal; out of memory has none.
 pub(crate) fn refusal_word(fault: WorldFault) -> Option<&'static str>
     ensures { option_copied result ≡ refusal_text fault }
 {
@@ -40,7 +40,7 @@ pub(crate) fn refusal_word(fault: WorldFault) -> Option<&'static str>
     }
 }
 
-/// The end that writes a packet in the event of this order.
+/// Returns the end that writes a packet in the event of this order.
 fn writing_end<'a>(order: &Order<'a>) -> Option<End>
     ensures { result ≡ writing_end (event_of_order order.now) }
 {
@@ -50,7 +50,7 @@ fn writing_end<'a>(order: &Order<'a>) -> Option<End>
     }
 }
 
-/// The packet at a place of an end's wire.
+/// Returns the packet at an index of an end's wire.
 fn packet_at(world: &World, end: End, place: usize) -> &[u8]
     requires { place < length (end_of world.now end).wire }
     ensures { IsPacketAt world.now end place result.now }
@@ -59,7 +59,7 @@ fn packet_at(world: &World, end: End, place: usize) -> &[u8]
     wire[place].packet.as_slice()
 }
 
-/// Appends the packet at a place of an end's wire.
+/// Appends the packet at an index of an end's wire.
 fn push_packet(text: &mut Vec<u8>, world: &World, end: End, place: usize) -> Result<(), AllocError>
     requires { place < length (end_of world.now end).wire }
     ensures { OnOk result (AddsSome text.old text.new (IsPacketWritten world.now end place)) }

@@ -45,7 +45,7 @@ AreAllAdmissible own_a own_b first before (request ∷ requests) =
 abbrev pub AreLimits : (own_a : Configuration) (own_b : ServerSetup) → (limit_b limit_a : ℕ) → Type 0
 AreLimits own_a own_b limit_b limit_a = (limit_b ≡ own_a.bufsiz) × (limit_a ≡ own_b.identity.bufsiz)
 
--- the client's phase is that of the server's place
+-- the client's phase is that of the server
 abbrev pub AgreeAt : (own_a : Configuration) (own_b : ServerSetup) → Phase → Place → (limit_b limit_a : ℕ) → Type 0
 AgreeAt own_a own_b Fresh at.Fresh limit_b limit_a = limit_b ≡ min_buffer
 AgreeAt own_a own_b Ready at.Ready limit_b limit_a = AreLimits own_a own_b limit_b limit_a

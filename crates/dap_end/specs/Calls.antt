@@ -56,7 +56,7 @@ abbrev pub IsOneOf : List Arrival → LinkValue → List ℕ → Type 0
 IsOneOf [] v bytes = ⊥
 IsOneOf (c ∷ came) v bytes = (c ≡ (v, bytes)) ⊎ IsOneOf came v bytes
 
--- ---- The end that serves.
+-- ---- The server.
 
 -- The server served items that came, and passed on what waited, in any order.
 pub data WorkedOn : ServingValue → ServingValue → Type 0 where
@@ -80,7 +80,7 @@ RunsAs comes old new wrote = (events : List EndEvent) × EventRuns comes old eve
 abbrev pub ServerRuns : List Arrival → (old new : ServingValue) → List Written → Type 0
 ServerRuns came old new wrote = RunsAs (IsOneOf came) old new wrote
 
--- ---- The end that asks.
+-- ---- The client.
 
 -- A request was asked, or an event of either end.
 pub data AskingEvent : Type 0 where

@@ -1,4 +1,4 @@
-//! Which place of a node a link has. A table has at each own address the link that has it.
+//! Which link of a node has which address. A table has at each local address the link that has it.
 
 ghost use Rattle.std.specs.Prelude.{◌≡◌, ◌≢◌, ℕ, IfOk, None, Some, false, length, replicate, set, slice_get, true};
 ghost use Rattle.std.specs.List.{position};
@@ -9,10 +9,10 @@ use crate::port::Port;
 use dap_accessed::NoMemory;
 use std::alloc::Global;
 
-/// How many own addresses there are.
+/// How many local addresses there are.
 const ADDRESSES: usize = 1 << u16::BITS;
 
-/// A table of no links.
+/// Returns a table of no links.
 pub(crate) fn no_links(alloc: Global) -> Result<Vec<Option<usize>>, NoMemory>
     ensures { IfOk result (λ table. table.items ≡ replicate 65536 None) }
 {
@@ -23,7 +23,7 @@ pub(crate) fn no_links(alloc: Global) -> Result<Vec<Option<usize>>, NoMemory>
     Ok(table)
 }
 
-/// Takes the own address of a link out of the table, where the link is there.
+/// Takes the local address of a link out of the table, where the link is there.
 pub(crate) fn unlist(table: &mut Vec<Option<usize>>, port: &Option<Port>)
     requires { length table.old.items ≡ 65536 }
     ensures { table.new.items ≡ unlisted port.now table.old.items }
@@ -33,7 +33,7 @@ pub(crate) fn unlist(table: &mut Vec<Option<usize>>, port: &Option<Port>)
     }
 }
 
-/// Puts a link into the table with this own address, in place of the one that it has.
+/// Puts a link into the table with this local address, in place of the address that it has.
 pub(crate) fn list_anew(
     table: &mut Vec<Option<usize>>,
     port: &Option<Port>,
@@ -47,7 +47,7 @@ pub(crate) fn list_anew(
     table[usize::from(local)] = Some(link);
 }
 
-/// The link that has this own address.
+/// Returns the link that has this local address.
 pub(crate) fn find_local(table: &[Option<usize>], local: u16) -> Option<usize>
     requires { length table.now ≡ 65536 }
     ensures { slice_get table.now local ≡ Some result }
@@ -55,7 +55,7 @@ pub(crate) fn find_local(table: &[Option<usize>], local: u16) -> Option<usize>
     table[usize::from(local)]
 }
 
-/// Whether another link has this own address.
+/// Returns whether another link has this local address.
 pub(crate) fn is_taken(table: &[Option<usize>], link: usize, local: u16) -> bool
     requires { length table.now ≡ 65536 }
     ensures yes { result ≡ true
@@ -69,7 +69,7 @@ pub(crate) fn is_taken(table: &[Option<usize>], link: usize, local: u16) -> bool
     }
 }
 
-/// Whether a link is there, and these are its own address and its peer's.
+/// Returns whether a link is there, and these are its local address and its peer's.
 fn joins(port: &Option<Port>, local: u16, remote: u16) -> bool
     ensures { result ≡ is_between local remote port.now }
 {
@@ -82,7 +82,7 @@ fn joins(port: &Option<Port>, local: u16, remote: u16) -> bool
     }
 }
 
-/// The link that has this own address and this peer.
+/// Returns the link that has this local address and this peer.
 pub(crate) fn find_between(
     table: &[Option<usize>],
     ports: &[Option<Port>],
@@ -98,14 +98,14 @@ pub(crate) fn find_between(
     }
 }
 
-/// Whether a link isn't there.
+/// Returns whether a link isn't there.
 fn is_empty(port: &Option<Port>) -> bool
     ensures { result ≡ is_free_link port.now }
 {
     port.is_none()
 }
 
-/// The first link that isn't there.
+/// Returns the first link that isn't there.
 pub(crate) fn find_free(ports: &[Option<Port>]) -> Option<usize>
     ensures { result ≡ position is_free_link ports.now }
 {

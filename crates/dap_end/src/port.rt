@@ -1,4 +1,4 @@
-//! One end of a link, with the NSP messages that wait to be handed to it, and the place in the oldest one that came.
+//! One end of a link, with the NSP messages that wait to be passed to it, and the offset in the oldest one that came.
 
 ghost use Rattle.std.specs.Prelude.{◌≡◌, ◌≢◌, ◌+◌, ◌-◌, ◌<◌, ◌≤◌, ◌∷◌, ◌++◌, [], ℕ, List, Ok, Some, None, length, false, true, IfOk, IfErr, IfSome, OnOk, OnErr, IsErrOf, slice_get, IsTrue};
 ghost use Rattle.nsp_link.specs.Limits.{max_limit};
@@ -39,7 +39,7 @@ impl Model for Port {
 }
 
 impl Port {
-    /// A port with a new link of these limits, where nothing waits.
+    /// Creates a port with a new link of these limits, where nothing waits.
     pub(crate) fn new(alloc: Global, setup: LinkSetup) -> Result<Port, LinkFault>
         ensures ok { IfOk result (λ p. IsSetup setup × (p ≡ new_port setup)) }
         ensures err { IfErr result (SetupFault setup) }
@@ -52,18 +52,19 @@ impl Port {
         })
     }
 
-    /// Takes a packet in.
+    /// Receives a packet.
     pub(crate) fn receive(&mut self, packet: &[u8]) -> Result<Got, LinkFault>
         ensures rest { self.new ≡ with_link self.old self.new.link }
         ensures receives { Receives self.old.link self.new.link packet.now result }
         ensures kept { IsPort self.old → IsPort self.new }
     {
         let received = self.link.receive_bounded(packet);
+        // This line is only for the prover: the contract of `unacked` says what is true of the link.
         let _ = self.link.unacked();
         received
     }
 
-    /// Whether a segment came, and was taken or is held.
+    /// Returns whether a segment came, and was taken or is held.
     pub(crate) fn has_come(&self) -> bool
         ensures yes { result ≡ true → HasCome self.now }
         ensures no { result ≡ false → HasCome self.now → ⊥ }
@@ -71,7 +72,7 @@ impl Port {
         self.link.received_count() > 0 || self.link.held_count() > 0
     }
 
-    /// How many bytes wait at the link.
+    /// Returns how many bytes wait at the link.
     pub(crate) fn waiting_bytes(&self) -> u64
         ensures value { result ≡ waiting_bytes self.now.link }
         ensures valid { IsLink self.now.link }
@@ -79,7 +80,8 @@ impl Port {
         self.link.waiting_bytes()
     }
 
-    /// The next DAP message of the oldest NSP message was handled; it was the last one where so said.
+    /// Moves the offset past the next DAP message of the oldest NSP message, which leaves the link where that was its
+    /// last.
     pub(crate) fn advance(&mut self, last: bool, next: usize)
         ensures going { last ≡ false → self.new ≡ record self.old { place = next } }
         ensures ends { last ≡ true → (bytes : List ℕ) (later : List (List ℕ))
@@ -97,7 +99,7 @@ impl Port {
         }
     }
 
-    /// The packet of the next segment that was never sent.
+    /// Writes the packet of the next segment that was never sent, if the window allows it.
     pub(crate) fn emit(&mut self) -> Result<Option<Vec<u8>>, LinkFault>
         ensures nothing { result ≡ Ok None
             → (self.new ≡ self.old) × (may_send self.old.link ≡ false) }
@@ -111,7 +113,7 @@ impl Port {
         self.link.next_packet()
     }
 
-    /// The packet of the next segment, of a link that runs and lets it be sent.
+    /// Writes the packet of the next segment, of a link that runs and lets it be sent.
     pub(crate) fn write_next(&mut self) -> Result<Vec<u8>, LinkFault>
         requires works { self.old.link.failed ≡ false }
         requires may { IsTrue (may_send self.old.link) }
@@ -123,12 +125,13 @@ impl Port {
         self.link.write_next()
     }
 
-    /// Whether no segment that was never sent may be written.
+    /// Returns whether no segment that was never sent may be written.
     fn is_full(&self) -> bool
         ensures link { IsLink self.now.link }
         ensures yes { result ≡ true → may_send self.now.link ≡ false }
         ensures no { result ≡ false → IsTrue (may_send self.now.link) }
     {
+        // This line is only for the prover: the contract of `unacked` says what is true of the link.
         let _ = self.link.unacked();
         !self.link.may_send()
     }
@@ -234,7 +237,7 @@ impl Port {
     }
 }
 
-/// Whether a place in an NSP message is its end.
+/// Returns whether an offset in an NSP message is its end.
 pub(crate) fn is_end(message: &[u8], place: usize) -> bool
     ensures end { result ≡ (place == length message.now) }
     ensures bytes { AreBytes message.now }
@@ -242,7 +245,7 @@ pub(crate) fn is_end(message: &[u8], place: usize) -> bool
     place == message.len()
 }
 
-/// Whether one acknowledgement is written.
+/// Returns whether one acknowledgement is written.
 fn wants_ack(got: Got, written: usize) -> bool
     ensures { result ≡ wants_ack got written }
 {

@@ -1,6 +1,6 @@
--- A node: one table of files, and links of which each has its own exchange. One item of one link is served after
--- another. Each does what it would do at a server of one link that stands where its link stands, before the files as
--- they then are; but an Access to a file that is locked is refused.
+-- A node: one table of files, and links of which each has an exchange. One item of one link is served after another.
+-- Each does what it would do at a server of one link in the state of its link, before the files as they then are; but
+-- an Access to a file that is locked is refused.
 use Rattle.std.specs.Prelude.{ℕ, Bool, not, ◌&&◌, ◌==◌, nat_lt, if◌then◌else◌, List, [], ◌∷◌, ◌++◌, length, map, replicate, get_or, set, Option, Some, None, option_map}
 use Rattle.std.specs.List.{list_any, remove}
 use Rattle.dap_accessed.specs.declared.setup.ServerSetup.{ServerSetup}
@@ -21,9 +21,9 @@ use Rattle.dap_accessed.specs.Groups.{Grouped, answers_in, answers_of, next_grou
 use Rattle.dap_accessed.specs.Adding.{with_new_file}
 use Rattle.dap_shared.specs.Sharing.{file_locked, open_in, asks_to_open, barred_by, is_file, is_locked, place_moved_up}
 
--- an exchange: where a server of one link stands, but for the files
+-- an exchange: the state of a server of one link, but for the files
 pub record Exchange : Type 0 where
-  -- the most that an Access on it may ask for
+  -- the rights that an Access on it may ask for
   pub most : Rights
   pub limit : ℕ
   pub place : Place
@@ -39,7 +39,7 @@ pub record Node : Type 0 where
 abbrev pub new_exchange : (most : Rights) → Exchange
 new_exchange most = record { most = most; limit = min_buffer; place = Fresh; past = []; begun = None }
 
--- what stands for a link that there isn't
+-- what there is for a link that isn't there
 abbrev pub no_exchange : Exchange
 no_exchange = new_exchange all_rights
 
@@ -47,7 +47,7 @@ no_exchange = new_exchange all_rights
 abbrev pub new_node : (own : ServerSetup) → Files → (links : ℕ) → Node
 new_node own first links = record { files = first; exchanges = replicate links (new_exchange own.most) }
 
--- a server of one link that stands so
+-- a server of one link in this state
 abbrev pub before_files : Files → Exchange → Grouped
 before_files files exchange =
     record { standing = record { scene = record { limit = exchange.limit; files = files }; place = exchange.place; past = exchange.past }; begun = exchange.begun }
@@ -82,7 +82,7 @@ open_on exchange = open_in exchange.place
 abbrev pub open_beside : ℕ → List Exchange → List (Option OpenFile)
 open_beside link exchanges = map open_on (set exchanges link no_exchange)
 
--- one item more; an Access to a file that is locked is refused, and is a group as any other
+-- one more item; an Access to a file that is locked is refused, and is a group as any other
 abbrev pub more_beside : (own : ServerSetup) → (others : List (Option OpenFile)) → Grouped → Item → Grouped
 more_beside own others c item =
     let s = c.standing in
@@ -146,7 +146,7 @@ with_record_at at number body files = with_file at (stored (file_at at files) nu
 
 -- ---- A history.
 
--- An item of a link was served; a link began anew, with the most that an Access on it may ask for, or ended: what it
+-- An item of a link was served; a link began anew, with the rights that an Access on it may ask for, or ended: what it
 -- had open is closed; a file without records was given, or a record of the file at an index; the file at an index was
 -- dropped, unless a link has it open.
 pub data Event : Type 0 where
@@ -156,7 +156,7 @@ pub data Event : Type 0 where
   GivesRecord : (at number : ℕ) → (body : List ℕ) → Event
   Drops : (at : ℕ) → Event
 
--- after an item of this link, with these rights: it stands so, the others as they did
+-- after an item of this link, with these rights: it is in this state, the others in the one that they had
 abbrev pub after_more : (most : Rights) → (link : ℕ) → (before after : Grouped) → List Exchange → Node
 after_more most link before after exchanges =
     record {
@@ -179,7 +179,7 @@ abbrev pub after_all : (own : ServerSetup) → Node → List Event → Node
 after_all own node [] = node
 after_all own node (event ∷ events) = after_all own (after_event own node event) events
 
--- where a node of this many links, with this setup, which had these files at first, stands after these events
+-- the state of a node of this many links, with this setup, which had these files at first, after these events
 abbrev pub node_after : (own : ServerSetup) → Files → (links : ℕ) → List Event → Node
 node_after own first links events = after_all own (new_node own first links) events
 

@@ -10,11 +10,12 @@ use Rattle.dap_accessed.specs.declared.phase.OpenFile.{OpenFile}
 use Rattle.dap_accessed.specs.Standing.{Files, Place, Fresh, Ready, Opened, Connected, Store, Stopped}
 use Rattle.dap_accessed.specs.Sessions.{moved_up, would_open}
 
--- MACCODE 4, MICCODE octal 60: the file is locked by another user. The number is from memory of DAP 5.6.0, Status message.
+-- MACCODE 4, MICCODE octal 60: the file is locked by another user. The number is from memory of DAP 5.6.0, Status
+-- message.
 abbrev pub file_locked : ℕ
 file_locked = 0x4030
 
--- the file that is open in a place
+-- the file that is open in a phase
 abbrev pub open_in : Place → Option OpenFile
 open_in Fresh = None
 open_in Ready = None
@@ -58,7 +59,7 @@ barred_by (Some asked) held = bars asked held
 
 -- ---- A file that is removed: those after it move up.
 
--- the place of another link then
+-- the phase of another link then
 abbrev pub place_moved_up : (removed : ℕ) → Place → Place
 place_moved_up removed Fresh = Fresh
 place_moved_up removed Ready = Ready

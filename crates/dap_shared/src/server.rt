@@ -23,7 +23,7 @@ pub trait Serving {
     /// The item at an offset of an NSP message was served.
     ghost serves: { ℕ → List ℕ → ℕ → Self → Self → TheServed → Type 0 };
 
-    /// Serves what was read already: the message or fault that `item_at` answered, and the place after it. Refused
+    /// Serves what was read already: the message or fault that `item_at` answered, and the offset after it. Refused
     /// only where memory is, with nothing changed.
     fn serve(&mut self, link: usize, item: Item<'_>, next: usize) -> Result<Served, NoMemory>
         requires link { has_link self.old link }

@@ -46,7 +46,7 @@ pub(crate) fn put(wire: &mut Vec<Wired>, packet: Vec<u8>, segment: Option<u64>, 
     Step::Packet(place)
 }
 
-/// The number of the next segment, for which the wire has room.
+/// Returns the number of the next segment, and makes room for it on the wire.
 pub(crate) fn next_number(link: &LinkEnd, wire: &mut Vec<Wired>) -> Result<u64, WorldFault>
     ensures ok { IfOk result (λ k. IsTrue (may_send link.now) × (k ≡ link.now.sent + 1)) }
     ensures room { OnOk result (vec_len wire.new < vec_capacity wire.new) }
@@ -106,14 +106,14 @@ pub(crate) fn acknowledge(
     Ok(put(wire, packet, None, link.received_count()))
 }
 
-/// A count is more than 2,047 below another.
+/// Returns whether a count is more than 2,047 below another.
 fn is_stale(number: u64, now: u64) -> bool
     ensures { result ≡ is_old number now }
 {
     now > MAX_AGE && number < now - MAX_AGE
 }
 
-/// The segment of a packet, where it has one, is more than 2,047 old.
+/// Returns whether the segment of a packet, where it has one, is more than 2,047 numbers old.
 fn is_stale_segment(segment: Option<u64>, taken: u64) -> bool
     requires { taken ≤ max_segments }
     ensures { result ≡ is_old_segment taken segment }
@@ -124,7 +124,7 @@ fn is_stale_segment(segment: Option<u64>, taken: u64) -> bool
     }
 }
 
-/// The segment or the acknowledgement is more than 2,047 old.
+/// Returns whether the segment or the acknowledgement is more than 2,047 numbers old.
 fn is_stale_wired(wired: &Wired, taken: u64, acked: u64) -> bool
     requires { taken ≤ max_segments }
     ensures { result ≡ (is_old_segment taken wired.now.segment || is_old wired.now.acks acked) }
@@ -134,7 +134,7 @@ fn is_stale_wired(wired: &Wired, taken: u64, acked: u64) -> bool
     stale_segment || stale_ack
 }
 
-/// The packet at a place of the wire, which isn't stale at the link to which it goes.
+/// Returns the packet at an index of the wire, which isn't stale at the link to which it goes.
 pub(crate) fn due<'a>(link: &LinkEnd, wire: &'a [Wired], j: usize) -> Result<&'a Wired, WorldFault>
     ensures ok { IfOk result (λ w. (slice_get wire.now j ≡ Some w.now)
         × (is_old_wired link.now w.now ≡ false)) }
@@ -151,7 +151,7 @@ pub(crate) fn due<'a>(link: &LinkEnd, wire: &'a [Wired], j: usize) -> Result<&'a
     }
 }
 
-/// Whether what waits may be passed on.
+/// Checks whether what waits may be passed on.
 pub(crate) fn may_post(link: &LinkEnd, waiting: &[Vec<u8>]) -> Result<(), WorldFault>
     requires running { link.now.failed ≡ false }
     requires short { AreWithinLimit link.now.setup.max_message (bodies waiting.now) }

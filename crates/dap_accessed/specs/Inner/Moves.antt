@@ -45,7 +45,7 @@ plain_memory shape = record { shape = shape; dropping = false; ordinal = 0 }
 abbrev pub store_memory : Option Shape → Bool → ℕ → Memory
 store_memory shape dropping ordinal = record { shape = shape; dropping = dropping; ordinal = ordinal }
 
--- ---- What counts of the past after one group more.
+-- ---- What counts of the past after one more group.
 
 -- in Ready an Attributes message is kept, and an Access uses it up
 abbrev pub shape_next : Option Shape → Item → Option Shape

@@ -108,7 +108,7 @@ HasOpen (phases.Dropping o stream ordinal) opened = o ≡ opened
 HasOpen (phases.Stopped o stream) opened = o ≡ opened
 HasOpen phase opened = ⊥
 
--- the phase says nothing of its own of the message
+-- the phase has no rule for the message
 abbrev pub IsCommon : Phase → Message → Type 0
 IsCommon (phases.Opened opened) (Control control) = ⊥
 IsCommon (phases.Connected opened stream) (Control control) = ⊥

@@ -47,13 +47,13 @@ heard_as (heard.Reports done) rest = Reports done rest
 heard_as heard.Unexpected rest = Unexpected
 heard_as (heard.NoMemory pending) rest = Waits
 
--- an answer has its place here: more is waited for, or the report comes
+-- an answer is in sequence here: more is waited for, or the report comes
 abbrev pub HasPlace : Pending → Item → Type 0
 HasPlace pending item =
     ((next : Pending) × ((rest : List Item) → gather pending (item ∷ rest) ≡ gather next rest))
     ⊎ ((done : Report) × ((rest : List Item) → gather pending (item ∷ rest) ≡ Reports done rest))
 
--- The answer comes to this; or it has its place and there was no memory for it, and the same is still to come.
+-- The answer comes to this; or it is in sequence and there was no memory for it, and the same is still to come.
 abbrev pub Hears : Pending → Item → Heard → Type 0
 Hears pending item (heard.NoMemory same) = (same ≡ pending) × HasPlace pending item
 Hears pending item result = (rest : List Item) → gather pending (item ∷ rest) ≡ heard_as result rest
@@ -80,7 +80,8 @@ abbrev pub HasNoPlace : Item → Option Pending → Type 0
 HasNoPlace item None = Unit {0}
 HasNoPlace item (Some p) = (rest : List Item) → gather p (item ∷ rest) ≡ Unexpected
 
--- What the next answer does to an end that works: it waits for more, or reports, or is out of sequence; or there is no memory, and nothing is changed.
+-- What the next answer does to an end that works: it waits for more, or reports, or is out of sequence; or there is no
+-- memory, and nothing is changed.
 abbrev pub HearsNext : Item → ClientState → ClientState → Result (Option Report) ReadFault → Type 0
 HearsNext item old new (Ok None) =
     (p : Pending) × (next : Pending) × (old.pending ≡ Some p) × ((rest : List Item) → gather p (item ∷ rest) ≡ gather next rest)

@@ -15,7 +15,7 @@ use Rattle.dap_orders.specs.Orders.{event_of}
 use Rattle.dap_orders.specs.Schedules.{Numbered}
 use Rattle.dap_capture.specs.Played.{IsStepText, event_line, refusal_line, refusal_text}
 
--- these are the bytes of the packet at a place of an end's wire
+-- these are the bytes of the packet at an index of an end's wire
 pub record IsPacketAt (s : State) (end : End) (place : ℕ) (bytes : List ℕ) : Type 0 where
   pub sending : Sending
   pub written : slice_get (end_of s end).wire place ≡ Some sending

@@ -51,9 +51,9 @@ pub record AreNew (s t : LinkSetup) (first : Files) (p : Pair) : Type 0 where
   pub serving : IsAfter (nothing_yet first) p.b
   pub none : p ≡ record { a = p.a; b = p.b; from_a = []; from_b = []; requests = []; reports = [] }
 
--- The messages that were served are the first of those that the requests ask, each once and in order; the files are those
--- after them; the answers that were read are the first of the answers to them, and the reports are those that the definition
--- tells of these.
+-- The messages that were served are the first of those that the requests ask, each once and in order; the files are
+-- those after them; the answers that were read are the first of the answers to them, and the reports are those that the
+-- definition gives for these.
 pub record PairHeadline (first : Files) (p : Pair) : Type 0 where
   pub taken : List Message
   pub taken_in_order : (rest : List Message) × (taken ++ rest ≡ Asked p.a.present.identity p.requests)

@@ -25,7 +25,7 @@ fn limits_and_numbers(rt: HostRuntime) {
     assert!(rt; length(&MessageValue::complete_with(2)) == Some(5));
 }
 
-/// How many bytes the message has, where it fits.
+/// Returns how many bytes the message has, where it fits.
 fn length(message: &MessageValue<'_>) -> Option<usize> {
     if fits_value(message) {
         Some(encoded_len(message))

@@ -49,7 +49,7 @@ asked_packets own_a own_b (request ∷ requests) = Blocked own_b (messages_of ow
 abbrev pub answer_packets : (own : ℕ) → (before items : List Item) → List NspMessage
 answer_packets own before items = answers_to (plain_setup own) [] before items
 
--- the messages that B served, as its number tells
+-- the messages that B served, by their number
 abbrev pub served_items : Parts → List Item
 served_items p = map Whole (take p.served (Asked p.accessing.own p.requests))
 
@@ -121,8 +121,8 @@ pub record AreAlike (s t : LinkSetup) : Type 0 where
   pub window : s.window ≡ t.window
   pub limit : s.max_message ≡ t.max_message
 
--- Of the first messages in NSP messages this many were handled: all those of some NSP messages, which left the link, and
--- the first of the next one, which stays while one of it is left; the place is after these.
+-- Of the first messages in NSP messages this many were processed: all those of some NSP messages, which left the link,
+-- and the first of the next one, which stays while one of it is left; the offset is after these.
 pub record IsAmong (packets : List NspMessage) (count place : ℕ) (gone : List NspMessage) : Type 0 where
   pub begun : List Message
   pub rest : List NspMessage

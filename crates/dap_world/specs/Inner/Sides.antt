@@ -18,7 +18,7 @@ use Rattle.dap_events.specs.declared.event.Step.TheVariants as step
 use Rattle.dap_events.specs.declared.event.WorldFault.{WorldFault}
 use Rattle.dap_events.specs.declared.event.WorldFault.TheVariants as fault
 
--- an end's port, how many NSP messages it handed to its link, and the packets that it wrote
+-- an end's port, how many NSP messages it passed to its link, and the packets that it wrote
 pub record SideValue : Type 0 where
   pub link : LinkValue
   pub outbox : List (List ℕ)
@@ -32,7 +32,8 @@ side_of port posted wire = record { link = port.link; outbox = port.outbox; post
 abbrev pub port_of : SideValue → PortValue
 port_of s = record { link = s.link; outbox = s.outbox; place = s.place }
 
--- A packet was written after the others. It carries the k-th segment of what was passed on, or none, and what was taken.
+-- A packet was written after the others. It carries the k-th segment of what was passed on, or none, and what was
+-- taken.
 pub record WroteWired (v : LinkValue) (old new : List Wired) (k : Option ℕ) (answer : Step) : Type 0 where
   pub place : answer ≡ step.Packet (length old)
   pub wired : Wired
