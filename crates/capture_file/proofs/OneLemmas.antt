@@ -46,7 +46,7 @@ never e kind h = cc
 never_meaning : (m : Meaning) (kind : FaultKind) → ◌≡◌ {A = Result Meaning FaultKind} (Ok m) (Err kind) → ⊥
 never_meaning m kind h = cc
 
--- two units at one place are one
+-- two units at one offset are one
 pub one_unit : (format : Format) (extent other : Extent) (unit last more rest : List ℕ) → IsUnit format extent unit → IsUnit format other last
     → unit ++ more ≡ last ++ rest → (extent ≡ other) × (unit ≡ last) × (more ≡ rest)
 one_unit format extent other unit last more rest is are e =
@@ -86,7 +86,7 @@ stuck_none format interfaces rest kind none unit more extent meaning e is means 
           never_meaning meaning kind (sym means ∙ (ap (λ x. meaning_of format interfaces (kept_prefix x unit)) one.0 ∙ (ap (λ xs. meaning_of format interfaces (kept_prefix bad.2 xs)) one.1 ∙ bad.5)))
     ]
 
--- two faults at one place are one
+-- two faults at one offset are one
 pub one_kind : (format : Format) (interfaces : List Interface) (rest : List ℕ) (kind other : FaultKind) → IsNone format interfaces rest kind
     → IsNone format interfaces rest other → kind ≡ other
 one_kind format interfaces rest kind other none nor =
@@ -161,9 +161,9 @@ rest_one a b x y same e =
     sym (drop-append_seam a x) ∙ (ap (λ n. drop n (a ++ x)) (ap length same) ∙ (ap (λ xs. drop (length b) xs) e ∙ drop-append_seam b y))
 
 -- two stops of one file
-pub stops_one : (bytes : List ℕ) (records others : List Record) (kind other : FaultKind) (at place : ℕ) → Stops bytes records kind at → Stops bytes others other place
-    → (records ≡ others) × (kind ≡ other) × (at ≡ place)
-stops_one bytes records others kind other at place s t =
+pub stops_one : (bytes : List ℕ) (records others : List Record) (kind other : FaultKind) (at offset : ℕ) → Stops bytes records kind at → Stops bytes others other offset
+    → (records ≡ others) × (kind ≡ other) × (at ≡ offset)
+stops_one bytes records others kind other at offset s t =
     let joined = sym s.joined ∙ t.joined in
     let one = one_reading s.rest t.rest s.units t.units (stuck_none s.format s.interfaces s.rest kind s.none) (stuck_none t.format t.interfaces t.rest other t.none) joined in
     let rests = rest_one s.front t.front s.rest t.rest one.bytes_are joined in
@@ -172,8 +172,8 @@ stops_one bytes records others kind other at place s t =
     (subst (λ (xs : List ℕ). IsNone s.format s.interfaces xs kind) rests s.none)) in
     (one.records_are, one_kind t.format t.interfaces t.rest kind other none t.none, s.offset ∙ (ap (λ f. offset_of (length f)) one.bytes_are ∙ sym t.offset))
 
-pub cuts_one : (bytes : List ℕ) (records others : List Record) (at place : ℕ) → IsCutShort bytes records at → IsCutShort bytes others place → (records ≡ others) × (at ≡ place)
-cuts_one bytes records others at place s t =
+pub cuts_one : (bytes : List ℕ) (records others : List Record) (at offset : ℕ) → IsCutShort bytes records at → IsCutShort bytes others offset → (records ≡ others) × (at ≡ offset)
+cuts_one bytes records others at offset s t =
     let joined = sym s.joined ∙ t.joined in
     let one = one_reading s.rest t.rest s.units t.units (stuck_part s.format s.interfaces s.rest s.partial) (stuck_part t.format t.interfaces t.rest t.partial) joined in
     (one.records_are, s.offset ∙ (ap (λ f. offset_of (length f)) one.bytes_are ∙ sym t.offset))
@@ -211,8 +211,8 @@ whole_or_cut bytes records others at w s =
       | inr start ↦ w.begun (one.last_is ∙ start)
     ]
 
-pub cut_or_stops : (bytes : List ℕ) (records others : List Record) (kind : FaultKind) (at place : ℕ) → IsCutShort bytes records place → Stops bytes others kind at → ⊥
-cut_or_stops bytes records others kind at place s t =
+pub cut_or_stops : (bytes : List ℕ) (records others : List Record) (kind : FaultKind) (at offset : ℕ) → IsCutShort bytes records offset → Stops bytes others kind at → ⊥
+cut_or_stops bytes records others kind at offset s t =
     let joined = sym s.joined ∙ t.joined in
     let one = one_reading s.rest t.rest s.units t.units (stuck_part s.format s.interfaces s.rest s.partial) (stuck_none t.format t.interfaces t.rest kind t.none) joined in
     let rests = rest_one s.front t.front s.rest t.rest one.bytes_are joined in

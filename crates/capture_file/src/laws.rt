@@ -14,17 +14,17 @@ pub fn files_have_one_reading()
     ensures whole { (bytes : List ℕ) (records others : List Record) → IsWhole bytes records
         → IsWhole bytes others → records ≡ others }
     ensures stops { (bytes : List ℕ) (records others : List Record) (kind other : FaultKind)
-        (at place : ℕ) → Stops bytes records kind at → Stops bytes others other place
-        → (records ≡ others) × (kind ≡ other) × (at ≡ place) }
-    ensures cut { (bytes : List ℕ) (records others : List Record) (at place : ℕ)
-        → IsCutShort bytes records at → IsCutShort bytes others place
-        → (records ≡ others) × (at ≡ place) }
+        (at offset : ℕ) → Stops bytes records kind at → Stops bytes others other offset
+        → (records ≡ others) × (kind ≡ other) × (at ≡ offset) }
+    ensures cut { (bytes : List ℕ) (records others : List Record) (at offset : ℕ)
+        → IsCutShort bytes records at → IsCutShort bytes others offset
+        → (records ≡ others) × (at ≡ offset) }
     ensures whole_or_stops { (bytes : List ℕ) (records others : List Record) (kind : FaultKind)
         (at : ℕ) → IsWhole bytes records → Stops bytes others kind at → ⊥ }
     ensures whole_or_cut { (bytes : List ℕ) (records others : List Record) (at : ℕ)
         → IsWhole bytes records → IsCutShort bytes others at → ⊥ }
     ensures cut_or_stops { (bytes : List ℕ) (records others : List Record) (kind : FaultKind)
-        (at place : ℕ) → IsCutShort bytes records place → Stops bytes others kind at → ⊥ }
+        (at offset : ℕ) → IsCutShort bytes records offset → Stops bytes others kind at → ⊥ }
 {}
 
 /// States that a pcap file of frames, as a plain writer writes it, is read as these frames.

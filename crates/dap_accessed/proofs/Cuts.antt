@@ -15,16 +15,16 @@ pub cut-more : (own : ServerSetup) (s : Standing) (items : List Item) (item : It
 cut-more own s [] item = refl
 cut-more own s (first ∷ []) item =
     elim (turn_of own s first) as (λ (t : Turn).
-    ◌≡◌ {A = Grouped} (elim t [ Does effect ↦ grouped own (over s s.place first effect) (item ∷ []) | Begins begun ↦ grouped own (after_two s begun item) [] ])
-    (after_item own (elim t [ Does effect ↦ record { standing = over s s.place first effect; begun = None } | Begins begun ↦ record { standing = s; begun = Some begun } ]) item)) [
+    ◌≡◌ {A = Grouped} (elim t [ Does effect ↦ grouped own (over s s.state first effect) (item ∷ []) | Begins begun ↦ grouped own (after_two s begun item) [] ])
+    (after_item own (elim t [ Does effect ↦ record { standing = over s s.state first effect; begun = None } | Begins begun ↦ record { standing = s; begun = Some begun } ]) item)) [
       | Does effect ↦ refl
       | Begins begun ↦ refl
     ]
 cut-more own s (first ∷ second ∷ items) item =
     elim (turn_of own s first) as (λ (t : Turn).
-    ◌≡◌ {A = Grouped} (elim t [ Does effect ↦ grouped own (over s s.place first effect) (second ∷ (items ++ item ∷ [])) | Begins begun ↦ grouped own (after_two s begun second) (items ++ item ∷ []) ])
-    (after_item own (elim t [ Does effect ↦ grouped own (over s s.place first effect) (second ∷ items) | Begins begun ↦ grouped own (after_two s begun second) items ]) item)) [
-      | Does effect ↦ cut-more own (over s s.place first effect) (second ∷ items) item
+    ◌≡◌ {A = Grouped} (elim t [ Does effect ↦ grouped own (over s s.state first effect) (second ∷ (items ++ item ∷ [])) | Begins begun ↦ grouped own (after_two s begun second) (items ++ item ∷ []) ])
+    (after_item own (elim t [ Does effect ↦ grouped own (over s s.state first effect) (second ∷ items) | Begins begun ↦ grouped own (after_two s begun second) items ]) item)) [
+      | Does effect ↦ cut-more own (over s s.state first effect) (second ∷ items) item
       | Begins begun ↦ cut-more own (after_two s begun second) items item
     ]
 

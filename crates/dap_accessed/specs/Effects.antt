@@ -15,7 +15,7 @@ use Rattle.dap_accessed.specs.declared.setup.ServerSetup.{ServerSetup}
 use Rattle.dap_accessed.specs.declared.phase.OpenFile.{OpenFile}
 use Rattle.dap_accessed.specs.declared.verbs.Verb.{Verb}
 use Rattle.dap_accessed.specs.declared.verbs.Verb.TheVariants as verbs
-use Rattle.dap_accessed.specs.Standing.{the_file, Place, Fresh, Ready, Opened, Connected, Store, Stopped, Group, Standing, Scene, Effect, enters}
+use Rattle.dap_accessed.specs.Standing.{the_file, ServerState, Fresh, Ready, Opened, Connected, Store, Stopped, Group, Standing, Scene, Effect, enters}
 use Rattle.dap_accessed.specs.Replies.{bare_status, sync_status}
 use Rattle.dap_accessed.specs.Past.{asked_shape, kept_attributes, is_dropping, ordinal_so_far}
 use Rattle.dap_accessed.specs.Accesses.{access_file, complete}
@@ -36,23 +36,23 @@ pub data Turn : Type 0 where
   Begins : Begun → Turn
 
 -- A message that is out of sequence changes nothing.
-abbrev pub sync : Scene → Place → Message → Effect
-sync scene place message = enters scene place (sync_status message ∷ [])
+abbrev pub sync : Scene → ServerState → Message → Effect
+sync scene state message = enters scene state (sync_status message ∷ [])
 
 -- the answer to a Control that is out of sequence while a file is open; an unknown CTLFUNC isn't supported
 abbrev pub control_status : Verb → Message
 control_status verbs.Unknown = bare_status (codes.unsupported codes.types.control)
-control_status verb = bare_status (codes.out_of_place codes.types.control)
+control_status verb = bare_status (codes.out_of_sequence codes.types.control)
 
 -- that answer, which changes nothing
-abbrev pub refuse_control : Verb → Scene → Place → Effect
-refuse_control verb scene place = enters scene place (control_status verb ∷ [])
+abbrev pub refuse_control : Verb → Scene → ServerState → Effect
+refuse_control verb scene state = enters scene state (control_status verb ∷ [])
 
 -- what a message does while a file is open, unless the phase says otherwise
-abbrev pub common_effect : Scene → OpenFile → Place → Message → Effect
-common_effect scene opened place (Control control) = refuse_control (verb_of control) scene place
-common_effect scene opened place (Accomp c) = complete c.func scene opened place
-common_effect scene opened place message = sync scene place message
+abbrev pub common_effect : Scene → OpenFile → ServerState → Message → Effect
+common_effect scene opened state (Control control) = refuse_control (verb_of control) scene state
+common_effect scene opened state (Accomp c) = complete c.func scene opened state
+common_effect scene opened state message = sync scene state message
 
 -- ---- Fresh.
 
@@ -137,7 +137,7 @@ effect_stopped scene opened stream message = common_effect scene opened (Stopped
 -- ---- All phases. Only in Connected does a message begin a group of two.
 
 -- what a message does in a phase
-abbrev pub turn_in : (own : ServerSetup) → Scene → (past : List Group) → Place → Message → Turn
+abbrev pub turn_in : (own : ServerSetup) → Scene → (past : List Group) → ServerState → Message → Turn
 turn_in own scene past Fresh message = Does (effect_fresh own scene message)
 turn_in own scene past Ready message = Does (effect_ready own scene (asked_shape (kept_attributes past)) message)
 turn_in own scene past (Opened opened) message = Does (effect_opened scene opened message)
@@ -148,8 +148,8 @@ turn_in own scene past (Stopped opened stream) message = Does (effect_stopped sc
 
 -- What an item does outside a group of two. A malformed one is answered by the format Status of its type.
 abbrev pub turn_of : (own : ServerSetup) → Standing → Item → Turn
-turn_of own s (Malformed fault) = Does (enters s.scene s.place (bare_status (codes.status_code_for fault.message_type) ∷ []))
-turn_of own s (Whole message) = turn_in own s.scene s.past s.place message
+turn_of own s (Malformed fault) = Does (enters s.scene s.state (bare_status (codes.status_code_for fault.message_type) ∷ []))
+turn_of own s (Whole message) = turn_in own s.scene s.past s.state message
 
 -- ---- The second item of a group of two.
 

@@ -5,16 +5,16 @@ use Rattle.std.specs.Prelude.{ℕ, List, [], ◌∷◌, ◌++◌, length, drop, 
 use Rattle.dap_msg.specs.declared.message.Message.{Message}
 use Rattle.dap_msg.specs.declared.items.Item.{Item}
 use Rattle.dap_accessed.specs.declared.setup.ServerSetup.{ServerSetup}
-use Rattle.dap_accessed.specs.Standing.{Files, Place, Connected, Group, Standing, Effect, start}
+use Rattle.dap_accessed.specs.Standing.{Files, ServerState, Connected, Group, Standing, Effect, start}
 use Rattle.dap_accessed.specs.Effects.{Begun, Turn, Does, Begins, turn_of, effect_with}
 
 -- the state after a group
-abbrev pub over : Standing → Place → Item → Effect → Standing
-over s place first effect =
+abbrev pub over : Standing → ServerState → Item → Effect → Standing
+over s state first effect =
     record {
       scene = effect.scene;
-      place = effect.place;
-      past = record { place = place; first = first; answers = effect.answers } ∷ s.past;
+      state = effect.state;
+      past = record { state = state; first = first; answers = effect.answers } ∷ s.past;
     }
 
 -- the state after a group of two
@@ -33,12 +33,12 @@ abbrev pub grouped : (own : ServerSetup) → Standing → List Item → Grouped
 grouped own s [] = record { standing = s; begun = None }
 grouped own s (item ∷ []) =
     elim (turn_of own s item) [
-      | Does effect ↦ record { standing = over s s.place item effect; begun = None }
+      | Does effect ↦ record { standing = over s s.state item effect; begun = None }
       | Begins begun ↦ record { standing = s; begun = Some begun }
     ]
 grouped own s (item ∷ second ∷ items) =
     elim (turn_of own s item) [
-      | Does effect ↦ grouped own (over s s.place item effect) (second ∷ items)
+      | Does effect ↦ grouped own (over s s.state item effect) (second ∷ items)
       | Begins begun ↦ grouped own (after_two s begun second) items
     ]
 
@@ -71,7 +71,7 @@ added own first items item = drop (length (Answers own first items)) (Answers ow
 
 -- the state after a group, or with one begun
 abbrev pub next_group : Standing → Item → Turn → Grouped
-next_group s item (Does effect) = record { standing = over s s.place item effect; begun = None }
+next_group s item (Does effect) = record { standing = over s s.state item effect; begun = None }
 next_group s item (Begins begun) = record { standing = s; begun = Some begun }
 
 -- the state after an item, where this group was begun

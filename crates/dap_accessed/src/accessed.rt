@@ -3,7 +3,7 @@
 ghost use Rattle.std.specs.Prelude.{◌≡◌, ◌≤◌, ◌<◌, ℕ, List, [], length, IfOk, IsOk, OnErr};
 ghost use Rattle.dap_msg.specs.BothEnds.{max_nsp_message, min_buffer};
 ghost use Rattle.dap_msg.specs.declared.items.Item.{Item as TheItem};
-ghost use Rattle.dap_msg.specs.Items.{IsPlace, ItemAt};
+ghost use Rattle.dap_msg.specs.Items.{IsOffset, ItemAt};
 ghost use Rattle.dap_msg.specs.declared.items.Item.TheVariants.{Whole};
 ghost use Rattle.dap_msg.specs.declared.message.Message.{Message as TheMessage};
 ghost use Rattle.dap_msg.specs.Decoding.{IsSpelled};
@@ -86,7 +86,7 @@ impl Accessed {
     /// The only refusal is [`NoMemory`]. Nothing has changed then, and the same call may be made again. A message
     /// that has no answer and stores no record takes no memory.
     pub fn serve(&mut self, nsp_message: &[u8], at: usize) -> Result<Served, NoMemory>
-        requires { IsPlace at nsp_message.now }
+        requires { IsOffset at nsp_message.now }
         ensures serves { IfOk result (Serves nsp_message.now at self.old self.new) }
         ensures within { IfOk result (λ served. served.next ≤ length nsp_message.now) }
         ensures further { at < length nsp_message.now → IfOk result (λ served. at < served.next) }

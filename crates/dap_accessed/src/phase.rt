@@ -1,7 +1,7 @@
 //! The phase of a server between two messages.
 
 ghost use Rattle.std.specs.Prelude.{◌≡◌};
-ghost use Rattle.dap_accessed.specs.Inner.Steps.{phase_behind};
+ghost use Rattle.dap_accessed.specs.Inner.Steps.{phase_after_refusal};
 ghost use Rattle.dap_accessed.specs.Sessions.{moved_up, phase_moved_up};
 
 use rec_file::{Refusal, Rights, Stream};
@@ -58,8 +58,8 @@ pub enum Phase {
 
 impl Phase {
     /// Returns the phase after an item that is refused, which ends a group of two.
-    pub(crate) fn behind(self) -> Phase
-        ensures { result ≡ phase_behind self }
+    pub(crate) fn after_refusal(self) -> Phase
+        ensures { result ≡ phase_after_refusal self }
     {
         match self {
             Phase::PutDue(opened, stream, _) | Phase::UpdateDue(opened, stream) => {

@@ -457,7 +457,7 @@ impl Session {
     {
         match self.phase.step(item) {
             Ok(step) => self.act(files, &step),
-            Err(code) => self.reply(Answer::Status(code), self.phase.behind()),
+            Err(code) => self.reply(Answer::Status(code), self.phase.after_refusal()),
         }
     }
 }

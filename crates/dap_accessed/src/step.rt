@@ -26,8 +26,8 @@ use crate::verbs::{Verb, verb_of};
 use dap_msg::codes::{
     CMPFUNC_CLOSE, CMPFUNC_END_OF_STREAM, CMPFUNC_PURGE, CMPFUNC_SKIP, CONFUNC_ABORT,
     CONFUNC_AGAIN, CONFUNC_RESUME, CONFUNC_SKIP, END_OF_FILE, ORG_SEQUENTIAL, RFM_VARIABLE,
-    SUCCESS, TYPE_COMPLETE, TYPE_CONFIGURATION, TYPE_CONTINUE, TYPE_CONTROL, invalid, out_of_place,
-    unsupported,
+    SUCCESS, TYPE_COMPLETE, TYPE_CONFIGURATION, TYPE_CONTINUE, TYPE_CONTROL, invalid,
+    out_of_sequence, unsupported,
 };
 use dap_msg::{
     Attributes, ControlFields, Item, MessageValue, is_too_small, limit_of, number_of, status_for,
@@ -86,13 +86,13 @@ impl Phase {
                 MessageValue::Filedata { payload, .. } => Ok(Step::Put(
                     opened, stream, key, payload.0,
                 )),
-                _ => Err(out_of_place(message.number())),
+                _ => Err(out_of_sequence(message.number())),
             },
             Phase::UpdateDue(opened, stream) => match message {
                 MessageValue::Filedata { payload, .. } => Ok(Step::Update(
                     opened, stream, payload.0,
                 )),
-                _ => Err(out_of_place(message.number())),
+                _ => Err(out_of_sequence(message.number())),
             },
             Phase::Storing(opened, stream, ordinal) => match message {
                 MessageValue::Filedata { payload, .. } => {
@@ -218,13 +218,13 @@ impl Phase {
                 CMPFUNC_CLOSE => Ok(Step::Reply(Answer::Complete, Phase::Ready)),
                 CMPFUNC_PURGE => Ok(Step::Purge(opened)),
                 CMPFUNC_END_OF_STREAM => match self {
-                    Phase::Opened(_) => Err(out_of_place(TYPE_COMPLETE)),
+                    Phase::Opened(_) => Err(out_of_sequence(TYPE_COMPLETE)),
                     _ => Ok(Step::Reply(Answer::Complete, Phase::Opened(opened))),
                 },
                 CMPFUNC_SKIP => Err(unsupported(TYPE_COMPLETE)),
                 _ => Err(invalid(TYPE_COMPLETE)),
             },
-            _ => Err(out_of_place(message.number())),
+            _ => Err(out_of_sequence(message.number())),
         }
     }
 }
@@ -239,7 +239,7 @@ fn fresh<'a>(message: MessageValue<'a>) -> Result<Step<'a>, u16>
         )),
         MessageValue::Config(config) => Ok(Step::Configure(limit_of(config.bufsiz))),
         MessageValue::Other { .. } => Ok(Step::Enter(Phase::Fresh)),
-        _ => Err(out_of_place(message.number())),
+        _ => Err(out_of_sequence(message.number())),
     }
 }
 
@@ -256,7 +256,7 @@ fn ready<'a>(message: MessageValue<'a>) -> Result<Step<'a>, u16>
             fac: access.fac,
         }),
         MessageValue::Other { .. } => Ok(Step::Enter(Phase::Ready)),
-        _ => Err(out_of_place(message.number())),
+        _ => Err(out_of_sequence(message.number())),
     }
 }
 
@@ -266,7 +266,7 @@ fn control_refused(verb: Verb) -> u16
 {
     match verb {
         Verb::Unknown => unsupported(TYPE_CONTROL),
-        _ => out_of_place(TYPE_CONTROL),
+        _ => out_of_sequence(TYPE_CONTROL),
     }
 }
 

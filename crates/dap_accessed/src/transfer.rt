@@ -87,7 +87,7 @@ impl Session {
         stream: Stream,
     ) -> Result<(Vec<Vec<u8>>, Phase), NoMemory>
         requires { opened.at < length files.now }
-        ensures place { IfOk result (λ r. r.1 ≡ fetched_phase
+        ensures phase { IfOk result (λ r. r.1 ≡ fetched_phase
             (with_files files.now self.now) opened stream) }
         ensures answers { IfOk result (λ r. HasFetched
             (with_files files.now self.now) opened stream r.0) }

@@ -23,18 +23,18 @@ none_kept (Some (pending.Batch records)) = Some (pending.Batch [])
 none_kept o = o
 
 -- with these records before those that are kept of a batch under way
-abbrev pub kept_behind : (told : List (ℕ × List ℕ)) → Option Pending → Option Pending
-kept_behind told (Some (pending.Batch records)) = Some (pending.Batch (told ++ records))
-kept_behind told o = o
+abbrev pub kept_after : (told : List (ℕ × List ℕ)) → Option Pending → Option Pending
+kept_after told (Some (pending.Batch records)) = Some (pending.Batch (told ++ records))
+kept_after told o = o
 
 -- a client in whose batch these records are put back
 abbrev pub put_back : (told : List (ℕ × List ℕ)) → ClientState → ClientState
-put_back told p = record p { pending = kept_behind told p.pending }
+put_back told p = record p { pending = kept_after told p.pending }
 
 -- a report of a batch with these records before its records
-abbrev pub reported_behind : (told : List (ℕ × List ℕ)) → Report → Report
-reported_behind told (report.Batch records ending) = report.Batch (told ++ records) ending
-reported_behind told done = done
+abbrev pub reported_after : (told : List (ℕ × List ℕ)) → Report → Report
+reported_after told (report.Batch records ending) = report.Batch (told ++ records) ending
+reported_after told done = done
 
 -- a batch is under way
 abbrev pub IsBatch : ClientState → Type 0
@@ -49,4 +49,4 @@ pub record ReadsOn (bytes : List ℕ) (at : ℕ) (old new : ClientState)
   pub stands : (told : List (ℕ × List ℕ)) (requests : List Request) (answers : List Item) → IsBatch old → ClientAfter requests answers (put_back told old) →
       ClientAfter requests (answers ++ answer ∷ []) (put_back told new)
   pub told : (told : List (ℕ × List ℕ)) (requests : List Request) (answers : List Item) → IsBatch old → ClientAfter requests answers (put_back told old) →
-      Told requests (answers ++ answer ∷ []) ≡ Told requests answers ++ option_to_list (option_map (reported_behind told) read.report)
+      Told requests (answers ++ answer ∷ []) ≡ Told requests answers ++ option_to_list (option_map (reported_after told) read.report)

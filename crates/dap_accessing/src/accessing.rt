@@ -8,12 +8,12 @@ ghost use Rattle.dap_msg.specs.declared.message.Message.TheVariants.{Config};
 ghost use Rattle.dap_msg.specs.declared.items.Item.{Item as TheItem};
 ghost use Rattle.dap_msg.specs.declared.items.Item.TheVariants.{Whole};
 ghost use Rattle.dap_msg.specs.Blocked.{bodies};
-ghost use Rattle.dap_accessing.specs.Inner.Hears.{HasNoPlace, HasPlace, HasShortNumbers, HearsNext};
+ghost use Rattle.dap_accessing.specs.Inner.Hears.{HasShortNumbers, HearsNext, IsInSequence, IsOutOfSequence};
 ghost use Rattle.dap_accessing.specs.declared.pending.Pending.{Pending as ThePending};
 ghost use Rattle.dap_msg.specs.declared.message.Message.{Message as TheMessage};
 ghost use Rattle.dap_msg.specs.Decoding.{IsSpelled};
 ghost use Rattle.dap_accessing.specs.Present.{ClientState, ClientAfter};
-ghost use Rattle.dap_msg.specs.Items.{IsPlace};
+ghost use Rattle.dap_msg.specs.Items.{IsOffset};
 ghost use Rattle.dap_accessing.specs.Calls.{Asks, AskRefused, IsAdmittedBy, Reads, ReadRefused};
 ghost use Rattle.dap_accessing.specs.Each.{ReadsOn, none_kept, put_back, records_kept};
 ghost use Rattle.dap_accessing.specs.Told.{Told};
@@ -223,7 +223,7 @@ impl Accessing {
     /// Refusals: Failed; Unexpected, after which the end has failed, and keeps nothing of its requests; NoMemory, which
     /// changes nothing.
     pub fn read(&mut self, nsp_message: &[u8], at: usize) -> Result<ReadStep, ReadFault>
-        requires { IsPlace at nsp_message.now }
+        requires { IsOffset at nsp_message.now }
         ensures reads { IfOk result (λ read. Reads nsp_message.now at self.old self.new read) }
         // So it reads also where records were taken out of the batch that is under way.
         ensures reads_on { IfOk result
@@ -285,7 +285,7 @@ impl Accessing {
     /// isn't read. In order: Failed; Unexpected, after which the end has failed, and keeps nothing of its requests;
     /// NoMemory, which changes nothing.
     pub fn refuse(&mut self, nsp_message: &[u8], at: usize) -> ReadFault
-        requires { IsPlace at nsp_message.now }
+        requires { IsOffset at nsp_message.now }
         ensures refused { ReadRefused nsp_message.now at self.old self.new result }
         ensures own { self.new.own ≡ self.old.own }
         ensures identity { self.new.identity ≡ self.old.identity }
@@ -306,8 +306,8 @@ impl Accessing {
     fn may_come(&self, item: &Item<'_>) -> bool
         requires { (m : TheMessage) → item.now ≡ Whole m → IsSpelled m }
         ensures yes { result ≡ true → (p : ThePending) × (self.now.pending ≡ Some p)
-            × HasPlace p item.now }
-        ensures no { result ≡ false → HasNoPlace item.now self.now.pending }
+            × IsInSequence p item.now }
+        ensures no { result ≡ false → IsOutOfSequence item.now self.now.pending }
     {
         match (item, &self.pending) {
             (Item::Whole(message), Some(pending)) => pending.expects(message),

@@ -5,7 +5,7 @@ ghost use Rattle.dap_msg.specs.declared.items.Item.TheVariants.{Whole};
 ghost use Rattle.dap_accessing.specs.declared.pending.Pending.TheVariants as pending;
 ghost use Rattle.dap_accessing.specs.Told.{ending_by, reason_in};
 ghost use Rattle.dap_accessing.specs.declared.pending.Heard.TheVariants as heard;
-ghost use Rattle.dap_accessing.specs.Inner.Hears.{AddsBody, HasNoPlace, HasPlace, HasShortNumbers, Hears, IsRecordOrRefusal, pending_of, refused_as};
+ghost use Rattle.dap_accessing.specs.Inner.Hears.{AddsBody, HasShortNumbers, Hears, IsInSequence, IsOutOfSequence, IsRecordOrRefusal, pending_of, refused_as};
 
 use crate::bytes::{Numbered, Octets};
 use crate::report::{Ending, Report};
@@ -108,11 +108,11 @@ impl Pending {
     }
 
     /// Returns whether a message is expected as the next answer.
-    #[tactic(auto, using(crate::proofs::Expecting::heard_place, crate::proofs::Expecting::record_place, crate::proofs::Expecting::batch_place))]
+    #[tactic(auto, using(crate::proofs::Expecting::heard_in_sequence, crate::proofs::Expecting::record_in_sequence, crate::proofs::Expecting::batch_in_sequence))]
     pub(crate) fn expects(&self, answer: &MessageValue<'_>) -> bool
         requires { HasShortNumbers answer.now }
-        ensures yes { result ≡ true → HasPlace self.now (Whole answer.now) }
-        ensures no { result ≡ false → HasNoPlace (Whole answer.now) (Some self.now) }
+        ensures yes { result ≡ true → IsInSequence self.now (Whole answer.now) }
+        ensures no { result ≡ false → IsOutOfSequence (Whole answer.now) (Some self.now) }
     {
         match self {
             Pending::Record => is_record_or_refusal(answer),

@@ -35,17 +35,17 @@ same_word a b x e f = cc
 same_setup : (a b : WorldSetup) (x : _) → x ≡ Some a → x ≡ Some b → b ≡ a
 same_setup a b x e f = cc
 
-one_packet : (s : State) (end : End) (place : ℕ) (a b : List ℕ) → IsPacketWritten s end place a → IsPacketWritten s end place b → a ≡ b
-one_packet s end place a b (sending, at, bytes, packet, printed) (sending', at', bytes', packet', printed') =
+one_packet : (s : State) (end : End) (index : ℕ) (a b : List ℕ) → IsPacketWritten s end index a → IsPacketWritten s end index b → a ≡ b
+one_packet s end index a b (sending, at, bytes, packet, printed) (sending', at', bytes', packet', printed') =
     let same = one_on_wire s end sending bytes bytes' packet (subst (λ (p : Sending). IsOnWire s end p bytes') (same_sending sending sending' _ at at') packet') in
-    printed ∙ ap (λ (x : List ℕ). concat (codes "packet " ∷ end_text end ∷ codes " " ∷ decimal place ∷ codes " " ∷ encode_lower x ∷ [])) same ∙ sym printed'
+    printed ∙ ap (λ (x : List ℕ). concat (codes "packet " ∷ end_text end ∷ codes " " ∷ decimal index ∷ codes " " ∷ encode_lower x ∷ [])) same ∙ sym printed'
 
 one_answer : (s : State) (e : Event) (answer : Step) (a b : List ℕ) → IsStepText s e answer a → IsStepText s e answer b → a ≡ b
 one_answer s e (step.Asked count) a b one two = one ∙ sym two
 one_answer s e (step.Posted count) a b one two = one ∙ sym two
-one_answer s e (step.Packet place) a b one two =
+one_answer s e (step.Packet index) a b one two =
     let end = same_end one.0 two.0 _ one.1 two.1 in
-    one_packet s one.0 place a b one.2 (subst (λ (x : End). IsPacketWritten s x place b) end two.2)
+    one_packet s one.0 index a b one.2 (subst (λ (x : End). IsPacketWritten s x index b) end two.2)
 one_answer s e (step.Delivered got) a b one two = one ∙ sym two
 one_answer s e (step.Served count) a b one two = one ∙ sym two
 one_answer s e step.Nothing a b one two = one ∙ sym two

@@ -41,16 +41,16 @@ end_text A = codes "a"
 end_text B = codes "b"
 
 -- the packet at this index of an end's wire, in hex
-abbrev pub IsPacketWritten : State → End → (place : ℕ) → (text : List ℕ) → Type 0
-IsPacketWritten s end place text =
-    (sending : Sending) × (slice_get (end_of s end).wire place ≡ Some sending) × (bytes : List ℕ) × IsOnWire s end sending bytes
-    × (text ≡ concat (codes "packet " ∷ end_text end ∷ codes " " ∷ decimal place ∷ codes " " ∷ encode_lower bytes ∷ []))
+abbrev pub IsPacketWritten : State → End → (index : ℕ) → (text : List ℕ) → Type 0
+IsPacketWritten s end index text =
+    (sending : Sending) × (slice_get (end_of s end).wire index ≡ Some sending) × (bytes : List ℕ) × IsOnWire s end sending bytes
+    × (text ≡ concat (codes "packet " ∷ end_text end ∷ codes " " ∷ decimal index ∷ codes " " ∷ encode_lower bytes ∷ []))
 
 -- The text of a step, by its answer and the state after it. Of a report it is the newest one.
 abbrev pub IsStepText : State → Event → Step → List ℕ → Type 0
 IsStepText s e (step.Asked count) text = text ≡ codes "asked " ++ decimal count
 IsStepText s e (step.Posted count) text = text ≡ codes "posted " ++ decimal count
-IsStepText s e (step.Packet place) text = (end : End) × (writing_end e ≡ Some end) × IsPacketWritten s end place text
+IsStepText s e (step.Packet index) text = (end : End) × (writing_end e ≡ Some end) × IsPacketWritten s end index text
 IsStepText s e (step.Delivered got) text = text ≡ got_text got
 IsStepText s e (step.Served count) text = text ≡ codes "served " ++ decimal count
 IsStepText s e step.Nothing text = text ≡ codes "read"

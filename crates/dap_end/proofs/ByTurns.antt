@@ -22,7 +22,7 @@ use Rattle.dap_end.specs.Serving.{ServedOne, MayServe}
 use Rattle.dap_end.specs.Taking.{HasRoom, ServedInTurn, serves}
 use Rattle.dap_end.specs.Taking as taking
 use Rattle.dap_end.specs.Turns.{WritesReplies, DidAll, EndOf, TakesPacket, WentOn, WroteThen}
-use Rattle.dap_end.specs.Writing.{Behind, WroteMore}
+use Rattle.dap_end.specs.Writing.{Extends, WroteMore}
 use Rattle.std.specs.Result.{result_map_both}
 use Rattle.dap_end.proofs.Turning.{went_by}
 use Rattle.dap_end.proofs.Proceeding.{work, item_left}
@@ -37,7 +37,7 @@ none_left p idle none = no_more p p.link.coming.inbox refl idle none
 
 -- how much is left to serve
 abbrev pub left : PortValue → ℕ
-left p = work p.link.coming.inbox - p.place
+left p = work p.link.coming.inbox - p.offset
 
 module _ {P : Type 0} where
   -- what came stays
@@ -53,7 +53,7 @@ module _ {P : Type 0} where
 
   pub falls : (serves : ServesAt P) (old new : EndValue P) (n : ℕ) → ServedBy serves old new n → left new.port < left old.port
   falls serves old new n s =
-      subst (λ (p : PortValue). work p.link.coming.inbox - p.place < left old.port) (sym s.port)
+      subst (λ (p : PortValue). work p.link.coming.inbox - p.offset < left old.port) (sym s.port)
       (item_left old.port s.one)
 
   -- by the number that the link tells
@@ -74,7 +74,7 @@ module _ {P : Type 0} where
   hands p q s n may is = (may, ap (λ (r : PortValue). end_with r s) is.0, is.1)
 
   -- all was served, and then segments were written
-  pub gone_by : (e : EndOf P) (old served : EndValue P) (port : PortValue) (out all : List (List ℕ)) (r : Result (Unit {0}) LinkFault) → DidAll e old served (Ok tt) → Behind out all (WroteMore served.port port) → OnOk r (may_send port.link ≡ false)
+  pub gone_by : (e : EndOf P) (old served : EndValue P) (port : PortValue) (out all : List (List ℕ)) (r : Result (Unit {0}) LinkFault) → DidAll e old served (Ok tt) → Extends out all (WroteMore served.port port) → OnOk r (may_send port.link ≡ false)
       → IfErr r (λ f. (f ≡ fault.NoMemory) × IsTrue (may_send port.link)) → WentOn e old (end_with port served.present) out all (result_map_both (λ done. done) end_fault.Link r)
   gone_by e old served port out all (Ok u) d w full why = went_by e old served (end_with port served.present) out all (Ok u) d refl w full why
   gone_by e old served port out all (Err f) d w full why = went_by e old served (end_with port served.present) out all (Err f) d refl w full why
@@ -109,7 +109,7 @@ module _ {P : Type 0} where
 
 pub one_served : (old new : ServingValue) (n : ℕ) → ServedBy Serves old new n → ServedOne old new n
 one_served old new n h =
-    served_one old h.one.bytes h.one.later h.one.came h.one.fits new.present h.served new.port h.one.next n h.idle h.one.place h.by h.next h.within h.port
+    served_one old h.one.bytes h.one.later h.one.came h.one.fits new.present h.served new.port h.one.next n h.idle h.one.offset h.by h.next h.within h.port
     (h.count ∙ ap length (ap (λ (p : PortValue). p.outbox) h.port))
 
 pub told : (old new : ServingValue) (o : Option ℕ)

@@ -5,7 +5,7 @@ use Rattle.std.proofs.lemmas.Bool.{cases_eq, ne_eqb}
 use Rattle.std.proofs.lemmas.List.{append-nil}
 use Rattle.std.proofs.lemmas.List.Elements.{All-append}
 use Rattle.dap_msg.specs.declared.items.Item.{Item}
-use Rattle.dap_msg.specs.Items.{IsPlace}
+use Rattle.dap_msg.specs.Items.{IsOffset}
 use Rattle.nsp_link.specs.declared.fault.LinkFault.{LinkFault}
 use Rattle.nsp_link.specs.declared.fault.LinkFault.TheVariants as fault
 use Rattle.nsp_link.specs.declared.link.LinkSetup.{LinkSetup}
@@ -19,7 +19,7 @@ use Rattle.dap_end.specs.Moved.{with_outbox_sent}
 use Rattle.dap_end.specs.Serving.{IsAfter, ServedOne, MayServe}
 use Rattle.dap_end.specs.Taking.{ServedInTurn, begins, goes}
 use Rattle.dap_end.specs.Done.{ServingValue, ServerHistory}
-use Rattle.dap_end.specs.Writing.{Behind, WroteMore}
+use Rattle.dap_end.specs.Writing.{Extends, WroteMore}
 use Rattle.dap_end.specs.Moved.{sent_more}
 use Rattle.dap_end.specs.Taking.{HasRoom, serves}
 use Rattle.dap_end.specs.Calls.{WorkedOn, rests, serves_one, hands_over}
@@ -200,33 +200,33 @@ work [] = 0
 work (m ∷ inbox) = length m + 1 + work inbox
 
 abbrev pub left : ServingValue → ℕ
-left v = work v.port.link.coming.inbox - v.port.place
+left v = work v.port.link.coming.inbox - v.port.offset
 
-less_ends : (later : List (List ℕ)) (bytes : List ℕ) (place : ℕ) → IsPlace place bytes → work later - 0 < work (bytes ∷ later) - place
-less_ends later bytes place (inl lt) = omega arith
-less_ends later bytes place (inr none) = omega (arith, none.0, none.1)
+less_ends : (later : List (List ℕ)) (bytes : List ℕ) (offset : ℕ) → IsOffset offset bytes → work later - 0 < work (bytes ∷ later) - offset
+less_ends later bytes offset (inl lt) = omega arith
+less_ends later bytes offset (inr none) = omega (arith, none.0, none.1)
 
-less_inside : (later : List (List ℕ)) (bytes : List ℕ) (place next : ℕ) → IsPlace place bytes → (place < length bytes → place < next) → next < length bytes → work (bytes ∷ later) - next < work (bytes ∷ later) - place
-less_inside later bytes place next (inl lt) onward inside = let h = onward lt in omega arith
-less_inside later bytes place next (inr none) onward inside = absurd (omega (arith, none.1))
+less_inside : (later : List (List ℕ)) (bytes : List ℕ) (offset next : ℕ) → IsOffset offset bytes → (offset < length bytes → offset < next) → next < length bytes → work (bytes ∷ later) - next < work (bytes ∷ later) - offset
+less_inside later bytes offset next (inl lt) onward inside = let h = onward lt in omega arith
+less_inside later bytes offset next (inr none) onward inside = absurd (omega (arith, none.1))
 
-less_left : (inbox later : List (List ℕ)) (bytes : List ℕ) (place next : ℕ) → inbox ≡ bytes ∷ later → IsPlace place bytes → (place < length bytes → place < next) → next ≤ length bytes →
-    let ends = next == length bytes in work (if ends then later else inbox) - (if ends then 0 else next) < work inbox - place
-less_left inbox later bytes place next came at onward within =
+less_left : (inbox later : List (List ℕ)) (bytes : List ℕ) (offset next : ℕ) → inbox ≡ bytes ∷ later → IsOffset offset bytes → (offset < length bytes → offset < next) → next ≤ length bytes →
+    let ends = next == length bytes in work (if ends then later else inbox) - (if ends then 0 else next) < work inbox - offset
+less_left inbox later bytes offset next came at onward within =
     elim (cases_eq next (length bytes)) [
-      | inl end ↦ rw (eq-eqb next (length bytes) end, came) (less_ends later bytes place at)
-      | inr inside ↦ rw (ne_eqb next (length bytes) inside, came) (less_inside later bytes place next at onward (omega (arith, within, inside)))
+      | inl end ↦ rw (eq-eqb next (length bytes) end, came) (less_ends later bytes offset at)
+      | inr inside ↦ rw (ne_eqb next (length bytes) inside, came) (less_inside later bytes offset next at onward (omega (arith, within, inside)))
     ]
 
 pub item_left : (p : PortValue) (one : NextItem p) →
-    let ends = one.next == length one.bytes in work (if ends then one.later else p.link.coming.inbox) - (if ends then 0 else one.next) < work p.link.coming.inbox - p.place
+    let ends = one.next == length one.bytes in work (if ends then one.later else p.link.coming.inbox) - (if ends then 0 else one.next) < work p.link.coming.inbox - p.offset
 item_left p one =
-    let goes = item_ends one.bytes p.place one.item one.next one.place one.reads in
-    less_left p.link.coming.inbox one.later one.bytes p.place one.next one.came one.place goes.0 goes.1
+    let goes = item_ends one.bytes p.offset one.item one.next one.offset one.reads in
+    less_left p.link.coming.inbox one.later one.bytes p.offset one.next one.came one.offset goes.0 goes.1
 
 pub falls : (old new : ServingValue) (n : ℕ) → ServedOne old new n → left new < left old
 falls old new n s =
-    subst (λ (p : PortValue). work p.link.coming.inbox - p.place < left old) (sym s.port)
+    subst (λ (p : PortValue). work p.link.coming.inbox - p.offset < left old) (sym s.port)
     (item_left old.port s.one)
 
 -- ---- Writing.
@@ -238,7 +238,7 @@ pub still_by : (v : ServingValue) (port : PortValue) (n : ℕ) → port ≡ sent
 still_by v port n e = subst (λ (p : PortValue). Still IsAfter v (with_port v p)) (sym e) (still_sent v n)
 
 -- all was served, and then segments were written
-pub gone_by : (most : ℕ) (old served : ServingValue) (port : PortValue) (out all : List (List ℕ)) (r : Result (Unit {0}) LinkFault) → DidAll (serves most) old served (Ok tt) → Behind out all (WroteMore served.port port) → OnOk r (may_send port.link ≡ false)
+pub gone_by : (most : ℕ) (old served : ServingValue) (port : PortValue) (out all : List (List ℕ)) (r : Result (Unit {0}) LinkFault) → DidAll (serves most) old served (Ok tt) → Extends out all (WroteMore served.port port) → OnOk r (may_send port.link ≡ false)
     → IfErr r (λ f. (f ≡ fault.NoMemory) × IsTrue (may_send port.link)) → WentOn (serves most) old (with_port served port) out all (result_map_both (λ done. done) end_fault.Link r)
 gone_by most old served port out all (Ok u) d w full why = went_by (serves most) old served (with_port served port) out all (Ok u) d refl w full why
 gone_by most old served port out all (Err f) d w full why = went_by (serves most) old served (with_port served port) out all (Err f) d refl w full why

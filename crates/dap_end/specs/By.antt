@@ -20,7 +20,7 @@ pub record ServedBy {P : Type 0} (serves : ServesAt P) (old new : EndValue P) (n
   pub idle : old.port.outbox ≡ []
   pub one : NextItem old.port
   pub served : Served
-  pub by : serves one.bytes old.port.place old.present new.present served
+  pub by : serves one.bytes old.port.offset old.present new.present served
   pub next : served.next ≡ one.next
   pub within : one.next ≤ length one.bytes
   pub port : new.port ≡ record (gone_on old.port one.bytes one.later one.next) { outbox = bodies served.answers.items }

@@ -15,7 +15,7 @@ use Rattle.dap_end.specs.Done.{ServingValue, AskingValue}
 use Rattle.dap_end.specs.Serving.{ServedOne}
 use Rattle.dap_end.specs.Asking.{AskedOne}
 use Rattle.dap_end.specs.Hearing.{ReadOn}
-use Rattle.dap_end.specs.Writing.{Behind, WroteMore}
+use Rattle.dap_end.specs.Writing.{Extends, WroteMore}
 use Rattle.dap_end.specs.Runs.{RunsBy}
 use Rattle.dap_end.specs.Headline.{Arrival, Written}
 use Rattle.dap_end.specs.Joined.{Pair, IsBrought}
@@ -89,7 +89,7 @@ pub data AskingEvent : Type 0 where
 
 -- answers were read, whose reports follow those before, and then what waited was passed on, or not
 abbrev pub HeardMore : (before after : List Report) → AskingValue → AskingValue → Type 0
-HeardMore before after old new = (heard : AskingValue) × Behind before after (ReadOn old heard) × ((new ≡ heard) ⊎ ((n : ℕ) × HandsOver heard new n))
+HeardMore before after old new = (heard : AskingValue) × Extends before after (ReadOn old heard) × ((new ≡ heard) ⊎ ((n : ℕ) × HandsOver heard new n))
 
 -- an event, after which its reports and packets follow those before
 abbrev pub AskingStepped : (comes : LinkValue → List ℕ → Type 0) → AskingValue × List Report × List Written → AskingEvent → List Written → AskingValue × List Report × List Written → Type 0

@@ -5,7 +5,7 @@ use Rattle.dap_accessing.specs.declared.report.Report.{Report}
 use Rattle.dap_accessing.specs.declared.fault.ReadFault.{ReadFault}
 use Rattle.dap_end.specs.declared.fault.EndFault.{EndFault}
 use Rattle.dap_end.specs.declared.fault.EndFault.TheVariants as end_fault
-use Rattle.dap_end.specs.Writing.{Behind}
+use Rattle.dap_end.specs.Writing.{Extends}
 use Rattle.dap_end.specs.Turns.{DidAll, EndOf}
 use Rattle.dap_accessing.specs.Present.{ClientState}
 use Rattle.dap_end.specs.Asking.{ReadOne, ReadNone}
@@ -27,7 +27,7 @@ HearFault old new (end_fault.Read f) = ReadNone old new f
 abbrev pub hears : (before reports : List Report) → EndOf ClientState
 hears before reports =
     record {
-      on = λ old new. Behind before reports (ReadOn old new);
+      on = λ old new. Extends before reports (ReadOn old new);
       rests = λ v. v.port.link.coming.inbox ≡ [];
       halts = HearFault;
       quiet = reports ≡ before;
@@ -35,5 +35,5 @@ hears before reports =
 
 -- all that came was read, or this is why not
 abbrev pub ReadsAll : (old new : AskingValue) → (before reports : List Report) → Result (Unit {0}) ReadFault → Type 0
-ReadsAll old new before reports (Ok done) = Behind before reports (ReadOn old new) × (new.port.link.coming.inbox ≡ [])
+ReadsAll old new before reports (Ok done) = Extends before reports (ReadOn old new) × (new.port.link.coming.inbox ≡ [])
 ReadsAll old new before reports (Err f) = DidAll (hears before reports) old new (Err (end_fault.Read f))

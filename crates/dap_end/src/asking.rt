@@ -19,7 +19,7 @@ ghost use Rattle.dap_end.specs.declared.fault.EndFault.TheVariants as end_fault;
 ghost use Rattle.dap_fields.specs.Spelling.{AreBytes};
 ghost use Rattle.dap_end.specs.Ports.{new_port};
 ghost use Rattle.dap_end.specs.Going.{oldest_message};
-ghost use Rattle.dap_end.specs.Writing.{Behind};
+ghost use Rattle.dap_end.specs.Writing.{Extends};
 ghost use Rattle.dap_end.specs.Asking.{HasAsked, AskedOne, ReadOne, ReadNone};
 ghost use Rattle.dap_end.specs.Each.{with_told};
 ghost use Rattle.dap_end.specs.Hearing.{ReadOn, ReadsAll, hears};
@@ -229,7 +229,7 @@ impl End<Accessing> {
     /// Reads all that came, and adds the reports after those in `reports`. Refused as `read` is; what was read before
     /// that stays so. A failed end is unchanged, and reports nothing.
     pub fn read_all(&mut self, reports: &mut Vec<Report>) -> Result<(), ReadFault>
-        ensures ok { OnOk result (Behind reports.old.items reports.new.items
+        ensures ok { OnOk result (Extends reports.old.items reports.new.items
             (ReadOn self.old self.new)) }
         ensures all { OnOk result (self.new.port.link.coming.inbox ≡ []) }
         ensures err { IfErr result (λ f. ReadsAll self.old self.new reports.old.items
@@ -399,9 +399,9 @@ fn refuse_next(port: &mut Port, accessing: &mut Accessing) -> ReadFault
         (asking_of port.new accessing.new) result }
     ensures kept { IsPort port.new }
 {
-    let place = port.place;
+    let offset = port.offset;
     let message = port.link.peek_message().unwrap();
-    accessing.refuse(message, place)
+    accessing.refuse(message, offset)
 }
 
 /// Reads the next answer of the oldest NSP message that came.
@@ -414,9 +414,9 @@ fn read_next(port: &mut Port, accessing: &mut Accessing) -> Result<Option<Report
     ensures err { IfErr result (λ f. ReadNone (asking_of port.old accessing.old)
         (asking_of port.new accessing.new) f) }
 {
-    let place = port.place;
+    let offset = port.offset;
     let message = port.link.peek_message().unwrap();
-    match accessing.read(message, place) {
+    match accessing.read(message, offset) {
         Ok(step) => {
             let at_end = is_end(message, step.next);
             port.advance(at_end, step.next);

@@ -104,18 +104,18 @@ impl<R: Role> End<R> {
 
     /// Writes the packet of a segment that was sent and isn't acknowledged, again: the oldest is at index 0, as
     /// [`nsp_link::LinkEnd::resend`] writes it (NSP 4.0.0, data segment message).
-    pub fn resend(&self, place: usize) -> Result<Vec<u8>, LinkFault>
+    pub fn resend(&self, index: usize) -> Result<Vec<u8>, LinkFault>
         ensures wrote { IfOk result (λ v. WritesSent self.now.port.link
-            (Some (self.now.port.link.acked + 1 + place)) v.items) }
+            (Some (self.now.port.link.acked + 1 + index)) v.items) }
         ensures failed { IsTrue self.now.port.link.failed → IsErrOf result Failed }
         ensures missing { self.now.port.link.failed ≡ false
-            → self.now.port.link.sent - self.now.port.link.acked ≤ place
+            → self.now.port.link.sent - self.now.port.link.acked ≤ index
             → IsErrOf result NoSuchSegment }
         ensures memory { self.now.port.link.failed ≡ false
-            → place < self.now.port.link.sent - self.now.port.link.acked
+            → index < self.now.port.link.sent - self.now.port.link.acked
             → IfErr result (λ f. f ≡ fault.NoMemory) }
     {
-        self.port.link.resend(place)
+        self.port.link.resend(index)
     }
 
     /// Writes a packet that only acknowledges all segments that were taken, as [`nsp_link::LinkEnd::ack_packet`] writes

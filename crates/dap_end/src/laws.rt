@@ -20,7 +20,7 @@ ghost use Rattle.dap_accessed.specs.Groups.{After, Answers};
 ghost use Rattle.dap_accessed.specs.Present.{StandsAfter};
 ghost use Rattle.dap_accessing.specs.Present.{ClientAfter as WaitsAfter};
 ghost use Rattle.dap_accessing.specs.Asked.{Asked, messages_of};
-ghost use Rattle.dap_accessing.specs.Each.{IsBatch, none_kept, records_kept, reported_behind};
+ghost use Rattle.dap_accessing.specs.Each.{IsBatch, none_kept, records_kept, reported_after};
 ghost use Rattle.dap_accessing.specs.Phase.{limit_after};
 ghost use Rattle.dap_accessing.specs.Told.{Told};
 ghost use Rattle.dap_accessing.specs.Request.{Request as TheRequest};
@@ -60,7 +60,7 @@ pub fn serving_ends_stand()
     ensures next { (history : ServerHistory) (v : ServingValue) (bytes : List ℕ)
         (later : List (List ℕ))
         (rest : List Item) → IsAfter history v → v.port.link.coming.inbox ≡ bytes ∷ later
-        → ItemsFrom bytes v.port.place rest
+        → ItemsFrom bytes v.port.offset rest
         → AreItemsOf (history.given ++ bytes ∷ []) (history.items ++ rest) }
     ensures posted { (history : ServerHistory) (old new : ServingValue) (n : ℕ)
         → IsAfter history old
@@ -96,7 +96,7 @@ pub fn asking_ends_stand()
     // The next answer is the one at the port's offset.
     ensures next { (history : ClientHistory) (v : AskingValue) (bytes : List ℕ)
         (later : List (List ℕ)) (rest : List Item) → HasAsked history v
-        → v.port.link.coming.inbox ≡ bytes ∷ later → ItemsFrom bytes v.port.place rest
+        → v.port.link.coming.inbox ≡ bytes ∷ later → ItemsFrom bytes v.port.offset rest
         → AreItemsOf (history.given ++ bytes ∷ []) (history.answers ++ rest) }
     ensures asked { (history : ClientHistory) (request : TheRequest) (old new : AskingValue) (n : ℕ)
         → HasAsked history old → AskedOne request old new n → HasAsked (record history {
@@ -139,7 +139,7 @@ pub fn taken_records_count()
         }) (with_told told new)
         × (Told history.requests (history.answers ++ answer ∷ [])
         ≡ Told history.requests history.answers
-        ++ option_to_list (option_map (reported_behind told) report)) }
+        ++ option_to_list (option_map (reported_after told) report)) }
     ensures received { (told : List (ℕ × List ℕ)) (history : ClientHistory) (old new : AskingValue)
         (packet : List ℕ) (r : Result TheGot TheFault) → HasAsked history (with_told told old)
         → TookIn old new packet r → HasAsked history (with_told told new) }

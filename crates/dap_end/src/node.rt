@@ -23,7 +23,7 @@ ghost use Rattle.std.specs.Result.{result_map_both};
 
 use crate::fault::TakeFault;
 use crate::port::Port;
-use crate::{places, turns};
+use crate::{addresses, turns};
 use dap_accessed::{ALL_RIGHTS, AddFault, FileTable, NoMemory, ServerSetup};
 use dap_shared::{NotedFiles, RemoveFault};
 use nsp_link::{Got, LinkEnd, LinkFault, LinkSetup};
@@ -131,7 +131,7 @@ impl ServingNode {
     {
         let noted = NotedFiles::with_setup(alloc, own, links)?;
         let ports = no_ports(alloc, links)?;
-        let by_local = places::no_links(alloc)?;
+        let by_local = addresses::no_links(alloc)?;
         Ok(ServingNode {
             noted,
             ports,
@@ -180,21 +180,21 @@ impl ServingNode {
         ensures only { (link : ℕ) (p : PortValue) → HasPort link self.now p
             → p.link.setup.local ≡ local → result ≡ Some link }
     {
-        places::find_local(&self.by_local, local)
+        addresses::find_local(&self.by_local, local)
     }
 
     /// Returns the link that has this local address and this peer, where one is there.
     pub fn find_between(&self, local: u16, remote: u16) -> Option<usize>
         ensures { result ≡ position (is_between local remote) self.now.ports }
     {
-        places::find_between(&self.by_local, &self.ports, local, remote)
+        addresses::find_between(&self.by_local, &self.ports, local, remote)
     }
 
     /// Returns the first link that isn't there; none where all are.
     pub fn find_free(&self) -> Option<usize>
         ensures { result ≡ position is_free_link self.now.ports }
     {
-        places::find_free(&self.ports)
+        addresses::find_free(&self.ports)
     }
 
     /// Returns the rights that an Access on a link may ask for: those that it began with, where it is there.
@@ -226,11 +226,11 @@ impl ServingNode {
         ensures alone { OnOk result (IsTaken link setup.local self.old → ⊥) }
         ensures err { IfErr result (λ f. (self.new ≡ self.old) × NotBegun link setup self.old f) }
     {
-        if places::is_taken(&self.by_local, link, setup.local) {
+        if addresses::is_taken(&self.by_local, link, setup.local) {
             return Err(LinkFault::BadSetup);
         }
         let port = Port::new(alloc, setup)?;
-        places::list_anew(&mut self.by_local, &self.ports[link], link, setup.local);
+        addresses::list_anew(&mut self.by_local, &self.ports[link], link, setup.local);
         self.ports[link] = Some(port);
         self.noted.begin(link, setup.local, most);
         Ok(())
@@ -241,7 +241,7 @@ impl ServingNode {
         requires { link < length self.old.ports }
         ensures { EndedOn link self.old self.new }
     {
-        places::unlist(&mut self.by_local, &self.ports[link]);
+        addresses::unlist(&mut self.by_local, &self.ports[link]);
         self.ports[link] = None;
         self.noted.begin(link, NO_ADDRESS, ALL_RIGHTS);
     }
@@ -291,18 +291,18 @@ impl ServingNode {
 
     /// Writes what [`crate::ServingEnd::resend`] writes, on one of the links: the packet of a segment that was sent and
     /// isn't acknowledged, again. The oldest is at index 0.
-    pub fn resend(&self, link: usize, place: usize) -> Result<Vec<u8>, LinkFault>
+    pub fn resend(&self, link: usize, index: usize) -> Result<Vec<u8>, LinkFault>
         requires { (p : PortValue) × HasPort link self.now p }
         ensures wrote { AtPort link self.now (λ p. IfOk result
-            (λ v. WritesSent p.link (Some (p.link.acked + 1 + place)) v.items)) }
+            (λ v. WritesSent p.link (Some (p.link.acked + 1 + index)) v.items)) }
         ensures failed { AtPort link self.now (λ p. IsTrue p.link.failed
             → IsErrOf result Failed) }
         ensures missing { AtPort link self.now (λ p. p.link.failed ≡ false
-            → p.link.sent - p.link.acked ≤ place → IsErrOf result NoSuchSegment) }
+            → p.link.sent - p.link.acked ≤ index → IsErrOf result NoSuchSegment) }
         ensures memory { AtPort link self.now (λ p. p.link.failed ≡ false
-            → place < p.link.sent - p.link.acked → IfErr result (λ f. f ≡ fault.NoMemory)) }
+            → index < p.link.sent - p.link.acked → IfErr result (λ f. f ≡ fault.NoMemory)) }
     {
-        port_of(&self.ports, link).link.resend(place)
+        port_of(&self.ports, link).link.resend(index)
     }
 
     /// Writes what [`crate::ServingEnd::ack`] writes, on one of the links: a packet that only acknowledges all segments

@@ -8,7 +8,7 @@ ghost use Rattle.nsp_link.specs.declared.fault.LinkFault.TheVariants.{Failed, Me
 ghost use Rattle.std.specs.Prelude.{◌==◌};
 ghost use Rattle.dap_fields.specs.Spelling.{AreBytes};
 ghost use Rattle.dap_msg.specs.Blocked.{bodies};
-ghost use Rattle.dap_end.specs.Writing.{Acknowledged, WroteMore, Behind, WroteAnswer, WrotePart, wants_ack};
+ghost use Rattle.dap_end.specs.Writing.{Acknowledged, WroteMore, Extends, WroteAnswer, WrotePart, wants_ack};
 ghost use Rattle.dap_end.specs.Moved.{sent_more};
 ghost use Rattle.nsp_link.specs.Receiving.{Receives};
 ghost use Rattle.dap_end.specs.Ports.{new_port, gone_on, HasCome};
@@ -25,7 +25,7 @@ pub(crate) struct Port {
     /// The NSP messages that wait.
     pub(crate) outbox: Vec<Vec<u8>>,
     /// Where the next DAP message begins in the oldest NSP message that came.
-    pub(crate) place: usize,
+    pub(crate) offset: usize,
 }
 
 impl Model for Port {
@@ -48,7 +48,7 @@ impl Port {
         Ok(Port {
             link,
             outbox: Vec::new(alloc),
-            place: 0,
+            offset: 0,
         })
     }
 
@@ -83,19 +83,19 @@ impl Port {
     /// Moves the offset past the next DAP message of the oldest NSP message, which leaves the link where that was its
     /// last.
     pub(crate) fn advance(&mut self, last: bool, next: usize)
-        ensures going { last ≡ false → self.new ≡ record self.old { place = next } }
+        ensures going { last ≡ false → self.new ≡ record self.old { offset = next } }
         ensures ends { last ≡ true → (bytes : List ℕ) (later : List (List ℕ))
             → self.old.link.coming.inbox ≡ bytes ∷ later
             → self.new ≡ record self.old {
               link = with_inbox self.old.link later;
-              place = 0;
+              offset = 0;
             } }
     {
         if last {
             let _message = self.link.take_message();
-            self.place = 0;
+            self.offset = 0;
         } else {
-            self.place = next;
+            self.offset = next;
         }
     }
 
@@ -140,7 +140,7 @@ impl Port {
     pub(crate) fn emit_all(&mut self, out: &mut Vec<Vec<u8>>) -> Result<(), LinkFault>
         requires kept { IsPort self.old }
         requires works { self.old.link.failed ≡ false }
-        ensures wrote { Behind (bodies out.old.items) (bodies out.new.items)
+        ensures wrote { Extends (bodies out.old.items) (bodies out.new.items)
             (WroteMore self.old self.new) }
         ensures all { OnOk result (may_send self.new.link ≡ false) }
         ensures err { IfErr result (λ f. (f ≡ NoMemory) × IsTrue (may_send self.new.link)) }
@@ -164,9 +164,9 @@ impl Port {
     pub(crate) fn answer(&mut self, got: Got, out: &mut Vec<Vec<u8>>) -> Result<(), LinkFault>
         requires kept { IsPort self.old }
         requires works { self.old.link.failed ≡ false }
-        ensures ok { OnOk result (Behind (bodies out.old.items) (bodies out.new.items)
+        ensures ok { OnOk result (Extends (bodies out.old.items) (bodies out.new.items)
             (WroteAnswer self.old self.new got)) }
-        ensures err { IfErr result (λ f. (f ≡ NoMemory) × Behind (bodies out.old.items)
+        ensures err { IfErr result (λ f. (f ≡ NoMemory) × Extends (bodies out.old.items)
             (bodies out.new.items) (WrotePart self.old self.new got)) }
         ensures kept { IsPort self.new }
     {
@@ -238,11 +238,11 @@ impl Port {
 }
 
 /// Returns whether an offset in an NSP message is its end.
-pub(crate) fn is_end(message: &[u8], place: usize) -> bool
-    ensures end { result ≡ (place == length message.now) }
+pub(crate) fn is_end(message: &[u8], offset: usize) -> bool
+    ensures end { result ≡ (offset == length message.now) }
     ensures bytes { AreBytes message.now }
 {
-    place == message.len()
+    offset == message.len()
 }
 
 /// Returns whether one acknowledgement is written.

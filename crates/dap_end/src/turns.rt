@@ -37,12 +37,12 @@ pub(crate) fn serve_next<S: Serving>(
     if !port.outbox.is_empty() {
         return Ok(None);
     }
-    let place = port.place;
+    let offset = port.offset;
     let message = match port.link.peek_message() {
         None => return Ok(None),
         Some(message) => message,
     };
-    let (item, next) = item_at(message, place);
+    let (item, next) = item_at(message, offset);
     let at_end = is_end(message, next);
     let Ok(served) = server.serve(link, item, next) else {
         return Err(NoMemory);

@@ -30,13 +30,13 @@ fn list_streams(
     let mut rest = Vec::new(alloc);
     let mut room = Room::new(alloc);
     let mut at = 0;
-    while at < streams.places.len() {
+    while at < streams.by_stream.len() {
         let Some(stream) = streams.names.get_index(at) else {
             unreachable!()
         };
         list_stream(
             stream,
-            &streams.places[at].ordered,
+            &streams.by_stream[at].ordered,
             lines,
             &mut rest,
             &mut room,

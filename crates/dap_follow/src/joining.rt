@@ -7,9 +7,9 @@ ghost use Rattle.dap_follow.specs.Joined.{Fragment, joins as do_join, latest, fr
 ghost use Rattle.dap_follow.specs.Following.{IsMessageText, gap_line, length_text, range_text, stream_text};
 ghost use Rattle.dap_follow.specs.Inner.Keeping.{IsCounted};
 ghost use Rattle.dap_follow.specs.Inner.Listing.{AreSpelled, IsCutOff, IsPiece, ListsPiece, ListsStream, payload_digits, part_text, values};
-ghost use Rattle.dap_follow.specs.Inner.Placing.{counted_value};
+ghost use Rattle.dap_follow.specs.Inner.InOrder.{counted_value};
 
-use crate::places::{Counted, ROUND};
+use crate::segments::{Counted, ROUND};
 use crate::streams::Stream;
 use dap_listing::{arrow, push_messages};
 use dap_text::{push_number, push_str, push_word};
@@ -19,7 +19,7 @@ use std::alloc::{AllocError, Global};
 fn joins(one: &Counted<'_>, other: &Counted<'_>) -> bool
     ensures { result ≡ do_join (counted_value one.now) (counted_value other.now) }
 {
-    other.place > one.place && other.place - one.place == 1 && !one.last && !other.first
+    other.sequence > one.sequence && other.sequence - one.sequence == 1 && !one.last && !other.first
 }
 
 /// Returns how many segments the first piece of segments in order has.
@@ -127,7 +127,7 @@ fn push_message(
     let count = room.digits.len() / 2;
     let (first, last) = ends(piece);
     push_str(text, "  message")?;
-    push_range(text, first.place, last.place)?;
+    push_range(text, first.sequence, last.sequence)?;
     push_length(text, count)?;
     room.bytes.resize(count, 0)?;
     push_messages(text, &room.digits, &mut room.bytes, 0, in_words)
@@ -150,7 +150,7 @@ fn push_part(
     let (first, last) = ends(piece);
     push_str(text, "part")?;
     push_stream(text, stream)?;
-    push_range(text, first.place, last.place)?;
+    push_range(text, first.sequence, last.sequence)?;
     push_length(text, count)
 }
 
@@ -194,12 +194,12 @@ fn push_gap(
         return Ok(());
     };
     let (_, last) = ends(piece);
-    if next.place <= last.place || next.place - last.place == 1 {
+    if next.sequence <= last.sequence || next.sequence - last.sequence == 1 {
         return Ok(());
     }
     push_str(text, "gap")?;
     push_stream(text, stream)?;
-    push_range(text, last.place + 1, next.place - 1)?;
+    push_range(text, last.sequence + 1, next.sequence - 1)?;
     push_str(text, "\n")
 }
 

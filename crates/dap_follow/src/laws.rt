@@ -3,7 +3,7 @@
 ghost use Rattle.std.specs.Prelude.{◌≡◌, ◌<◌, ◌+◌, ◌%◌, ℕ, List, Contains, Some, map, slice_get};
 ghost use Rattle.nsp_link.specs.Cutting.{Piece, cut_message};
 ghost use Rattle.nsp_seg.specs.declared.packet.SegmentFields.{SegmentFields as Segment};
-ghost use Rattle.dap_follow.specs.Streams.{ArePlaced, IsOrdered, Placed, at, first_place};
+ghost use Rattle.dap_follow.specs.Streams.{AreSequenced, IsOrdered, Sequenced, at, first_sequence};
 ghost use Rattle.dap_follow.specs.Joined.{messages, payload};
 
 /// States that a message that was cut is listed, in whatever order its segments came. The segments of its stream came
@@ -12,10 +12,10 @@ ghost use Rattle.dap_follow.specs.Joined.{messages, payload};
 /// it. Then one of the stream's messages carries the message's bytes.
 pub fn cut_messages_are_listed()
     ensures { (size start highest : ℕ) (message : List ℕ) (came : List (ℕ × Segment))
-        (sent ordered : List Placed) → 0 < size → IsOrdered came ordered
-        → highest % 4096 ≡ first_place came % 4096 → ArePlaced highest came sent
+        (sent ordered : List Sequenced) → 0 < size → IsOrdered came ordered
+        → highest % 4096 ≡ first_sequence came % 4096 → AreSequenced highest came sent
         → ((i : ℕ) (cut : Piece) → slice_get (cut_message size message) i ≡ Some cut
-        → (s : Placed) × (at (start + i) sent ≡ Some s) × (s.first ≡ cut.first)
+        → (s : Sequenced) × (at (start + i) sent ≡ Some s) × (s.first ≡ cut.first)
         × (s.last ≡ cut.last) × (s.payload ≡ cut.payload))
         → Contains (map (λ m. payload m.piece) (messages ordered)) message }
 {}

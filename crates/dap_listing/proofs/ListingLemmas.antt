@@ -1,4 +1,4 @@
--- The lines of what was captured from a place of the input on.
+-- The lines of what was captured from an offset of the input on.
 use Rattle.std.proofs.Common.{◌≡◌, ◌+◌, ◌++◌, ℕ, List, ◌∷◌, ap, ◌∙◌, refl, Ok, Some, None}
 use Rattle.std.specs.List.{filter_map, enumerate_from}
 use Rattle.std.specs.Str.Lines.{lines}
@@ -13,7 +13,7 @@ use Rattle.dap_listing.specs.declared.listing.Listed.{Listed}
 use Rattle.linewise.specs.declared.fault.CaptureFault.{CaptureFault}
 
 faults_of : ℕ → ℕ → List (List ℕ) → List CaptureFault
-faults_of limit number parts = filter_map (λ (place, line). fault_of_line place (line_of limit line)) (enumerate_from number parts)
+faults_of limit number parts = filter_map (λ (index, line). fault_of_line index (line_of limit line)) (enumerate_from number parts)
 
 captures_of : ℕ → List (List ℕ) → List Capture
 captures_of limit = filter_map (λ line. result_unwrap_or (line_of limit line) None)

@@ -24,7 +24,7 @@ use Rattle.linewise.specs.declared.fault.CaptureFault.{CaptureFault}
 -- the faults of the lines, in order; the first line has this number
 abbrev pub faults_from : ℕ → ℕ → List ℕ → List CaptureFault
 faults_from limit number bytes =
-    filter_map (λ (place, line). option_map (λ fault. fault place) (result_err (line_of limit line))) (enumerate_from number (lines bytes))
+    filter_map (λ (index, line). option_map (λ fault. fault index) (result_err (line_of limit line))) (enumerate_from number (lines bytes))
 
 -- what was captured, in order
 abbrev pub captures : ℕ → List ℕ → List Capture

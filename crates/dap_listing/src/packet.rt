@@ -5,7 +5,7 @@ ghost use Rattle.std.specs.List.{concat};
 ghost use Rattle.dap_text.specs.Text.{word_text};
 ghost use Rattle.dap_text.specs.Adding.{Adds, AddsSome};
 ghost use Rattle.dap_listing.specs.Captured.{AreDecoded, HasDigits, Spell, digit_bytes, seen_value, segment_fields};
-ghost use Rattle.dap_listing.specs.Inner.Decoding.{IsBehind, front_of};
+ghost use Rattle.dap_listing.specs.Inner.Decoding.{IsPayloadSuffix, front_of};
 ghost use Rattle.dap_listing.specs.Packets.{IsPacketText, IsSeen, ack_text, acks_text, mark_text, seen_line};
 ghost use Rattle.dap_listing.specs.Inner.Messages.{SegmentMessages};
 ghost use Rattle.nsp_seg.specs.declared.packet.Packet.TheVariants.{DataAck, Segment};
@@ -122,7 +122,7 @@ fn see<'a>(digits: &'a [u8], bytes: &mut [u8]) -> Result<CapturedPacket<'a>, Seg
     ensures decoded { AreDecoded digits.now 0 (front_of (length bytes.new)) bytes.new }
     ensures seen { IsSeen (seen_value result) (digit_bytes digits.now) }
     ensures payload { HasDigits result }
-    ensures behind { IsBehind digits.now (front_of (length bytes.new)) result }
+    ensures suffix { IsPayloadSuffix digits.now (front_of (length bytes.new)) result }
 {
     let _known = decode_to(digits, bytes, 0, FRONT);
     match decode_value(bytes) {

@@ -79,7 +79,7 @@ item_one : (link : ℕ) (old one two : NodeLinkValue) (n m : ℕ) → HasCarried
 item_one link old one two n m k a b =
     let bytes : b.one.bytes ≡ a.one.bytes = (let both = sym b.one.came ∙ a.one.came in cc) in
     let later : b.one.later ≡ a.one.later = (let both = sym b.one.came ∙ a.one.came in cc) in
-    let same = one_item a.one.bytes old.port.place a.by.item b.by.item a.served.next b.served.next a.one.fits a.by.reads (subst (λ (l : List ℕ). ItemAt l old.port.place b.by.item b.served.next) bytes b.by.reads) in
+    let same = one_item a.one.bytes old.port.offset a.by.item b.by.item a.served.next b.served.next a.one.fits a.by.reads (subst (λ (l : List ℕ). ItemAt l old.port.offset b.by.item b.served.next) bytes b.by.reads) in
     let other : NotedServes link a.by.item old.present two.present b.served.answers = subst (λ (i : Item). NotedServes link i old.present two.present b.served.answers) same.0 b.by.serves in
     let both = noted_one link a.by.item old.present one.present two.present a.served.answers b.served.answers k.0 k.1 k.2 a.by.serves other in
     let next : a.one.next ≡ b.one.next = sym a.next ∙ sym same.1 ∙ b.next in

@@ -32,7 +32,7 @@ use Rattle.dap_end.specs.Node.{AtPort, BeganOn, EndedOn, HasPort, NodeNotGiven, 
 use Rattle.dap_end.specs.Turns.{TakesPacket, WentOn}
 use Rattle.dap_text.specs.declared.filed.FileLine.{FileLine}
 use Rattle.dap_text.specs.declared.filed.RecordLine.{RecordLine}
-use Rattle.dap_text.specs.declared.tables.FilesPlace.{FilesPlace}
+use Rattle.dap_text.specs.declared.tables.FilesCursor.{FilesCursor}
 use Rattle.dap_text.specs.Tables.{files_lines, lines_from}
 use Rattle.linewise.specs.Talks.{ComesIn}
 use Rattle.linewise.specs.declared.talking.Became.{Became}
@@ -172,8 +172,8 @@ TakesPacketOf old bytes new text became =
 -- ---- Going on.
 
 -- apart from memory, the node would do something by going on with this link
-abbrev pub is_behind_at : (most : ℕ) → PortValue → Bool
-is_behind_at most p = is_left p.link p.outbox (may_serve_next most p.link)
+abbrev pub is_work_left_at : (most : ℕ) → PortValue → Bool
+is_work_left_at most p = is_left p.link p.outbox (may_serve_next most p.link)
 
 -- what the node answers by going on with a link, after this text
 pub record GoesOnWith (link : ℕ) (old : Node) (front : List ℕ) (new : Node) (text : List ℕ) (became : Became) : Type 0 where
@@ -187,7 +187,7 @@ pub record GoesOnWith (link : ℕ) (old : Node) (front : List ℕ) (new : Node) 
 -- the packets of all segments of a link that aren't acknowledged, then what going on does, if something is left
 abbrev pub ResendsOn : (link : ℕ) → PortValue → Node → Node → List ℕ → Became → Type 0
 ResendsOn link port old new text became = (packets : List (List ℕ)) × AllAgain port.link packets
-    × MatchBool (is_behind_at old.most_waiting port)
+    × MatchBool (is_work_left_at old.most_waiting port)
     (GoesOnWith link old (packets_text packets) new text became)
     (Says (packets_text packets, Done) (about link old) new text became)
 
@@ -368,12 +368,12 @@ answered old None new text became = new ≡ before_line old
 answered old (Some line) new text became = DoesNodeOrder (before_line old) (node_order_of (is_alone old.node) line) new text became
 
 -- the lines of what is left to list of the files
-abbrev pub pieces : Node → FilesPlace → List (List ℕ)
-pieces node place = lines_from node.node.noted.shared.files place
+abbrev pub pieces : Node → FilesCursor → List (List ℕ)
+pieces node cursor = lines_from node.node.noted.shared.files cursor
 
 -- the packets of a link that aren't acknowledged, and one more where something is left
 abbrev pub port_waits : (most : ℕ) → Option (Option PortValue) → ℕ
-port_waits most (Some (Some p)) = waits_of p.link (is_behind_at most p)
+port_waits most (Some (Some p)) = waits_of p.link (is_work_left_at most p)
 port_waits most _ = 0
 
 -- those of the link that the last line concerns

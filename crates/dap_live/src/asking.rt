@@ -169,7 +169,7 @@ fn push_front(text: &mut Vec<u8>, front: Front) -> Result<(), AllocError>
 }
 
 /// Goes on, and says what comes of it after this.
-fn go_on_behind(asking: &mut Asking, front: Front, text: &mut Vec<u8>) -> Result<Came, AllocError>
+fn go_on_after(asking: &mut Asking, front: Front, text: &mut Vec<u8>) -> Result<Came, AllocError>
     requires { text.old.items ≡ [] }
     ensures ok { IfOk result (GoesOn asking.old (front_text front) asking.new text.new.items) }
     ensures err { OnErr result ((said : List ℕ) × (came : TheCame)
@@ -273,9 +273,9 @@ fn ask_request(
     match asking.end.ask(request) {
         Ok(count) => {
             begin_request(asking, each, request);
-            go_on_behind(asking, Front::Asked(count), text)
+            go_on_after(asking, Front::Asked(count), text)
         }
-        Err(AskFault::Busy) => go_on_behind(asking, Front::Busy, text),
+        Err(AskFault::Busy) => go_on_after(asking, Front::Busy, text),
         Err(fault) => Ok(Came::Untold(push_ask_refusal(text, fault)?)),
     }
 }
@@ -425,7 +425,7 @@ fn has_told(asking: &Asking) -> bool
 }
 
 /// Returns whether something is left to do for the client, or to be reported.
-fn is_behind(asking: &Asking) -> bool
+fn is_work_left(asking: &Asking) -> bool
     ensures { result ≡ (has_more_of asking.now.end || waits_told asking.now) }
 {
     has_more(&asking.end) || has_told(asking)
@@ -435,13 +435,13 @@ impl Answers for Asking {
     ghost use Rattle.dap_live.specs.Asking.{answered, waiting};
 
     // Each answer is said as a whole.
-    type Place = ();
+    type Cursor = ();
 
     ghost answered = { answered };
 
     ghost waiting = { waiting };
 
-    ghost pieces = { λ asking place. [] };
+    ghost pieces = { λ asking cursor. [] };
 
     fn answer(&mut self, line: &[u8], text: &mut Vec<u8>) -> Answer<()> {
         Answer::Whole(answer_order(self, read_ask_order(line), text))
@@ -449,11 +449,11 @@ impl Answers for Asking {
 
     fn miss(&mut self) {}
 
-    fn more(&self, _place: (), _text: &mut Vec<u8>) -> Result<Option<()>, AllocError> {
+    fn more(&self, _cursor: (), _text: &mut Vec<u8>) -> Result<Option<()>, AllocError> {
         Ok(None)
     }
 
     fn waits(&self) -> Option<usize> {
-        Some(waits(self.end.link(), is_behind(self)))
+        Some(waits(self.end.link(), is_work_left(self)))
     }
 }

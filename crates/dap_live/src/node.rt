@@ -17,7 +17,7 @@ ghost use Rattle.dap_live.specs.Texts.{LineAnswer};
 ghost use Rattle.dap_live.specs.Inner.NodeReaching.{Done, NodeReaches};
 ghost use Rattle.dap_live.specs.Inner.Filing.{AddsShapedTo, GivesRecordBy, HasNoBytes, RecordNotBy};
 ghost use Rattle.dap_live.specs.Orders.{most_anew, most_beside, setup_anew};
-ghost use Rattle.dap_live.specs.Node.{AddsFileTo, AddsLink, AddsRecordTo, BeginsOn, NodeDoes, DoesNodeOrder, DropsFile, FindsLink, GoesOnWith, IsNewNode, IsNotDone, NoLink, ResendsOn, TakesOn, TakesPacketBy, RenewsOn, about, before_line, given_beside, is_alone, is_behind_at, is_used, meant, one_link, pieces, receiver_of, sender_of, ungiven, used_by, waits_on as waits_by};
+ghost use Rattle.dap_live.specs.Node.{AddsFileTo, AddsLink, AddsRecordTo, BeginsOn, NodeDoes, DoesNodeOrder, DropsFile, FindsLink, GoesOnWith, IsNewNode, IsNotDone, NoLink, ResendsOn, TakesOn, TakesPacketBy, RenewsOn, about, before_line, given_beside, is_alone, is_work_left_at, is_used, meant, one_link, pieces, receiver_of, sender_of, ungiven, used_by, waits_on as waits_by};
 
 use crate::node_orders::{NodeOrder, read_node_order};
 use crate::orders::{Between, set_up_anew, set_up_beside};
@@ -31,7 +31,7 @@ use dap_accessed::{ALL_RIGHTS, AddFault, Names, NoMemory, ServerSetup, rights_of
 use dap_accessing::Octets;
 use dap_end::{EndFault, ServingNode, TakeFault};
 use dap_msg::codes::{ACCESS_REFUSED, REASON_BAD_ATTRIBUTES};
-use dap_text::{FileLine, FilesPlace, RecordLine, Text, push_files_line};
+use dap_text::{FileLine, FilesCursor, RecordLine, Text, push_files_line};
 use file_names::is_alike;
 use linewise::{Answer, Answers, Became};
 use nsp_link::{Got, LinkEnd, LinkFault, LinkSetup, is_setup};
@@ -127,7 +127,7 @@ impl Node {
 }
 
 /// Finds the only link, of a node that has room for one.
-#[tactic(auto, using(crate::proofs::Places::one_is, crate::proofs::Places::one_none, crate::proofs::Places::one_several, crate::proofs::Places::one_only))]
+#[tactic(auto, using(crate::proofs::Indices::one_is, crate::proofs::Indices::one_none, crate::proofs::Indices::one_several, crate::proofs::Indices::one_only))]
 fn find_one(node: &ServingNode) -> Option<usize>
     ensures found { result ≡ one_link node.now.ports }
     ensures there { IfSome result (λ link. (p : PortValue) × HasPort link node.now p) }
@@ -295,7 +295,7 @@ fn go_on(
 }
 
 /// Goes on with a link, and says what comes of it after the text.
-fn go_on_behind(node: &mut Node, link: usize, text: &mut Vec<u8>) -> Result<Became, AllocError>
+fn go_on_after(node: &mut Node, link: usize, text: &mut Vec<u8>) -> Result<Became, AllocError>
     requires { (p : PortValue) × HasPort link node.old.node p }
     ensures ok { IfOk result (GoesOnWith link node.old text.old.items
         node.new text.new.items) }
@@ -309,9 +309,9 @@ fn go_on_behind(node: &mut Node, link: usize, text: &mut Vec<u8>) -> Result<Beca
 
 /// Returns whether something is left of what the node does by itself with a link, while fewer bytes wait there than
 /// this.
-fn is_behind(node: &ServingNode, link: usize, most_waiting: u64) -> bool
+fn is_work_left(node: &ServingNode, link: usize, most_waiting: u64) -> bool
     requires { (p : PortValue) × HasPort link node.now p }
-    ensures { (p : PortValue) → HasPort link node.now p → result ≡ is_behind_at most_waiting p }
+    ensures { (p : PortValue) → HasPort link node.now p → result ≡ is_work_left_at most_waiting p }
 {
     let end = link_of(node, link);
     let may_serve_next = has_message(end) && end.waiting_bytes() < most_waiting;
@@ -329,8 +329,8 @@ fn resend_running(node: &mut Node, link: usize, text: &mut Vec<u8>) -> Result<Be
 {
     node.last = Some(link);
     push_again(link_of(&node.node, link), text)?;
-    if is_behind(&node.node, link, node.most_waiting) {
-        go_on_behind(node, link, text)
+    if is_work_left(&node.node, link, node.most_waiting) {
+        go_on_after(node, link, text)
     } else {
         Ok(Became::Done)
     }
@@ -693,7 +693,7 @@ fn act(
     node: &mut Node,
     order: NodeOrder<'_>,
     text: &mut Vec<u8>,
-) -> Result<Answer<FilesPlace>, AllocError>
+) -> Result<Answer<FilesCursor>, AllocError>
     requires { text.old.items ≡ [] }
     ensures ok { IfOk result (Begins NodeDoes pieces node.old order.entry
         node.new text.new.items) }
@@ -706,7 +706,7 @@ fn act(
         NodeOrder::Close(local) => Ok(Answer::Whole(close(node, local, text)?)),
         NodeOrder::Renew(anew) => Ok(Answer::Whole(renew_one(node, anew, text)?)),
         NodeOrder::New(between) => Ok(Answer::Whole(renew(node, between, text)?)),
-        NodeOrder::Files => Ok(Answer::Begun(FilesPlace::File(0))),
+        NodeOrder::Files => Ok(Answer::Begun(FilesCursor::File(0))),
         NodeOrder::File(file) => Ok(Answer::Whole(add_file(node, &file, text)?)),
         NodeOrder::Record(record) => Ok(Answer::Whole(add_record(node, &record, text)?)),
         NodeOrder::Drop(name) => Ok(Answer::Whole(drop_file(node, &name, text)?)),
@@ -714,7 +714,7 @@ fn act(
 }
 
 /// Answers an order.
-fn answer_one(node: &mut Node, order: NodeOrder<'_>, text: &mut Vec<u8>) -> Answer<FilesPlace>
+fn answer_one(node: &mut Node, order: NodeOrder<'_>, text: &mut Vec<u8>) -> Answer<FilesCursor>
     requires { text.old.items ≡ [] }
     ensures { Begins DoesNodeOrder pieces node.old (Some order.entry)
         node.new text.new.items result }
@@ -733,7 +733,7 @@ fn answer_order(
     node: &mut Node,
     order: Option<NodeOrder<'_>>,
     text: &mut Vec<u8>,
-) -> Answer<FilesPlace>
+) -> Answer<FilesCursor>
     requires { text.old.items ≡ [] }
     ensures { Begins DoesNodeOrder pieces (before_line node.old) order.entry
         node.new text.new.items result }
@@ -760,7 +760,7 @@ fn waits_on(node: &ServingNode, last: Option<usize>, most_waiting: u64) -> usize
         return 0;
     };
     match node.link(link) {
-        Some(end) => waits(end, is_behind(node, link, most_waiting)),
+        Some(end) => waits(end, is_work_left(node, link, most_waiting)),
         None => 0,
     }
 }
@@ -768,7 +768,7 @@ fn waits_on(node: &ServingNode, last: Option<usize>, most_waiting: u64) -> usize
 impl Answers for Node {
     ghost use Rattle.dap_live.specs.Node.{answered, pieces, waiting};
 
-    type Place = FilesPlace;
+    type Cursor = FilesCursor;
 
     ghost answered = { answered };
 
@@ -776,7 +776,7 @@ impl Answers for Node {
 
     ghost pieces = { pieces };
 
-    fn answer(&mut self, line: &[u8], text: &mut Vec<u8>) -> Answer<FilesPlace> {
+    fn answer(&mut self, line: &[u8], text: &mut Vec<u8>) -> Answer<FilesCursor> {
         let order = read_node_order(is_for_one(&self.node), line);
         answer_order(self, order, text)
     }
@@ -787,10 +787,10 @@ impl Answers for Node {
 
     fn more(
         &self,
-        place: FilesPlace,
+        cursor: FilesCursor,
         text: &mut Vec<u8>,
-    ) -> Result<Option<FilesPlace>, AllocError> {
-        push_files_line(text, self.node.files(), place)
+    ) -> Result<Option<FilesCursor>, AllocError> {
+        push_files_line(text, self.node.files(), cursor)
     }
 
     fn waits(&self) -> Option<usize> {

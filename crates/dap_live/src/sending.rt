@@ -46,10 +46,10 @@ pub(crate) fn waits(link: &LinkEnd, left: bool) -> usize
 }
 
 /// Appends the line of a segment that isn't acknowledged.
-fn push_one_again(link: &LinkEnd, place: usize, text: &mut Vec<u8>) -> Result<(), AllocError>
-    ensures { OnOk result (AddsOneAgain link.now place text.old text.new) }
+fn push_one_again(link: &LinkEnd, index: usize, text: &mut Vec<u8>) -> Result<(), AllocError>
+    ensures { OnOk result (AddsOneAgain link.now index text.old text.new) }
 {
-    match link.resend(place) {
+    match link.resend(index) {
         Ok(packet) => push_packet(text, &packet),
         Err(_) => Err(AllocError),
     }
@@ -59,8 +59,8 @@ fn push_one_again(link: &LinkEnd, place: usize, text: &mut Vec<u8>) -> Result<()
 pub(crate) fn push_again(link: &LinkEnd, text: &mut Vec<u8>) -> Result<(), AllocError>
     ensures { OnOk result (AddsAgain link.now text.old text.new) }
 {
-    for place in 0..link.unacked() {
-        push_one_again(link, place, text)?;
+    for index in 0..link.unacked() {
+        push_one_again(link, index, text)?;
     }
     Ok(())
 }

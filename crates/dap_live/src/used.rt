@@ -34,8 +34,8 @@ fn none_used(alloc: Global, links: usize) -> Result<Vec<bool>, NoMemory>
 fn set_one(used: &mut Vec<bool>, link: usize, is_used: bool)
     ensures { used.new.items ≡ set used.old.items link is_used }
 {
-    if let Some(place) = used.get_mut(link) {
-        *place = is_used;
+    if let Some(slot) = used.get_mut(link) {
+        *slot = is_used;
     }
 }
 

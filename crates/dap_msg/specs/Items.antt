@@ -7,8 +7,8 @@ pub use Rattle.dap_msg.specs.declared.items.Item.TheVariants.{Whole, Malformed}
 use Rattle.dap_msg.specs.Decoding.{StandsInFront, IsFault, IsSpelled}
 
 -- an offset at which an item begins; an NSP message without bytes has one too
-abbrev pub IsPlace : ℕ → List ℕ → Type 0
-IsPlace at bytes = (at < length bytes) ⊎ ((at ≡ 0) × (length bytes ≡ 0))
+abbrev pub IsOffset : ℕ → List ℕ → Type 0
+IsOffset at bytes = (at < length bytes) ⊎ ((at ≡ 0) × (length bytes ≡ 0))
 
 -- the item that begins at an offset, and the offset after it; a malformed item goes to the end
 abbrev pub ItemAt : List ℕ → ℕ → Item → ℕ → Type 0

@@ -135,7 +135,7 @@ const MALFORMED: u16 = 0x8000;
 
 const INVALID: u16 = 0x9000;
 
-const OUT_OF_PLACE: u16 = 0xa000;
+const OUT_OF_SEQUENCE: u16 = 0xa000;
 /// What a message's type counts in MICCODE, the field below it being 0 (DAP 5.6.0, Status message; that the field is 0
 /// is a choice of this implementation).
 const TYPE_UNIT: u16 = 64;
@@ -158,10 +158,10 @@ pub fn invalid(message_type: u8) -> u16
 
 /// Returns the STSCODE where a message of this type is out of sequence in the exchange: MACCODE 10, with the type as
 /// MICCODE.
-pub fn out_of_place(message_type: u8) -> u16
-    ensures { result ≡ codes.out_of_place message_type }
+pub fn out_of_sequence(message_type: u8) -> u16
+    ensures { result ≡ codes.out_of_sequence message_type }
 {
-    OUT_OF_PLACE + u16::from(message_type)
+    OUT_OF_SEQUENCE + u16::from(message_type)
 }
 
 /// Returns the STSCODE where no message of this type can be read: MACCODE 8 (DAP 5.6.0, Status message).

@@ -12,21 +12,21 @@ use Rattle.rec_file.specs.declared.picks.Rights.{Rights}
 use Rattle.rec_file.specs.Files.{stored}
 use Rattle.dap_accessed.specs.declared.phase.OpenFile.{OpenFile}
 use Rattle.dap_accessed.specs.Setup.{all_rights}
-use Rattle.dap_accessed.specs.Standing.{Files, Place, Group, Fresh, file_at, with_file}
+use Rattle.dap_accessed.specs.Standing.{Files, ServerState, Group, Fresh, file_at, with_file}
 use Rattle.dap_accessed.specs.Sessions.{moved_up}
 use Rattle.dap_accessed.specs.Replies.{bare_status}
 use Rattle.dap_accessed.specs.Accesses.{refuse_access}
 use Rattle.dap_accessed.specs.Effects.{Begun, Does}
 use Rattle.dap_accessed.specs.Groups.{Grouped, answers_in, answers_of, next_group, after_item}
 use Rattle.dap_accessed.specs.Adding.{with_new_file}
-use Rattle.dap_shared.specs.Sharing.{file_locked, open_in, asks_to_open, barred_by, is_file, is_locked, place_moved_up}
+use Rattle.dap_shared.specs.Sharing.{file_locked, open_in, asks_to_open, barred_by, is_file, is_locked, state_moved_up}
 
 -- an exchange: the state of a server of one link, but for the files
 pub record Exchange : Type 0 where
   -- the rights that an Access on it may ask for
   pub most : Rights
   pub limit : ℕ
-  pub place : Place
+  pub state : ServerState
   pub past : List Group
   pub begun : Option Begun
 
@@ -37,7 +37,7 @@ pub record Node : Type 0 where
 
 -- no Configuration was served on it
 abbrev pub new_exchange : (most : Rights) → Exchange
-new_exchange most = record { most = most; limit = min_buffer; place = Fresh; past = []; begun = None }
+new_exchange most = record { most = most; limit = min_buffer; state = Fresh; past = []; begun = None }
 
 -- what there is for a link that isn't there
 abbrev pub no_exchange : Exchange
@@ -50,11 +50,11 @@ new_node own first links = record { files = first; exchanges = replicate links (
 -- a server of one link in this state
 abbrev pub before_files : Files → Exchange → Grouped
 before_files files exchange =
-    record { standing = record { scene = record { limit = exchange.limit; files = files }; place = exchange.place; past = exchange.past }; begun = exchange.begun }
+    record { standing = record { scene = record { limit = exchange.limit; files = files }; state = exchange.state; past = exchange.past }; begun = exchange.begun }
 
 -- without the files, on a link with these rights
 abbrev pub exchange_of : (most : Rights) → Grouped → Exchange
-exchange_of most c = record { most = most; limit = c.standing.scene.limit; place = c.standing.place; past = c.standing.past; begun = c.begun }
+exchange_of most c = record { most = most; limit = c.standing.scene.limit; state = c.standing.state; past = c.standing.past; begun = c.begun }
 
 -- the exchange of a link
 abbrev pub exchange_at : ℕ → Node → Exchange
@@ -76,7 +76,7 @@ setup_on own link node = setup_with (exchange_at link node).most own
 
 -- the file that is open in the exchange on a link
 abbrev pub open_on : Exchange → Option OpenFile
-open_on exchange = open_in exchange.place
+open_on exchange = open_in exchange.state
 
 -- what all links but one have open
 abbrev pub open_beside : ℕ → List Exchange → List (Option OpenFile)
@@ -86,14 +86,14 @@ open_beside link exchanges = map open_on (set exchanges link no_exchange)
 abbrev pub more_beside : (own : ServerSetup) → (others : List (Option OpenFile)) → Grouped → Item → Grouped
 more_beside own others c item =
     let s = c.standing in
-    if is_locked others (asks_to_open own s.scene.files s.place item)
+    if is_locked others (asks_to_open own s.scene.files s.state item)
     then next_group s item (Does (refuse_access s.scene (bare_status file_locked)))
     else after_item own c item
 
 -- its answers
 abbrev pub answers_beside : (own : ServerSetup) → (others : List (Option OpenFile)) → Grouped → Item → List Message
 answers_beside own others c item =
-    if is_locked others (asks_to_open own c.standing.scene.files c.standing.place item)
+    if is_locked others (asks_to_open own c.standing.scene.files c.standing.state item)
     then bare_status file_locked ∷ []
     else answers_of own c item
 
@@ -104,7 +104,7 @@ begun_moved_up removed begun = record begun { opened = moved_up removed begun.op
 -- an exchange, where the file at this index was removed: those after it moved up
 abbrev pub exchange_without : (removed : ℕ) → Exchange → Exchange
 exchange_without removed exchange =
-    record exchange { place = place_moved_up removed exchange.place; begun = option_map (begun_moved_up removed) exchange.begun }
+    record exchange { state = state_moved_up removed exchange.state; begun = option_map (begun_moved_up removed) exchange.begun }
 
 -- another link's exchange, where a file was removed
 abbrev pub exchange_moved_up : Option OpenFile → Exchange → Exchange
@@ -114,13 +114,13 @@ exchange_moved_up (Some removed) exchange = exchange_without removed.at exchange
 -- the file that an item removed: its link had it open
 abbrev pub removed_by : (before after : Grouped) → Option OpenFile
 removed_by before after =
-    if nat_lt (length after.standing.scene.files) (length before.standing.scene.files) then open_in before.standing.place else None
+    if nat_lt (length after.standing.scene.files) (length before.standing.scene.files) then open_in before.standing.state else None
 
 -- ---- Which link locks a file.
 
 -- what an item asks to open on a link
 abbrev pub asked_on : (own : ServerSetup) → (link : ℕ) → Node → Item → Option OpenFile
-asked_on own link node item = asks_to_open (setup_on own link node) node.files (exchange_at link node).place item
+asked_on own link node item = asks_to_open (setup_on own link node) node.files (exchange_at link node).state item
 
 -- the item is an Access on a link, and what another link has open forbids it
 abbrev pub locks_out : (own : ServerSetup) → (other link : ℕ) → Node → Item → Bool

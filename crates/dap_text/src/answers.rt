@@ -54,7 +54,7 @@ fn flag_word(kind: FlagKind) -> &'static str
 
 /// Appends an offset after a word, and ends the line.
 #[tactic(auto, unfolding(crate::specs::Adding::StillBegins))]
-fn push_place(text: &mut Vec<u8>, word: &str, at: usize) -> Result<(), AllocError>
+fn push_offset(text: &mut Vec<u8>, word: &str, at: usize) -> Result<(), AllocError>
     ensures added { OnOk result (Adds text.old text.new
         (concat (word.now ∷ decimal at ∷ line_feed ∷ []))) }
     ensures kept { StillBegins text.old text.new }
@@ -75,9 +75,9 @@ pub fn push_packet_fault(text: &mut Vec<u8>, fault: SegFault) -> Result<(), Allo
             push_str(text, flag_word(flag_kind(flag)))?;
             push_str(text, "\n")
         }
-        SegFault::Truncated(at) => push_place(text, "bad truncated at=", at),
-        SegFault::Trailing(at) => push_place(text, "bad trailing at=", at),
-        SegFault::BadNumber(at) => push_place(text, "bad number at=", at),
+        SegFault::Truncated(at) => push_offset(text, "bad truncated at=", at),
+        SegFault::Trailing(at) => push_offset(text, "bad trailing at=", at),
+        SegFault::BadNumber(at) => push_offset(text, "bad number at=", at),
         SegFault::NoMemory => push_str(text, "bad memory\n"),
     }
 }

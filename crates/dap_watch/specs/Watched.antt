@@ -9,7 +9,7 @@ use Rattle.linewise.specs.declared.fault.CaptureFault.TheVariants.{BadLine, TooL
 use Rattle.dap_listing.specs.Lines.{Capture, line_of}
 use Rattle.std.specs.Str.Lines.{lines}
 use Rattle.dap_listing.specs.Listing.{captures, frames_after, packet_limit}
-use Rattle.dap_follow.specs.Streams.{IsOrdered, Captured, Placed, came_in, streams}
+use Rattle.dap_follow.specs.Streams.{IsOrdered, Captured, Sequenced, came_in, streams}
 use Rattle.dap_follow.specs.Joined.{Fragment, is_message, latest, messages, fragments_of}
 use Rattle.dap_follow.specs.Following.{IsCaptured, IsFollowedPacketText, rest_lines}
 
@@ -22,7 +22,7 @@ abbrev pub is_whole_with : ℕ → Fragment → Bool
 is_whole_with packet p = is_message p && (whole_with p == packet)
 
 -- the messages of a stream that are whole with a packet
-abbrev pub whole_at : ℕ → List Placed → List Fragment
+abbrev pub whole_at : ℕ → List Sequenced → List Fragment
 whole_at packet ordered = filter (is_whole_with packet) (fragments_of ordered)
 
 -- What is written when these lines came, and what would be written if the capture ended with them. By the law
@@ -30,7 +30,7 @@ whole_at packet ordered = filter (is_whole_with packet) (fragments_of ordered)
 -- directly before each packet.
 pub record IsWatched (in_words : Bool) (captured : List Capture) (frames : List (List (List ℕ))) (written rest : List ℕ) : Type 0 where
   pub packets : List Captured
-  pub ordered : List (List Placed)
+  pub ordered : List (List Sequenced)
   pub texts : List (List ℕ)
   pub are_seen : AllZip IsCaptured captured packets
   pub are_ordered : AllZip (λ stream. IsOrdered (came_in stream packets)) (streams packets) ordered

@@ -11,14 +11,14 @@ ghost use Rattle.dap_listing.specs.Captured.{Spell};
 ghost use Rattle.dap_follow.specs.Following.{IsMessageText};
 ghost use Rattle.dap_follow.specs.Segments.{captured_segment};
 ghost use Rattle.dap_follow.specs.Joined.{Fragment};
-ghost use Rattle.dap_follow.specs.Streams.{Captured, Placed};
+ghost use Rattle.dap_follow.specs.Streams.{Captured, Sequenced};
 ghost use Rattle.dap_watch.specs.Inner.Kept.{IsWholeMessage};
 ghost use Rattle.dap_watch.specs.Inner.Rest.{all_kept_rest};
 ghost use Rattle.dap_watch.specs.Inner.Streams.{KeepsAllOrdered};
 ghost use Rattle.dap_watch.specs.Inner.Watching.{WatchesPacket, PassesBy, Starts, TellsPacket};
 ghost use Rattle.dap_watch.specs.Watched.{WatchFails, WatchGives, is_refused};
 
-use crate::places::Whole;
+use crate::kept::Whole;
 use crate::rest::push_all;
 use crate::streams::Streams;
 use dap_follow::{push_length, push_packet_line, push_range};
@@ -96,7 +96,7 @@ impl Watching {
         ensures words { self.new.in_words ≡ self.old.in_words }
         ensures packets { self.new.packets ≡ self.old.packets }
         ensures before { self.new.before ≡ self.old.before }
-        ensures told { OnOk result ((packets : List Captured) (ordered : List (List Placed))
+        ensures told { OnOk result ((packets : List Captured) (ordered : List (List Sequenced))
             → length packets < 2 ^ 50 → KeepsAllOrdered packets ordered self.old.streams
             → TellsPacket self.old.in_words packets (captured_segment way segment.now) ordered
             self.new.streams text.old.items text.new.items) }
@@ -179,7 +179,7 @@ impl Watching {
 impl Answers for Watching {
     ghost use Rattle.dap_watch.specs.Inner.Watching.{answered, no_pieces, waiting};
 
-    type Place = ();
+    type Cursor = ();
 
     ghost answered = { answered };
 
@@ -200,7 +200,7 @@ impl Answers for Watching {
 
     fn miss(&mut self) {}
 
-    fn more(&self, _place: (), _text: &mut Vec<u8>) -> Result<Option<()>, AllocError> {
+    fn more(&self, _cursor: (), _text: &mut Vec<u8>) -> Result<Option<()>, AllocError> {
         Ok(None)
     }
 
@@ -216,12 +216,12 @@ fn write_rest<W: Write>(
     writer: &mut W,
 ) -> Result<(), CaptureFault>
     ensures whole { OnOk result (Appends (W.contents writer.old) (W.contents writer.new)
-        (all_kept_rest streams.now.names.keys streams.now.places.items)) }
+        (all_kept_rest streams.now.names.keys streams.now.by_stream.items)) }
     ensures fault { IfErr result (λ fault.
         ((fault ≡ CaptureFault.NoMemory) × Keeps (W.contents writer.old) (W.contents writer.new))
         ⊎ ((fault ≡ CaptureFault.WriteFailed)
         × WritesFront (W.contents writer.old) (W.contents writer.new)
-        (all_kept_rest streams.now.names.keys streams.now.places.items))) }
+        (all_kept_rest streams.now.names.keys streams.now.by_stream.items))) }
 {
     let mut text = Vec::new(alloc);
     if push_all(alloc, &mut text, streams).is_err() {

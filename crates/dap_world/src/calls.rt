@@ -101,17 +101,17 @@ impl World {
     }
 
     /// Writes a segment again.
-    pub(crate) fn resend(&mut self, end: End, place: usize) -> Result<Step, WorldFault>
-        ensures { Went self.old (Event.Resend end place) result self.new }
+    pub(crate) fn resend(&mut self, end: End, index: usize) -> Result<Step, WorldFault>
+        ensures { Went self.old (Event.Resend end index) result self.new }
     {
         match end {
             End::A => {
-                let packet = self.asking.resend(place);
-                again(self.asking.link(), &mut self.wire_a, place, packet)
+                let packet = self.asking.resend(index);
+                again(self.asking.link(), &mut self.wire_a, index, packet)
             }
             End::B => {
-                let packet = self.serving.resend(place);
-                again(self.serving.link(), &mut self.wire_b, place, packet)
+                let packet = self.serving.resend(index);
+                again(self.serving.link(), &mut self.wire_b, index, packet)
             }
         }
     }
@@ -284,11 +284,11 @@ fn post_a(
     ensures err { IfErr result (PostFault end.old.port.link end.old.port.outbox) }
 {
     may_post(end.link(), end.waiting())?;
-    hand_over(alloc, end, posted, sent)
+    pass_on(alloc, end, posted, sent)
 }
 
 /// Lets A pass on what waits, which its link takes. All memory is taken before anything changes.
-fn hand_over(
+fn pass_on(
     alloc: Global,
     end: &mut AskingEnd,
     posted: &mut usize,

@@ -34,7 +34,7 @@ impl World {
         ensures served { self.now.served < 2 ^ 56 }
         ensures read { self.now.read < 2 ^ 56 }
         ensures due { IsOneDue self.now }
-        ensures place { due_after self.now.requests (answers_read self.now) ≢ Wrong }
+        ensures in_sequence { due_after self.now.requests (answers_read self.now) ≢ Wrong }
         ensures quiet { self.now.requests ≡ [] → IsQuiet self.now }
     {
         // This line is only for the prover: it lets a proof see what is true of every world.
@@ -51,12 +51,12 @@ impl World {
         ensures err { IfErr result (λ f. (f ≡ NoMemory) × RanTo self.old self.new) }
         ensures left { OnErr result (IsEmpty self.new end → ⊥) }
     {
-        let place = self.wire(end).len();
+        let index = self.wire(end).len();
         match self.step(&Event::Emit(end)) {
             Ok(_step) => {}
             Err(fault) => return Err(fault),
         }
-        match self.step(&Event::Deliver(other_end(end), place)) {
+        match self.step(&Event::Deliver(other_end(end), index)) {
             Ok(_step) => {}
             Err(fault) => return Err(fault),
         }
@@ -278,15 +278,15 @@ impl World {
         ensures ran { RunsTo self.old self.new }
         ensures nothing { requests.now ≡ [] → IsOk result × (self.new ≡ self.old) }
     {
-        for (place, request) in requests.iter().enumerate() {
+        for (index, request) in requests.iter().enumerate() {
             self.few();
             match self.ask_copy(request) {
                 Ok(_step) => self.sound(),
-                Err(fault) => return Err((place, fault)),
+                Err(fault) => return Err((index, fault)),
             }
             match self.finish() {
                 Ok(_count) => self.sound(),
-                Err(fault) => return Err((place, fault)),
+                Err(fault) => return Err((index, fault)),
             }
         }
         Ok(())

@@ -24,8 +24,8 @@ impl World {
         ensures err { IfErr result (λ f. (f ≡ NoMemory) × RanTo self.old self.new) }
         ensures left { OnErr result (unacked self.new end ≡ unacked self.old end) }
     {
-        for place in 0..count {
-            match self.step(&Event::Resend(end, place)) {
+        for index in 0..count {
+            match self.step(&Event::Resend(end, index)) {
                 Ok(_step) => {}
                 Err(fault) => return Err(fault),
             }
@@ -63,12 +63,12 @@ impl World {
         ensures err { IfErr result (λ f. (f ≡ NoMemory) × RanTo self.old self.new) }
         ensures left { OnErr result (unacked self.new end ≡ unacked self.old end) }
     {
-        let place = self.wire(other_end(end)).len();
+        let index = self.wire(other_end(end)).len();
         match self.step(&Event::Ack(other_end(end))) {
             Ok(_step) => {}
             Err(fault) => return Err(fault),
         }
-        match self.step(&Event::Deliver(end, place)) {
+        match self.step(&Event::Deliver(end, index)) {
             Ok(_step) => Ok(()),
             Err(fault) => Err(fault),
         }

@@ -30,20 +30,20 @@ pub struct Wired {
 /// Puts a packet on the wire, which has the room.
 pub(crate) fn put(wire: &mut Vec<Wired>, packet: Vec<u8>, segment: Option<u64>, acks: u64) -> Step
     requires { vec_len wire.old < vec_capacity wire.old }
-    ensures place { result ≡ step.Packet (length wire.old.items) }
+    ensures index { result ≡ step.Packet (length wire.old.items) }
     ensures wire { wire.new.items ≡ wire.old.items ++ record {
       packet = packet;
       segment = segment;
       acks = acks;
     } ∷ [] }
 {
-    let place = wire.len();
+    let index = wire.len();
     wire.push_reserved(Wired {
         packet,
         segment,
         acks,
     });
-    Step::Packet(place)
+    Step::Packet(index)
 }
 
 /// Returns the number of the next segment, and makes room for it on the wire.
@@ -64,26 +64,26 @@ pub(crate) fn next_number(link: &LinkEnd, wire: &mut Vec<Wired>) -> Result<u64, 
 pub(crate) fn again(
     link: &LinkEnd,
     wire: &mut Vec<Wired>,
-    place: usize,
+    index: usize,
     packet: Result<Vec<u8>, LinkFault>,
 ) -> Result<Step, WorldFault>
     requires wrote { IfOk packet
-        (λ v. WritesSent link.now (Some (link.now.acked + 1 + place)) v.items) }
-    requires missing { link.now.sent - link.now.acked ≤ place → IsErrOf packet NoSuchSegment }
-    requires memory { place < link.now.sent - link.now.acked
+        (λ v. WritesSent link.now (Some (link.now.acked + 1 + index)) v.items) }
+    requires missing { link.now.sent - link.now.acked ≤ index → IsErrOf packet NoSuchSegment }
+    requires memory { index < link.now.sent - link.now.acked
         → IfErr packet (λ f. f ≡ link_fault.NoMemory) }
-    ensures ok { IfOk result (λ answer. (place < link.now.sent - link.now.acked)
-        × WroteWired link.now wire.old.items wire.new.items (Some (link.now.acked + 1 + place))
+    ensures ok { IfOk result (λ answer. (index < link.now.sent - link.now.acked)
+        × WroteWired link.now wire.old.items wire.new.items (Some (link.now.acked + 1 + index))
         answer) }
     ensures err { IfErr result (λ f. (wire.new.items ≡ wire.old.items)
-        × ResendFault link.now place f) }
+        × ResendFault link.now index f) }
 {
     let packet = match packet {
         Ok(packet) => packet,
         Err(LinkFault::NoSuchSegment) => return Err(WorldFault::NothingToDo),
         Err(_) => return Err(WorldFault::NoMemory),
     };
-    let segment = Some(link.acked_count() + 1 + place as u64);
+    let segment = Some(link.acked_count() + 1 + index as u64);
     wire.reserve(1)?;
     Ok(put(wire, packet, segment, link.received_count()))
 }

@@ -63,7 +63,7 @@ impl World {
             Event::Ask(request) => self.ask_copy(request),
             Event::Post(end) => self.post(*end),
             Event::Emit(end) => self.emit(*end),
-            Event::Resend(end, place) => self.resend(*end, *place),
+            Event::Resend(end, index) => self.resend(*end, *index),
             Event::Ack(end) => self.ack(*end),
             Event::Deliver(end, j) => self.deliver(*end, *j),
             Event::Serve => self.serve(),

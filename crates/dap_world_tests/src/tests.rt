@@ -119,8 +119,8 @@ fn draw_event(world: &World, seed: &mut u32) -> Event {
 }
 
 /// Asks the request at this index. Returns whether it is asked.
-fn asks(alloc: Global, world: &mut World, place: usize) -> bool {
-    match TURNS.get(place) {
+fn asks(alloc: Global, world: &mut World, index: usize) -> bool {
+    match TURNS.get(index) {
         Some((words, _report)) => match request(alloc, words) {
             Ok(request) => world.ask(request).is_ok(),
             Err(_) => false,

@@ -6,8 +6,8 @@ use Rattle.linewise.specs.declared.fault.CaptureFault.{CaptureFault}
 use Rattle.linewise.specs.declared.fault.CaptureFault.TheVariants.{TooLarge, ReadFailed}
 
 -- a prefix of the known bytes is taken, after this many that were taken before
-unfoldable pub TakesBehind : ℕ → Option (List ℕ) → Option (List ℕ) → Type 0
-TakesBehind count old new = (taken : List ℕ) × Consumes old new taken × (count + length taken ≤ max_line + 1)
+unfoldable pub TakesAfter : ℕ → Option (List ℕ) → Option (List ℕ) → Type 0
+TakesAfter count old new = (taken : List ℕ) × Consumes old new taken × (count + length taken ≤ max_line + 1)
 
 -- and with these no more than an input may have
 unfoldable pub TakesUpTo : ℕ → Option (List ℕ) → Option (List ℕ) → Type 0

@@ -64,13 +64,13 @@ ComesIn pieces text NoMemory = (front rest : List (List ℕ)) × (pieces ≡ fro
 abbrev pub Begins : {E L P : Type 0} → (answered : E → L → E → List ℕ → Became → Type 0) → (pieces : E → P → List (List ℕ))
     → E → L → E → List ℕ → Answer P → Type 0
 Begins answered pieces old line new text (Whole became) = answered old line new text became
-Begins answered pieces old line new text (Begun place) =
-    (more : List ℕ) (became : Became) → ComesIn (pieces new place) more became → answered old line new (text ++ more) became
+Begins answered pieces old line new text (Begun cursor) =
+    (more : List ℕ) (became : Became) → ComesIn (pieces new cursor) more became → answered old line new (text ++ more) became
 
 -- The text is the piece at this position, and the other pieces are those from the next position on; or there is none.
 abbrev pub GivesPiece : {P : Type 0} → (pieces : P → List (List ℕ)) → P → List ℕ → Option P → Type 0
-GivesPiece pieces place text None = (pieces place ≡ []) × (text ≡ [])
-GivesPiece pieces place text (Some next) = pieces place ≡ text ∷ pieces next
+GivesPiece pieces cursor text None = (pieces cursor ≡ []) × (text ≡ [])
+GivesPiece pieces cursor text (Some next) = pieces cursor ≡ text ∷ pieces next
 
 -- What comes of a line. A line that is too long is a bad line. The end misses it, and a line to which memory was
 -- refused: it learns that there was one, and has no text.

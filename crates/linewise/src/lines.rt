@@ -11,7 +11,7 @@ ghost use Rattle.linewise.specs.Inner.Kept.{without_end as ended};
 use memchr::memchr;
 
 /// Returns the first offset of a byte, or None where it is nowhere.
-#[tactic(auto, using(crate::proofs::PlaceLemmas::first_place))]
+#[tactic(auto, using(crate::proofs::IndexLemmas::first_index))]
 pub fn find_byte(wanted: u8, bytes: &[u8]) -> Option<usize>
     ensures { result ≡ position (λ byte. byte == wanted) bytes.now }
 {

@@ -90,7 +90,7 @@ fn len_through(bytes: &[u8]) -> usize
     ensures before { All (λ byte. byte ≢ 10) (take (result - 1) bytes.now) }
 {
     match memchr(b'\n', bytes) {
-        Some(place) => place + 1,
+        Some(index) => index + 1,
         None => bytes.len(),
     }
 }

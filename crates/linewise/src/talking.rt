@@ -44,7 +44,7 @@ pub trait Answers {
     ghost use Rattle.linewise.specs.Talks.{Begins, GivesPiece};
 
     /// The position in an answer at which the next piece begins, where it is said piece by piece.
-    type Place: Copy;
+    type Cursor: Copy;
 
     // What it may come to by a line, the text of its answer, and what became of the line. `None` is a line that it
     // missed, since it wasn't read whole.
@@ -55,10 +55,10 @@ pub trait Answers {
     ghost waiting: { Self → Option ℕ };
 
     // The pieces of an answer from a position on.
-    ghost pieces: { Self → Self.Place → List (List ℕ) };
+    ghost pieces: { Self → Self.Cursor → List (List ℕ) };
 
     /// Answers a line, which comes without its end, or begins to. The text comes empty.
-    fn answer(&mut self, line: &[u8], text: &mut Vec<u8>) -> Answer<Self::Place>
+    fn answer(&mut self, line: &[u8], text: &mut Vec<u8>) -> Answer<Self::Cursor>
         requires { text.old.items ≡ [] }
         ensures { Begins answered pieces self.old (Some line.now) self.new text.new.items result };
 
@@ -71,12 +71,12 @@ pub trait Answers {
     /// returns None where all is said.
     fn more(
         &self,
-        place: Self::Place,
+        cursor: Self::Cursor,
         text: &mut Vec<u8>,
-    ) -> Result<Option<Self::Place>, AllocError>
+    ) -> Result<Option<Self::Cursor>, AllocError>
         requires { text.old.items ≡ [] }
-        ensures piece { IfOk result (GivesPiece (pieces self.now) place text.new.items) }
-        ensures refused { OnErr result (0 < length (pieces self.now place)) };
+        ensures piece { IfOk result (GivesPiece (pieces self.now) cursor text.new.items) }
+        ensures refused { OnErr result (0 < length (pieces self.now cursor)) };
 
     /// Returns how many packets it waits to be acknowledged, and one more where it has something left to do. `None`:
     /// its answers have no ending, and it is given all lines that aren't too long, also those that say nothing.
@@ -95,7 +95,7 @@ fn is_given(waits: Option<usize>, line: &[u8]) -> bool
 }
 
 /// Returns the answer to a line that wasn't read whole, which the end misses.
-fn miss<E: Answers>(end: &mut E, became: Became) -> Answer<E::Place>
+fn miss<E: Answers>(end: &mut E, became: Became) -> Answer<E::Cursor>
     ensures missed { E.answered end.old None end.new [] became }
     ensures whole { result ≡ TheAnswer.Whole became }
 {
@@ -108,7 +108,7 @@ fn answer_whole<E: Answers>(
     end: &mut E,
     line: &[u8],
     text: &mut Vec<u8>,
-) -> Option<Answer<E::Place>>
+) -> Option<Answer<E::Cursor>>
     requires { text.old.items ≡ [] }
     ensures { BeginsLine E.answered E.waiting E.pieces
         end.old line.now end.new text.new.items result }
@@ -123,7 +123,11 @@ fn answer_whole<E: Answers>(
 }
 
 /// Answers a line that was read, or begins to.
-fn answer_read<E: Answers>(end: &mut E, line: &Line, text: &mut Vec<u8>) -> Option<Answer<E::Place>>
+fn answer_read<E: Answers>(
+    end: &mut E,
+    line: &Line,
+    text: &mut Vec<u8>,
+) -> Option<Answer<E::Cursor>>
     requires { text.old.items ≡ [] }
     ensures { (raw : List ℕ) → HoldsLine line.now raw
         → BeginsLine E.answered E.waiting E.pieces
@@ -140,7 +144,7 @@ fn answer_read<E: Answers>(end: &mut E, line: &Line, text: &mut Vec<u8>) -> Opti
 /// the line. The text is empty then.
 fn write_pieces<E: Answers, W: Write>(
     end: &E,
-    first: E::Place,
+    first: E::Cursor,
     text: &mut Vec<u8>,
     writer: &mut W,
 ) -> Result<Became, CaptureFault>
@@ -152,12 +156,12 @@ fn write_pieces<E: Answers, W: Write>(
     ensures front { OnErr result (WritesFront (W.contents writer.old) (W.contents writer.new)
         (text.old.items ++ concat (E.pieces end.now first))) }
 {
-    let mut place = first;
+    let mut cursor = first;
     loop {
         write_part(text, writer)?;
         text.clear();
-        match end.more(place, text) {
-            Ok(Some(next)) => place = next,
+        match end.more(cursor, text) {
+            Ok(Some(next)) => cursor = next,
             Ok(None) => return Ok(Became::Done),
             Err(_) => {
                 text.clear();
@@ -170,7 +174,7 @@ fn write_pieces<E: Answers, W: Write>(
 /// Writes all of an answer but the last text and its ending, and returns what became of the line.
 fn write_begun<E: Answers, W: Write>(
     end: &E,
-    answer: Answer<E::Place>,
+    answer: Answer<E::Cursor>,
     text: &mut Vec<u8>,
     writer: &mut W,
 ) -> Result<Became, CaptureFault>
@@ -184,7 +188,7 @@ fn write_begun<E: Answers, W: Write>(
 {
     match answer {
         Answer::Whole(became) => Ok(became),
-        Answer::Begun(place) => write_pieces(end, place, text, writer),
+        Answer::Begun(cursor) => write_pieces(end, cursor, text, writer),
     }
 }
 

@@ -7,7 +7,7 @@ ghost use Rattle.nsp_link.specs.Link.{IsSetup, SetupFault, IsLink, new_link, wai
 use crate::fault::LinkFault;
 use crate::incoming::{Incoming, begun_len};
 use crate::piece::Segment;
-use crate::ring::{Ring, free_places};
+use crate::ring::{Ring, free_slots};
 use std::alloc::Global;
 use std::collections::VecDeque;
 use std::marker::Model;
@@ -97,7 +97,7 @@ impl LinkEnd {
         if !is_setup(&setup) {
             return Err(LinkFault::BadSetup);
         }
-        let held = free_places(alloc, setup.window)?;
+        let held = free_slots(alloc, setup.window)?;
         Ok(LinkEnd {
             alloc,
             setup,

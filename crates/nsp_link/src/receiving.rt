@@ -279,21 +279,21 @@ impl LinkEnd {
     }
 
     /// Keeps an early segment, this many numbers after the next one, unless it is beyond the window or kept already.
-    fn keep(&mut self, place: usize, piece: &Piece<&[u8]>) -> Result<(), LinkFault>
-        requires { 0 < place }
+    fn keep(&mut self, index: usize, piece: &Piece<&[u8]>) -> Result<(), LinkFault>
+        requires { 0 < index }
         ensures ok { OnOk result (self.new
-            ≡ taking_in self.old (self.old.coming.received + 1 + place) (lent_piece piece.now)) }
+            ≡ taking_in self.old (self.old.coming.received + 1 + index) (lent_piece piece.now)) }
         ensures err { IfErr result (λ e. (e ≡ NoMemory)
-            × KeepsEarly self.old (self.old.coming.received + 1 + place) × (self.new ≡ self.old)) }
+            × KeepsEarly self.old (self.old.coming.received + 1 + index) × (self.new ≡ self.old)) }
     {
-        if is_free(&self.held, place) {
+        if is_free(&self.held, index) {
             let payload = Vec::from_slice(self.alloc, piece.payload)?;
             let held = Piece {
                 payload,
                 first: piece.first,
                 last: piece.last,
             };
-            fill(&mut self.held, place, held);
+            fill(&mut self.held, index, held);
             self.early += 1;
         }
         Ok(())

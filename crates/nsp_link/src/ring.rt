@@ -10,7 +10,7 @@ use std::alloc::{AllocError, Global};
 pub(crate) type Ring = HeapCircularBuffer<Option<Held>>;
 
 /// Returns a ring of this many free slots.
-pub(crate) fn free_places(alloc: Global, count: usize) -> Result<Ring, AllocError>
+pub(crate) fn free_slots(alloc: Global, count: usize) -> Result<Ring, AllocError>
     ensures items { IfOk result (λ r. r.items ≡ replicate count None) }
     ensures capacity { IfOk result (λ r. r.capacity ≡ count) }
     ensures len { IfOk result (λ r. length r.items ≡ count) }
@@ -25,22 +25,22 @@ pub(crate) fn free_places(alloc: Global, count: usize) -> Result<Ring, AllocErro
 }
 
 /// Fills the slot at an index.
-pub(crate) fn fill(ring: &mut Ring, place: usize, held: Held)
-    requires { place < length ring.old.items }
-    ensures items { ring.new.items ≡ slice_set ring.old.items place (Some held) }
+pub(crate) fn fill(ring: &mut Ring, index: usize, held: Held)
+    requires { index < length ring.old.items }
+    ensures items { ring.new.items ≡ slice_set ring.old.items index (Some held) }
     ensures capacity { ring.new.capacity ≡ ring.old.capacity }
 {
-    if let Some(slot) = ring.get_mut(place) {
+    if let Some(slot) = ring.get_mut(index) {
         *slot = Some(held);
     }
 }
 
 /// Returns whether there is a slot at an index, and it is free.
-pub(crate) fn is_free(ring: &Ring, place: usize) -> bool
-    ensures { MatchOption (slice_get ring.now.items place) (result ≡ false)
+pub(crate) fn is_free(ring: &Ring, index: usize) -> bool
+    ensures { MatchOption (slice_get ring.now.items index) (result ≡ false)
         (λ o. result ≡ is_none o) }
 {
-    ring.get(place).is_some_and(Option::is_none)
+    ring.get(index).is_some_and(Option::is_none)
 }
 
 /// Removes this many slots from the start, and adds as many free ones after the last.
@@ -57,13 +57,13 @@ pub(crate) fn advance(ring: &mut Ring, count: usize)
 }
 
 /// Returns the segment in the slot at an index, if there is one.
-pub(crate) fn held_at(ring: &Ring, place: usize) -> Option<&Held>
-    ensures there { IfSome result (λ h. place < length ring.now.items) }
-    ensures leads { MatchOption result (leading (drop place ring.now.items) ≡ [])
-        (λ h. leading (drop place ring.now.items)
-        ≡ held_piece h.now ∷ leading (drop (place + 1) ring.now.items)) }
+pub(crate) fn held_at(ring: &Ring, index: usize) -> Option<&Held>
+    ensures there { IfSome result (λ h. index < length ring.now.items) }
+    ensures leads { MatchOption result (leading (drop index ring.now.items) ≡ [])
+        (λ h. leading (drop index ring.now.items)
+        ≡ held_piece h.now ∷ leading (drop (index + 1) ring.now.items)) }
 {
-    match ring.get(place) {
+    match ring.get(index) {
         Some(slot) => slot.as_ref(),
         None => None,
     }

@@ -126,20 +126,20 @@ impl LinkEnd {
     pub fn may_send(&self) -> bool
         ensures { result ≡ may_send self.now }
     {
-        let place = self.unacked();
-        place < self.queue.len() && place < self.setup.window
+        let index = self.unacked();
+        index < self.queue.len() && index < self.setup.window
     }
 
     /// Returns the bytes of the packet of the segment at this index of the queue.
-    fn segment_at(&self, place: usize) -> Result<Vec<u8>, LinkFault>
-        requires { place < length self.now.queue }
+    fn segment_at(&self, index: usize) -> Result<Vec<u8>, LinkFault>
+        requires { index < length self.now.queue }
         ensures ok { IfOk result
-            (λ v. WritesQueued self.now place (self.now.acked + 1 + place) v.items) }
+            (λ v. WritesQueued self.now index (self.now.acked + 1 + index) v.items) }
         ensures carries { IfOk result
-            (λ v. WritesSent self.now (Some (self.now.acked + 1 + place)) v.items) }
+            (λ v. WritesSent self.now (Some (self.now.acked + 1 + index)) v.items) }
         ensures err { IfErr result (λ e. e ≡ NoMemory) }
     {
-        let segment = &self.queue[place];
+        let segment = &self.queue[index];
         let packet = PacketValue::Segment(SegmentFields {
             first: segment.first,
             last: segment.last,
@@ -147,7 +147,7 @@ impl LinkEnd {
             src: self.setup.local,
             ack1: Some(self.acknowledgement()),
             ack2: None,
-            number: Seq12::of(self.acked + 1 + place as u64),
+            number: Seq12::of(self.acked + 1 + index as u64),
             payload: Payload(&segment.payload),
         });
         self.written(&packet)
@@ -217,24 +217,24 @@ impl LinkEnd {
 
     /// Retransmits a segment that was sent and isn't acknowledged: returns its packet. The oldest is at index 0 (NSP
     /// 4.0.0, data segment message). Refused: `Failed`; `NoSuchSegment`, from `unacked()` on; `NoMemory`.
-    pub fn resend(&self, place: usize) -> Result<Vec<u8>, LinkFault>
-        ensures segment { IfOk result (λ v. (place < self.now.sent - self.now.acked)
-            × WritesQueued self.now place (self.now.acked + 1 + place) v.items) }
+    pub fn resend(&self, index: usize) -> Result<Vec<u8>, LinkFault>
+        ensures segment { IfOk result (λ v. (index < self.now.sent - self.now.acked)
+            × WritesQueued self.now index (self.now.acked + 1 + index) v.items) }
         ensures carries { IfOk result
-            (λ v. WritesSent self.now (Some (self.now.acked + 1 + place)) v.items) }
+            (λ v. WritesSent self.now (Some (self.now.acked + 1 + index)) v.items) }
         ensures failed { IsTrue self.now.failed → IsErrOf result Failed }
-        ensures missing { self.now.failed ≡ false → self.now.sent - self.now.acked ≤ place
+        ensures missing { self.now.failed ≡ false → self.now.sent - self.now.acked ≤ index
             → IsErrOf result NoSuchSegment }
-        ensures memory { self.now.failed ≡ false → place < self.now.sent - self.now.acked
+        ensures memory { self.now.failed ≡ false → index < self.now.sent - self.now.acked
             → IfErr result (λ e. e ≡ NoMemory) }
     {
         if self.failed {
             return Err(LinkFault::Failed);
         }
-        if place >= self.unacked() {
+        if index >= self.unacked() {
             return Err(LinkFault::NoSuchSegment);
         }
-        self.segment_at(place)
+        self.segment_at(index)
     }
 
     /// Returns a packet that only acknowledges all segments that were taken, and none that is held (NSP 4.0.0, data

@@ -78,10 +78,10 @@ is_quiet (steps.Expect opened stream control) = true
 is_quiet step = false
 
 -- an item that is refused ends a group of two
-abbrev pub phase_behind : Phase → Phase
-phase_behind (phases.PutDue opened stream key) = phases.Connected opened stream
-phase_behind (phases.UpdateDue opened stream) = phases.Connected opened stream
-phase_behind phase = phase
+abbrev pub phase_after_refusal : Phase → Phase
+phase_after_refusal (phases.PutDue opened stream key) = phases.Connected opened stream
+phase_after_refusal (phases.UpdateDue opened stream) = phases.Connected opened stream
+phase_after_refusal phase = phase
 
 -- the item does what the step says, and the step can be done
 pub record IsFor (phase : Phase) (item : Item) (step : Step) : Type 0 where
@@ -91,7 +91,7 @@ pub record IsFor (phase : Phase) (item : Item) (step : Step) : Type 0 where
 
 -- it does nothing, but that it ends a group of two, and has a Status with this code
 pub record RefusesItem (phase : Phase) (item : Item) (code : ℕ) : Type 0 where
-  pub moves : (p : Present) → move_in phase p item ≡ replies p (bare_status code) (phase_behind phase)
+  pub moves : (p : Present) → move_in phase p item ≡ replies p (bare_status code) (phase_after_refusal phase)
   pub answered : is_silent phase item ≡ false
 
 -- what the item asks for, or how it is refused

@@ -6,7 +6,7 @@ use Rattle.dap_accessed.specs.Setup.{plain_setup}
 use Rattle.dap_msg.specs.declared.items.Item.{Item}
 use Rattle.dap_msg.specs.declared.items.Item.TheVariants.{Whole}
 use Rattle.dap_accessed.specs.Standing as at
-use Rattle.dap_accessed.specs.Standing.{Place}
+use Rattle.dap_accessed.specs.Standing.{ServerState}
 use Rattle.dap_world.specs.Plain.{added, limit_for, stands_after, messages_of, IsAdmissible}
 use Rattle.dap_accessed.specs.Served.{AllAtMost}
 use Rattle.dap_accessing.specs.Request.{Request}

@@ -22,7 +22,7 @@ BeginsLine answered waiting pieces old line new text (Some answer) =
 -- the text of an answer that began so, and what became of the line
 abbrev pub Completes : {P : Type 0} → (P → List (List ℕ)) → List ℕ → Answer P → List ℕ → Became → Type 0
 Completes pieces text (Whole became) whole came = (whole ≡ text) × (came ≡ became)
-Completes pieces text (Begun place) whole came = (more : List ℕ) × ComesIn (pieces place) more came × (whole ≡ text ++ more)
+Completes pieces text (Begun cursor) whole came = (more : List ℕ) × ComesIn (pieces cursor) more came × (whole ≡ text ++ more)
 
 -- The first pieces of an answer are written after its first text, but for the text that comes next;
 -- these are left after that.

@@ -21,7 +21,7 @@ link_view a = record {
 -- filled ones are counted.
 pub record IsLinkInside (a : Inside) : Type 0 where
   pub link : IsLink (link_view a)
-  pub places : length a.held.items ≡ a.setup.window
+  pub slots : length a.held.items ≡ a.setup.window
   pub capacity : a.held.capacity ≡ a.setup.window
   pub free : slice_get a.held.items 0 ≡ Some None
   pub counted : a.early ≡ length (held_from (a.incoming.received + 1) a.held.items)

@@ -81,8 +81,8 @@ pages_at kept (e ∷ es) = (e.0, unwrap_or (kept e.1) []) ∷ pages_at kept es
 
 -- none of them has this slot
 abbrev pub NoneAt : ℕ → List (ℕ × ℕ) → Type 0
-NoneAt place [] = Unit {0}
-NoneAt place (e ∷ es) = (e.1 ≢ place) × NoneAt place es
+NoneAt slot [] = Unit {0}
+NoneAt slot (e ∷ es) = (e.1 ≢ slot) × NoneAt slot es
 
 -- no two have the same slot
 abbrev pub HaveOwnSlots : List (ℕ × ℕ) → Type 0
