@@ -4,7 +4,7 @@ use Rattle.std.proofs.lemmas.List.{take-append-le}
 use Rattle.std.proofs.Math.Seq.{take-append_seam, drop-append_seam}
 use Rattle.capture_file.specs.Units.{IsUnit, extent_of, head_len, kept_prefix}
 use Rattle.capture_file.specs.Files.{IsCutShort, IsNone, IsPart, IsWhole, Stops, Units, clamped as offset_of}
-use Rattle.capture_file.specs.Files.Units.{no_more, one_more}
+use Rattle.capture_file.specs.Files.Units.{no_unit_more, one_unit_more}
 use Rattle.capture_file.specs.Meanings.{Record, format_after, interfaces_after, meaning_of, records_of}
 use Rattle.capture_file.specs.declared.fault.FaultKind.{FaultKind}
 use Rattle.capture_file.specs.declared.units.Extent.{Extent}
@@ -139,12 +139,12 @@ pub one_reading : {format last end : Format} {interfaces described told : List I
     → Units format interfaces bytes records last described → Units format interfaces others more end told
     → IsStuck last described x → IsStuck end told y → bytes ++ x ≡ others ++ y
     → Same bytes others records more last end described told
-one_reading x y no_more no_more here there e = record { bytes_are = refl; records_are = refl; last_is = refl; described_are = refl }
-one_reading x y no_more (one_more {bytes} unit extent meaning is means units) here there e =
+one_reading x y no_unit_more no_unit_more here there e = record { bytes_are = refl; records_are = refl; last_is = refl; described_are = refl }
+one_reading x y no_unit_more (one_unit_more {bytes} unit extent meaning is means units) here there e =
     absurd (here unit (bytes ++ y) extent meaning (e ∙ append_assoc unit bytes y) is means)
-one_reading x y (one_more {bytes} unit extent meaning is means units) no_more here there e =
+one_reading x y (one_unit_more {bytes} unit extent meaning is means units) no_unit_more here there e =
     absurd (there unit (bytes ++ x) extent meaning (sym e ∙ append_assoc unit bytes x) is means)
-one_reading x y (one_more {format} {last} {interfaces} {described} {bytes} {records} unit extent meaning is means units) (one_more {last = end} {described = told} {bytes = others} {records = more} other extent2 meaning2 are mean units2) here there e =
+one_reading x y (one_unit_more {format} {last} {interfaces} {described} {bytes} {records} unit extent meaning is means units) (one_unit_more {last = end} {described = told} {bytes = others} {records = more} other extent2 meaning2 are mean units2) here there e =
     let one = one_unit format extent extent2 unit other (bytes ++ x) (others ++ y) is are (sym (append_assoc unit bytes x) ∙ (e ∙ append_assoc other others y)) in
     let mean_is : meaning ≡ meaning2 = ok_meaning meaning meaning2 (sym means ∙ (ap (λ z. meaning_of format interfaces (kept_prefix z unit)) one.0 ∙ (ap (λ xs. meaning_of format interfaces (kept_prefix extent2 xs)) one.1 ∙ mean))) in
     let kept_is : kept_prefix extent unit ≡ kept_prefix extent2 other = ap (λ z. kept_prefix z unit) one.0 ∙ ap (λ xs. kept_prefix extent2 xs) one.1 in

@@ -11,8 +11,8 @@ use Rattle.capture_file.specs.declared.meaning.Meaning.{Meaning}
 
 -- The bytes are units with these records, which lead from a format and its interfaces to others.
 pub data Units : Format → List Interface → (bytes : List ℕ) → List Record → Format → List Interface → Type 0 where
-  no_more : {format : Format} {interfaces : List Interface} → Units format interfaces [] [] format interfaces
-  one_more : {format last : Format} {interfaces described : List Interface} {bytes : List ℕ} {records : List Record}
+  no_unit_more : {format : Format} {interfaces : List Interface} → Units format interfaces [] [] format interfaces
+  one_unit_more : {format last : Format} {interfaces described : List Interface} {bytes : List ℕ} {records : List Record}
       (unit : List ℕ) (extent : Extent) (meaning : Meaning)
       → IsUnit format extent unit
       → meaning_of format interfaces (kept_prefix extent unit) ≡ Ok meaning

@@ -27,7 +27,7 @@ use Rattle.dap_accessed.specs.Past.{asked_shape, kept_attributes, is_dropping, o
 use Rattle.dap_accessed.specs.Accesses.{rights_to_create, rights_to_open, make_file, open_file, create_file, access_file, end_stream, complete}
 use Rattle.dap_accessed.specs.Records.{at_number, verb_of, get_pick, got, record_got, Change, Putting, Updating, changed, fits_limit}
 use Rattle.dap_accessed.specs.Transfers.{fetch, fetch_ends, continue_fetch}
-use Rattle.dap_accessed.specs.Effects.{Begun, Turn, Does, Begins, control_opened, control_connected, turn_in, turn_of, effect_with}
+use Rattle.dap_accessed.specs.Effects.{Begun, Turn, Does, BeginsGroup, control_opened, control_connected, turn_in, turn_of, effect_with}
 use Rattle.dap_accessed.specs.Groups.{Grouped, After, stands_after, next_group, more_after}
 use Rattle.dap_accessed.specs.Apart.{NamesAreApart}
 use Rattle.dap_accessed.proofs.Cuts.{cut-more}
@@ -48,7 +48,7 @@ module _ (own : ServerSetup) where
     -- an item that begins a group does nothing yet
     abbrev LeavesBy : Turn → Type 0
     LeavesBy (Does e) = Leaves e
-    LeavesBy (Begins b) = Unit {0}
+    LeavesBy (BeginsGroup b) = Unit {0}
 
     stays : Keeps scene.files scene.files
     stays h = h
@@ -181,7 +181,7 @@ module _ (own : ServerSetup) where
 
   next-leaves : (s : Standing) (item : Item) (t : Turn) → LeavesBy s.scene t → Keeps s.scene.files (next_group s item t).standing.scene.files
   next-leaves s item (Does e) h = h
-  next-leaves s item (Begins b) h = stays s.scene
+  next-leaves s item (BeginsGroup b) h = stays s.scene
 
   more-leaves : (s : Standing) (b : Option Begun) (item : Item) → Keeps s.scene.files (more_after own s b item).standing.scene.files
   more-leaves s None item = next-leaves s item (turn_of own s item) (one-leaves s item)

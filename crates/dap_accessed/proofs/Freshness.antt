@@ -11,7 +11,7 @@ use Rattle.dap_accessed.specs.declared.phase.Phase.TheVariants as phases
 use Rattle.dap_accessed.specs.Standing.{Files, ServerState, Standing, Fresh, Ready, Opened, Connected, Store, Stopped, start}
 use Rattle.dap_accessed.specs.Present.{Memory, looked_back, Present, phase_at, phase_within, phase_of}
 use Rattle.dap_accessed.specs.Records.{Change, Putting, Updating}
-use Rattle.dap_accessed.specs.Effects.{Begun, Turn, Does, Begins, turn_of}
+use Rattle.dap_accessed.specs.Effects.{Begun, Turn, Does, BeginsGroup, turn_of}
 use Rattle.dap_accessed.specs.Groups.{Grouped, stands_after, next_group, more_after}
 use Rattle.dap_accessed.specs.Adding.{IsFresh, IsLate}
 use Rattle.dap_accessed.proofs.Cuts.{cut-more}
@@ -46,13 +46,13 @@ is-fresh p e = record { is = λ first items h. (let c = stands_after p.setup fir
 abbrev IsWhole : Grouped → Type 0
 IsWhole c = c.standing.state ≡ Fresh → c.begun ≡ None
 
-does : (own : ServerSetup) (s : Standing) (item : Item) (begun : Begun) → turn_of own (record s { state = Fresh }) item ≡ Begins begun → ⊥
+does : (own : ServerSetup) (s : Standing) (item : Item) (begun : Begun) → turn_of own (record s { state = Fresh }) item ≡ BeginsGroup begun → ⊥
 does own s (Malformed fault) begun e = cc
 does own s (Whole message) begun e = cc
 
 whole-by : (own : ServerSetup) (s : Standing) (item : Item) (t : Turn) → turn_of own s item ≡ t → IsWhole (next_group s item t)
 whole-by own s item (Does effect) e = λ at. refl
-whole-by own s item (Begins begun) e = λ at.
+whole-by own s item (BeginsGroup begun) e = λ at.
     absurd (does own s item begun (ap (λ (p : ServerState). turn_of own (record s { state = p }) item) (sym at) ∙ e))
 
 whole-one : (own : ServerSetup) (s : Standing) (b : Option Begun) (item : Item) → IsWhole (more_after own s b item)

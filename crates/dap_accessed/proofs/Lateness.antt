@@ -28,7 +28,7 @@ use Rattle.dap_accessed.specs.Replies.{bare_status, too_large}
 use Rattle.dap_accessed.specs.Accesses.{permitted, rights_to_create, rights_to_open, make_file, open_file, create_file, access_file, end_stream, complete}
 use Rattle.dap_accessed.specs.Records.{verb_of, get_pick, got, record_got, at_number, filedata_of, fits_limit, uncurrent, Change, Putting, Updating, changed}
 use Rattle.dap_accessed.specs.Transfers.{fetch, fetch_ends, continue_fetch}
-use Rattle.dap_accessed.specs.Effects.{Begun, Turn, Does, Begins, control_opened, control_connected, turn_in, turn_of, effect_with}
+use Rattle.dap_accessed.specs.Effects.{Begun, Turn, Does, BeginsGroup, control_opened, control_connected, turn_in, turn_of, effect_with}
 use Rattle.dap_accessed.specs.Groups.{Grouped, stands_after, next_group, more_after}
 use Rattle.dap_accessed.specs.Present.{Present, present_of, StandsAfter}
 use Rattle.dap_accessed.specs.Adding.{IsFresh}
@@ -43,7 +43,7 @@ Late e = is_late e.state ≡ true
 
 abbrev LateTurn : Turn → Type 0
 LateTurn (Does e) = Late e
-LateTurn (Begins b) = Unit {0}
+LateTurn (BeginsGroup b) = Unit {0}
 
 module _ (scene : Scene) where
   either : (b : Bool) (one two : Effect) → Late one → Late two → Late (if b then one else two)
@@ -160,7 +160,7 @@ LateThen c = is_late c.standing.state ≡ true
 
 next-late : (s : Standing) (item : Item) (t : Turn) → is_late s.state ≡ true → LateTurn t → LateThen (next_group s item t)
 next-late s item (Does e) h late = late
-next-late s item (Begins b) h late = h
+next-late s item (BeginsGroup b) h late = h
 
 more-late : (own : ServerSetup) (s : Standing) (b : Option Begun) (item : Item) → is_late s.state ≡ true → LateThen (more_after own s b item)
 more-late own s None item h = next-late s item (turn_of own s item) h (of-item s.scene own s.past s.state h item)

@@ -42,7 +42,7 @@ use Rattle.dap_accessed.specs.Accesses.{permitted, rights_to_create, rights_to_o
 use Rattle.dap_accessed.specs.Records.{at_number, verb_of, get_pick, got, record_got, settled, Change, Putting, Updating, changed, fits_limit}
 use Rattle.dap_accessed.specs.Transfers.{fetch, fetch_ends, continue_fetch, store_one}
 use Rattle.dap_msg.specs.BothEnds.{is_too_small}
-use Rattle.dap_accessed.specs.Effects.{Begun, Turn, Does, Begins, control_opened, control_connected, turn_in, turn_of, effect_with}
+use Rattle.dap_accessed.specs.Effects.{Begun, Turn, Does, BeginsGroup, control_opened, control_connected, turn_in, turn_of, effect_with}
 use Rattle.dap_accessed.specs.Groups.{after_two}
 use Rattle.dap_accessed.specs.Sound.{AreFiles, IsOpenAt, IsSoundAt, IsSound}
 use Rattle.dap_accessed.specs.Groups.{next_group, more_after}
@@ -100,7 +100,7 @@ index-within names name files = within-of _ _ _ (λ e. grind (arith, nat_tests))
 -- the end that a turn leaves is sound, or the open file is in the table
 abbrev IsSoundTurn : Scene → Turn → Type 0
 IsSoundTurn scene (Does e) = IsSoundAt e.scene e.state
-IsSoundTurn scene (Begins b) = b.opened.at < length scene.files
+IsSoundTurn scene (BeginsGroup b) = b.opened.at < length scene.files
 
 module _ (scene : Scene) (files : AreFiles scene.files) (least : 64 ≤ scene.limit) (most : scene.limit ≤ max_nsp_message) where
   abbrev Leaves : Effect → Type 0
@@ -283,7 +283,7 @@ two-sound s b item h there = of-second s.scene h.files h.least h.most b.change b
 
 next-sound : (s : Standing) (item : Item) (t : Turn) → IsSoundAt s.scene s.state → IsSoundTurn s.scene t → IsSound (next_group s item t)
 next-sound s item (Does e) h sound = record { standing = sound; begun = tt }
-next-sound s item (Begins b) h there = record { standing = h; begun = there }
+next-sound s item (BeginsGroup b) h there = record { standing = h; begun = there }
 
 pub more-sound : (own : ServerSetup) (s : Standing) (b : Option Begun) (item : Item) → IsSound (record { standing = s; begun = b }) → IsSound (more_after own s b item)
 more-sound own s None item h = next-sound s item (turn_of own s item) h.standing (one-sound own s item h.standing)

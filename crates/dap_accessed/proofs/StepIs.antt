@@ -18,7 +18,7 @@ use Rattle.dap_accessed.specs.declared.phase.Phase.TheVariants as phases
 use Rattle.dap_accessed.specs.Standing.{Files, Scene, ServerState, Group, Standing, Effect, Fresh, Ready, Opened, Connected, Store, Stopped}
 use Rattle.dap_accessed.specs.Past.{asked_shape, kept_attributes, is_dropping, ordinal_so_far, this_store, is_skip, is_ready, is_store, is_access, is_filedata, attributes_in, since_access, was_refused, max_ordinal, next_ordinal}
 use Rattle.dap_accessed.specs.Records.{Change, Putting, Updating}
-use Rattle.dap_accessed.specs.Effects.{Begun, Turn, Does, Begins, turn_of, effect_with}
+use Rattle.dap_accessed.specs.Effects.{Begun, Turn, Does, BeginsGroup, turn_of, effect_with}
 use Rattle.dap_accessed.specs.Groups.{Grouped, over, added, stands_after, next_group, next_answers, after_item, answers_of}
 use Rattle.dap_accessed.specs.Present.{Present, Memory, looked_back, present_of, phase_at, StandsAfter}
 use Rattle.dap_accessed.specs.Sessions.{IsIn}
@@ -157,7 +157,7 @@ module _ (own : ServerSetup) (scene : Scene) (past : List Group) where
   turned : (state : ServerState) (item : Item) (t : Turn) →
       Agrees (turns t (kept_at state) (looked_back state past) state item) (present_of own (next_group (at state) item t)) (next_answers t)
   turned state item (Does effect) = record { same_present = after-group (kept_at state) (at state) state item effect refl refl refl; same_answers = refl }
-  turned state item (Begins begun) = record { same_present = refl; same_answers = refl }
+  turned state item (BeginsGroup begun) = record { same_present = refl; same_answers = refl }
 
   abbrev Follows : ServerState → Item → Move → Type 0
   Follows state item step =
@@ -221,7 +221,7 @@ KeepsOwn new old = (new.own ≡ old.own) × (new.setup ≡ old.setup)
 
 turns-own : (t : Turn) (p : Present) (memory : Memory) (state : ServerState) (item : Item) → KeepsOwn (turns t p memory state item).present p
 turns-own (Does effect) p memory state item = (refl, refl)
-turns-own (Begins begun) p memory state item = (refl, refl)
+turns-own (BeginsGroup begun) p memory state item = (refl, refl)
 
 between-own : (p : Present) (memory : Memory) (state : ServerState) (item : Item) → KeepsOwn (between p memory state item).present p
 between-own p memory state item = turns-own (turn_by p.setup (scene_in p) memory state item) p memory state item

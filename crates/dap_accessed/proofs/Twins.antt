@@ -20,7 +20,7 @@ use Rattle.dap_accessed.specs.declared.phase.Phase.TheVariants as phases
 use Rattle.dap_accessed.specs.Replies.{bare_status}
 use Rattle.dap_accessed.specs.Standing.{Files, ServerState, Fresh, Ready, Opened, Connected, Store, Stopped, Scene, Effect, enters}
 use Rattle.dap_accessed.specs.Records.{Putting, Updating}
-use Rattle.dap_accessed.specs.Effects.{Turn, Does, Begins, effect_fresh, effect_ready, effect_with}
+use Rattle.dap_accessed.specs.Effects.{Turn, Does, BeginsGroup, effect_fresh, effect_ready, effect_with}
 use Rattle.dap_accessed.specs.Groups.{After, Answers, added, limit_for, stands_after}
 use Rattle.dap_accessed.specs.Present.{Present, Memory, present_of}
 use Rattle.dap_accessed.specs.Twins.{AreTwins, SameMessages}
@@ -56,7 +56,7 @@ module _ (identity : Configuration) where
 
   follows-turn : (t : Turn) (p : Present) (memory : Memory) (state : ServerState) (item : Item) → Follows p (turns t p memory state item) (turns t (twin p) memory state item)
   follows-turn (Does e) p memory state item = record { present = refl; answers = same_all p.setup.identity identity e.answers }
-  follows-turn (Begins b) p memory state item = record { present = refl; answers = tt }
+  follows-turn (BeginsGroup b) p memory state item = record { present = refl; answers = tt }
 
   -- where nothing is said of the server, its identity doesn't count
   ready-same : (own : ServerSetup) (scene : Scene) (shape : Option Shape) (m : Message) → effect_ready (saying identity own) scene shape m ≡ effect_ready own scene shape m

@@ -33,7 +33,7 @@ pub record Begun : Type 0 where
 -- of two, and has no effect yet.
 pub data Turn : Type 0 where
   Does : Effect → Turn
-  Begins : Begun → Turn
+  BeginsGroup : Begun → Turn
 
 -- A message that is out of sequence changes nothing.
 abbrev pub sync : Scene → ServerState → Message → Effect
@@ -92,7 +92,7 @@ effect_opened scene opened message = common_effect scene opened (Opened opened) 
 -- a Control that begins a group of two
 abbrev pub begins_with : ControlFields → OpenFile → StreamVal → Change → Turn
 begins_with control opened stream change =
-    Begins (record { first = Whole (Control control); opened = opened; stream = stream; change = change })
+    BeginsGroup (record { first = Whole (Control control); opened = opened; stream = stream; change = change })
 
 -- What a Control does with a stream. PUT and UPDATE begin a group of two. A fetch needs the right to GET. REWIND goes
 -- to number 1.

@@ -6,7 +6,7 @@ use Rattle.dap_msg.specs.declared.message.Message.{Message}
 use Rattle.dap_msg.specs.declared.items.Item.{Item}
 use Rattle.dap_accessed.specs.declared.setup.ServerSetup.{ServerSetup}
 use Rattle.dap_accessed.specs.Standing.{Files, ServerState, Connected, Group, Standing, Effect, start}
-use Rattle.dap_accessed.specs.Effects.{Begun, Turn, Does, Begins, turn_of, effect_with}
+use Rattle.dap_accessed.specs.Effects.{Begun, Turn, Does, BeginsGroup, turn_of, effect_with}
 
 -- the state after a group
 abbrev pub over : Standing → ServerState → Item → Effect → Standing
@@ -34,12 +34,12 @@ grouped own s [] = record { standing = s; begun = None }
 grouped own s (item ∷ []) =
     elim (turn_of own s item) [
       | Does effect ↦ record { standing = over s s.state item effect; begun = None }
-      | Begins begun ↦ record { standing = s; begun = Some begun }
+      | BeginsGroup begun ↦ record { standing = s; begun = Some begun }
     ]
 grouped own s (item ∷ second ∷ items) =
     elim (turn_of own s item) [
       | Does effect ↦ grouped own (over s s.state item effect) (second ∷ items)
-      | Begins begun ↦ grouped own (after_two s begun second) items
+      | BeginsGroup begun ↦ grouped own (after_two s begun second) items
     ]
 
 -- the answers of the groups, in order
@@ -72,7 +72,7 @@ added own first items item = drop (length (Answers own first items)) (Answers ow
 -- the state after a group, or with one begun
 abbrev pub next_group : Standing → Item → Turn → Grouped
 next_group s item (Does effect) = record { standing = over s s.state item effect; begun = None }
-next_group s item (Begins begun) = record { standing = s; begun = Some begun }
+next_group s item (BeginsGroup begun) = record { standing = s; begun = Some begun }
 
 -- the state after an item, where this group was begun
 abbrev pub more_after : (own : ServerSetup) → Standing → Option Begun → Item → Grouped
@@ -86,7 +86,7 @@ after_item own c item = more_after own c.standing c.begun item
 -- the answers of a group; one that is begun has none yet
 abbrev pub next_answers : Turn → List Message
 next_answers (Does effect) = effect.answers
-next_answers (Begins begun) = []
+next_answers (BeginsGroup begun) = []
 
 -- the answers to an item, where this group was begun
 abbrev pub answers_after : (own : ServerSetup) → Standing → Option Begun → Item → List Message

@@ -28,7 +28,7 @@ pub record Answered (limit : ℕ) (messages : List Message) (answers : Vec (Vec 
 -- The item at this offset was served. Whatever items left the server before, it is as after those and this one, and
 -- its answers are those that the item adds, joined within the peer's limit. Each has a spelling, and no NSP message
 -- of them is longer than that limit.
-pub record Serves (bytes : List ℕ) (at : ℕ) (old new : Present) (served : Served) : Type 0 where
+pub record ServesItemAt (bytes : List ℕ) (at : ℕ) (old new : Present) (served : Served) : Type 0 where
   pub item : Item
   pub reads : ItemAt bytes at item served.next
   pub limit : ℕ

@@ -9,7 +9,7 @@ ghost use Rattle.dap_msg.specs.declared.message.Message.{Message as TheMessage};
 ghost use Rattle.dap_msg.specs.Decoding.{IsSpelled};
 ghost use Rattle.dap_accessed.specs.Groups.{After};
 ghost use Rattle.dap_accessed.specs.Present.{StandsAfter};
-ghost use Rattle.dap_accessed.specs.Served.{IsSilent, Serves};
+ghost use Rattle.dap_accessed.specs.Served.{IsSilent, ServesItemAt};
 ghost use Rattle.dap_accessed.specs.Setup.{IsServerSetup, plain_setup};
 ghost use Rattle.dap_accessed.specs.Standing.{Files};
 
@@ -87,7 +87,7 @@ impl Accessed {
     /// that has no answer and stores no record takes no memory.
     pub fn serve(&mut self, nsp_message: &[u8], at: usize) -> Result<Served, NoMemory>
         requires { IsOffset at nsp_message.now }
-        ensures serves { IfOk result (Serves nsp_message.now at self.old self.new) }
+        ensures serves { IfOk result (ServesItemAt nsp_message.now at self.old self.new) }
         ensures within { IfOk result (λ served. served.next ≤ length nsp_message.now) }
         ensures further { at < length nsp_message.now → IfOk result (λ served. at < served.next) }
         ensures no_memory { OnErr result (self.new ≡ self.old) }
@@ -104,7 +104,7 @@ impl Accessed {
     pub fn serve_item(&mut self, item: Item<'_>, next: usize) -> Result<Served, NoMemory>
         requires { (m : TheMessage) → item ≡ Whole m → IsSpelled m }
         ensures serves { (bytes : List ℕ) (at : ℕ) → ItemAt bytes at item.entry next
-            → IfOk result (Serves bytes at self.old self.new) }
+            → IfOk result (ServesItemAt bytes at self.old self.new) }
         ensures next { IfOk result (λ served. served.next ≡ next) }
         ensures no_memory { OnErr result (self.new ≡ self.old) }
         ensures unrefused { (first : Files) (items : List TheItem)

@@ -18,7 +18,7 @@ use Rattle.dap_accessing.specs.Phase.{phase_next, phase_after, limit_next, limit
 use Rattle.dap_accessing.specs.Inner.Hears.{pending_of, IsOutOfSequence, IsInSequence, HearsNext}
 use Rattle.dap_accessing.specs.Present.{ClientState, failed_after, ClientAfter, FitsDue}
 use Rattle.dap_accessing.specs.Inner.Gathers.{gather}
-use Rattle.dap_accessing.specs.Calls.{IsAdmittedBy, Asks, Reads, ReadRefused}
+use Rattle.dap_accessing.specs.Calls.{IsAdmittedBy, AsksRequest, Reads, ReadRefused}
 use Rattle.dap_accessing.specs.Prepared.{MayAsk}
 use Rattle.dap_msg.specs.Blocked.{Blocked, all_joined}
 use Rattle.std.specs.List.{IsAmong}
@@ -414,7 +414,7 @@ rest_refused bytes at fault next old new works reads failed =
     (works, ap (λ (p : ClientState). p.failed) failed, failed, (Malformed fault, next, reads, unexpected (Malformed fault) old (malformed_not_in_sequence old.pending fault)))
 
 pub asks_of : (request : Request) (old : ClientState) (p : Pending) (messages : List (List ℕ)) → MayAsk old request → messages ≡ all_joined (Blocked old.limit (messages_of old.identity request)) → p ≡ pending_of request
-    → Asks request old (record old { pending = Some p }) messages
+    → AsksRequest request old (record old { pending = Some p }) messages
 asks_of request old p messages may spelled e =
     record {
       works = may.works;

@@ -23,7 +23,7 @@ IsAdmittedBy old request =
 
 -- The request is asked: it is admissible, these NSP messages are its messages, joined within the peer's limit, and
 -- the client is as after this request too. No report is added.
-pub record Asks (request : Request) (old new : ClientState)
+pub record AsksRequest (request : Request) (old new : ClientState)
     (messages : List (List ℕ)) : Type 0 where
   pub works : old.failed ≡ false
   pub still_works : new.failed ≡ false

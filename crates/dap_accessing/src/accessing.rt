@@ -14,7 +14,7 @@ ghost use Rattle.dap_msg.specs.declared.message.Message.{Message as TheMessage};
 ghost use Rattle.dap_msg.specs.Decoding.{IsSpelled};
 ghost use Rattle.dap_accessing.specs.Present.{ClientState, ClientAfter};
 ghost use Rattle.dap_msg.specs.Items.{IsOffset};
-ghost use Rattle.dap_accessing.specs.Calls.{Asks, AskRefused, IsAdmittedBy, Reads, ReadRefused};
+ghost use Rattle.dap_accessing.specs.Calls.{AsksRequest, AskRefused, IsAdmittedBy, Reads, ReadRefused};
 ghost use Rattle.dap_accessing.specs.Each.{ReadsOn, none_kept, put_back, records_kept};
 ghost use Rattle.dap_accessing.specs.Told.{Told};
 ghost use Rattle.dap_accessing.specs.Asked.{messages_of};
@@ -114,7 +114,7 @@ impl Accessing {
     /// unchanged.
     pub fn ask(&mut self, request: &Request) -> Result<Vec<Vec<u8>>, AskFault>
         ensures asks { IfOk result
-            (λ messages. Asks request.now self.old self.new (bodies messages.items)) }
+            (λ messages. AsksRequest request.now self.old self.new (bodies messages.items)) }
         ensures refused { IfErr result (λ f. AskRefused request.now self.old f) }
         ensures unchanged { OnErr result (self.new ≡ self.old) }
         ensures own { self.new.own ≡ self.old.own }
@@ -169,7 +169,7 @@ impl Accessing {
     ) -> Result<Vec<Vec<u8>>, AskFault>
         requires { IsPrepared self.old request.now prepared }
         ensures asks { IfOk result
-            (λ messages. Asks request.now self.old self.new (bodies messages.items)) }
+            (λ messages. AsksRequest request.now self.old self.new (bodies messages.items)) }
         ensures refused { IfErr result (λ f. f ≡ NoMemory) }
         ensures unchanged { OnErr result (self.new ≡ self.old) }
         ensures own { self.new.own ≡ self.old.own }

@@ -17,7 +17,7 @@ use Rattle.dap_text.specs.Reports.{report_text}
 use Rattle.dap_orders.specs.Schedules.{Numbered, numbered_lines}
 use Rattle.dap_capture.specs.Inner.Playing.{events_of}
 use Rattle.dap_text.specs.Tables.{files_text}
-use Rattle.dap_capture.specs.Played.{IsPacketWritten, IsStepText, Played, Plays, empty, end_text, event_line, goes, over, played, refusal_line, refusal_text, setup_refused, stops}
+use Rattle.dap_capture.specs.Played.{IsPacketWritten, IsStepText, Played, Plays, all_played, empty, end_text, event_line, one_played, played, refusal_line, refusal_text, setup_refused, stops}
 use Rattle.linewise.specs.declared.fault.Outcome.{Outcome}
 
 same_end : (a b : End) (x : _) → x ≡ Some a → x ≡ Some b → b ≡ a
@@ -53,15 +53,15 @@ one_answer s e step.Reported a b (report, newest, printed) (report', newest', pr
     printed ∙ ap (λ (r : Report). codes "report " ++ report_text r) (same_report report report' _ newest newest') ∙ sym printed'
 
 one_run : (s : State) (number : ℕ) (events : List Event) (one two : Outcome) (a b : List ℕ) → Plays s number events one a → Plays s number events two b → (one ≡ two) × (a ≡ b)
-one_run s number [] one two a b over over = (refl, refl)
-one_run s number (e ∷ events) one two a b (goes answer new text rest went says on) (goes answer' new' text' rest' went' says' on') =
+one_run s number [] one two a b all_played all_played = (refl, refl)
+one_run s number (e ∷ events) one two a b (one_played answer new text rest went says on) (one_played answer' new' text' rest' went' says' on') =
     let same = one_step s e answer answer' new new' went went' in
     let texts = one_answer new e answer text text' says
     (subst (λ (x : State). IsStepText x e answer text') (sym same.1) (subst (λ (x : Step). IsStepText new' e x text') (sym same.0) says')) in
     let rests = one_run new (number + 1) events one two rest rest' on (subst (λ (x : State). Plays x (number + 1) events two rest') (sym same.1) on') in
     (rests.0, ap (λ (t : List ℕ). event_line number t ++ rest) texts ∙ ap (λ (t : List ℕ). event_line number text' ++ t) rests.1)
-one_run s number (e ∷ events) one two a b (goes answer new text rest went says on) (stops f word why says') = absurd (no_step s e f why (answer, new, went))
-one_run s number (e ∷ events) one two a b (stops f word why says) (goes answer new text rest went says' on) = absurd (no_step s e f why (answer, new, went))
+one_run s number (e ∷ events) one two a b (one_played answer new text rest went says on) (stops f word why says') = absurd (no_step s e f why (answer, new, went))
+one_run s number (e ∷ events) one two a b (stops f word why says) (one_played answer new text rest went says' on) = absurd (no_step s e f why (answer, new, went))
 one_run s number (e ∷ events) one two a b (stops f word why says) (stops g word' why' says') =
     let same = one_reason s e f g why why' in
     let words = same_word word word' _ says (ap refusal_text same ∙ says') in

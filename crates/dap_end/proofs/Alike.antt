@@ -28,7 +28,7 @@ use Rattle.dap_end.specs.Ports.{HandsOver, PortValue, gone_on}
 use Rattle.dap_end.specs.Moved.{with_outbox_sent, with_link}
 use Rattle.dap_end.specs.Asking.{HasAsked, AskedOne, ReadOne, ReadNone, HasDone}
 use Rattle.dap_end.specs.Hearing.{ReadOn, ReadsAll, hears}
-use Rattle.dap_end.specs.Hearing.{begins, goes}
+use Rattle.dap_end.specs.Hearing.{nothing_read, one_read}
 use Rattle.dap_end.specs.Done.{AskingValue, ClientHistory}
 use Rattle.dap_end.specs.Writing.{Extends}
 use Rattle.dap_end.specs.Moved.{sent_more}
@@ -111,18 +111,18 @@ abbrev Stops : AskingValue → Type 0
 Stops v = (next : AskingValue) (report : Option Report) → ReadOne v next report → ⊥
 
 reads_once : (past : ClientHistory) (old one two : AskingValue) (rs ss : List Report) → HasAsked past old → ReadOn old one rs → ReadOn old two ss → Stops one → Stops two → (one ≡ two) × (rs ≡ ss)
-reads_once past old one two rs ss h begins begins a b = (refl, refl)
-reads_once past old one two rs ss h begins (goes n s more y other js) a b = absurd (a n s y)
-reads_once past old one two rs ss h (goes m r more x on is) begins a b = absurd (b m r x)
-reads_once past old one two rs ss h (goes m r more x on is) (goes n s rest y other js) a b =
+reads_once past old one two rs ss h nothing_read nothing_read a b = (refl, refl)
+reads_once past old one two rs ss h nothing_read (one_read n s more y other js) a b = absurd (a n s y)
+reads_once past old one two rs ss h (one_read m r more x on is) nothing_read a b = absurd (b m r x)
+reads_once past old one two rs ss h (one_read m r more x on is) (one_read n s rest y other js) a b =
     let same = reading_one past old m n r s h x y in
     let next = reads_once (with_answer_read past x.one.bytes x.one.item x.one.next) m one two more rest (x.past past h) on (subst (λ (v : AskingValue). ReadOn v two rest) (sym same.0) other) a b in
     (next.0, is ∙ ap (λ (l : List Report). option_to_list r ++ l) next.1 ∙ ap (λ (o : Option Report). option_to_list o ++ rest) same.1 ∙ sym js)
 
 -- an end that failed reads nothing
 failed_reads : (old one : AskingValue) (rs : List Report) → old.present.failed ≡ true → ReadOn old one rs → (one ≡ old) × (rs ≡ [])
-failed_reads old one rs e begins = (refl, refl)
-failed_reads old one rs e (goes m r more x on is) = absurd (true≢false (sym e ∙ x.works))
+failed_reads old one rs e nothing_read = (refl, refl)
+failed_reads old one rs e (one_read m r more x on is) = absurd (true≢false (sym e ∙ x.works))
 
 read_past : (past : ClientHistory) (old new : AskingValue) (rs : List Report) → HasAsked past old → ReadOn old new rs → (now : ClientHistory) × HasAsked now new
 read_past past old new rs h on = let g = (read_grows old new rs on).past past h in (g.0, g.1.is)

@@ -25,7 +25,7 @@ use Rattle.dap_accessing.specs.Told.{Told}
 use Rattle.dap_accessing.specs.Phase.{limit_after}
 use Rattle.dap_accessing.specs.Present.{ClientState, ClientAfter}
 use Rattle.dap_accessing.specs.Each.{ReadsOn, put_back, reported_after}
-use Rattle.dap_accessing.specs.Calls.{Asks, Reads}
+use Rattle.dap_accessing.specs.Calls.{AsksRequest, Reads}
 use Rattle.dap_end.specs.Histories.{AreFull, asked_one, with_answer_read}
 use Rattle.dap_end.specs.Ports.{HandsOver, PortValue, gone_on}
 use Rattle.dap_end.specs.Moved.{with_link, with_outbox_sent}
@@ -38,7 +38,7 @@ use Rattle.dap_accessing.specs.declared.fault.AskFault.TheVariants.{NoMemory}
 use Rattle.dap_accessing.specs.declared.fault.ReadFault.{ReadFault}
 use Rattle.dap_end.specs.Asking.{HasAsked, AskedOne, ReadOne, ReadNone}
 use Rattle.dap_end.specs.Hearing.{ReadOn}
-use Rattle.dap_end.specs.Hearing.{begins, goes}
+use Rattle.dap_end.specs.Hearing.{nothing_read, one_read}
 use Rattle.dap_end.specs.Done.{AskingValue, ClientHistory}
 use Rattle.dap_end.specs.Inner.Kept.{IsPort, AreMessages}
 use Rattle.dap_end.specs.Inner.AskingView.{asking_of}
@@ -108,7 +108,7 @@ full-within limit ((m ∷ more) ∷ packets) h = ((λ e. (let none : ⊥ = cc in
 pub full-blocked : (limit : ℕ) (messages : List Message) → AreFull (Blocked limit messages)
 full-blocked limit messages = full-within limit (Blocked limit messages) (within_limit limit messages)
 
-pub asks_one : (request : Request) (old : AskingValue) (after : ClientState) (messages outbox : List (List ℕ)) (n : ℕ) → Asks request old.present after messages → after.own ≡ old.present.own → after.identity ≡ old.present.identity
+pub asks_one : (request : Request) (old : AskingValue) (after : ClientState) (messages outbox : List (List ℕ)) (n : ℕ) → AsksRequest request old.present after messages → after.own ≡ old.present.own → after.identity ≡ old.present.identity
     → outbox ≡ old.port.outbox ++ messages → n ≡ length messages → AskedOne request old (asking_of (record old.port { outbox = outbox }) after) n
 asks_one request old after messages outbox n asks own identity is count =
     record {
@@ -174,7 +174,7 @@ unfolding AreWithin
 sendable-within limit [] h = tt
 sendable-within limit (m ∷ messages) h = (h.0.1, sendable-within limit messages h.1)
 
-pub asks_short : (request : Request) (old after : ClientState) (messages : List (List ℕ)) → Asks request old after messages → AreMessages messages
+pub asks_short : (request : Request) (old after : ClientState) (messages : List (List ℕ)) → AsksRequest request old after messages → AreMessages messages
 asks_short request old after messages asks =
     let limit = asks.limit in
     subst AreMessages (sym asks.spelled)
@@ -286,7 +286,7 @@ read_nothing v =
     }
 
 pub read_none : (v : AskingValue) (reports : List Report) → Extends reports reports (ReadOn v v)
-read_none v reports = ([], sym (append-nil reports), begins)
+read_none v reports = ([], sym (append-nil reports), nothing_read)
 
 -- what left, and what is left
 split_given : (given inbox later : List (List ℕ)) (bytes : List ℕ) (next : ℕ) → inbox ≡ bytes ∷ later →
@@ -328,8 +328,8 @@ read_then a b c told report m r =
     }
 
 read_behind : (a b c : AskingValue) (told more all : List Report) → ReadMore a b told → ReadOn b c more → all ≡ told ++ more → ReadMore a c all
-read_behind a b c told more all m begins e = subst (ReadMore a b) (sym (e ∙ append-nil told)) m
-read_behind a b c told more all m (goes mid report rest r on is) e =
+read_behind a b c told more all m nothing_read e = subst (ReadMore a b) (sym (e ∙ append-nil told)) m
+read_behind a b c told more all m (one_read mid report rest r on is) e =
     read_behind a mid c (told ++ option_to_list report) rest all (read_then a b mid told report m r) on
     (e ∙ ap (λ (l : List Report). told ++ l) is ∙ sym (append_assoc told (option_to_list report) rest))
 
@@ -353,9 +353,9 @@ counted past old new reports h m =
     )
 
 read_on : (a b c : AskingValue) (reports : List Report) (report : Option Report) → ReadOn a b reports → ReadOne b c report → ReadOn a c (reports ++ option_to_list report)
-read_on a b c reports report begins r = goes c report [] r begins (sym (append-nil (option_to_list report)))
-read_on a b c reports report (goes mid first more s on is) r =
-    goes mid first (more ++ option_to_list report) s (read_on mid b c more report on r)
+read_on a b c reports report nothing_read r = one_read c report [] r nothing_read (sym (append-nil (option_to_list report)))
+read_on a b c reports report (one_read mid first more s on is) r =
+    one_read mid first (more ++ option_to_list report) s (read_on mid b c more report on r)
     (ap (λ (l : List Report). l ++ option_to_list report) is ∙ append_assoc (option_to_list first) more (option_to_list report))
 
 pub read_more : (a b c : AskingValue) (report : Option Report) (before all new : List Report) → Extends before all (ReadOn a b) → ReadOne b c report → new ≡ all ++ option_to_list report → Extends before new (ReadOn a c)

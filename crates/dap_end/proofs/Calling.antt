@@ -22,7 +22,7 @@ use Rattle.dap_end.specs.Ports.{HandsOver, PortValue}
 use Rattle.dap_end.specs.Writing.{Acknowledged, wants_ack, WroteMore, Extends, WroteAnswer, WrotePart}
 use Rattle.dap_end.specs.Asking.{AskedOne, ReadOne, ReadNone}
 use Rattle.dap_end.specs.Hearing.{ReadOn, ReadsAll, hears}
-use Rattle.dap_end.specs.Hearing.{begins, goes as reads_first}
+use Rattle.dap_end.specs.Hearing.{nothing_read, one_read as reads_first}
 use Rattle.dap_end.specs.Done.{AskingValue}
 use Rattle.dap_end.specs.Turns.{WritesReplies, DidAll, TakesPacket, TookIn, TookThen, WentOn, WroteThen}
 use Rattle.dap_end.specs.Headline.{Written, written_bytes}
@@ -91,14 +91,14 @@ module _ (comes : LinkValue → List ℕ → Type 0) where
   pub reading_is : (old new : AskingValue) (report : Option Report) → ReadOne old new report → AskingRunsAs comes [] old new (option_to_list report) []
   reading_is old new report r =
       one_event old new (By GoesOn) (option_to_list report) []
-      ((new, [], (new, (option_to_list report, refl, reads_first new report [] r begins (sym (append-nil (option_to_list report)))), inl refl), wrote_nothing new.port, refl, refl), refl)
+      ((new, [], (new, (option_to_list report, refl, reads_first new report [] r nothing_read (sym (append-nil (option_to_list report)))), inl refl), wrote_nothing new.port, refl, refl), refl)
 
   pub posting_is : (old new : AskingValue) (n : ℕ) → HandsOver old new n → AskingRunsAs comes [] old new [] []
-  posting_is old new n h = one_event old new (By GoesOn) [] [] ((new, [], (old, ([], refl, begins), inr (n, h)), wrote_nothing new.port, refl, refl), refl)
+  posting_is old new n h = one_event old new (By GoesOn) [] [] ((new, [], (old, ([], refl, nothing_read), inr (n, h)), wrote_nothing new.port, refl, refl), refl)
 
   pub writing_is : (old new : AskingValue) (bytes : List ℕ) → new ≡ record old { port = new.port } → WroteMore old.port new.port (bytes ∷ [])
       → AskingRunsAs comes [] old new [] (record { bytes = bytes; segment = Some (old.port.link.sent + 1); acks = old.port.link.coming.received } ∷ [])
-  writing_is old new bytes rest w = one_event old new (By GoesOn) [] _ ((old, bytes ∷ [], (old, ([], refl, begins), inl refl), w, rest, refl), refl)
+  writing_is old new bytes rest w = one_event old new (By GoesOn) [] _ ((old, bytes ∷ [], (old, ([], refl, nothing_read), inl refl), w, rest, refl), refl)
 
   pub again_is : (v : AskingValue) (i : ℕ) (bytes : List ℕ) → i < v.port.link.sent - v.port.link.acked → WritesSent v.port.link (Some (v.port.link.acked + 1 + i)) bytes
       → AskingRunsAs comes [] v v [] (record { bytes = bytes; segment = Some (v.port.link.acked + 1 + i); acks = v.port.link.coming.received } ∷ [])

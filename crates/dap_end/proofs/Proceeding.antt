@@ -22,7 +22,7 @@ use Rattle.dap_end.specs.Done.{ServingValue, ServerHistory}
 use Rattle.dap_end.specs.Writing.{Extends, WroteMore}
 use Rattle.dap_end.specs.Moved.{sent_more}
 use Rattle.dap_end.specs.Taking.{HasRoom, serves}
-use Rattle.dap_end.specs.Calls.{WorkedOn, rests, serves_one, hands_over}
+use Rattle.dap_end.specs.Calls.{WorkedOn, nothing_done, item_served, outbox_posted}
 use Rattle.dap_end.specs.Inner.Running.{Grew, ServedMore}
 use Rattle.dap_end.proofs.Afterwards.{posted_is, posted_past}
 use Rattle.dap_end.proofs.ServingOne.{port_given}
@@ -146,23 +146,23 @@ all_grew most a b (Err (end_fault.Read f)) d = absurd d.2
 -- ---- Served and passed on, in any order.
 
 pub worked_grew : (a b : ServingValue) → WorkedOn a b → ServedMore a b
-worked_grew a b rests = more_none a
-worked_grew a b (serves_one mid n s on) = more_trans a mid b (more_served a mid n s) (worked_grew mid b on)
-worked_grew a b (hands_over mid n p on) = more_trans a mid b (more_posted a mid n p) (worked_grew mid b on)
+worked_grew a b nothing_done = more_none a
+worked_grew a b (item_served mid n s on) = more_trans a mid b (more_served a mid n s) (worked_grew mid b on)
+worked_grew a b (outbox_posted mid n p on) = more_trans a mid b (more_posted a mid n p) (worked_grew mid b on)
 
 pub one_served : (a b : ServingValue) (n : ℕ) → ServedOne a b n → WorkedOn a b
-one_served a b n s = serves_one b n s rests
+one_served a b n s = item_served b n s nothing_done
 
 pub one_posted : (a b : ServingValue) (n : ℕ) → HandsOver a b n → WorkedOn a b
-one_posted a b n p = hands_over b n p rests
+one_posted a b n p = outbox_posted b n p nothing_done
 
 turn_worked : (most : ℕ) (a b c : ServingValue) → ServedInTurn most a b → WorkedOn b c → WorkedOn a c
 turn_worked most a b c begins w = w
-turn_worked most a b c (goes posted mid count n p room s on) w = hands_over posted count p (serves_one mid n s (turn_worked most mid b c on w))
+turn_worked most a b c (goes posted mid count n p room s on) w = outbox_posted posted count p (item_served mid n s (turn_worked most mid b c on w))
 
 pub all_worked : (most : ℕ) (a b : ServingValue) (r : Result (Unit {0}) EndFault) → DidAll (serves most) a b r → WorkedOn a b
 all_worked most a b (Ok u) d = turn_worked most a d.0 b d.2 (one_posted d.0 b d.1 d.4)
-all_worked most a b (Err (end_fault.Link f)) (mid, on, inl (is, h)) = subst (WorkedOn a) (sym is) (turn_worked most a mid mid on rests)
+all_worked most a b (Err (end_fault.Link f)) (mid, on, inl (is, h)) = subst (WorkedOn a) (sym is) (turn_worked most a mid mid on nothing_done)
 all_worked most a b (Err (end_fault.Link f)) (mid, on, inr (want, room, p, may)) = turn_worked most a mid b on (one_posted mid b p.0 p.1)
 all_worked most a b (Err (end_fault.Read f)) d = absurd d.2
 

@@ -28,7 +28,7 @@ use Rattle.dap_end.specs.Serving.{IsAfter, ServedOne}
 use Rattle.dap_end.specs.Done.{ServingValue, ServerHistory, answers_to, nothing_yet}
 use Rattle.dap_end.specs.Turns.{DidAll, WentOn, TookIn, TakesPacket}
 use Rattle.dap_end.specs.Taking.{serves}
-use Rattle.dap_end.specs.Calls.{WorkedOn, rests}
+use Rattle.dap_end.specs.Calls.{WorkedOn, nothing_done}
 use Rattle.dap_end.specs.Runs.{RunsBy}
 use Rattle.dap_end.specs.Headline.{Written, written_bytes, AreWrittenOf, IsFromPeer}
 use Rattle.dap_end.specs.Calls.{numbered_packets, WroteOne, EndEvent, Came, GoesOn, Repeats, EndStepped, Stepped, EventRuns, RunsAs}
@@ -232,7 +232,7 @@ refused_due old new size messages given bytes e s f h =
 
 -- it may do nothing
 none : (v : ServingValue) → WorkedOn v v
-none v = rests
+none v = nothing_done
 
 -- with packets that were there before
 pub shifted : (comes : LinkValue → List ℕ → Type 0) (events : List EndEvent) (front : List Written) (old new : Wrote) → RunsBy (Stepped comes) old events new → RunsBy (Stepped comes) (old.0, front ++ old.1) events (new.0, front ++ new.1)

@@ -15,7 +15,7 @@ use Rattle.nsp_link.proofs.ForCallers.{stands_given}
 use Rattle.dap_accessed.specs.Groups.{Answers, added, limit_for}
 use Rattle.dap_accessed.proofs.ForCallers.{Answers-more}
 use Rattle.dap_accessed.specs.Present.{Present}
-use Rattle.dap_accessed.specs.Served.{Serves, AllAtMost}
+use Rattle.dap_accessed.specs.Served.{ServesItemAt, AllAtMost}
 use Rattle.dap_accessed.specs.declared.served.Served.{Served}
 use Rattle.dap_end.specs.Histories.{served}
 use Rattle.dap_end.specs.Ports.{PortValue, gone_on}
@@ -78,7 +78,7 @@ fit-both [] two h k = k
 fit-both (m ∷ one) two h k = (h.0, fit-both one two h.1 k)
 
 module _ (old : ServingValue) (bytes : List ℕ) (later : List (List ℕ)) (inbox : old.port.link.coming.inbox ≡ bytes ∷ later) (fits : AreBytes bytes) where
-  past_one : (after : Present) (s : Served) (serves : Serves bytes old.port.offset old.present after s) → old.port.outbox ≡ [] → s.next ≤ length bytes
+  past_one : (after : Present) (s : Served) (serves : ServesItemAt bytes old.port.offset old.present after s) → old.port.outbox ≡ [] → s.next ≤ length bytes
       → (past : ServerHistory) → IsAfter past old
       → IsAfter (served past bytes serves.item s.next) (serving_of (record (gone_on old.port bytes later s.next) { outbox = bodies s.answers.items }) after)
   past_one after s serves idle within past h =
@@ -102,7 +102,7 @@ module _ (old : ServingValue) (bytes : List ℕ) (later : List (List ℕ)) (inbo
       }
 
   pub served_one : (after : Present) (s : Served) (port : PortValue) (next n : ℕ)
-      → old.port.outbox ≡ [] → IsOffset old.port.offset bytes → (serves : Serves bytes old.port.offset old.present after s)
+      → old.port.outbox ≡ [] → IsOffset old.port.offset bytes → (serves : ServesItemAt bytes old.port.offset old.present after s)
       → s.next ≡ next → next ≤ length bytes
       → port ≡ record (gone_on old.port bytes later next) { outbox = bodies s.answers.items } → n ≡ length (bodies s.answers.items)
       → ServedOne old (serving_of port after) n

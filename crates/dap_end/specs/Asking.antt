@@ -9,7 +9,7 @@ use Rattle.dap_accessing.specs.Request.{Request}
 use Rattle.dap_accessing.specs.declared.report.Report.{Report}
 use Rattle.dap_accessing.specs.declared.fault.ReadFault.{ReadFault}
 use Rattle.dap_accessing.specs.Told.{Told, is_unexpected}
-use Rattle.dap_accessing.specs.Calls.{Asks, ReadRefused}
+use Rattle.dap_accessing.specs.Calls.{AsksRequest, ReadRefused}
 use Rattle.dap_end.specs.Ports.{gone_on}
 use Rattle.dap_end.specs.Going.{processed_after, NextItem, GoneThrough}
 use Rattle.dap_accessing.specs.Each.{IsBatch, reported_after}
@@ -40,7 +40,7 @@ HasDone v =
 -- The request was asked: its messages, n NSP messages, wait.
 pub record AskedOne (request : Request) (old new : AskingValue) (n : ℕ) : Type 0 where
   pub messages : List (List ℕ)
-  pub asks : Asks request old.present new.present messages
+  pub asks : AsksRequest request old.present new.present messages
   pub own : new.present.own ≡ old.present.own
   pub identity : new.present.identity ≡ old.present.identity
   pub port : new.port ≡ record old.port { outbox = old.port.outbox ++ messages }

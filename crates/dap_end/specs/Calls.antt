@@ -60,9 +60,9 @@ IsOneOf (c ∷ came) v bytes = (c ≡ (v, bytes)) ⊎ IsOneOf came v bytes
 
 -- The server served items that came, and passed on what waited, in any order.
 pub data WorkedOn : ServingValue → ServingValue → Type 0 where
-  rests : {v : ServingValue} → WorkedOn v v
-  serves_one : {old new : ServingValue} (mid : ServingValue) (n : ℕ) → ServedOne old mid n → WorkedOn mid new → WorkedOn old new
-  hands_over : {old new : ServingValue} (mid : ServingValue) (n : ℕ) → HandsOver old mid n → WorkedOn mid new → WorkedOn old new
+  nothing_done : {v : ServingValue} → WorkedOn v v
+  item_served : {old new : ServingValue} (mid : ServingValue) (n : ℕ) → ServedOne old mid n → WorkedOn mid new → WorkedOn old new
+  outbox_posted : {old new : ServingValue} (mid : ServingValue) (n : ℕ) → HandsOver old mid n → WorkedOn mid new → WorkedOn old new
 
 -- an event, after which the packets of the event follow those before
 abbrev pub Stepped : (comes : LinkValue → List ℕ → Type 0) → ServingValue × List Written → EndEvent → List Written → ServingValue × List Written → Type 0

@@ -13,8 +13,8 @@ use Rattle.dap_end.specs.Done.{AskingValue}
 
 -- Answers that came were read, one after another, and these reports were added.
 pub data ReadOn : AskingValue → AskingValue → List Report → Type 0 where
-  begins : {v : AskingValue} → ReadOn v v []
-  goes : {old new : AskingValue} {all : List Report} (mid : AskingValue) (report : Option Report) (more : List Report)
+  nothing_read : {v : AskingValue} → ReadOn v v []
+  one_read : {old new : AskingValue} {all : List Report} (mid : AskingValue) (report : Option Report) (more : List Report)
       → ReadOne old mid report → ReadOn mid new more → all ≡ option_to_list report ++ more → ReadOn old new all
 
 -- why nothing more is read or passed on: what waits is refused, once all is read; or the next answer isn't read

@@ -15,7 +15,7 @@ use Rattle.dap_follow.specs.Streams.{Sequenced}
 use Rattle.dap_listing.specs.Messages.{IsMessagesText}
 use Rattle.dap_follow.specs.Following.{IsMessageText, gap_line, part_line, range_text, stream_text}
 use Rattle.dap_follow.specs.Joined.{Message, Fragment, is_message, joins, payload, fragments_of, tail, with_segment}
-use Rattle.dap_follow.specs.Inner.Listing.{AreSpelled, IsCutOff, IsPiece, ListsPiece, UnderAll, payload_digits, piece_message, values, message_heading, part_text, AreMessageLines, no_more, one_more, segments}
+use Rattle.dap_follow.specs.Inner.Listing.{AreSpelled, IsCutOff, IsPiece, ListsPiece, UnderAll, payload_digits, piece_message, values, message_heading, part_text, AreMessageLines, no_message_more, one_message_more, segments}
 use Rattle.dap_follow.specs.Inner.InOrder.{counted_value}
 use Rattle.dap_follow.specs.declared.segments.Counted.{Counted}
 use Rattle.dap_follow.specs.declared.streams.Stream.{Stream}
@@ -155,15 +155,15 @@ appended_twice start middle end p q one two = two ∙ ap (λ (l : List ℕ). l +
 -- ---- a message under its packet
 
 pub lines_append : (in_words : Bool) → (ms ns : List Message) (a b : List ℕ) → AreMessageLines in_words ms a → AreMessageLines in_words ns b → AreMessageLines in_words (ms ++ ns) (a ++ b)
-lines_append in_words [] ns a b no_more more = more
-lines_append in_words (m ∷ ms) ns a b (one_more first rest of_first others) more =
+lines_append in_words [] ns a b no_message_more more = more
+lines_append in_words (m ∷ ms) ns a b (one_message_more first rest of_first others) more =
     subst (AreMessageLines in_words ((m ∷ ms) ++ ns)) (sym (append_assoc (message_heading m.piece ++ first) rest b))
-    (one_more first (rest ++ b) of_first (lines_append in_words ms ns rest b others more))
+    (one_message_more first (rest ++ b) of_first (lines_append in_words ms ns rest b others more))
 
 -- nothing is under any packet
 pub under_none : (in_words : Bool) → (n : ℕ) (vs : List (Vec ℕ)) → UnderAll in_words [] n vs vs
 under_none in_words n [] = tt
-under_none in_words n (v ∷ vs) = (([], no_more, sym (append-nil v.items)), under_none in_words (n + 1) vs)
+under_none in_words n (v ∷ vs) = (([], no_message_more, sym (append-nil v.items)), under_none in_words (n + 1) vs)
 
 -- one list of messages, and then another
 pub under_both : (in_words : Bool) → (ms ns : List Message) (n : ℕ) (olds mids news : List (Vec ℕ)) → UnderAll in_words ms n olds mids → UnderAll in_words ns n mids news → UnderAll in_words (ms ++ ns) n olds news
@@ -189,7 +189,7 @@ under_later : (in_words : Bool) → (m : Message) (n : ℕ) (vs : List (Vec ℕ)
 under_later in_words m n [] below = tt
 under_later in_words m n (v ∷ vs) below =
     let none : filter (λ (k : Message). k.packet == n) (m ∷ []) ≡ [] = rw (apart_number m.packet n (λ e. omega (arith, e, below))) refl in
-    (([], subst (λ (l : List Message). AreMessageLines in_words l []) (sym none) no_more, sym (append-nil v.items)), under_later in_words m (n + 1) vs (omega (arith, below)))
+    (([], subst (λ (l : List Message). AreMessageLines in_words l []) (sym none) no_message_more, sym (append-nil v.items)), under_later in_words m (n + 1) vs (omega (arith, below)))
 
 -- one message, under its packet
 pub under_one : (in_words : Bool) → (m : Message) (n i : ℕ) (vs : List (Vec ℕ)) (new : Vec ℕ) (d : Vec ℕ) (lines : List ℕ) → m.packet ≡ n + i → i < length vs → IsMessagesText in_words (payload m.piece) lines
@@ -197,13 +197,13 @@ pub under_one : (in_words : Bool) → (m : Message) (n i : ℕ) (vs : List (Vec 
 under_one in_words m n i [] new d lines at within is added = absurd (omega arith)
 under_one in_words m n zero (v ∷ vs) new d lines at within is added =
     let here : filter (λ (k : Message). k.packet == n) (m ∷ []) ≡ m ∷ [] = rw (same_number m.packet n (omega (arith, at))) refl in
-    let lines_are = subst (AreMessageLines in_words (m ∷ [])) (append-nil (message_heading m.piece ++ lines)) (one_more lines [] is no_more) in (
+    let lines_are = subst (AreMessageLines in_words (m ∷ [])) (append-nil (message_heading m.piece ++ lines)) (one_message_more lines [] is no_message_more) in (
       (message_heading m.piece ++ lines, subst (λ (l : List Message). AreMessageLines in_words l (message_heading m.piece ++ lines)) (sym here) lines_are, added),
       under_later in_words m (n + 1) vs (omega (arith, at)),
     )
 under_one in_words m n (suc i) (v ∷ vs) new d lines at within is added =
     let none : filter (λ (k : Message). k.packet == n) (m ∷ []) ≡ [] = rw (apart_number m.packet n (λ e. omega (arith, e, at))) refl in (
-      ([], subst (λ (l : List Message). AreMessageLines in_words l []) (sym none) no_more, sym (append-nil v.items)),
+      ([], subst (λ (l : List Message). AreMessageLines in_words l []) (sym none) no_message_more, sym (append-nil v.items)),
       under_one in_words m (n + 1) i vs new d lines (omega (arith, at)) (omega (arith, within)) is added,
     )
 

@@ -17,7 +17,7 @@ use Rattle.dap_follow.specs.Joined.{Message, messages, fragments_of}
 use Rattle.dap_follow.specs.Following.{IsMessageText, IsFollowedPacketText, frame_of, packet_line, rest_lines}
 use Rattle.dap_follow.specs.Inner.Keeping.{KeepsEach, KeepsStream}
 use Rattle.dap_follow.specs.Segments.{NumberedSegment}
-use Rattle.dap_follow.specs.Inner.Listing.{AreMessageLines, UnderAll, all_rest_lines, message_heading, no_more, one_more, values}
+use Rattle.dap_follow.specs.Inner.Listing.{AreMessageLines, UnderAll, all_rest_lines, message_heading, no_message_more, one_message_more, values}
 use Rattle.dap_follow.specs.Inner.InOrder.{RisesCounted}
 use Rattle.dap_follow.specs.Inner.Reading.{line_texts}
 use Rattle.dap_follow.specs.Inner.Whole.{ordered_of, joined_texts}
@@ -111,8 +111,8 @@ same_parts a b xs ys e = ((let first : a ≡ b = cc in first), (let rest : xs �
 
 -- each message has its text
 message_texts : (in_words : Bool) → (ms : List Message) (lines : List ℕ) → AreMessageLines in_words ms lines → (texts : List (List ℕ)) × AllZip (λ m. IsMessageText in_words m.piece) ms texts × (lines ≡ concat texts)
-message_texts in_words [] _ no_more = ([], tt, refl)
-message_texts in_words (m ∷ ms) _ (one_more lines rest is others) =
+message_texts in_words [] _ no_message_more = ([], tt, refl)
+message_texts in_words (m ∷ ms) _ (one_message_more lines rest is others) =
     let each = message_texts in_words ms rest others in
     let head = message_heading m.piece in
     ((head ++ lines) ∷ each.0, ((lines, is, refl), each.1), ap (λ (l : List ℕ). (head ++ lines) ++ l) each.2)

@@ -5,7 +5,7 @@ use Rattle.std.specs.Fmt.{decimal}
 use Rattle.hex.specs.Hex.{decode_of}
 use Rattle.dap_text.specs.Text.{line_feed, word_text}
 use Rattle.dap_meanings.specs.Meanings.{packet_words, with_words}
-use Rattle.linewise.specs.Gives.{Gives}
+use Rattle.linewise.specs.Gives.{GivesText}
 use Rattle.dap_listing.specs.Listing.{arrow_text, captures, frames, heading, packet_limit, faults_from}
 use Rattle.dap_listing.specs.Lines.{Capture}
 use Rattle.dap_listing.specs.Messages.{IsMessagesText}
@@ -90,4 +90,4 @@ pub record IsFollowed (in_words : Bool) (captured : List Capture) (frames : List
 -- what `follow` does with an input
 abbrev pub FollowGives : (in_words : Bool) → List ℕ → Option (List ℕ) → Option (List ℕ) → Result Outcome CaptureFault → Type 0
 FollowGives in_words input =
-    Gives (faults_from packet_limit 1 input) (λ outcome text. (outcome ≡ Good) × IsFollowed in_words (captures packet_limit input) (frames packet_limit input) text) input
+    GivesText (faults_from packet_limit 1 input) (λ outcome text. (outcome ≡ Good) × IsFollowed in_words (captures packet_limit input) (frames packet_limit input) text) input

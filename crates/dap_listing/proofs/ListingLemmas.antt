@@ -5,7 +5,7 @@ use Rattle.std.specs.Str.Lines.{lines}
 use Rattle.std.proofs.lemmas.List.{append_assoc}
 use Rattle.hex.specs.Hex.{decode_of}
 use Rattle.dap_listing.specs.Lines.{Capture, line_of}
-use Rattle.dap_listing.specs.Listing.{CaptureLines, IsCapturedText, captures, heading, one_more, faults_from}
+use Rattle.dap_listing.specs.Listing.{CaptureLines, IsCapturedText, captures, heading, one_capture_more, faults_from}
 use Rattle.dap_listing.specs.Inner.Lines.{fault_of_line}
 use Rattle.std.specs.Result.{result_unwrap_or}
 use Rattle.dap_listing.specs.declared.lines.Direction.{Direction}
@@ -30,7 +30,7 @@ pub captured_more : (listed : Listed) (limit start : ℕ) (all : List Capture) (
     → (more : List ℕ) → CaptureLines listed (number + 1) (captures limit after) more → CaptureLines listed start all (new ++ more)
 captured_more listed limit start all rest line after text new direction digits bytes said number cut says decoded text_is appended goes_on more others =
     let first = captured_first limit rest line after direction digits cut says in
-    let whole = goes_on ((heading number direction ++ said) ++ more) (rw first (one_more bytes said more decoded text_is others)) in
+    let whole = goes_on ((heading number direction ++ said) ++ more) (rw first (one_capture_more bytes said more decoded text_is others)) in
     rw (appended, append_assoc text (heading number direction ++ said) more) whole
 
 pub skipped_more : (listed : Listed) (limit start : ℕ) (all : List Capture) (rest line after text : List ℕ) (number : ℕ)

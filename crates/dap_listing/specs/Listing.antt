@@ -12,7 +12,7 @@ use Rattle.dap_listing.specs.Lines.{Capture, line_of}
 use Rattle.dap_listing.specs.Packets.{IsPacketText}
 use Rattle.dap_text.specs.Text.{line_feed}
 use Rattle.dap_listing.specs.Messages.{IsMessagesText}
-use Rattle.linewise.specs.Gives.{Gives}
+use Rattle.linewise.specs.Gives.{GivesText}
 use Rattle.dap_listing.specs.declared.listing.Listed.{Listed}
 use Rattle.dap_listing.specs.declared.listing.Listed.TheVariants.{Packets, Messages}
 use Rattle.dap_listing.specs.declared.lines.Direction.{Direction}
@@ -67,8 +67,8 @@ line_limit Messages = max_nsp_message
 
 -- the lines of all that was captured, numbered from this number; by the law `listings_are_one` there is one listing
 pub data CaptureLines (listed : Listed) : ℕ → List Capture → List ℕ → Type 0 where
-  no_more : {number : ℕ} → CaptureLines listed number [] []
-  one_more : {number : ℕ} {direction : Direction} {digits : List ℕ} {others : List Capture} (bytes first rest : List ℕ)
+  no_capture_more : {number : ℕ} → CaptureLines listed number [] []
+  one_capture_more : {number : ℕ} {direction : Direction} {digits : List ℕ} {others : List Capture} (bytes first rest : List ℕ)
       → decode_of digits ≡ Ok bytes → IsCapturedText listed bytes first → CaptureLines listed (number + 1) others rest
       → CaptureLines listed number ((direction, digits) ∷ others) ((heading number direction ++ first) ++ rest)
 
@@ -76,5 +76,5 @@ pub data CaptureLines (listed : Listed) : ℕ → List Capture → List ℕ → 
 abbrev pub ListingGives : Listed → List ℕ → Option (List ℕ) → Option (List ℕ)
     → Result Outcome CaptureFault → Type 0
 ListingGives listed input =
-    Gives (faults_from (line_limit listed) 1 input)
+    GivesText (faults_from (line_limit listed) 1 input)
     (λ outcome text. (outcome ≡ Good) × CaptureLines listed 1 (captures (line_limit listed) input) text) input

@@ -20,7 +20,7 @@ use Rattle.dap_live.specs.Orders.{setup_beside}
 use Rattle.dap_live.specs.Sending.{AllAgain, UnlessFailed}
 use Rattle.dap_live.specs.Texts.{link_refusal, packets_text}
 use Rattle.dap_live.specs.declared.node_orders.NodeOrder.TheVariants as order
-use Rattle.dap_live.specs.Inner.NodeReaching.{Done, NodeReaches}
+use Rattle.dap_live.specs.Inner.NodeReaching.{IsDoneWithText, NodeReaches}
 use Rattle.dap_live.specs.Node.{GivesRecordTo, GoesOnWith, ResendsOn, TakesOn, TakesPacketBy, about, about_any, is_work_left_at, meant, one_link}
 use Rattle.dap_live.proofs.ReachLemmas.{unless_failed, unless_runs, where_left, where_none}
 
@@ -78,17 +78,17 @@ about-none (Some l) old new e is = absurd (let none : ⊥ = cc in none)
 
 -- how far `resend` was done
 pub reaches-resend : (local : Option ℕ) (link : ℕ) (old new : Node) → Some link ≡ meant local old.node.ports
-    → ((new ≡ about link old) ⊎ Done (λ said became. AtPort link old.node (λ p. UnlessFailed p.link said (LeavesEnd became_of.Done (about link old) new became) (ResendsOn link p old new said became))))
+    → ((new ≡ about link old) ⊎ IsDoneWithText (λ said became. AtPort link old.node (λ p. UnlessFailed p.link said (LeavesEnd became_of.Done (about link old) new became) (ResendsOn link p old new said became))))
     → NodeReaches old (order.Resend local) new
 reaches-resend local link old new found (inl same) = inl (about-some _ link old new found same)
 reaches-resend local link old new found (inr done) = inr (done.0, done.1, on-some _ link found _ _ done.2)
 
 -- and a packet of the only link
-pub reaches-one : (link : ℕ) (old new : Node) (bytes : List ℕ) → Some link ≡ one_link old.node.ports → Done (TakesOn link old bytes new) → NodeReaches old (order.Packet bytes) new
+pub reaches-one : (link : ℕ) (old new : Node) (bytes : List ℕ) → Some link ≡ one_link old.node.ports → IsDoneWithText (TakesOn link old bytes new) → NodeReaches old (order.Packet bytes) new
 reaches-one link old new bytes one done = inr (done.0, done.1, on-some _ link one _ _ done.2)
 
 -- and one by its addresses
-pub reaches-by : (old new : Node) (bytes : List ℕ) → None ≡ one_link old.node.ports → (new ≡ old) ⊎ Done (TakesPacketBy old bytes new) → NodeReaches old (order.Packet bytes) new
+pub reaches-by : (old new : Node) (bytes : List ℕ) → None ≡ one_link old.node.ports → (new ≡ old) ⊎ IsDoneWithText (TakesPacketBy old bytes new) → NodeReaches old (order.Packet bytes) new
 reaches-by old new bytes none (inl same) = inl same
 reaches-by old new bytes none (inr done) = inr (done.0, done.1, on-none _ none _ _ done.2)
 

@@ -24,7 +24,7 @@ use Rattle.dap_end.specs.declared.fault.EndFault.TheVariants as end_fault
 use Rattle.dap_end.specs.declared.fault.TakeFault.{TakeFault}
 use Rattle.dap_end.specs.Ports.{HandsOver, PortValue, gone_on}
 use Rattle.dap_end.specs.Moved.{with_outbox_sent}
-use Rattle.dap_end.specs.By.{PortRests, ServedBy, TurnsBy, begins, goes}
+use Rattle.dap_end.specs.By.{PortRests, ServedBy, TurnsBy, no_turn, one_turn}
 use Rattle.dap_end.specs.Node.{NodeLinkValue, serves_on}
 use Rattle.dap_end.specs.Taking.{HasRoom}
 use Rattle.dap_end.specs.Turns.{DidAll, WentOn, TakesPacket}
@@ -109,8 +109,8 @@ served_carried link old new n s k = (
 )
 
 turns_carried : (link most : ℕ) (old new : NodeLinkValue) → TurnsBy (NotedServed link) most old new → HasCarried old → HasCarried new
-turns_carried link most old new begins k = k
-turns_carried link most old new (goes p m count n x room y on) k = turns_carried link most m new on (served_carried link p m n y (posted_carried old p count x k))
+turns_carried link most old new no_turn k = k
+turns_carried link most old new (one_turn p m count n x room y on) k = turns_carried link most m new on (served_carried link p m n y (posted_carried old p count x k))
 
 all_carried : (link most : ℕ) (old new : NodeLinkValue) (r : Result (Unit {0}) EndFault) → DidAll (serves_on link most) old new r → HasCarried old → HasCarried new
 all_carried link most old new (Ok u) d k = posted_carried d.0 new d.1 d.4 (turns_carried link most old d.0 d.2 k)
@@ -125,10 +125,10 @@ abbrev Stops : (link most : ℕ) → NodeLinkValue → Type 0
 Stops link most v = (mid new : NodeLinkValue) (count n : ℕ) → HandsOver v mid count → HasRoom most v.port → ServedBy (NotedServed link) mid new n → ⊥
 
 turns_one : (link most : ℕ) (old one two : NodeLinkValue) → HasCarried old → TurnsBy (NotedServed link) most old one → TurnsBy (NotedServed link) most old two → Stops link most one → Stops link most two → one ≡ two
-turns_one link most old one two k begins begins a b = refl
-turns_one link most old one two k begins (goes p m c n x has y on) a b = absurd (a p m c n x has y)
-turns_one link most old one two k (goes p m c n x has y on) begins a b = absurd (b p m c n x has y)
-turns_one link most old one two k (goes p m c n x has y on) (goes q l j i z room w other) a b =
+turns_one link most old one two k no_turn no_turn a b = refl
+turns_one link most old one two k no_turn (one_turn p m c n x has y on) a b = absurd (a p m c n x has y)
+turns_one link most old one two k (one_turn p m c n x has y on) no_turn a b = absurd (b p m c n x has y)
+turns_one link most old one two k (one_turn p m c n x has y on) (one_turn q l j i z room w other) a b =
     let same_posted : q ≡ p = posted_is old q j z ∙ sym (posted_is old p c x) in
     let after = posted_carried old p c x k in
     let same = item_one link p m l n i after y (subst (λ (v : NodeLinkValue). ServedBy (NotedServed link) v l i) same_posted w) in

@@ -58,7 +58,7 @@ pub record HearsPacket (old : Asking) (bytes : List ℕ) (new : Asking) (text : 
 -- ---- Going on.
 
 -- what the client answers by going on, after this text
-pub record GoesOn (old : Asking) (front : List ℕ) (new : Asking) (text : List ℕ) (came : Came) : Type 0 where
+pub record ClientGoesOn (old : Asking) (front : List ℕ) (new : Asking) (text : List ℕ) (came : Came) : Type 0 where
   pub gone : Result (Unit {0}) EndFault
   pub packets : List (List ℕ)
   pub went : WentOn (hears old.reports.items new.reports.items) old.end new.end [] packets gone
@@ -78,7 +78,7 @@ has_more end = not end.present.failed && (has_message end.port.link || is_left e
 -- the packets of all segments that aren't acknowledged, then what going on does, or else what waits to be reported
 abbrev pub Resends : Asking → Asking → List ℕ → Came → Type 0
 Resends old new text came = (packets : List (List ℕ)) × AllAgain old.end.port.link packets
-    × MatchBool (has_more old.end) (GoesOn old (packets_text packets) new text came) (TellsAlone old (packets_text packets) new text came)
+    × MatchBool (has_more old.end) (ClientGoesOn old (packets_text packets) new text came) (TellsAlone old (packets_text packets) new text came)
 
 -- ---- A request.
 
@@ -88,7 +88,7 @@ begun each request asking = record asking { is_each = each_after each request as
 
 -- The request isn't asked, and the reason is answered. Where a report is still due, the client goes on.
 abbrev pub AsksNot : Asking → Asking → List ℕ → Came → AskFault → Type 0
-AsksNot old new text came Busy = GoesOn old (ask_refusal Busy).0 new text came
+AsksNot old new text came Busy = ClientGoesOn old (ask_refusal Busy).0 new text came
 AsksNot old new text came f = (new ≡ old) × (text ≡ (ask_refusal f).0) × (came ≡ Untold (ask_refusal f).1)
 
 -- The request is asked, the number of its messages is answered, and the client goes on; or it isn't asked. It says that
@@ -96,7 +96,7 @@ AsksNot old new text came f = (new ≡ old) × (text ≡ (ask_refusal f).0) × (
 abbrev pub AnswersAsk : (each : Bool) → Asking → Request → Asking → List ℕ → Came → Type 0
 AnswersAsk each old request new text came =
     ((count : ℕ) × (mid : AskingValue) × AskedOne request old.end mid count
-    × GoesOn (begun each request (record old { end = mid })) (concat (codes "asked " ∷ decimal count ∷ line_feed ∷ [])) new text came)
+    × ClientGoesOn (begun each request (record old { end = mid })) (concat (codes "asked " ∷ decimal count ∷ line_feed ∷ [])) new text came)
     ⊎ ((f : AskFault) × AskRefused request old.end.present f × AsksNot old new text came f)
 
 -- ---- A new link.

@@ -15,7 +15,7 @@ ghost use Rattle.dap_text.specs.Adding.{Adds};
 ghost use Rattle.dap_live.specs.declared.asking.Came.{Came as TheCame};
 ghost use Rattle.dap_live.specs.Inner.Reaching.{Reaches};
 ghost use Rattle.dap_live.specs.Each.{each_after, waits_told};
-ghost use Rattle.dap_live.specs.Asking.{AnswersAsk, AskingDoes, DoesAskOrder, Ends, GoesOn, Resends, TellsAlone, WasTold, begun, came_by, has_more as has_more_of};
+ghost use Rattle.dap_live.specs.Asking.{AnswersAsk, AskingDoes, ClientGoesOn, DoesAskOrder, Ends, Resends, TellsAlone, WasTold, begun, came_by, has_more as has_more_of};
 ghost use Rattle.dap_live.specs.Inner.Saying.{front_text};
 
 use crate::ask_orders::{AskOrder, read_ask_order};
@@ -171,9 +171,10 @@ fn push_front(text: &mut Vec<u8>, front: Front) -> Result<(), AllocError>
 /// Goes on, and says what comes of it after this.
 fn go_on_after(asking: &mut Asking, front: Front, text: &mut Vec<u8>) -> Result<Came, AllocError>
     requires { text.old.items ≡ [] }
-    ensures ok { IfOk result (GoesOn asking.old (front_text front) asking.new text.new.items) }
+    ensures ok { IfOk result
+        (ClientGoesOn asking.old (front_text front) asking.new text.new.items) }
     ensures err { OnErr result ((said : List ℕ) × (came : TheCame)
-        × GoesOn asking.old (front_text front) asking.new said came) }
+        × ClientGoesOn asking.old (front_text front) asking.new said came) }
 {
     let mut packets = Vec::new(asking.alloc);
     let gone = go_on(&mut asking.end, &mut packets, &mut asking.reports);
@@ -190,9 +191,9 @@ fn has_more(end: &AskingEnd) -> bool
 
 /// Goes on after segments that are sent again, and says what comes of it after their lines.
 fn go_on_again(asking: &mut Asking, text: &mut Vec<u8>) -> Result<Came, AllocError>
-    ensures ok { IfOk result (GoesOn asking.old text.old.items asking.new text.new.items) }
+    ensures ok { IfOk result (ClientGoesOn asking.old text.old.items asking.new text.new.items) }
     ensures err { OnErr result ((said : List ℕ) × (came : TheCame)
-        × GoesOn asking.old text.old.items asking.new said came) }
+        × ClientGoesOn asking.old text.old.items asking.new said came) }
 {
     let mut packets = Vec::new(asking.alloc);
     let gone = go_on(&mut asking.end, &mut packets, &mut asking.reports);
@@ -202,11 +203,11 @@ fn go_on_again(asking: &mut Asking, text: &mut Vec<u8>) -> Result<Came, AllocErr
 /// Goes on where something is left, or prints what waits to be reported.
 fn go_on_if_left(asking: &mut Asking, text: &mut Vec<u8>) -> Result<Came, AllocError>
     ensures ok { IfOk result (λ came. MatchBool (has_more_of asking.old.end)
-        (GoesOn asking.old text.old.items asking.new text.new.items came)
+        (ClientGoesOn asking.old text.old.items asking.new text.new.items came)
         (TellsAlone asking.old text.old.items asking.new text.new.items came)) }
     ensures err { OnErr result ((said : List ℕ) × (came : TheCame)
         × MatchBool (has_more_of asking.old.end)
-        (GoesOn asking.old text.old.items asking.new said came)
+        (ClientGoesOn asking.old text.old.items asking.new said came)
         (TellsAlone asking.old text.old.items asking.new said came)) }
 {
     if has_more(&asking.end) {

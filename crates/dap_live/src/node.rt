@@ -10,11 +10,11 @@ ghost use Rattle.nsp_link.specs.declared.fault.LinkFault.TheVariants as link_fau
 ghost use Rattle.dap_end.specs.Ports.{PortValue};
 ghost use Rattle.dap_end.specs.Node.{AtPort, BeganOn, HasPort, NotBegun, OnLink, has_local, serves_on};
 ghost use Rattle.dap_end.specs.Turns.{TakesPacket, WentOn};
-ghost use Rattle.linewise.specs.Talks.{Begins};
+ghost use Rattle.linewise.specs.Talks.{BeginsAnswer};
 ghost use Rattle.dap_live.specs.Both.{LeavesEnd};
 ghost use Rattle.dap_live.specs.Sending.{SaysAck, UnlessFailed};
 ghost use Rattle.dap_live.specs.Texts.{LineAnswer};
-ghost use Rattle.dap_live.specs.Inner.NodeReaching.{Done, NodeReaches};
+ghost use Rattle.dap_live.specs.Inner.NodeReaching.{IsDoneWithText, NodeReaches};
 ghost use Rattle.dap_live.specs.Inner.Filing.{AddsShapedTo, GivesRecordBy, HasNoBytes, RecordNotBy};
 ghost use Rattle.dap_live.specs.Orders.{most_anew, most_beside, setup_anew};
 ghost use Rattle.dap_live.specs.Node.{AddsFileTo, AddsLink, AddsRecordTo, BeginsOn, NodeDoes, DoesNodeOrder, DropsFile, FindsLink, GoesOnWith, IsNewNode, IsNotDone, NoLink, ResendsOn, TakesOn, TakesPacketBy, RenewsOn, about, before_line, given_beside, is_alone, is_work_left_at, is_used, meant, one_link, pieces, receiver_of, sender_of, ungiven, used_by, waits_on as waits_by};
@@ -240,7 +240,7 @@ fn take_on(
     requires there { (p : PortValue) × HasPort link node.old.node p }
     requires text { text.old.items ≡ [] }
     ensures ok { IfOk result (TakesOn link node.old bytes.now node.new text.new.items) }
-    ensures err { OnErr result (Done (TakesOn link node.old bytes.now node.new)) }
+    ensures err { OnErr result (IsDoneWithText (TakesOn link node.old bytes.now node.new)) }
 {
     node.last = Some(link);
     let mut packets = Vec::new(node.alloc);
@@ -254,7 +254,7 @@ fn take_of(node: &mut Node, bytes: &[u8], text: &mut Vec<u8>) -> Result<Became, 
     requires { text.old.items ≡ [] }
     ensures ok { IfOk result (TakesPacketBy node.old bytes.now node.new text.new.items) }
     ensures err { OnErr result ((node.new ≡ node.old)
-        ⊎ Done (TakesPacketBy node.old bytes.now node.new)) }
+        ⊎ IsDoneWithText (TakesPacketBy node.old bytes.now node.new)) }
 {
     match find_of(&node.node, bytes) {
         Ok(link) => take_on(node, link, bytes, text),
@@ -299,7 +299,7 @@ fn go_on_after(node: &mut Node, link: usize, text: &mut Vec<u8>) -> Result<Becam
     requires { (p : PortValue) × HasPort link node.old.node p }
     ensures ok { IfOk result (GoesOnWith link node.old text.old.items
         node.new text.new.items) }
-    ensures err { OnErr result (Done (GoesOnWith link node.old text.old.items node.new)) }
+    ensures err { OnErr result (IsDoneWithText (GoesOnWith link node.old text.old.items node.new)) }
 {
     node.last = Some(link);
     let mut packets = Vec::new(node.alloc);
@@ -324,7 +324,7 @@ fn resend_running(node: &mut Node, link: usize, text: &mut Vec<u8>) -> Result<Be
     requires text { text.old.items ≡ [] }
     ensures ok { IfOk result (λ became. AtPort link node.old.node (λ p.
         ResendsOn link p node.old node.new text.new.items became)) }
-    ensures err { OnErr result ((node.new ≡ about link node.old) ⊎ Done (λ said became.
+    ensures err { OnErr result ((node.new ≡ about link node.old) ⊎ IsDoneWithText (λ said became.
         AtPort link node.old.node (λ p. ResendsOn link p node.old node.new said became))) }
 {
     node.last = Some(link);
@@ -344,7 +344,7 @@ fn resend_on(node: &mut Node, link: usize, text: &mut Vec<u8>) -> Result<Became,
         UnlessFailed p.link text.new.items
         (LeavesEnd Became.Done (about link node.old) node.new became)
         (ResendsOn link p node.old node.new text.new.items became))) }
-    ensures err { OnErr result ((node.new ≡ about link node.old) ⊎ Done (λ said became.
+    ensures err { OnErr result ((node.new ≡ about link node.old) ⊎ IsDoneWithText (λ said became.
         AtPort link node.old.node (λ p. UnlessFailed p.link said
         (LeavesEnd Became.Done (about link node.old) node.new became)
         (ResendsOn link p node.old node.new said became)))) }
@@ -695,7 +695,7 @@ fn act(
     text: &mut Vec<u8>,
 ) -> Result<Answer<FilesCursor>, AllocError>
     requires { text.old.items ≡ [] }
-    ensures ok { IfOk result (Begins NodeDoes pieces node.old order.entry
+    ensures ok { IfOk result (BeginsAnswer NodeDoes pieces node.old order.entry
         node.new text.new.items) }
     ensures err { OnErr result (NodeReaches node.old order.entry node.new) }
 {
@@ -716,7 +716,7 @@ fn act(
 /// Answers an order.
 fn answer_one(node: &mut Node, order: NodeOrder<'_>, text: &mut Vec<u8>) -> Answer<FilesCursor>
     requires { text.old.items ≡ [] }
-    ensures { Begins DoesNodeOrder pieces node.old (Some order.entry)
+    ensures { BeginsAnswer DoesNodeOrder pieces node.old (Some order.entry)
         node.new text.new.items result }
 {
     match act(node, order, text) {
@@ -735,7 +735,7 @@ fn answer_order(
     text: &mut Vec<u8>,
 ) -> Answer<FilesCursor>
     requires { text.old.items ≡ [] }
-    ensures { Begins DoesNodeOrder pieces (before_line node.old) order.entry
+    ensures { BeginsAnswer DoesNodeOrder pieces (before_line node.old) order.entry
         node.new text.new.items result }
 {
     node.last = find_one(&node.node);

@@ -28,7 +28,7 @@ use Rattle.dap_accessed.specs.Replies.{opened_with, reason_of, refused_access}
 use Rattle.dap_accessed.specs.Setup.{lacks}
 use Rattle.dap_accessed.specs.Records.{at_number, verb_of, get_pick, got, record_got, settled, Change, Putting, Updating, changed, fits_limit, uncurrent}
 use Rattle.dap_accessed.specs.Transfers.{fetch, fetch_ends, continue_fetch, store_one}
-use Rattle.dap_accessed.specs.Effects.{Begun, Turn, Does, Begins, control_opened, control_connected, turn_in, turn_of, effect_with}
+use Rattle.dap_accessed.specs.Effects.{Begun, Turn, Does, BeginsGroup, control_opened, control_connected, turn_in, turn_of, effect_with}
 use Rattle.dap_accessed.specs.Groups.{Grouped, after_two}
 use Rattle.dap_accessed.specs.Groups.{next_group, more_after, after_item}
 use Rattle.dap_accessed.proofs.ForCallers.{with-same}
@@ -108,7 +108,7 @@ module _ (scene : Scene) (asks : Option OpenFile) where
 
   abbrev pub LeftIn : Option OpenFile → Turn → Type 0
   LeftIn held (Does e) = Left held e
-  LeftIn held (Begins b) = (held ≡ Some b.opened) × (b.stream.rights ≡ b.opened.rights)
+  LeftIn held (BeginsGroup b) = (held ≡ Some b.opened) × (b.stream.rights ≡ b.opened.rights)
 
   entering : (state : ServerState) (answers : List Message) → HasRights state → Left (open_in state) (enters scene state answers)
   entering state answers h = record { moved = keeps (open_in state); rights = h }
@@ -287,7 +287,7 @@ pub record Goes (c d : Grouped) (asks : Option OpenFile) : Type 0 where
 
 pub next-goes : (asks : Option OpenFile) (s : Standing) (item : Item) (t : Turn) → HasRights s.state → LeftIn s.scene asks (open_in s.state) t → Goes (record { standing = s; begun = None }) (next_group s item t) asks
 next-goes asks s item (Does e) h l = record { moved = l.moved; steady = record { rights = l.rights; begun = tt } }
-next-goes asks s item (Begins b) h l = record { moved = keeps (open_in s.state); steady = record { rights = h; begun = l } }
+next-goes asks s item (BeginsGroup b) h l = record { moved = keeps (open_in s.state); steady = record { rights = h; begun = l } }
 
 by-begun : (own : ServerSetup) (s : Standing) (begun : Option Begun) (item : Item) → HasRights s.state → IfSome begun (λ b. (open_in s.state ≡ Some b.opened) × (b.stream.rights ≡ b.opened.rights))
     → Goes (record { standing = s; begun = begun }) (more_after own s begun item) (asks_to_open own s.scene.files s.state item)

@@ -256,7 +256,7 @@ sates_back (x ∷ xs) ys all = sates_back xs ys all.1
 
 talked_so : (first now : Watching) (input rest said : List ℕ) (were : List (Option Became)) → Talked answered waiting first input now rest said were → Starts first
     → AllByRecursion (λ became. became ≢ Some NoMemory) were → WatchedSo first.in_words input rest said were now
-talked_so first now input rest said were Talked.begins start never = record {
+talked_so first now input rest said were Talked.no_line_more start never = record {
   captured = [];
   watches = start.watches (heard_frames input);
   are = refl;
@@ -265,7 +265,7 @@ talked_so first now input rest said were Talked.begins start never = record {
   many = sym start.packets;
   bad = refl;
 }
-talked_so first new input rest said were (Talked.goes now left before_said more before became talked some says) start never =
+talked_so first new input rest said were (Talked.one_line_more now left before_said more before became talked some says) start never =
     let w = talked_so first now input left before_said before talked start (sates_front before (became ∷ []) never) in
     let one = (sates_back before (became ∷ []) never).0 in
     subst (λ l. WatchedSo first.in_words input (drop_through 10 left) (before_said ++ l) (before ++ became ∷ []) new) (sym says.says)
@@ -350,8 +350,8 @@ snoc_is (x ∷ xs) (y ∷ ys) a b e =
 
 memory_last : (first now : Watching) (input rest said : List ℕ) (all were : List (Option Became)) → Talked answered waiting first input now rest said all → all ≡ were ++ Some NoMemory ∷ [] → Starts first
     → AllByRecursion (λ became. became ≢ Some NoMemory) were → (left : List Capture) × (after : List ℕ) × IsWatchedTo first.in_words input left said after
-memory_last first now input rest said all were Talked.begins is start never = absurd (omega (arith, ap length is, length-append were (Some NoMemory ∷ [])))
-memory_last first new input rest said all were (Talked.goes now left before_said more before became talked some says) is start never =
+memory_last first now input rest said all were Talked.no_line_more is start never = absurd (omega (arith, ap length is, length-append were (Some NoMemory ∷ [])))
+memory_last first new input rest said all were (Talked.one_line_more now left before_said more before became talked some says) is start never =
     let same = snoc_is before were became (Some NoMemory) is in
     let w = talked_so first now input left before_said before talked start (subst (λ (l : List (Option Became)). AllByRecursion (λ b. b ≢ Some NoMemory) l) (sym same.0) never) in
     let answers = subst (λ (b : Option Became). AnswersLine answered waiting now (first_line left) new says.text b) same.1 says.answers in

@@ -61,10 +61,10 @@ ComesIn pieces text NoMemory = (front rest : List (List ℕ)) × (pieces ≡ fro
 
 -- What was done by a line, and its whole text; or a prefix of the text, which is an answer together with whatever is
 -- written of the pieces from a position on.
-abbrev pub Begins : {E L P : Type 0} → (answered : E → L → E → List ℕ → Became → Type 0) → (pieces : E → P → List (List ℕ))
+abbrev pub BeginsAnswer : {E L P : Type 0} → (answered : E → L → E → List ℕ → Became → Type 0) → (pieces : E → P → List (List ℕ))
     → E → L → E → List ℕ → Answer P → Type 0
-Begins answered pieces old line new text (Whole became) = answered old line new text became
-Begins answered pieces old line new text (Begun cursor) =
+BeginsAnswer answered pieces old line new text (Whole became) = answered old line new text became
+BeginsAnswer answered pieces old line new text (Begun cursor) =
     (more : List ℕ) (became : Became) → ComesIn (pieces new cursor) more became → answered old line new (text ++ more) became
 
 -- The text is the piece at this position, and the other pieces are those from the next position on; or there is none.
@@ -97,8 +97,8 @@ is_bad _ = false
 -- The end answered the lines of an input, one after another, up to this suffix. The text is its answers, joined, and
 -- the list is what became of the lines.
 pub data Talked {E : Type 0} (answered : Answering E) (waiting : E → Option ℕ) : E → List ℕ → E → List ℕ → List ℕ → List (Option Became) → Type 0 where
-  begins : {e : E} {input : List ℕ} → Talked answered waiting e input e input [] []
-  goes : {old new : E} {input : List ℕ} (now : E) (rest said more : List ℕ) (lines : List (Option Became)) (became : Option Became)
+  no_line_more : {e : E} {input : List ℕ} → Talked answered waiting e input e input [] []
+  one_line_more : {old new : E} {input : List ℕ} (now : E) (rest said more : List ℕ) (lines : List (Option Became)) (became : Option Became)
       → Talked answered waiting old input now rest said lines → 0 < length rest
       → SaysTo answered waiting now (first_line rest) new more became
       → Talked answered waiting old input new (drop_through 10 rest) (said ++ more) (lines ++ became ∷ [])

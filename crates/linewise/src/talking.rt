@@ -41,7 +41,7 @@ pub enum Answer<P> {
 /// An end that answers lines.
 pub trait Answers {
     ghost use Rattle.linewise.specs.declared.talking.Became.{Became};
-    ghost use Rattle.linewise.specs.Talks.{Begins, GivesPiece};
+    ghost use Rattle.linewise.specs.Talks.{BeginsAnswer, GivesPiece};
 
     /// The position in an answer at which the next piece begins, where it is said piece by piece.
     type Cursor: Copy;
@@ -60,7 +60,8 @@ pub trait Answers {
     /// Answers a line, which comes without its end, or begins to. The text comes empty.
     fn answer(&mut self, line: &[u8], text: &mut Vec<u8>) -> Answer<Self::Cursor>
         requires { text.old.items ≡ [] }
-        ensures { Begins answered pieces self.old (Some line.now) self.new text.new.items result };
+        ensures { BeginsAnswer answered pieces self.old (Some line.now)
+            self.new text.new.items result };
 
     /// Misses a line, which is too long, or to which memory was refused while it was read. The answer says that, and
     /// how many packets the end waits for then.

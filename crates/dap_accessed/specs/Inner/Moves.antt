@@ -26,7 +26,7 @@ use Rattle.dap_accessed.specs.Accesses.{refuse_access, open_file, create_file}
 use Rattle.dap_accessed.specs.Replies.{bare_status, too_large}
 use Rattle.dap_accessed.specs.Records.{verb_of, Putting, Updating, refused_effect, uncurrent}
 use Rattle.dap_accessed.specs.Transfers.{fetch}
-use Rattle.dap_accessed.specs.Effects.{Turn, Does, Begins, effect_fresh, effect_ready, effect_opened, turn_connected, effect_store, effect_stopped, effect_with}
+use Rattle.dap_accessed.specs.Effects.{Turn, Does, BeginsGroup, effect_fresh, effect_ready, effect_opened, turn_connected, effect_store, effect_stopped, effect_with}
 use Rattle.dap_accessed.specs.Present.{Present, Memory, phase_at, phase_within}
 use Rattle.dap_accessed.specs.Served.{Answered}
 
@@ -88,13 +88,13 @@ settles p memory effect =
     }
 
 -- nothing moves but the phase, without an answer
-abbrev pub begins : Present → Phase → Move
-begins p phase = record { present = record p { phase = phase }; answers = [] }
+abbrev pub begins_group : Present → Phase → Move
+begins_group p phase = record { present = record p { phase = phase }; answers = [] }
 
 -- an item that begins a group, or is one with this effect
 abbrev pub turns : Turn → Present → Memory → ServerState → Item → Move
 turns (Does effect) p memory state item = settles p (remembers memory state item effect.answers) effect
-turns (Begins begun) p memory state item = begins p (phase_within begun.change begun.opened begun.stream)
+turns (BeginsGroup begun) p memory state item = begins_group p (phase_within begun.change begun.opened begun.stream)
 
 -- what an item does outside a group of two, where this counts of the past
 abbrev pub turn_by : (own : ServerSetup) → Scene → Memory → ServerState → Item → Turn

@@ -20,7 +20,7 @@ use Rattle.dap_accessed.specs.Records.{Putting, Updating, changed, get_pick, put
 use Rattle.dap_accessed.specs.Transfers.{fetch, store_one}
 use Rattle.dap_accessed.specs.Present.{Present}
 use Rattle.dap_accessed.specs.Inner.Written.{IsShortReply, reply_message}
-use Rattle.dap_accessed.specs.Inner.Moves.{Move, begins, creates, does, is_silent, move_in, opens, opens_nothing, scene_in, settles, store_memory}
+use Rattle.dap_accessed.specs.Inner.Moves.{Move, begins_group, creates, does, is_silent, move_in, opens, opens_nothing, scene_in, settles, store_memory}
 use Rattle.dap_accessed.specs.Sessions.{IsOpenIn}
 
 -- one answer, and nothing moves but the phase
@@ -29,7 +29,7 @@ replies p message phase = record { present = record p { phase = phase }; answers
 
 -- what a step leaves, and its answers
 abbrev pub step_move : Step → Present → Move
-step_move (steps.Enter phase) p = begins p phase
+step_move (steps.Enter phase) p = begins_group p phase
 step_move (steps.Reply answer phase) p = replies p (reply_message answer) phase
 step_move (steps.Configure limit) p =
     record { present = record p { limit = limit; phase = phases.Ready }; answers = Config p.setup.identity ∷ [] }
@@ -44,7 +44,7 @@ step_move (steps.Get opened stream control) p =
     does p (record_got (get_pick (the_file p.files opened) stream control) (scene_in p) opened stream)
 step_move (steps.Fetch opened stream) p = does p (fetch (scene_in p) opened stream)
 step_move (steps.Expect opened stream control) p =
-    begins p (phases.PutDue opened stream (put_key (the_file p.files opened) stream control))
+    begins_group p (phases.PutDue opened stream (put_key (the_file p.files opened) stream control))
 step_move (steps.Put opened stream key body) p =
     does p (changed (Putting key) (scene_in p) opened stream body.now)
 step_move (steps.Update opened stream body) p = does p (changed Updating (scene_in p) opened stream body.now)

@@ -41,8 +41,8 @@ pub record IsCutOff (all piece others : List Counted) : Type 0 where
 
 -- the lines of messages, end to end
 pub data AreMessageLines (in_words : Bool) : List Message → List ℕ → Type 0 where
-  no_more : AreMessageLines in_words [] []
-  one_more : {m : Message} {others : List Message} (lines rest : List ℕ)
+  no_message_more : AreMessageLines in_words [] []
+  one_message_more : {m : Message} {others : List Message} (lines rest : List ℕ)
       → IsMessagesText in_words (payload m.piece) lines → AreMessageLines in_words others rest
       → AreMessageLines in_words (m ∷ others) (message_heading m.piece ++ lines ++ rest)
 

@@ -29,7 +29,7 @@ use Rattle.dap_accessed.specs.Accesses.{rights_to_create, rights_to_open, make_f
 use Rattle.dap_accessed.specs.Records.{verb_of, get_pick, got, record_got, Change, Putting, Updating, changed, fits_limit, at_number}
 use Rattle.dap_accessed.specs.Transfers.{fetch, fetch_ends, continue_fetch}
 use Rattle.dap_msg.specs.BothEnds.{is_too_small}
-use Rattle.dap_accessed.specs.Effects.{Begun, Turn, Does, Begins, control_opened, control_connected, turn_in, turn_of, effect_with}
+use Rattle.dap_accessed.specs.Effects.{Begun, Turn, Does, BeginsGroup, control_opened, control_connected, turn_in, turn_of, effect_with}
 use Rattle.dap_accessed.specs.Groups.{Grouped, stands_after}
 use Rattle.dap_accessed.proofs.ForCallers.{cut-more, next_group, more_after}
 
@@ -42,7 +42,7 @@ module _ (P : ℕ → Type 0) where
   -- what it leaves, if it is a group
   abbrev In : Turn → Type 0
   In (Does effect) = P effect.scene.limit
-  In (Begins begun) = Unit {0}
+  In (BeginsGroup begun) = Unit {0}
 
   module _ (scene : Scene) (p : P scene.limit) where
     of-either : (b : Bool) (one two : Effect) → P one.scene.limit → P two.scene.limit → P (if b then one else two).scene.limit
@@ -155,7 +155,7 @@ module _ (P : ℕ → Type 0) where
 
   of-next : (s : Standing) (item : Item) (t : Turn) → P s.scene.limit → In t → P (next_group s item t).standing.scene.limit
   of-next s item (Does effect) p q = q
-  of-next s item (Begins begun) p q = p
+  of-next s item (BeginsGroup begun) p q = p
 
   of-one : (own : ServerSetup) (s : Standing) (b : Option Begun) (item : Item) → P s.scene.limit → Fits item → P (more_after own s b item).standing.scene.limit
   of-one own s None item p q = of-next s item (turn_of own s item) p (of-item s.scene p own s.past s.state item q)

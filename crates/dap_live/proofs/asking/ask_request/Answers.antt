@@ -1,7 +1,7 @@
 use Rattle.std.proofs.Common.{inl, inr, subst}
 use Rattle.dap_accessing.specs.declared.fault.AskFault.TheVariants.{Busy}
 use Rattle.dap_live.specs.declared.asking.Asking.{Asking}
-use Rattle.dap_live.specs.Asking.{GoesOn}
+use Rattle.dap_live.specs.Asking.{ClientGoesOn}
 use Rattle.dap_live.specs.Inner.Saying.{front_text}
 use Rattle.dap_live.specs.declared.asking.Front.TheVariants.{Asked}
 use Rattle.dap_live.proofs.ResultLemmas.{err_from}
@@ -13,7 +13,7 @@ returns-in-Ok-clause-err c =
     (λ done. inr (
       done.0,
       done.1,
-      inl (c.in-Ok.count, c.ask.new.self, c.in-Ok.ensures.ok, subst (λ (a : Asking). GoesOn a (front_text (Asked c.in-Ok.count)) c.go_on_after.new.asking done.0 done.1) c.begin_request.ensures done.2),
+      inl (c.in-Ok.count, c.ask.new.self, c.in-Ok.ensures.ok, subst (λ (a : Asking). ClientGoesOn a (front_text (Asked c.in-Ok.count)) c.go_on_after.new.asking done.0 done.1) c.begin_request.ensures done.2),
     ))
 
 pub returns-in-Err-Busy-clause-err : goal.returns-in-Err-Busy-clause-err
