@@ -109,8 +109,8 @@ def count(found):
 
 
 def in_reading_order(found):
-    """The files of these definitions, each behind those that it cites, with how many of its lines count: the crates in the
-    order of crates.txt, in which each stands on crates before it."""
+    """The files of these definitions, each after those that it cites, with how many of its lines count: the crates in the
+    order of crates.txt, in which each depends on crates before it."""
     order, seen = [], set()
 
     def visit(path):

@@ -1,7 +1,7 @@
 """Tells both live ends packets that were altered or cut on the way: a part of hostile/check.
 
 Each time the link is new, the end has sent a segment that isn't acknowledged, has taken the first segment of a message, and
-holds an early one. Then it is told a packet with one byte altered, to each other value, or cut at each place, and behind it
+holds an early one. Then it is told a packet with one byte altered, to each other value, or cut at each offset, and after it
 the packet as it was:
 
 - each line has one answer, of the words of docs/LIVE.md;
@@ -66,7 +66,7 @@ def cases(role):
 
 
 def altered(whole):
-    """The packet with each byte altered to each other value, and cut at each place."""
+    """The packet with each byte altered to each other value, and cut at each offset."""
     for at, old in enumerate(whole):
         yield from (whole[:at] + bytes([new]) + whole[at + 1 :] for new in range(256) if new != old)
         yield whole[:at]

@@ -93,7 +93,7 @@ def many(count):
 
 
 def interfaces(count):
-    """A section with so many interfaces and a frame on the last one, and a section with one interface."""
+    """A section with this many interfaces and a frame on the last one, and a section with one interface."""
     frame = struct.pack("<IIIII", count - 1, 0, 7, 60, 60) + short(1, 2)
     parts = [block("<", 0x0A0D0D0A, struct.pack("<IHHq", 0x1A2B3C4D, 1, 0, -1)), block("<", 1, struct.pack("<HHI", 1, 0, 0)) * count]
     return b"".join(parts) + block("<", 6, frame) + section(FRAMES[:3])

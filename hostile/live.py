@@ -4,8 +4,8 @@ A talk is the lines that one end is told (docs/LIVE.md): those of serve.talk, as
 links, and one that this file makes.
 With one growth refused an end is told line by line, and a line whose answer says 'refused no-memory' is said again:
 
-- the first answer has a front of the plain answer before 'refused no-memory';
-- the second one has the words of the plain answer, or those that a repeated line has in their place, as 'repeat' for
+- the first answer has a prefix of the plain answer before 'refused no-memory';
+- the second one has the words of the plain answer, or those that a repeated line has in place of them, as 'repeat' for
   'accepted'; both together have its reports, each once and in order, and none of its segments twice;
 - 'resend', and 'files' where the end serves, are answered as in the plain talk: what waits and what is stored is that.
   Who locks a file is told once, or not at all where memory is refused then;
@@ -41,7 +41,7 @@ WORDS = {"serve": ["serve"], "ask": ["ask"], "links": ["serve", "--links", "3"]}
 # lines that change nothing, and show what waits and what is stored
 PROBES = {"serve": [b"resend", b"files"], "ask": [b"resend"], "links": [b"resend 0202", b"resend 0303", b"files"]}
 ALONE = ("serve", "ask")  # ends of one link
-# what each end is told before a line that is too long, and behind it, so that it answers alike; of the end of
+# what each end is told before a line that is too long, and after it, so that it answers alike; of the end of
 # several links a packet waits then to be acknowledged, but the line is of no link
 AROUND = {
     "serve": [b"ack"],
@@ -110,18 +110,18 @@ SHORT = {
     "links": b"file 46 rel variable 0 3\nnew 0202 0101\n?\r\n#\n\n"
     b"> 60020201010080010001020a00040703050600000000\nresend 0303\nfiles\nresend 0202",
 }
-# An end may have so many bytes of memory, whatever line it is told: twice the longest line that is kept, and 8 MiB.
+# An end may have this many bytes of memory, whatever line it is told: twice the longest line that is kept, and 8 MiB.
 MAX_MEMORY = 2 * 16_777_216 + 8 * 1_048_576
 
 
 def too_long():
-    """A message of more than 65,535 bytes, in segments of 1,400, to the end that serves; and what comes behind it."""
+    """A message of more than 65,535 bytes, in segments of 1,400, to the server; and what comes after it."""
     packets = [b"> %02x020201010080%02x00" % (0x20 if number == 1 else 0, number) for number in range(1, 49)]
     return b"".join(packet + b"00" * 1400 + b"\n" for packet in packets) + b"resend\nack\nfiles\nnew\nack\n"
 
 
 def kinds(answer):
-    """The words, the reports and the packets of an answer, without its last line, the want of memory before it, and who
+    """The words, the reports and the packets of an answer, without its last line, the refused growth before it, and who
     locks a file."""
     lines = [line for line in answer[:-1] if line != NO_MEMORY and not line.startswith(b"locked ")]
     reports = [line for line in lines if line.startswith(b"report ")]
@@ -303,7 +303,7 @@ class Talk:
 
 
 def answers_of(text):
-    """The answers of a text, and what stands behind the last."""
+    """The answers of a text, and what is after the last."""
     answers, answer = [], []
     for line in text.split(b"\n"):
         answer.append(line)
@@ -348,7 +348,7 @@ class LiveEnds:
         self.suite.until_none(name, run, lambda end, _at: not end.wrong)
 
     def told_late(self, line):
-        """A talk whose last line is answered without its report, since one growth was refused, and behind which a line is
+        """A talk whose last line is answered without its report, since one growth was refused, and after which a line is
         refused: the report still comes, once, by 'resend', or with the packet where that wasn't taken."""
 
         def run(at):
@@ -435,7 +435,7 @@ class LiveEnds:
         fronts = [len(self.suite.ran(words, given[:count]).written) for count in lines_through(given)]
 
         def tells(ran, last):
-            """Whether it ends with that, behind what it told of bad lines."""
+            """Whether it ends with that, after what it reported of bad lines."""
             return ran.status == 3 and ran.told.endswith(last) and is_front(ran.told[: -len(last)], plain.told)
 
         def is_read(size):
@@ -453,7 +453,7 @@ class LiveEnds:
             self.suite.until_none(f"daplive {role}, a read of {size} fails", run, is_read(size))
 
         def is_written(size):
-            # where each write of so many bytes begins, and where its answer ends
+            # where each write of `size` bytes begins, and where its answer ends
             bounds, begin = [], 0
             for answer in answers_of(plain.written):
                 end = begin + sum(len(line) + 1 for line in answer)

@@ -35,7 +35,7 @@ def message(choose):
 
 
 def capture(choose):
-    """Segments of messages, both ways, some of them lost, repeated or moved behind others."""
+    """Segments of messages, both ways, some of them lost, repeated or moved after others."""
     lines = []
     for way in (b">", b"<"):
         number = choose.choice((1, 4090))
@@ -51,7 +51,7 @@ def capture(choose):
 
 
 def before(choose):
-    """Lines that say nothing, before a packet: some tell its frame, if no other line is behind them."""
+    """Lines that say nothing, before a packet: some tell its frame, if no other line is after them."""
     for _ in range(choose.choice((0, 1, 1, 2))):
         number = choose.randint(1, 99_999)
         yield choose.choice((b"# frame %d 1.%06d 1.1 -> 1.2\n" % (number, number), b"# frame %d - 1.2 -> 1.1\n" % number, b"\n",

@@ -43,7 +43,7 @@ class Asker(Role):
     """Opens one link, and asks over it what the lines of standard input say."""
 
     def __init__(self, node, end, settings, requests, patience, goes_on=False, clock=time.monotonic):
-        """A request that is refused ends it, unless it `goes_on`; so does a report that doesn't come within so many
+        """A request that is refused ends it, unless it `goes_on`; so does a report that doesn't come within `patience`
         seconds in which the other end does nothing."""
         super().__init__(node, end, settings, clock)
         self.requests, self.patience, self.goes_on = requests, patience, goes_on
@@ -108,7 +108,7 @@ class Asker(Role):
             self.note_refusal(f"'{answers.shown(self.request)}': {refusal}")
 
     def explain(self, packet):
-        """What came in the packet that brought an answer without a place, and what was due."""
+        """What came in the packet that brought an answer out of sequence, and what was due."""
         came = dap.named(packet.body) if packet.kind is Kind.ONLY else "a part of a message"
         return answers.unexpected(came, self.request if self.is_due else "")
 

@@ -125,7 +125,7 @@ class Several:
                 raise LinkFailed(f"the end that serves can't have link {number + 1}: {answer[0]}")
 
     def name(self, number):
-        """The word behind lines of the end that serves that concern a link."""
+        """The word after lines of the server that concern a link."""
         return f"{LOCAL + number:04x}"
 
     def tell(self, way, number, line):

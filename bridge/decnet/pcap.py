@@ -21,7 +21,7 @@ class PcapFault(Exception):
 
 
 class Pcap:
-    """A pcap file that frames are put behind; a missing or empty one is begun. A pipe has to have its reader first."""
+    """A pcap file to which frames are appended; a missing or empty one is begun. A pipe has to have its reader first."""
 
     def __init__(self, path):
         self.path, self.file = path, None

@@ -211,7 +211,7 @@ class Role:
 
 
 def turn(readers, writers, seconds):
-    """Waits until a file can be read or written, so many seconds at most, and does what is done then."""
+    """Waits until a file can be read or written, at most this many seconds, and does what is done then."""
     ready, writable, _ = select.select(list(readers), list(writers), [], max(0, seconds))
     for file in ready:
         readers[file]()

@@ -1,4 +1,4 @@
-"""The serving bridge: links to object 17, so many at once as are allowed, before a live end that holds the files."""
+"""The serving bridge: links to object 17, as many at once as are allowed, before a live end that holds the files."""
 import collections
 import itertools
 import time

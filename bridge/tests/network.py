@@ -1,4 +1,4 @@
-"""Two network namespaces that a pair of Ethernet interfaces joins, and captures of what goes between them."""
+"""Two network namespaces that a pair of Ethernet interfaces connects, and captures of what goes between them."""
 import ctypes
 import os
 import signal
@@ -24,7 +24,7 @@ def ip(*words):
 
 
 class Network:
-    """Two namespaces that a pair of Ethernet interfaces joins, each with the DECnet address of its node."""
+    """Two namespaces that a pair of Ethernet interfaces connects, each with the DECnet address of its node."""
 
     def __init__(self):
         self.names = {SERVING: f"daplive{os.getpid()}s", ASKING: f"daplive{os.getpid()}a"}

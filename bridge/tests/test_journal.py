@@ -1,4 +1,4 @@
-"""The journal: each front of it and each altered byte of it is read as what was kept, or told as damage."""
+"""The journal: each prefix of it and each altered byte of it is read as what was kept, or reported as damage."""
 import os
 import random
 import re
@@ -34,7 +34,7 @@ class JournalCase(Case):
         return listing.fault
 
     def begun(self, count=LINES):
-        """A journal of so many lines; the lines, and where the mark of each ends."""
+        """A journal of this many lines; the lines, and where the mark of each ends."""
         chance, kept = random.Random(SEED), self.open()
         kept.go_on()
         self.assertIsNone(self.renew(kept))

@@ -3,7 +3,7 @@ from dataclasses import dataclass
 
 from picture.messages import DELETE, FUNCTIONS, GET, PUT, RAC, UPDATE
 
-MIN_ROWS = 4  # so many rows of Data, exchanges alike, or packets without a message are folded
+MIN_ROWS = 4  # this many rows of Data, exchanges alike, or packets without a message are folded
 QUIET = ""  # the signature of what goes along in a fold
 
 
@@ -84,7 +84,7 @@ def longest_run(following, rows, entries, at):
 
 
 def widened(packets, rows, fold, after):
-    """A fold with the segments of its first message before it, and the acknowledgements behind it."""
+    """A fold with the segments of its first message before it, and the acknowledgements after it."""
     first, last = fold.first, fold.last
     while first > after and rows[first - 1] == QUIET and packets[first - 1].is_segment \
             and packets[first - 1].direction == packets[fold.first].direction:
