@@ -1,5 +1,5 @@
 #!/usr/bin/env python3
-"""Compares several links over lossy lines before one end that serves with the same messages over lines without loss.
+"""Compares several links over lossy lines before one server with the same messages over lines without loss.
 
 usage: links_tests.py [--first SEED] [--seeds N] [--requests N] [--links N] [--daplive PROGRAM]
 

@@ -5,9 +5,9 @@ usage: live_tests.py [--first SEED] [--inputs N] [--daplive PROGRAM] [--dapnsp P
 
 Each input is made by its seed: lines of talks between the two ends, altered, repeated, left out and in another order,
 and between them random lines, good and bad, of any bytes; at its end a line may be cut. Each line that says something
-has to have one answer, which ends in `waits N`, and is one that docs/LIVE.md names for such a line; an end that serves
-has the files that lines gave it; `resend` writes as many packets as waited; each bad line is told, and the exit status
-tells whether there were any. In all packets that were written `dapnsp show` finds nothing bad.
+has to have one answer, which ends in `waits N`, and is one that docs/LIVE.md names for such a line; a server
+has the files that lines gave it; `resend` writes as many packets as waited; each bad line is reported, and the exit status
+says whether there were any. In all packets that were written `dapnsp show` finds nothing bad.
 """
 import argparse
 import os
@@ -417,7 +417,7 @@ def shown(packets, program):
 
 
 def tells_version(daplive):
-    """Whether the program tells the newest version of the changelog."""
+    """Whether the program prints the newest version of the changelog."""
     newest = re.search(r"^## ([0-9.]+)", (BUILT.parent / "CHANGELOG.md").read_text(), re.M)
     done = subprocess.run([daplive, "--version"], capture_output=True, check=False)
     return (done.returncode, done.stdout, done.stderr) == (0, f"daplive {newest[1]}\n".encode(), b"")

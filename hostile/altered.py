@@ -7,13 +7,13 @@ the packet as it was:
 - each line has one answer, of the words of docs/LIVE.md;
 - a packet that is refused, and doesn't fail the link, changed nothing: the packet as it was is answered as where nothing came
   before it;
-- one that fails the link, or the end that asks, is followed by the refusal that says so.
+- one that fails the link, or the client, is followed by the refusal that says so.
 """
 import re
 import subprocess
 
 SECONDS = 120
-# The words of an end, its link's addresses as they stand in a packet to it, and what it is told before. The end that serves
+# The words of an end, its link's addresses as they are in a packet to it, and what it is told before. The server
 # has the file of the messages from the first, so that no packet that was altered makes it.
 SERVED = [b"new 0202 0101 16", b"file 46 seq variable 0 0", b"> 60020201010080010001020a00040703050600000000"]
 ROLES = {
@@ -40,7 +40,7 @@ ANSWERED = re.compile(
     rb"accepted|repeat|early|ack-only|refused (bad (truncated|trailing|number) at=\d+|not-here [a-z-]+|wrong-link|"
     rb"bad-sequence|message-too-long|exhausted)"
 )
-# What fails a link, or the end that asks, and what a packet is answered then.
+# What fails a link, or the client, and what a packet is answered then.
 FAILS = {b"refused bad-sequence": b"refused failed", b"refused message-too-long": b"refused failed"}
 UNEXPECTED = b"refused unexpected-answer"
 

@@ -8,11 +8,11 @@ With one growth refused an end is told line by line, and a line whose answer say
 - the second one has the words of the plain answer, or those that a repeated line has in place of them, as 'repeat' for
   'accepted'; both together have its reports, each once and in order, and none of its segments twice;
 - 'resend', and 'files' where the end serves, are answered as in the plain talk: what waits and what is stored is that.
-  Who locks a file is told once, or not at all where memory is refused then;
-- all other answers, before and after, are those of the plain talk, and so is the exit status; each bad line is told.
+  Who locks a file is reported once, or not at all where memory is refused then;
+- all other answers, before and after, are those of the plain talk, and so is the exit status; each bad line is reported.
 
 With all growths refused from one on, each line has one answer, those before the first refusal are the plain talk's,
-and bad lines are told; where not even a line can be read, comments and empty lines are answered as well. In both cases
+and bad lines are reported; where not even a line can be read, comments and empty lines are answered as well. In both cases
 the end may end at once with status 3 and 'no memory', before it answers any line.
 """
 import os
@@ -29,7 +29,7 @@ HERE = os.path.dirname(os.path.abspath(__file__))
 SECONDS = 60
 NO_MEMORY = b"refused no-memory"
 BAD_LINE = b"refused bad-line"
-# what a line is answered when it comes again, by what it was answered
+# what a line is answered when it is repeated, by what it was answered
 AFTER = {
     b"accepted": b"repeat",
     b"refused bad-sequence": b"refused failed",
@@ -49,7 +49,7 @@ AROUND = {
     "links": [b"new 0202 0101", b"> 60020201010080010001020a00040703050600000000", b"resend 0202"],
 }
 # A talk of each end whose last line has packets in its answer. Nothing else comes of itself where none of them could be
-# written: the asking end was asked, and the packet to the serving end opened its window, and acknowledges all before.
+# written: the client was asked, and the packet to the server opened its window, and acknowledges all before.
 LAST = {
     "ask": [b"ask hello"],
     "serve": [
@@ -66,7 +66,7 @@ LAST = {
         b"> 04020201010c80",
     ],
 }
-# The asking end gets a record, and the last packet completes the report: a long one, so that its text needs a growth. Each
+# The client gets a record, and the last packet completes the report: a long one, so that its text needs a growth. Each
 # of the other lines is refused then, and leaves it waiting.
 RECORD = b"42" * 300
 REPORTED = [
@@ -87,7 +87,7 @@ REFUSED = {
     "a request that doesn't fit": b"ask hello",
 }
 LAST["links"] = LAST["serve"]
-# What is asked over a line that loses packets, while the serving end is refused a growth; the words of both ends, and
+# What is asked over a line that loses packets, while the server is refused a growth; the words of both ends, and
 # the loss in percent.
 ASKED = ["hello", "create 46 16 2 0 0 15", "connect", "put 4142", "put " + "43" * 150, "rewind", "fetch", "close"]
 SMALL, LOSS = ["--segment", "16", "--window", "2"], 40
@@ -140,7 +140,7 @@ def is_part(some, of):
 
 
 def after(word):
-    """What a line is answered when it comes again."""
+    """What a line is answered when it is repeated."""
     return b"refused ask-busy" if word.startswith(b"asked ") else AFTER.get(word, word)
 
 
@@ -259,7 +259,7 @@ class Talk:
         self.is_whole = end.answers == end.lines and end.told == end.bad and self.status in (0, 1)
 
     def said_again(self, at):
-        """The talk with one growth refused; what is wrong stands in 'wrong'."""
+        """The talk with one growth refused; what is wrong is in 'wrong'."""
         end = End(self.made, self.program, *WORDS[self.role], REFUSE_GROWTH=at)
         end.wrong = None
         for line, plain, probes in zip(self.lines, self.answers, self.probes):
@@ -371,8 +371,8 @@ class LiveEnds:
             self.suite.until_none(name, self.told_late(line), lambda end, _at: not end.wrong)
 
     def lossy(self):
-        """Both ends over a line that loses, while the serving end is refused a growth: the reports are the same.
-        The files are told in the last line, which may be the one that is refused."""
+        """Both ends over a line that loses, while the server is refused a growth: the reports are the same.
+        The files are listed in the last line, which may be the one that is refused."""
 
         def run(at):
             asking = End(self.suite.made, self.program, "ask", *SMALL)
@@ -426,7 +426,7 @@ class LiveEnds:
         self.suite.until_none("daplive serve, a long comment, one growth refused", run, is_right)
 
     def fail(self, role):
-        """An end whose standard input or output fails, gives little or takes little: a front of the text is written, of
+        """An end whose standard input or output fails, gives little or takes little: a prefix of the text is written, of
         whole answers, but of the last bytes that a failing device takes."""
         given, words = SHORT[role], [self.program, *WORDS[role]]
         plain = self.suite.ran(words, given)

@@ -49,7 +49,7 @@ class Asker(Role):
         self.requests, self.patience, self.goes_on = requests, patience, goes_on
         self.number, self.request = 0, ""  # the line that was asked last
         self.is_due, self.due_from, self.is_finished = False, 0, False
-        self.is_refused = self.is_stopped = False  # whether something was refused; whether a transfer stands still
+        self.is_refused = self.is_stopped = False  # whether something was refused; whether a transfer has stopped
         self.status = FAILED
 
     def open(self, to, session):
@@ -77,7 +77,7 @@ class Asker(Role):
         return self.is_refused and not self.goes_on
 
     def ask(self, number, request):
-        """Asks a request; what isn't asked is told at once."""
+        """Asks a request; what isn't asked is reported at once."""
         self.number, self.request = number, request
         self.is_due, self.due_from = True, self.clock()
         self.link.ask_end(f"ask {request}", self.asked)

@@ -1,7 +1,7 @@
 """A folder of this host whose text files are served: each is a sequential file, a line a record, and is written back when
 it is closed.
 
-Files that links make and that are no text, or whose names no file here can have, stand in the folder's file `.daplive`, as
+Files that links make and that are no text, or whose names no file here can have, are in the folder's file `.daplive`, as
 `files` prints them, and stay there. A file that somebody else has edited meanwhile is never overwritten: it gets another
 name.
 """

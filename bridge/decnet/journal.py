@@ -1,4 +1,4 @@
-"""A journal of a live end: a file of the lines that it was told, from which it stands again as it stood.
+"""A journal of a live end: a file of the lines that it was told, from which it is again as it was.
 
 The file is an input of `daplive serve`. Its first line is a comment that says which program was told, and with which words.
 Then come the files, as `files` prints them, and each line that the end was told since. After the files, and after each
@@ -55,9 +55,9 @@ class Parsed:
     """What a journal has up to its last good mark."""
 
     def __init__(self, path, data):
-        """A KeptFault where damage is told of what was on the disk."""
+        """A KeptFault where damage is reported of what was on the disk."""
         self.lines, self.size, self.crc = [], 0, 0  # without the marks; in bytes; of these
-        self.first = self.first_size = 0  # how many of the lines, and of the bytes, stand before the first mark ends
+        self.first = self.first_size = 0  # how many of the lines, and of the bytes, are before the first mark ends
         crc, at, waiting = 0, 0, []
         while (end := data.find(b"\n", at) + 1) > 0:
             line = data[at:end]

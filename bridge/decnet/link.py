@@ -212,7 +212,7 @@ class Link:
     def accept(self, connect, fac=None):
         """Takes the link that a connect initiate asks for, which may do no more than `fac` says; false where the end can't
         have it. The connect confirm goes out when the live end has the link. After an acknowledgement the connect initiate
-        doesn't come again: where the link is kept, that waits too."""
+        isn't retransmitted: where the link is kept, that waits too."""
         if not self.read_sizes(connect):
             return False
         self.fac = fac

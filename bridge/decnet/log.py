@@ -76,7 +76,7 @@ class Log:
                 written = os.write(self.file, self.waiting[0])
             except BlockingIOError:
                 return
-            except OSError:  # a log that can't be written has nobody to be told to
+            except OSError:  # a log that can't be written has nobody to be reported to
                 self.waiting.clear()
                 return
             line = self.waiting.popleft()
@@ -84,7 +84,7 @@ class Log:
                 self.waiting.appendleft(line[written:])
 
     def tick(self):
-        """Tells how many lines were left out when their second is over, and writes what waits."""
+        """Reports how many lines were left out when their second is over, and writes what waits."""
         if self.left_out and int(self.clock()) != self.second:
             self.begin_second(int(self.clock()))
         self.write()

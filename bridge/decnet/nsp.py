@@ -159,7 +159,7 @@ class Packet:
 
 
 class Reader:
-    """The fields of a packet, from the front."""
+    """The fields of a packet, from its first byte."""
 
     def __init__(self, data):
         self.data, self.at = data, 0

@@ -49,7 +49,7 @@ class Pcap:
         self.cut_short()
 
     def note(self, frame):
-        """Writes a frame. Where that can't be it is told once, and no more are written; what a slow reader of a pipe
+        """Writes a frame. Where that can't be it is reported once, and no more are written; what a slow reader of a pipe
         doesn't take is left out."""
         if self.file is None:
             return

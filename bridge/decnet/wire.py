@@ -12,7 +12,7 @@ from decnet.address import ethernet_address, ethernet_text, node_text
 ARPHRD_ETHER = 1
 SIOCGIFMTU = 0x8921
 INTERFACE_REQUEST = struct.Struct("16si12x")
-# a frame that meets one of these is as lost; of those that are told, once until a frame goes again
+# a frame that meets one of these is as lost; of those that are reported, once until a frame goes again
 SILENT = {errno.EAGAIN, errno.EINTR}
 TOLD = {errno.ENOBUFS, errno.ENETDOWN, errno.EMSGSIZE, errno.ECONNREFUSED}
 

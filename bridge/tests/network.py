@@ -31,7 +31,7 @@ class Network:
         self.interfaces = {SERVING: "serving", ASKING: "asking"}
 
     def make(self):
-        """Makes them; an AssertionError tells why, where they can't be."""
+        """Makes them; an AssertionError says why, where they can't be."""
         for name in self.names.values():
             ip("netns", "add", name)
         ip("link", "add", "serving", "netns", self.names[SERVING], "type", "veth",

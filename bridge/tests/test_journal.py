@@ -220,7 +220,7 @@ class NotesTest(Case):
         self.assertEqual((left.taken, left.is_on, left.acknowledged, left.can_go_on), (2, False, 7, True))
 
     def test_several_links_that_were_left(self):
-        """One that was closed isn't; what is told of one is told of that one alone."""
+        """One that was closed isn't; what is reported of one is reported of that one alone."""
         others = ["#link 1.9 000000000000 0a02 0b02 64 segments", "#link 1.8 000000000000 0a03 0b03 64 none"]
         lines = [self.NOTE, *others, "> 04020a020b0780", "> 04010a020b0580", "#other 0a02 9 off", "close 0a03", "ack 0a01"]
         first, second = left_links(lines)

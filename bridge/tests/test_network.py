@@ -248,7 +248,7 @@ class LinkTest(CapturedCase):
         self.stop(server)
 
     def test_opening(self):
-        """Connect initiates and confirms that come again, and one that is never acknowledged."""
+        """Connect initiates and confirms that are retransmitted, and one that is never acknowledged."""
         server, station = self.serve("--resend", "0.1", "--tries", "6"), self.station()
         connect = nsp.connect(0x0222, 512, nsp.session())
         station.say(connect)

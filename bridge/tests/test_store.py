@@ -40,7 +40,7 @@ class StoreCase(UdpCase):
         return Parsed(self.path, self.path.read_bytes())
 
     def kept(self):
-        """The files as a live end stands that is told the store."""
+        """The files of a live end that is told the store."""
         return listed(PROGRAM, self.parsed().lines)
 
     def store(self, *words, **more):

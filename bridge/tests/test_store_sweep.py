@@ -49,7 +49,7 @@ class CutTest(UdpCase):
         self.answered = []  # of each answer what was on the disk when it went out, and which state it was given in
 
     def tell(self, line):
-        """Tells the serving end a line; its answer."""
+        """Tells the server a line; its answer."""
         answer = self.server.say(line)
         self.states.append((self.journal.size, End.say(self.server, "files")))
         if any(text.startswith(("< 00", "< 20", "< 40", "< 60")) for text in answer):

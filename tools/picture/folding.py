@@ -24,7 +24,7 @@ def is_quiet(packet):
 
 
 def signature(packet):
-    """What rows that are alike have in common; QUIET for what goes along; None for a row that stands alone."""
+    """What rows that are alike have in common; QUIET for what goes along; None for a row that is alone."""
     if packet.gaps or packet.is_unfinished:
         return None
     if is_quiet(packet):
@@ -40,7 +40,7 @@ def signature(packet):
 
 
 def word_of(one):
-    """A message's part of a signature; None where it makes its row stand alone."""
+    """A message's part of a signature; None where its row is alone by it."""
     function = one.number("func")
     if one.word == "data":
         return "data"
