@@ -14,8 +14,8 @@ use Rattle.dap_end.specs.Writing.{Extends, WroteAnswer, WrotePart}
 
 -- One of the two ends.
 pub record EndOf (P : Type 0) : Type 1 where
-  pub on : EndValue P → EndValue P → Type 0  -- some of what came was gone through
-  pub rests : EndValue P → Type 0  -- nothing is left to go through here
+  pub on : EndValue P → EndValue P → Type 0  -- some of what came was processed
+  pub rests : EndValue P → Type 0  -- nothing is left to process here
   pub halts : EndValue P → EndValue P → EndFault → Type 0  -- why the first end goes on no further, and what it is then
   pub quiet : Type 0  -- nothing is reported
 

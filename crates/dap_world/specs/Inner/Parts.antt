@@ -33,7 +33,7 @@ pub record Parts : Type 0 where
   pub accessing : accessing.ClientState
   pub accessed : accessed.Present
   pub requests : List Request
-  pub sent : List (List ℕ)  -- the DAP messages in what A handed over
+  pub sent : List (List ℕ)  -- the DAP messages in what A passed to its link
   pub served : ℕ  -- how many of them B served
   pub reports : List Report
   pub read : ℕ  -- the answers that A read
