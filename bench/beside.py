@@ -11,7 +11,7 @@ ROUNDS = 5
 
 
 def crates_of(uses, table):
-    """The crates of the repository that these stand on, and these."""
+    """The crates of the repository that these depend on, and these."""
     found = set()
     for name in uses:
         if name in table:

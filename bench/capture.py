@@ -1,5 +1,5 @@
 #!/usr/bin/env python3
-"""Writes a capture of about so many bytes to the standard output.
+"""Writes a capture of about this many bytes to the standard output.
 
 usage: capture.py BYTES KIND [messages]
 

@@ -3,11 +3,11 @@
 
 usage: schedules.py window EVENTS | scattered PUTS | sparse PUTS | store RECORDS
 
-window: about so many events over a window of 8 segments of 64 bytes. Records of up to 440 bytes are put
+window: about EVENTS events over a window of 8 segments of 64 bytes. Records of up to 440 bytes are put
 into a sequential file; all segments of a record are written before the first is delivered.
-scattered: so many puts by number into a relative file of so many records, in no order, of records of 30 bytes.
+scattered: PUTS puts by number into a relative file of PUTS records, in no order, of records of 30 bytes.
 sparse: the same, into a file without a bound, spread over all numbers that it may have.
-store: so many records of a byte by one request, which is asked and handed to the link.
+store: RECORDS records of a byte by one request, which is asked and passed on to the link.
 """
 import sys
 

@@ -9,7 +9,7 @@ usage: bridge.py serve --interface IF|--udp LPORT:HOST:RPORT --node 1.2 [--files
        bridge.py password NAME [--rights get,put,..] <PASSWORD
 
 `serve` takes links to object 17 (FAL), one at a time or --links at once, and holds the files over all of them. `ask` opens one link to
-that object, reads requests, one a line as they stand behind `ask` of docs/LIVE.md, asks each when the report of the one
+that object, reads requests, one a line as docs/LIVE.md has them after `ask`, asks each when the report of the one
 before has come, prints the reports, and closes the link at the end of the input. `copy`, `type`, `get` and `put` do that
 for a file that is named, and text. `probe` tests the file access listener of a node. docs/BRIDGE.md has all of it.
 """

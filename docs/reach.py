@@ -6,7 +6,7 @@ import re
 
 ROOT = os.path.dirname(os.path.dirname(os.path.abspath(__file__)))
 NO_DEFINITION = re.compile(r"\s*$|\s*--|use |pub use |mod |pub mod ")
-# a definition begins a line, or stands in a module without a name; a field of a record is indented, and none
+# a definition begins a line, or is in a module without a name; a field of a record is indented, and none
 HEAD = re.compile(r"(?:\s*(?:abbrev |unfoldable )+|\s*(?=pub (?:data|record) )|)pub (?:data |record )?([A-Za-z_][\w-]*)")
 USE = re.compile(r"^(?:ghost |pub )*use (Rattle\.[\w.-]+?)(?:\.\{(.*?)\}| as ([\w-]+))?;?$", re.M)
 # what a file passes on that is defined under Inner
@@ -31,7 +31,7 @@ def lines_of(text):
 
 @functools.cache
 def definitions(path):
-    """The lines of each definition of a file, by its name; what stands before the first one counts to it. What is passed on
+    """The lines of each definition of a file, by its name; what is before the first one counts to it. What is passed on
     from Inner has none."""
     lent = ", ".join(LENT.findall(read(path)))
     found, before, name = {name.strip(): [] for name in lent.split(",") if name.strip()}, [], None
@@ -109,8 +109,8 @@ def count(found):
 
 
 def in_reading_order(found):
-    """The files of these definitions, each behind those that it cites, with how many of its lines count: the crates in the
-    order of crates.txt, in which each stands on crates before it."""
+    """The files of these definitions, each after those that it cites, with how many of its lines count: the crates in the
+    order of crates.txt, in which each depends on crates before it."""
     order, seen = [], set()
 
     def visit(path):

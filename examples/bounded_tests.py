@@ -25,7 +25,7 @@ DATA, HEADER = ("< 00", "< 20", "< 40", "< 60"), 18
 
 
 class Server:
-    """A live end that serves, with a file of some records; what it sent, and how much was acknowledged."""
+    """A live server, with a file of some records; what it sent, and how much was acknowledged."""
 
     def __init__(self, program, waiting):
         words = ["serve", "--segment", str(SEGMENT), "--window", str(WINDOW), "--waiting", str(waiting)]

@@ -33,7 +33,7 @@ def read_host(text):
 
 
 def carry(hub, hosts):
-    """Hands on what comes, for ever. A host that isn't there gets nothing."""
+    """Passes on what comes, for ever. A host that isn't there gets nothing."""
     while True:
         with contextlib.suppress(ConnectionRefusedError):
             frame, sender = hub.recvfrom(frames.FRAME_LIMIT)

@@ -1,9 +1,9 @@
 #!/usr/bin/env python3
-"""Compares several links over lossy lines before one end that serves with the same messages over lines without loss.
+"""Compares several links over lossy lines before one server with the same messages over lines without loss.
 
 usage: links_tests.py [--first SEED] [--seeds N] [--requests N] [--links N] [--daplive PROGRAM]
 
-For each seed: so many mixed requests on each link, of which many name the same files, over lines that lose, repeat and
+For each seed: a number of mixed requests on each link, of which many name the same files, over lines that lose, repeat and
 reorder, with settings by the seed. The NSP messages that the end served, in the order in which they were whole there, are
 then told to another one, each packet once and in order: its answers on each link have to be those that came to the end
 that asked there, and its files those of the first. No two links may have a file open that one of them may change. The

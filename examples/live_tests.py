@@ -5,9 +5,9 @@ usage: live_tests.py [--first SEED] [--inputs N] [--daplive PROGRAM] [--dapnsp P
 
 Each input is made by its seed: lines of talks between the two ends, altered, repeated, left out and in another order,
 and between them random lines, good and bad, of any bytes; at its end a line may be cut. Each line that says something
-has to have one answer, which ends in `waits N`, and is one that docs/LIVE.md names for such a line; an end that serves
-has the files that lines gave it; `resend` writes as many packets as waited; each bad line is told, and the exit status
-tells whether there were any. In all packets that were written `dapnsp show` finds nothing bad.
+has to have one answer, which ends in `waits N`, and is one that docs/LIVE.md names for such a line; a server
+has the files that lines gave it; `resend` writes as many packets as waited; each bad line is reported, and the exit status
+says whether there were any. In all packets that were written `dapnsp show` finds nothing bad.
 """
 import argparse
 import os
@@ -28,7 +28,7 @@ DAPNSP = BUILT / "dapnsp/out/dapnsp"
 MAX_LINE = 16_777_216
 # inputs of that many are one with a line about as long as lines may be
 SELDOM = 400
-# so many packets make a capture, at most 16,777,216 bytes
+# this many packets make a capture, at most 16,777,216 bytes
 CAPTURE = 20_000
 # the files that the talks make, where no packet of them is altered; lines give others
 TALKED = [b"54454d50", b"54455854"]
@@ -126,7 +126,7 @@ class Model:
         # the link is used: a packet came on it that it didn't refuse
         self.role, self.waits, self.has_failed, self.is_used = role, 0, False, False
         self.link = (b"0202", b"0101") if role == "serve" else (b"0101", b"0202")
-        # the files by their names: the words behind the name, and the records; whether a talk may have added others
+        # the files by their names: the words after the name, and the records; whether a talk may have added others
         self.files, self.is_sure = {}, True
         # the name of the file to which records are added, and those of all files that lines gave
         self.given, self.by_lines = None, set()
@@ -323,7 +323,7 @@ class Input:
         return b"  %d %b" % (self.chance.choice([0, 1, 2, 3, 4, 5]), self.chance.randbytes(size).hex().encode() or b"-")
 
     def given(self):
-        """Files, and records behind them; some are dropped."""
+        """Files, and records after them; some are dropped."""
         lines = []
         for _ in range(self.chance.randrange(1, 4)):
             lines += [self.file()] + [self.record() for _ in range(self.chance.randrange(6))]
@@ -417,7 +417,7 @@ def shown(packets, program):
 
 
 def tells_version(daplive):
-    """Whether the program tells the newest version of the changelog."""
+    """Whether the program prints the newest version of the changelog."""
     newest = re.search(r"^## ([0-9.]+)", (BUILT.parent / "CHANGELOG.md").read_text(), re.M)
     done = subprocess.run([daplive, "--version"], capture_output=True, check=False)
     return (done.returncode, done.stdout, done.stderr) == (0, f"daplive {newest[1]}\n".encode(), b"")

@@ -43,7 +43,7 @@ class Schedule:
 
 
 def reported(program, size):
-    """The last report of a put of a record of so many bytes."""
+    """The last report of a put of a record of this many bytes."""
     schedule = Schedule()
     schedule.ask("hello")
     schedule.ask("create 46 0 2 0 0 15", messages=2, answers=2)

@@ -11,7 +11,7 @@ Where none is on its way, an end whose packets wait says `resend`. It prints the
 asked, and at the end the files. With --transcript all lines of both ends are kept, of which
 `grep '^[<>]'` is a capture for `dapnsp show`.
 
-With --links N there are N ends that ask, each over a link of its own, before one that serves. Each line has the number of
+With --links N there are N clients, each over its own link, before one server. Each line has the number of
 one of them before its request, from 1; each end asks its requests in their order, and the line decides between the
 ends. Each report has that number before it.
 """

@@ -3,7 +3,7 @@
 
 usage: lossy_tests.py [--first SEED] [--seeds N] [--requests N] [--daplive PROGRAM] [--dapnsp PROGRAM]
 
-For each seed: so many mixed requests over a line that loses, repeats and reorders, with settings by the seed. The
+For each seed: a number of mixed requests over a line that loses, repeats and reorders, with settings by the seed. The
 reports and the files have to be those of a schedule of the same requests in which each packet arrives once and in order;
 the exit statuses 0; and the transcript a capture in which `dapnsp show` finds nothing that is bad. `daplive follow` has to
 list the same DAP messages each way, and no part and no gap, of what went in and out of each end as of the clean packets.
@@ -56,7 +56,7 @@ class Clean:
         return told, refused
 
     def writes(self, end, *before):
-        """Hands over what waits and writes all of it; the deliveries of the packets."""
+        """Queues what waits and writes all of it; the deliveries of the packets."""
         told, refused = self.tries(*before, f"post {end}", *[f"emit {end}"] * MANY)
         other = "b" if end == "a" else "a"
         places = [line.split()[2] for line in told if line.startswith("packet ")]

@@ -1,5 +1,5 @@
 #!/usr/bin/env python3
-"""Looks at what both programs tell where something is wrong: of files of captured frames, of other lines, of words; and
+"""Looks at what both programs report where something is wrong: of files of captured frames, of other lines, of words; and
 that they end silently where nobody reads what they write.
 
 usage: told_tests.py [--dapnsp PROGRAM] [--daplive PROGRAM]
@@ -90,7 +90,7 @@ class Suite:
             self.look(f"{before}{name} {' '.join(words)} | {reader}", is_right, done)
 
     def unwritten(self):
-        """A standard output that isn't there, or is full: that is told."""
+        """A standard output that isn't there, or is full: that is reported."""
         for (name, command), given in MUCH.items():
             for output in (">&-", ">/dev/full"):
                 how = {"input": given, "capture_output": True, "timeout": SECONDS, "check": False}
@@ -125,7 +125,7 @@ class Suite:
 
 
 def main():
-    parser = argparse.ArgumentParser(description="Looks at what both programs tell where something is wrong.")
+    parser = argparse.ArgumentParser(description="Looks at what both programs report where something is wrong.")
     for name in ("dapnsp", "daplive"):
         parser.add_argument(f"--{name}", default=TOP / name)
     suite = Suite({name: str(path) for name, path in vars(parser.parse_args()).items()})

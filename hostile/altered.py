@@ -1,19 +1,19 @@
 """Tells both live ends packets that were altered or cut on the way: a part of hostile/check.
 
 Each time the link is new, the end has sent a segment that isn't acknowledged, has taken the first segment of a message, and
-holds an early one. Then it is told a packet with one byte altered, to each other value, or cut at each place, and behind it
+holds an early one. Then it is told a packet with one byte altered, to each other value, or cut at each offset, and after it
 the packet as it was:
 
 - each line has one answer, of the words of docs/LIVE.md;
 - a packet that is refused, and doesn't fail the link, changed nothing: the packet as it was is answered as where nothing came
   before it;
-- one that fails the link, or the end that asks, is followed by the refusal that says so.
+- one that fails the link, or the client, is followed by the refusal that says so.
 """
 import re
 import subprocess
 
 SECONDS = 120
-# The words of an end, its link's addresses as they stand in a packet to it, and what it is told before. The end that serves
+# The words of an end, its link's addresses as they are in a packet to it, and what it is told before. The server
 # has the file of the messages from the first, so that no packet that was altered makes it.
 SERVED = [b"new 0202 0101 16", b"file 46 seq variable 0 0", b"> 60020201010080010001020a00040703050600000000"]
 ROLES = {
@@ -40,7 +40,7 @@ ANSWERED = re.compile(
     rb"accepted|repeat|early|ack-only|refused (bad (truncated|trailing|number) at=\d+|not-here [a-z-]+|wrong-link|"
     rb"bad-sequence|message-too-long|exhausted)"
 )
-# What fails a link, or the end that asks, and what a packet is answered then.
+# What fails a link, or the client, and what a packet is answered then.
 FAILS = {b"refused bad-sequence": b"refused failed", b"refused message-too-long": b"refused failed"}
 UNEXPECTED = b"refused unexpected-answer"
 
@@ -66,7 +66,7 @@ def cases(role):
 
 
 def altered(whole):
-    """The packet with each byte altered to each other value, and cut at each place."""
+    """The packet with each byte altered to each other value, and cut at each offset."""
     for at, old in enumerate(whole):
         yield from (whole[:at] + bytes([new]) + whole[at + 1 :] for new in range(256) if new != old)
         yield whole[:at]

@@ -1,7 +1,7 @@
 """Lists capture files with `daplive frames` where they are cut and altered, where they name any length, where growths are
 refused, and where standard input and output fail: a part of hostile/check.
 
-What is written and told is compared with what another program reads of the file (framed.py): the lines of all frames before
+What is written and reported is compared with what another program reads of the file (framed.py): the lines of all frames before
 a fault, the fault with its offset, and the counts.
 """
 import random
@@ -93,7 +93,7 @@ def many(count):
 
 
 def interfaces(count):
-    """A section with so many interfaces and a frame on the last one, and a section with one interface."""
+    """A section with this many interfaces and a frame on the last one, and a section with one interface."""
     frame = struct.pack("<IIIII", count - 1, 0, 7, 60, 60) + short(1, 2)
     parts = [block("<", 0x0A0D0D0A, struct.pack("<IHHq", 0x1A2B3C4D, 1, 0, -1)), block("<", 1, struct.pack("<HHI", 1, 0, 0)) * count]
     return b"".join(parts) + block("<", 6, frame) + section(FRAMES[:3])
@@ -123,7 +123,7 @@ def with_bit(choose, file):
 
 
 def with_part(choose, file):
-    """A part is missing, stands twice, or is another one."""
+    """A part is missing, is there twice, or is another one."""
     start, end, to = sorted(choose.randrange(len(file) + 1) for _ in range(3))
     return choose.choice((file[:start] + file[end:], file[:end] + file[start:], file[:end] + file[start:end] + file[to:]))
 
@@ -146,12 +146,12 @@ def altered(count):
 
 
 def without_help(told):
-    """What is told, without what may help besides."""
+    """What is reported, without what may help besides."""
     return b"".join(line for line in told.splitlines(keepends=True) if not line.startswith(b"daplive: "))
 
 
 class Captures:
-    """Runs of `daplive frames`; the suite counts and tells them."""
+    """Runs of `daplive frames`; the suite counts and reports them."""
 
     def __init__(self, suite, program):
         self.suite, self.words = suite, [program, "frames"]
@@ -212,7 +212,7 @@ class Captures:
     # -- memory and devices
 
     def refuse(self, name, file):
-        """The lines before a growth is refused are written, and no part of a line pair; then that is told."""
+        """The lines before a growth is refused are written, and no part of a line pair; then that is reported."""
         lines, told, status = listing(file)
         fronts = {b"".join(lines[:count]) for count in range(len(lines) + 1)}
 

@@ -174,7 +174,7 @@ def node_text(node):
 
 
 def listing(data):
-    """The lines of each frame that has some; what is told on standard error; and the exit status."""
+    """The lines of each frame that has some; what is reported on standard error; and the exit status."""
     lines, count, ends, fault = [], 0, None, None
     try:
         for count, (time, is_ethernet, frame) in enumerate(frames(data), 1):

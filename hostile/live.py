@@ -4,15 +4,15 @@ A talk is the lines that one end is told (docs/LIVE.md): those of serve.talk, as
 links, and one that this file makes.
 With one growth refused an end is told line by line, and a line whose answer says 'refused no-memory' is said again:
 
-- the first answer has a front of the plain answer before 'refused no-memory';
-- the second one has the words of the plain answer, or those that a repeated line has in their place, as 'repeat' for
+- the first answer has a prefix of the plain answer before 'refused no-memory';
+- the second one has the words of the plain answer, or those that a repeated line has in place of them, as 'repeat' for
   'accepted'; both together have its reports, each once and in order, and none of its segments twice;
 - 'resend', and 'files' where the end serves, are answered as in the plain talk: what waits and what is stored is that.
-  Who locks a file is told once, or not at all where memory is refused then;
-- all other answers, before and after, are those of the plain talk, and so is the exit status; each bad line is told.
+  Who locks a file is reported once, or not at all where memory is refused then;
+- all other answers, before and after, are those of the plain talk, and so is the exit status; each bad line is reported.
 
 With all growths refused from one on, each line has one answer, those before the first refusal are the plain talk's,
-and bad lines are told; where not even a line can be read, comments and empty lines are answered as well. In both cases
+and bad lines are reported; where not even a line can be read, comments and empty lines are answered as well. In both cases
 the end may end at once with status 3 and 'no memory', before it answers any line.
 """
 import os
@@ -29,7 +29,7 @@ HERE = os.path.dirname(os.path.abspath(__file__))
 SECONDS = 60
 NO_MEMORY = b"refused no-memory"
 BAD_LINE = b"refused bad-line"
-# what a line is answered when it comes again, by what it was answered
+# what a line is answered when it is repeated, by what it was answered
 AFTER = {
     b"accepted": b"repeat",
     b"refused bad-sequence": b"refused failed",
@@ -41,7 +41,7 @@ WORDS = {"serve": ["serve"], "ask": ["ask"], "links": ["serve", "--links", "3"]}
 # lines that change nothing, and show what waits and what is stored
 PROBES = {"serve": [b"resend", b"files"], "ask": [b"resend"], "links": [b"resend 0202", b"resend 0303", b"files"]}
 ALONE = ("serve", "ask")  # ends of one link
-# what each end is told before a line that is too long, and behind it, so that it answers alike; of the end of
+# what each end is told before a line that is too long, and after it, so that it answers alike; of the end of
 # several links a packet waits then to be acknowledged, but the line is of no link
 AROUND = {
     "serve": [b"ack"],
@@ -49,7 +49,7 @@ AROUND = {
     "links": [b"new 0202 0101", b"> 60020201010080010001020a00040703050600000000", b"resend 0202"],
 }
 # A talk of each end whose last line has packets in its answer. Nothing else comes of itself where none of them could be
-# written: the asking end was asked, and the packet to the serving end opened its window, and acknowledges all before.
+# written: the client was asked, and the packet to the server opened its window, and acknowledges all before.
 LAST = {
     "ask": [b"ask hello"],
     "serve": [
@@ -66,7 +66,7 @@ LAST = {
         b"> 04020201010c80",
     ],
 }
-# The asking end gets a record, and the last packet completes the report: a long one, so that its text needs a growth. Each
+# The client gets a record, and the last packet completes the report: a long one, so that its text needs a growth. Each
 # of the other lines is refused then, and leaves it waiting.
 RECORD = b"42" * 300
 REPORTED = [
@@ -87,7 +87,7 @@ REFUSED = {
     "a request that doesn't fit": b"ask hello",
 }
 LAST["links"] = LAST["serve"]
-# What is asked over a line that loses packets, while the serving end is refused a growth; the words of both ends, and
+# What is asked over a line that loses packets, while the server is refused a growth; the words of both ends, and
 # the loss in percent.
 ASKED = ["hello", "create 46 16 2 0 0 15", "connect", "put 4142", "put " + "43" * 150, "rewind", "fetch", "close"]
 SMALL, LOSS = ["--segment", "16", "--window", "2"], 40
@@ -110,18 +110,18 @@ SHORT = {
     "links": b"file 46 rel variable 0 3\nnew 0202 0101\n?\r\n#\n\n"
     b"> 60020201010080010001020a00040703050600000000\nresend 0303\nfiles\nresend 0202",
 }
-# An end may have so many bytes of memory, whatever line it is told: twice the longest line that is kept, and 8 MiB.
+# An end may have this many bytes of memory, whatever line it is told: twice the longest line that is kept, and 8 MiB.
 MAX_MEMORY = 2 * 16_777_216 + 8 * 1_048_576
 
 
 def too_long():
-    """A message of more than 65,535 bytes, in segments of 1,400, to the end that serves; and what comes behind it."""
+    """A message of more than 65,535 bytes, in segments of 1,400, to the server; and what comes after it."""
     packets = [b"> %02x020201010080%02x00" % (0x20 if number == 1 else 0, number) for number in range(1, 49)]
     return b"".join(packet + b"00" * 1400 + b"\n" for packet in packets) + b"resend\nack\nfiles\nnew\nack\n"
 
 
 def kinds(answer):
-    """The words, the reports and the packets of an answer, without its last line, the want of memory before it, and who
+    """The words, the reports and the packets of an answer, without its last line, the refused growth before it, and who
     locks a file."""
     lines = [line for line in answer[:-1] if line != NO_MEMORY and not line.startswith(b"locked ")]
     reports = [line for line in lines if line.startswith(b"report ")]
@@ -140,7 +140,7 @@ def is_part(some, of):
 
 
 def after(word):
-    """What a line is answered when it comes again."""
+    """What a line is answered when it is repeated."""
     return b"refused ask-busy" if word.startswith(b"asked ") else AFTER.get(word, word)
 
 
@@ -259,7 +259,7 @@ class Talk:
         self.is_whole = end.answers == end.lines and end.told == end.bad and self.status in (0, 1)
 
     def said_again(self, at):
-        """The talk with one growth refused; what is wrong stands in 'wrong'."""
+        """The talk with one growth refused; what is wrong is in 'wrong'."""
         end = End(self.made, self.program, *WORDS[self.role], REFUSE_GROWTH=at)
         end.wrong = None
         for line, plain, probes in zip(self.lines, self.answers, self.probes):
@@ -303,7 +303,7 @@ class Talk:
 
 
 def answers_of(text):
-    """The answers of a text, and what stands behind the last."""
+    """The answers of a text, and what is after the last."""
     answers, answer = [], []
     for line in text.split(b"\n"):
         answer.append(line)
@@ -348,7 +348,7 @@ class LiveEnds:
         self.suite.until_none(name, run, lambda end, _at: not end.wrong)
 
     def told_late(self, line):
-        """A talk whose last line is answered without its report, since one growth was refused, and behind which a line is
+        """A talk whose last line is answered without its report, since one growth was refused, and after which a line is
         refused: the report still comes, once, by 'resend', or with the packet where that wasn't taken."""
 
         def run(at):
@@ -371,8 +371,8 @@ class LiveEnds:
             self.suite.until_none(name, self.told_late(line), lambda end, _at: not end.wrong)
 
     def lossy(self):
-        """Both ends over a line that loses, while the serving end is refused a growth: the reports are the same.
-        The files are told in the last line, which may be the one that is refused."""
+        """Both ends over a line that loses, while the server is refused a growth: the reports are the same.
+        The files are listed in the last line, which may be the one that is refused."""
 
         def run(at):
             asking = End(self.suite.made, self.program, "ask", *SMALL)
@@ -426,7 +426,7 @@ class LiveEnds:
         self.suite.until_none("daplive serve, a long comment, one growth refused", run, is_right)
 
     def fail(self, role):
-        """An end whose standard input or output fails, gives little or takes little: a front of the text is written, of
+        """An end whose standard input or output fails, gives little or takes little: a prefix of the text is written, of
         whole answers, but of the last bytes that a failing device takes."""
         given, words = SHORT[role], [self.program, *WORDS[role]]
         plain = self.suite.ran(words, given)
@@ -435,7 +435,7 @@ class LiveEnds:
         fronts = [len(self.suite.ran(words, given[:count]).written) for count in lines_through(given)]
 
         def tells(ran, last):
-            """Whether it ends with that, behind what it told of bad lines."""
+            """Whether it ends with that, after what it reported of bad lines."""
             return ran.status == 3 and ran.told.endswith(last) and is_front(ran.told[: -len(last)], plain.told)
 
         def is_read(size):
@@ -453,7 +453,7 @@ class LiveEnds:
             self.suite.until_none(f"daplive {role}, a read of {size} fails", run, is_read(size))
 
         def is_written(size):
-            # where each write of so many bytes begins, and where its answer ends
+            # where each write of `size` bytes begins, and where its answer ends
             bounds, begin = [], 0
             for answer in answers_of(plain.written):
                 end = begin + sum(len(line) + 1 for line in answer)

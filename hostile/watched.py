@@ -1,7 +1,7 @@
 """Lists captures with `daplive watch` where growths are refused, where standard input and output fail, and where packets are
 lost, repeated and reordered: a part of hostile/check.
 
-- Of a whole capture it writes what `daplive follow` writes; a line that is none is told, and changes nothing else.
+- Of a whole capture it writes what `daplive follow` writes; a line that is none is reported, and changes nothing else.
 - Where memory is refused, or a read fails, what is written is the lines of the packets so far; where a write fails, a prefix of
   the whole text. The status is 3.
 """
@@ -35,7 +35,7 @@ def message(choose):
 
 
 def capture(choose):
-    """Segments of messages, both ways, some of them lost, repeated or moved behind others."""
+    """Segments of messages, both ways, some of them lost, repeated or moved after others."""
     lines = []
     for way in (b">", b"<"):
         number = choose.choice((1, 4090))
@@ -51,7 +51,7 @@ def capture(choose):
 
 
 def before(choose):
-    """Lines that say nothing, before a packet: some tell its frame, if no other line is behind them."""
+    """Lines that say nothing, before a packet: some name its frame, if no other line is after them."""
     for _ in range(choose.choice((0, 1, 1, 2))):
         number = choose.randint(1, 99_999)
         yield choose.choice((b"# frame %d 1.%06d 1.1 -> 1.2\n" % (number, number), b"# frame %d - 1.2 -> 1.1\n" % number, b"\n",
@@ -87,7 +87,7 @@ class Watched:
         self.tell(f"{self.name}, {len(captures)} captures as follow lists them", len(captures), wrong)
 
     def bad_lines(self):
-        """Lines that are none are told by their numbers, and the others are listed as if those were comments."""
+        """Lines that are none are reported by their numbers, and the others are listed as if those were comments."""
         lines = self.given.splitlines(keepends=True)
         wrong = []
         for at in range(len(lines) + 1):

@@ -144,7 +144,7 @@ def transfer(seed, program, records=12, segment_size=100, loss=15, repeat=10):
         for request in requests:
             both.ask(request)
         both.settle()
-        turned = {"<": ">", ">": "<"}  # what the client writes behind `<` it sends
+        turned = {"<": ">", ">": "<"}  # what the client writes after `<` it sends
         return [turned[line[0]] + line[1:] for line in both.ends["asking"].transcript if line[:2] in ("> ", "< ")]
     finally:
         both.close()
@@ -153,7 +153,7 @@ def transfer(seed, program, records=12, segment_size=100, loss=15, repeat=10):
 # ---- pcap files
 
 def routed(draw, direction, packet):
-    """A packet behind a routing header of either form, with padding or without."""
+    """A packet after a routing header of either form, with padding or without."""
     sender, receiver = NODES[direction]
     if draw.random() < 0.5:
         header = LONG_HEADER.pack(0x26, 0, 0, ethernet_address(receiver), 0, 0, ethernet_address(sender), 0, 0, 0, 0)

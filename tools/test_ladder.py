@@ -53,7 +53,7 @@ WRONG_BODIES = [
     ("texts that can't be seen", "picture/page.css", ".time, .small { font-size: 10.5px; fill: var(--dim) }",
      ".time, .small { font-size: 10.5px; fill: var(--paper) }"),
 ]
-OF_BROWSER = 3  # so many, the last ones, are caught only in a browser
+OF_BROWSER = 3  # this many, the last ones, are caught only in a browser
 TRIED = WRONG_BODIES[:-OF_BROWSER] if ALL else WRONG_BODIES[:5]
 
 SCRIPT = r"""

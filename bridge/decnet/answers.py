@@ -71,7 +71,7 @@ def not_asked(request, answer):
 
 
 def unexpected(came, request):
-    """Which messages came where an answer had no place, and which was due to the request, if any was."""
+    """Which messages came out of sequence, and which was due to the request, if any was."""
     due = DUE.get(request.split(" ")[0])
     return f"{came} came, and " + (f"{due} was due after '{shown(request)}'" if due else "nothing was due")
 

@@ -43,13 +43,13 @@ class Asker(Role):
     """Opens one link, and asks over it what the lines of standard input say."""
 
     def __init__(self, node, end, settings, requests, patience, goes_on=False, clock=time.monotonic):
-        """A request that is refused ends it, unless it `goes_on`; so does a report that doesn't come within so many
+        """A request that is refused ends it, unless it `goes_on`; so does a report that doesn't come within `patience`
         seconds in which the other end does nothing."""
         super().__init__(node, end, settings, clock)
         self.requests, self.patience, self.goes_on = requests, patience, goes_on
         self.number, self.request = 0, ""  # the line that was asked last
         self.is_due, self.due_from, self.is_finished = False, 0, False
-        self.is_refused = self.is_stopped = False  # whether something was refused; whether a transfer stands still
+        self.is_refused = self.is_stopped = False  # whether something was refused; whether a transfer has stopped
         self.status = FAILED
 
     def open(self, to, session):
@@ -77,7 +77,7 @@ class Asker(Role):
         return self.is_refused and not self.goes_on
 
     def ask(self, number, request):
-        """Asks a request; what isn't asked is told at once."""
+        """Asks a request; what isn't asked is reported at once."""
         self.number, self.request = number, request
         self.is_due, self.due_from = True, self.clock()
         self.link.ask_end(f"ask {request}", self.asked)
@@ -108,7 +108,7 @@ class Asker(Role):
             self.note_refusal(f"'{answers.shown(self.request)}': {refusal}")
 
     def explain(self, packet):
-        """What came in the packet that brought an answer without a place, and what was due."""
+        """What came in the packet that brought an answer out of sequence, and what was due."""
         came = dap.named(packet.body) if packet.kind is Kind.ONLY else "a part of a message"
         return answers.unexpected(came, self.request if self.is_due else "")
 

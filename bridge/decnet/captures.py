@@ -39,7 +39,7 @@ def timed_frames(file):
 
 
 def pcap_frames(file, order, head, unit):
-    """The frames behind the header of a pcap file, with their times."""
+    """The frames after the header of a pcap file, with their times."""
     if struct.unpack_from(order + "I", head, 16)[0] & LINK_TYPE != ETHERNET:
         raise BadFile("its frames are not those of Ethernet: capture with -i INTERFACE, and not with -i any")
     fields_of, read = struct.Struct(order + "III4x").unpack, file.read

@@ -1,4 +1,4 @@
-"""As much of DAP 5.6.0 as names messages, and tells which may change files, and which answer says that a file is closed."""
+"""As much of DAP 5.6.0 as names messages, and says which may change files, and which answer says that a file is closed."""
 
 ACCESS, CONTROL, COMPLETE = 3, 4, 7
 NAMES = {1: "Configuration", 2: "Attributes", 3: "Access", 4: "Control", 5: "Continue Transfer", 6: "Acknowledge",

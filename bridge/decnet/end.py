@@ -189,7 +189,7 @@ class End:
         return int(text)
 
     def read_errors(self):
-        """Tells what it writes on standard error."""
+        """Reports what it writes on standard error."""
         chunk = os.read(self.process.stderr.fileno(), CHUNK)
         if not chunk:
             self.process.stderr.close()

@@ -1,7 +1,7 @@
 """A folder of this host whose text files are served: each is a sequential file, a line a record, and is written back when
 it is closed.
 
-Files that links make and that are no text, or whose names no file here can have, stand in the folder's file `.daplive`, as
+Files that links make and that are no text, or whose names no file here can have, are in the folder's file `.daplive`, as
 `files` prints them, and stay there. A file that somebody else has edited meanwhile is never overwritten: it gets another
 name.
 """
@@ -20,9 +20,9 @@ OTHERS = ".daplive"
 TEXT = "seq variable 0 0"  # the attributes of a text
 HIDDEN = b"."
 DROP = "drop "  # how a line begins that removes a file
-EDITED = ".host"  # behind the name of a file that somebody edited meanwhile
+EDITED = ".host"  # after the name of a file that somebody edited meanwhile
 RANDOM_BYTES = 8
-MAX_NAME = 200  # bytes of a name here: there has to be room for what is put behind it
+MAX_NAME = 200  # bytes of a name here: there has to be room for what is put after it
 MAX_FILE = 1 << 30  # bytes of a text that is read
 
 
@@ -55,7 +55,7 @@ def digest_of(records):
 
 
 def state_of(path):
-    """What changes where somebody writes a file, or puts another in its place; None where there is none."""
+    """What changes where somebody writes a file, or replaces it; None where there is none."""
     try:
         found = os.lstat(path)
     except FileNotFoundError:

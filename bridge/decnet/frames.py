@@ -9,7 +9,7 @@ ETHERTYPE = 0x6003
 DECNET = ETHERTYPE.to_bytes(2, "big")
 TAGS = (b"\x81\x00", b"\x88\xa8", b"\x91\x00")  # 802.1Q, 802.1ad, and the tag that came before it
 TAG_SIZE = 4
-STATIONS = 12  # so many bytes of a frame are the addresses of its stations
+STATIONS = 12  # bytes of a frame that are the addresses of its stations
 ETHERNET_HEADER = struct.Struct("<6s6s2sH")  # receiver, sender, type, and DECnet's length
 LENGTH_SIZE = 2
 SHORTEST_FRAME = 60
@@ -89,7 +89,7 @@ def read_frame(frame):
 
 
 def read_routed(frame, at, end):
-    """The data packet behind a routing header, or why there is none."""
+    """The data packet after a routing header, or why there is none."""
     flags = frame[at]
     if flags & (PADDING | CONTROL) or flags & FORMAT not in (LONG_FORMAT, SHORT_FORMAT):
         return Passed.ROUTING
@@ -112,7 +112,7 @@ def frame_of(receiver, sender, message):
 
 
 def long_message(receiver, sender, packet, return_wanted=False):
-    """A packet between two nodes behind a long routing header, and one byte of padding."""
+    """A packet between two nodes after a long routing header, and one byte of padding."""
     flags = LONG_FORMAT | INTRA_ETHERNET | (RETURN_WANTED if return_wanted else 0)
     header = LONG_HEADER.pack(flags, 0, 0, ethernet_address(receiver), 0, 0, ethernet_address(sender), 0, 0, 0, 0)
     return ONE_OF_PADDING + header + packet

@@ -1,12 +1,12 @@
-"""A journal of a live end: a file of the lines that it was told, from which it stands again as it stood.
+"""A journal of a live end: a file of the lines that it was told, from which it is again as it was.
 
 The file is an input of `daplive serve`. Its first line is a comment that says which program was told, and with which words.
-Then come the files, as `files` prints them, and each line that the end was told since. Behind the files, and behind each
-line, stands a mark, a comment too: `#= S CRC`, where S is how many bytes of the file were on the disk when the mark was
-written, and CRC the CRC-32 of all that stands before CRC in the file. Other lines that begin with `#` are notes of the
+Then come the files, as `files` prints them, and each line that the end was told since. After the files, and after each
+line, is a mark, a comment too: `#= S CRC`, where S is how many bytes of the file were on the disk when the mark was
+written, and CRC the CRC-32 of all that is before CRC in the file. Other lines that begin with `#` are notes of the
 bridge.
 
-What stands behind the last good mark was never reported, and is cut. Damage before the S of a later mark is damage of
+What is after the last good mark was never reported, and is cut. Damage before the S of a later mark is damage of
 what was on the disk, and so perhaps of what was reported: nothing is read then.
 """
 import contextlib
@@ -34,7 +34,7 @@ def encoded(line):
 
 
 def mark_of(synced, crc):
-    """A mark behind what has this CRC."""
+    """A mark after what has this CRC."""
     text = MARK + b"%d " % synced
     return text + b"%08x\n" % zlib.crc32(text, crc)
 
@@ -55,9 +55,9 @@ class Parsed:
     """What a journal has up to its last good mark."""
 
     def __init__(self, path, data):
-        """A KeptFault where damage is told of what was on the disk."""
+        """A KeptFault where damage is reported of what was on the disk."""
         self.lines, self.size, self.crc = [], 0, 0  # without the marks; in bytes; of these
-        self.first = self.first_size = 0  # how many of the lines, and of the bytes, stand before the first mark ends
+        self.first = self.first_size = 0  # how many of the lines, and of the bytes, are before the first mark ends
         crc, at, waiting = 0, 0, []
         while (end := data.find(b"\n", at) + 1) > 0:
             line = data[at:end]
@@ -76,12 +76,12 @@ class Parsed:
 
     @property
     def told(self):
-        """The lines that a live end was told behind its files."""
+        """The lines that a live end was told after its files."""
         return [line for line in self.lines[self.first:] if not line.startswith(NOTE)]
 
 
 def later_marks(data, at):
-    """What the marks behind damage say that was on the disk: of those that follow from the mark before them."""
+    """What the marks after damage say that was on the disk: of those that follow from the mark before them."""
     before = data.find(b"\n" + MARK, at)
     while before >= 0:
         mark = data.find(b"\n" + MARK, before + 1)
@@ -99,7 +99,7 @@ def later_marks(data, at):
 
 
 class Journal(LockedFile):
-    """A journal that is open: lines are put behind it, and it is written anew with the files alone."""
+    """A journal that is open: lines are put after it, and it is written anew with the files alone."""
 
     def __init__(self, path, program, sync=SYNCS[0]):
         """`program` says which live end is told, and with which words; `sync` is one of SYNCS."""
@@ -147,7 +147,7 @@ class Journal(LockedFile):
         return f"#store {self.program}"
 
     def go_on(self):
-        """Goes on behind the last good mark; what stands behind that is cut."""
+        """Continues after the last good mark; what is after that is cut."""
         found, self.parsed = self.parsed, None
         self.size, self.crc, self.first_size = found.size, found.crc, found.first_size
         try:
@@ -159,7 +159,7 @@ class Journal(LockedFile):
     # ---- writing
 
     def append(self, line):
-        """Puts a line behind it. An OSError leaves it as it was, as far as the disk lets it."""
+        """Puts a line after it. An OSError leaves it as it was, as far as the disk lets it."""
         text = encoded(line)
         crc = zlib.crc32(text, self.crc)
         mark = mark_of(self.synced, crc)
@@ -193,7 +193,7 @@ class Journal(LockedFile):
         return self.grown > self.first_size + GROWTH
 
     def listing(self, then):
-        """What takes the answer to `files`, and puts it in the journal's place."""
+        """What takes the answer to `files`, and replaces the journal by it."""
         return Renewal(self, then)
 
 
@@ -238,7 +238,7 @@ class Renewal:
         self.then(self)
 
     def finish(self):
-        """Puts what was written in the journal's place, once the disk has it."""
+        """Replaces the journal by what was written, once the disk has it."""
         with self.keeping_fault():
             if not self.fault:
                 self.put(mark_of(0, self.crc))

@@ -90,7 +90,7 @@ class KeptFile(LockedFile):
             raise KeptFault(f"{self.path}: it isn't empty, and isn't the file of --files: it would be overwritten")
 
     def state(self):
-        """What changes where somebody else writes the file or puts another in its place."""
+        """What changes where somebody else writes the file or replaces it."""
         try:
             found = os.lstat(self.path)
         except FileNotFoundError:
@@ -109,7 +109,7 @@ class KeptFile(LockedFile):
         self.seen = self.state()
 
     def listing(self, then):
-        """What takes the answer to `files`, and puts it in the file's place."""
+        """What takes the answer to `files`, and replaces the file by it."""
         return Listing(self, then)
 
 
@@ -159,7 +159,7 @@ class Listing:
         self.then(self)
 
     def finish(self):
-        """Puts what was written in the place of the old file; or removes it, where it is as the old one."""
+        """Replaces the old file by what was written; or removes it, where it is as the old one."""
         with self.keeping_fault():
             if not self.fault and not self.kept.is_as(self.digest.digest()):
                 self.file.write(MARK.format(self.files, self.count) + "\n")

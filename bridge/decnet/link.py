@@ -15,7 +15,7 @@ CLOSING_TRIES = 5
 STALLED_TRIES = 5  # without an acknowledgement, before that is said
 MAX_PENDING = 64  # packets that a live end wasn't told yet, or hasn't answered; one more is as lost
 MAX_PACKET = nsp.SEGMENT_HEADER + nsp.MAX_SEGMENT
-# answers of a live end behind which its link is of no more use
+# answers of a live end after which its link is of no more use
 UNEXPECTED = "unexpected-answer"
 LINK_FAILED = ("bad-sequence", "message-too-long", "exhausted", UNEXPECTED, "failed")
 NO_MEMORY = "refused no-memory"
@@ -27,7 +27,7 @@ class Settings:
     """What the user chose for all links."""
 
     segment: int  # the most bytes of a segment that is taken
-    resend: float  # seconds without an answer before a packet is sent again
+    resend: float  # seconds without an answer before a packet is retransmitted
     tries: int  # how often that is done
     idle: float  # seconds in which nothing came before the other end is asked whether it is there
     unused: float = None  # seconds without a new data segment before the link is closed; None for never
@@ -87,7 +87,7 @@ class Flow:
 
     While it `is_shut` none may go. Without flow control all are wanted. With segment or message flow control each segment
     that goes for the first time needs a count above 0, and takes 1 from it: with segment flow control always, with message
-    flow control where it ends a message. A segment that is sent again takes nothing.
+    flow control where it ends a message. A segment that is retransmitted takes nothing.
     """
 
     def __init__(self, control):
@@ -164,7 +164,7 @@ class OtherData:
             self.countdown.stop()
 
     def resume(self, taken):
-        """Goes on behind the messages that a bridge before this one took; what that one sent isn't known."""
+        """Continues after the messages that a bridge before this one took; what that one sent isn't known."""
         self.taken, self.is_resumed = taken, True
 
 
@@ -172,14 +172,14 @@ class Link:
     """One link. It acts on nothing but its end node, its live end, and what keeps the files of that."""
 
     def __init__(self, node, end, settings, peer, local, told, keeper=None, space=None, clock=time.monotonic):
-        """`told` is called with each report of the live end, and with what it says of want of memory. An answer that
+        """`told` is called with each report of the live end, and with what it says of refused memory. An answer that
         says that a file is closed goes out when the `keeper` has saved what was changed. Where the `space` is full
         nothing is stored."""
         self.node, self.end, self.settings, self.told, self.clock = node, end, settings, told, clock
         self.keeper, self.space = keeper, space
         self.carried = lambda count: None  # told of the bytes of each new segment, either way
         self.noted = lambda text: None  # told of what is to be said of it while it is open
-        self.explain = lambda packet: ""  # what to say of a packet that brought an answer without a place
+        self.explain = lambda packet: ""  # what to say of a packet that brought an answer out of sequence
         self.locked_by = lambda local: None  # told of the link that has a file open which this one can't have
         self.peer, self.local, self.remote = peer, local, 0
         self.state, self.was_open = State.CLOSED, False
@@ -196,7 +196,7 @@ class Link:
         self.waits = 0  # how many of its packets wait to be acknowledged, as its last answer says
         self.has_changed = False  # whether anything came on it that may change files
         self.saves = 0  # saves that answers wait for
-        self.wanted_at = None  # when somebody wanted its place or its file, since it was heard
+        self.wanted_at = None  # when somebody wanted its slot or its file, since it was heard
         self.wanted_by = ""  # who, and what
         self.half_open_until = None
         # when anything came; when a new segment came; when that, or an acknowledgement of one more segment, came
@@ -211,8 +211,8 @@ class Link:
 
     def accept(self, connect, fac=None):
         """Takes the link that a connect initiate asks for, which may do no more than `fac` says; false where the end can't
-        have it. The connect confirm goes out when the live end has the link. Behind an acknowledgement the connect initiate
-        doesn't come again: where the link is kept, that waits too."""
+        have it. The connect confirm goes out when the live end has the link. After an acknowledgement the connect initiate
+        isn't retransmitted: where the link is kept, that waits too."""
         if not self.read_sizes(connect):
             return False
         self.fac = fac
@@ -254,7 +254,7 @@ class Link:
         self.other.resume(left.taken)
         self.flow.is_on = left.is_on
         self.confirm()
-        self.tell(self.named("ack"))  # of which nothing is sent yet: what waits is told behind it
+        self.tell(self.named("ack"))  # of which nothing is sent yet: what waits is told after it
 
     def connect_again(self):
         """The connect initiate came another time. Where the link is open the other end may have begun anew: it is
@@ -402,7 +402,7 @@ class Link:
             self.ask_end("> " + packet.whole.hex(), lambda answer: self.do(answer, packet))
 
     def note_change(self, size):
-        """A segment of so many bytes may change files."""
+        """A segment of this many bytes may change files."""
         if self.space:
             if self.space.is_full:
                 self.disconnect(Reason.NO_RESOURCES, "the files have as many bytes as --space allows")
@@ -588,7 +588,7 @@ class Link:
         self.send(nsp.link_service(self.remote, self.local, self.other.taken, self.other.sent))
 
     def want(self, who):
-        """Somebody wants its place or its file: it is closed where its other end is silent for too long."""
+        """Somebody wants its slot or its file: it is closed where its other end is silent for too long."""
         if self.wanted_at is None:
             self.wanted_at, self.wanted_by = self.clock(), who
         self.probe()

@@ -1,4 +1,4 @@
-"""The log: lines on standard error or in a file, so many a second at most, which nobody waits for."""
+"""The log: lines on standard error or in a file, a limited number a second, which nobody waits for."""
 import collections
 import contextlib
 import os
@@ -8,7 +8,7 @@ import time
 
 MAX_LINES = 20  # in a second; then they are counted
 MAX_WAITING = 1000  # lines that can't be written yet
-PIECE = 4096  # so many bytes a pipe that can be written takes at once
+PIECE = 4096  # bytes that a pipe that can be written takes at once
 
 
 class LogFault(Exception):
@@ -16,7 +16,7 @@ class LogFault(Exception):
 
 
 class Log:
-    """Lines behind a program's name. Where they can't be written at once they wait, and a line that finds too many
+    """Lines after a program's name. Where they can't be written at once they wait, and a line that finds too many
     waiting is counted in place of written."""
 
     def __init__(self, name, path=None, with_times=False, clock=time.monotonic):
@@ -76,7 +76,7 @@ class Log:
                 written = os.write(self.file, self.waiting[0])
             except BlockingIOError:
                 return
-            except OSError:  # a log that can't be written has nobody to be told to
+            except OSError:  # a log that can't be written has nobody to be reported to
                 self.waiting.clear()
                 return
             line = self.waiting.popleft()
@@ -84,7 +84,7 @@ class Log:
                 self.waiting.appendleft(line[written:])
 
     def tick(self):
-        """Tells how many lines were left out when their second is over, and writes what waits."""
+        """Reports how many lines were left out when their second is over, and writes what waits."""
         if self.left_out and int(self.clock()) != self.second:
             self.begin_second(int(self.clock()))
         self.write()

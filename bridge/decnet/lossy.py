@@ -1,11 +1,11 @@
-"""Live ends that ask, one that serves, and lines between them that lose, repeat and reorder packets by a seed."""
+"""Live clients, a live server, and lines between them that lose, repeat and reorder packets by a seed."""
 import random
 
 from decnet import program
 from decnet.end import DAPLIVE, End
 
 ASK_CHANCE = 0.5  # that the next is a request where one can be asked
-LOCAL, REMOTE = 0x0201, 0x0101  # of the first of several links, at the end that serves
+LOCAL, REMOTE = 0x0201, 0x0101  # of the first of several links, at the server
 
 
 class LinkFailed(program.Fault):
@@ -106,16 +106,16 @@ def reports_in(answer):
 
 
 class Several:
-    """Ends that ask, each over a link of its own, and one that serves them all; a line leads each way of each link.
+    """Clients, each over its own link, and one server for all of them; a line leads each way of each link.
 
-    The ends that ask are numbered from 0. What is on its way to one of them, and over its link to the end that serves,
+    The clients are numbered from 0. What is on its way to one of them, and over its link to the server,
     has a way of its own.
     """
 
     def __init__(self, line, count, asking=(), serving=(), program=DAPLIVE):
         self.line, self.program = line, program
         self.node = End(program, ["serve", "--links", str(max(2, count)), *serving], keep=True)
-        self.ends, self.waits = [], [0] * count  # what waits at the end that serves, on each link
+        self.ends, self.waits = [], [0] * count  # what waits at the server, on each link
         line.lead_to([(way, number) for number in range(count) for way in ("asking", "serving")])
         for number in range(count):
             near, far = f"{REMOTE + number:04x}", f"{LOCAL + number:04x}"
@@ -125,7 +125,7 @@ class Several:
                 raise LinkFailed(f"the end that serves can't have link {number + 1}: {answer[0]}")
 
     def name(self, number):
-        """The word behind lines of the end that serves that concern a link."""
+        """The word after lines of the server that concern a link."""
         return f"{LOCAL + number:04x}"
 
     def tell(self, way, number, line):

@@ -159,7 +159,7 @@ class Packet:
 
 
 class Reader:
-    """The fields of a packet, from the front."""
+    """The fields of a packet, from its first byte."""
 
     def __init__(self, data):
         self.data, self.at = data, 0
@@ -256,7 +256,7 @@ def read_name(reader):
 
 
 def read_session(body):
-    """What stands behind the sizes of a connect initiate; None where it is cut short, or a field is too long."""
+    """What is after the sizes of a connect initiate; None where it is cut short, or a field is too long."""
     reader = Reader(body)
     try:
         number = read_name(reader)
@@ -295,12 +295,12 @@ def words(kind, *numbers):
 
 
 def image(data):
-    """Bytes behind their count."""
+    """Bytes after their count."""
     return bytes([len(data)]) + data
 
 
 def session(user=b"", password=b"", account=b"", name=b"DAPLIVE"):
-    """What a connect initiate for FAL says behind the sizes: both names, and the access control where there is any."""
+    """What a connect initiate for FAL says after the sizes: both names, and the access control where there is any."""
     names = bytes([BY_NUMBER, FAL, BY_NAME, NO_OBJECT]) + image(name)
     if not (user or password or account):
         return names + b"\0"

@@ -1,4 +1,4 @@
-"""A file of options: a line is one of them with its value, as it stands on the command line."""
+"""A file of options: a line is one of them with its value, as it is on the command line."""
 import shlex
 
 MAX_BYTES = 1 << 20

@@ -74,7 +74,7 @@ def start_end(words, signals):
 
 
 def tell_of_end(text):
-    """What the live end says on standard error; what it says of lines is told where its answer is read."""
+    """What the live end says on standard error; what it says of lines is reported where its answer is read."""
     if not OF_LINES.match(text):
         log.say(text)
 
@@ -105,7 +105,7 @@ def load_files(words, kept, end, space, signals):
 
 
 def open_store(words, opened, end, space, signals):
-    """The store, from which the live end stands again as it stood; and the links to go on with."""
+    """The store, from which the live end is again as it was; and the links to continue."""
     journal = opened(Journal(words.store, f"{program_of(end)} {' '.join(end.words)}", words.sync))
     is_new, is_good = journal.is_empty, not journal.is_empty and journal.parsed.lines[0] == journal.head()
     if is_new:

@@ -21,7 +21,7 @@ class PcapFault(Exception):
 
 
 class Pcap:
-    """A pcap file that frames are put behind; a missing or empty one is begun. A pipe has to have its reader first."""
+    """A pcap file to which frames are appended; a missing or empty one is begun. A pipe has to have its reader first."""
 
     def __init__(self, path):
         self.path, self.file = path, None
@@ -49,7 +49,7 @@ class Pcap:
         self.cut_short()
 
     def note(self, frame):
-        """Writes a frame. Where that can't be it is told once, and no more are written; what a slow reader of a pipe
+        """Writes a frame. Where that can't be it is reported once, and no more are written; what a slow reader of a pipe
         doesn't take is left out."""
         if self.file is None:
             return

@@ -15,10 +15,10 @@ from decnet.role import FAILED, Addresses, Stopped, turn
 from decnet.talks import Names, erasing, talks
 
 LOCAL, REMOTE, SEGMENT = 0x0A01, 0x0A02, 512  # of the links to the proved end
-SOON = 0.05  # seconds for what nobody expects behind an answer that is over
+SOON = 0.05  # seconds for what nobody expects after an answer that is over
 POLL = 0.01
 STAMP_LETTERS = 4
-# the last message of an answer behind which none comes unless there is a fault
+# the last message of an answer after which none comes unless there is a fault
 ENDING = (messages.CONFIG, messages.ACK, messages.COMPLETE, messages.STATUS)
 
 
@@ -41,7 +41,7 @@ def kinds_in(body):
 
 
 def is_over(inbox):
-    """Whether an answer ends with a message behind which none comes: then little more is waited."""
+    """Whether an answer ends with a message after which none comes: then little more is waited."""
     kinds = [kind for body in inbox for kind in kinds_in(body)]
     return bool(kinds) and kinds[-1] in ENDING
 

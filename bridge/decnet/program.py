@@ -17,7 +17,7 @@ class Fault(Exception):
 
 
 def hold_standard_files():
-    """Puts the null device in the place of a standard file that is closed, so that no other file gets its number. The
+    """Puts the null device in place of a standard file that is closed, so that no other file gets its number. The
     numbers of those that were closed."""
     closed = []
     for number in range(STANDARD):
@@ -55,7 +55,7 @@ def standard_input():
 
 def run(name, main):
     """Calls `main`, and ends the program with the status that it gives. Ctrl-C and a closed pipe end it silently, as
-    they end a program that doesn't look at signals; a fault is a line behind the program's name."""
+    they end a program that doesn't look at signals; a fault is a line after the program's name."""
     closed = hold_standard_files()
     try:
         if 1 in closed:

@@ -7,7 +7,7 @@ WIDTH = 60
 
 
 class Progress:
-    """Counts bytes of data that a link carries, and tells them where standard error is a terminal."""
+    """Counts bytes of data that a link carries, and reports them where standard error is a terminal."""
 
     def __init__(self, total=None, is_told=None, clock=time.monotonic):
         """`total` is how many bytes there are in all, where that is known."""

@@ -10,7 +10,7 @@ FIRST, LAST = 0x20, 0x40  # in MSGFLG of a segment: it begins a message, and end
 
 
 def ahead(number, of):
-    """How far a number is ahead of another one; those behind it are far ahead."""
+    """How far a number is ahead of another one; those before it are far ahead."""
     return (number - of) % nsp.NUMBERS
 
 
@@ -75,7 +75,7 @@ class RawEnd:
         return ["accepted" if distance == 1 else "repeat", self.acknowledgement()]
 
     def join(self, packet):
-        """Puts a segment behind those of its message."""
+        """Puts a segment after those of its message."""
         self.begun = (b"" if packet.kind & FIRST else self.begun) + packet.body
         self.begun = self.begun[:MAX_MESSAGE]
         if packet.kind & LAST:
@@ -88,7 +88,7 @@ class RawEnd:
     # ---- what is said
 
     def say(self, body, cut=None):
-        """The lines of an NSP message's packets; with `cut` segments have so many bytes."""
+        """The lines of an NSP message's packets; with `cut` segments have that many bytes."""
         size = cut or self.segment
         pieces = [body[at:at + size] for at in range(0, len(body), size)] or [b""]
         first = self.sent + 1

@@ -68,7 +68,7 @@ class Stopped(Exception):
 
 
 class Addresses:
-    """Link addresses, none of which anybody can guess; none comes again soon."""
+    """Link addresses, none of which anybody can guess; none is used again soon."""
 
     def __init__(self):
         self.random, self.recent = random.SystemRandom(), collections.deque(maxlen=4096)
@@ -144,12 +144,12 @@ class Role:
             self.node.send(peer, nsp.disconnect_confirm(packet.source, packet.destination, Reason.NO_LINK))
 
     def refuse(self, peer, packet, reason):
-        """Refuses a connect initiate. Nothing is kept: where the refusal is lost, the connect initiate comes again."""
+        """Refuses a connect initiate. Nothing is kept: where the refusal is lost, the connect initiate is retransmitted."""
         self.node.send(peer, nsp.disconnect(packet.source, self.refusing, reason))
         self.log_refused(peer, packet, reason)
 
     def log_refused(self, peer, packet, reason):
-        """Tells of a refused link once."""
+        """Reports a refused link once."""
         what = (peer.node, packet.source, reason)
         if what != self.refused:
             self.refused = what
@@ -211,7 +211,7 @@ class Role:
 
 
 def turn(readers, writers, seconds):
-    """Waits until a file can be read or written, so many seconds at most, and does what is done then."""
+    """Waits until a file can be read or written, at most this many seconds, and does what is done then."""
     ready, writable, _ = select.select(list(readers), list(writers), [], max(0, seconds))
     for file in ready:
         readers[file]()

@@ -41,7 +41,7 @@ def read_frame(frame, node):
 
 
 class Harm:
-    """A bad network for tests: of what is sent so many in a hundred are lost, repeated, or sent behind the next."""
+    """A bad network for tests: of what is sent `percent` in a hundred are lost, repeated, or sent after the next."""
 
     def __init__(self, percent, seed):
         self.share, self.random, self.late = percent / 100, random.Random(seed), None

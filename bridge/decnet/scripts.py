@@ -76,7 +76,7 @@ def store_numbered(name, numbered, is_appended=False):
 
 
 def put(name, record, number=None):
-    """Puts a record into a file, under a number or behind all others."""
+    """Puts a record into a file, under a number or after all others."""
     yield from begin(name, "", is_appended=True)
     yield from asked(f"put {digits(record)}" if number is None else f"put key {number} {digits(record)}", "done")
     yield from asked("close", "closed")

@@ -1,4 +1,4 @@
-"""The serving bridge: links to object 17, so many at once as are allowed, before a live end that holds the files."""
+"""The serving bridge: links to object 17, as many at once as are allowed, before a live end that holds the files."""
 import collections
 import itertools
 import time
@@ -213,7 +213,7 @@ class Server(Role):
             self.keeper.save()
 
     def save_failed(self, fault):
-        """A save has failed. That doesn't end the bridge, which holds the files; but its exit status tells it."""
+        """A save has failed. That doesn't end the bridge, which holds the files; but its exit status reports it."""
         log.say(f"{fault}: the files aren't saved")
         self.status = FAULT
 

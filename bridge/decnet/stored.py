@@ -67,7 +67,7 @@ def left_links(lines):
 
 
 def receiver_of(packet):
-    """The address that a packet is sent to: two bytes behind the first, the least one first."""
+    """The address that a packet is sent to: two bytes after the first, the least one first."""
     return packet[4:6] + packet[2:4]
 
 
@@ -101,7 +101,7 @@ class StoredEnd(End):
     journal = None
     fault = None  # why the journal can't be written
     is_due = False  # whether a line was told that the disk hasn't, besides acknowledgements
-    has_wanted_memory = False  # whether a line was answered by want of memory: a replay may do more than was done
+    has_wanted_memory = False  # whether a line was refused memory: a replay may do more than was done
 
     @property
     def is_kept(self):
@@ -146,7 +146,7 @@ class Store:
     """The journal of a serving bridge: when it is written anew, and whether a link may be taken."""
 
     def __init__(self, end, journal, growth, clock=time.monotonic):
-        """A link may let the journal grow by so many bytes."""
+        """A link may let the journal grow by `growth` bytes."""
         self.end, self.growth, self.clock = end, growth, clock
         self.keeper = Keeper(journal, end)
         self.tried_at = clock()
@@ -176,7 +176,7 @@ class Store:
             self.keeper.save(lambda fault: (self.renewed(fault), then(fault)))
 
     def renewed(self, fault):
-        """It is written anew; or it stays as it was, which is enough where lines can still be put behind it."""
+        """It is written anew; or it stays as it was, which is enough where lines can still be put after it."""
         if fault:
             log.say(f"{fault}: the store isn't written anew")
         else:
@@ -188,7 +188,7 @@ class Store:
             self.renew()
 
     def links_closed(self, is_last):
-        """The last link that was open is closed; the bridge ends behind it if it `is_last`."""
+        """The last link that was open is closed; the bridge ends after it if it `is_last`."""
         if is_last:
             self.stop()
         elif self.fault or self.end.has_wanted_memory or self.end.journal.is_long() or self.has_grown_too_much:

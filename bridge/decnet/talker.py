@@ -10,7 +10,7 @@ DONE = "done"
 
 
 class Script:
-    """The requests of a script, as an asker takes them."""
+    """The requests of a script, as a client takes them."""
 
     def __init__(self, script):
         self.script, self.whole, self.is_open, self.refusal, self.count = script, [], True, None, 0
@@ -33,7 +33,7 @@ class Script:
 
 
 class Talker(Asker):
-    """Opens one link, and asks over it what a script says. A refusal ends it, and is told behind the file's name."""
+    """Opens one link, and asks over it what a script says. A refusal ends it, and is reported after the file's name."""
 
     def __init__(self, node, end, settings, script, patience, name, progress, clock=time.monotonic):
         super().__init__(node, end, settings, Script(script), patience, clock=clock)

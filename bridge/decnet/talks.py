@@ -6,7 +6,7 @@ from decnet.messages import Access, Complete, Control, Fac, Rac
 
 PIECES, SINGLE = 5, 1  # bytes of a segment where messages are cut into many
 SMALL_BUFFER = 64
-END_OF_FILE = 1  # ROP: records are put behind the last one
+END_OF_FILE = 1  # ROP: records are put after the last one
 
 
 @dataclass(frozen=True)
@@ -27,7 +27,7 @@ class Talk:
 
 
 def step(label, *parts, cut=None):
-    """A step of one NSP message, of DAP messages behind each other."""
+    """A step of one NSP message, of DAP messages one after the other."""
     return Step(label, (b"".join(parts),), cut)
 
 
@@ -128,7 +128,7 @@ def others(names):
 
 
 def odd(names):
-    """Conversations that are cut, out of place or malformed."""
+    """Conversations that are cut, out of sequence or malformed."""
     name = names.sequential
     yield Talk("in pieces", (HELLO, opened(name, cut=PIECES), CONNECT, Step("fetch", FETCH.bodies, SINGLE), CLOSE))
     every = (1 << 43) - 1  # all bits of SYSCAP

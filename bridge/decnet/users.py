@@ -1,7 +1,7 @@
 """Who may open a link: the users of a file, with their passwords as salted hashes, and nodes.
 
-A line of the file is `NAME HASH`, as `bridge.py password` prints it, or `- -` where a link without a user is taken too; behind
-it may stand the most that the link may do with files, as `get` or `get,put`. Empty lines, and those that begin with `#`, say nothing. Small letters and capitals are the same, in names and in passwords.
+A line of the file is `NAME HASH`, as `bridge.py password` prints it, or `- -` where a link without a user is taken too; after
+it may come the most that the link may do with files, as `get` or `get,put`. Empty lines, and those that begin with `#`, say nothing. Small letters and capitals are the same, in names and in passwords.
 """
 import collections
 import hashlib
@@ -22,7 +22,7 @@ SALT_BYTES, HASH_BYTES = 16, 32
 HASH = re.compile(rf"scrypt:[0-9a-f]{{{2 * SALT_BYTES}}}:[0-9a-f]{{{2 * HASH_BYTES}}}")
 NOBODY = "-"  # the user of a link without one, and its hash
 MAX_BYTES = 1 << 20  # of a file of users
-MAX_WAITING = 16  # connect initiates that wait for their check; one more comes again
+MAX_WAITING = 16  # connect initiates that wait for their check; one more is retransmitted
 DUMMY = bytes(SALT_BYTES)
 RIGHTS = {"get": Fac.GET, "put": Fac.PUT, "upd": Fac.UPDATE, "del": Fac.DELETE}
 
@@ -32,7 +32,7 @@ def folded(data):
 
 
 def make_hash(password, salt=None):
-    """What stands in the file for a password."""
+    """What is in the file for a password."""
     salt = salt or os.urandom(SALT_BYTES)
     return f"scrypt:{salt.hex()}:{hashlib.scrypt(folded(password), salt=salt, dklen=HASH_BYTES, **COST).hex()}"
 

@@ -82,7 +82,7 @@ NUMBERS = ("mrn", "recnum", "rfa")
 
 
 def number_in(text):
-    """Images that stand for a number are the same with zeros behind them."""
+    """Images that stand for a number are the same with zeros after them."""
     digits = text.replace("-", "")
     while digits.endswith("00"):
         digits = digits[:-2]

@@ -1,9 +1,9 @@
 """How many bytes of answers wait for the other end of a link, by the segments that its live end writes.
 
-A live end serves nothing more while so many bytes of answers wait as `--waiting` says. Of those the bridge sees what the
+A live end serves nothing more while as many bytes of answers wait as `--waiting` says. Of those the bridge sees what the
 window allows: the others are written as acknowledgements come. But what is written while no new segment is taken answers
 what had been taken before. So it waited already when the last segment was taken, or what it answers wasn't served
-then, for which so many others waited.
+then, for which that many others waited.
 """
 import collections
 

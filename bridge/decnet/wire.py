@@ -1,4 +1,4 @@
-"""What carries Ethernet frames: a raw socket on an interface, or, for tests, a socket that somebody hands over. Frames over
+"""What carries Ethernet frames: a raw socket on an interface, or, for tests, a socket that somebody passes on. Frames over
 UDP are in `udp`."""
 import errno
 import fcntl
@@ -12,7 +12,7 @@ from decnet.address import ethernet_address, ethernet_text, node_text
 ARPHRD_ETHER = 1
 SIOCGIFMTU = 0x8921
 INTERFACE_REQUEST = struct.Struct("16si12x")
-# a frame that meets one of these is as lost; of those that are told, once until a frame goes again
+# a frame that meets one of these is as lost; of those that are reported, once until a frame goes again
 SILENT = {errno.EAGAIN, errno.EINTR}
 TOLD = {errno.ENOBUFS, errno.ENETDOWN, errno.EMSGSIZE, errno.ECONNREFUSED}
 
@@ -74,7 +74,7 @@ class Wire:
 
 
 def given(number):
-    """A socket that was handed over, by the number of its file: a message is a frame."""
+    """A socket that was passed on, by the number of its file: a message is a frame."""
     try:
         return Wire(f"file {number}", socket.socket(fileno=os.dup(number)))
     except OSError as fault:
@@ -82,7 +82,7 @@ def given(number):
 
 
 def interface(name, node, longest):
-    """A raw socket on an interface, which has the node's Ethernet address, and takes frames with so many bytes of data."""
+    """A raw socket on an interface, with the node's Ethernet address, which takes frames with `longest` bytes of data."""
     try:
         raw = socket.socket(socket.AF_PACKET, socket.SOCK_RAW, 0)
     except PermissionError as fault:

@@ -104,7 +104,7 @@ def add_network(parser):
     parser.add_argument("--nodes", metavar="FILE", help="names of nodes, in lines `1.10 VAX` (default ~/.config/daplive/nodes)")
     parser.add_argument("--options", metavar="FILE",
                         help="options, a line each; those of the command line come first (default ~/.config/daplive/options)")
-    parser.add_argument("--pcap", metavar="FILE", help="write all frames, both ways, behind those of this pcap file")
+    parser.add_argument("--pcap", metavar="FILE", help="write all frames, both ways, after those of this pcap file")
     parser.add_argument("--harm", type=number(0, 90, float), metavar="PERCENT",
                         help="for tests: lose, repeat and swap this share of the frames that are sent")
     parser.add_argument("--seed", type=int, metavar="N", help="for tests: which frames those are")
@@ -164,7 +164,7 @@ def add_limits(parser):
     parser.add_argument("--space", type=number(1 << 10, 1 << 40), metavar="BYTES",
                         help="close a link that stores more than this, as FILE has it (default 268435456)")
     parser.add_argument("--links", type=number(1, 1023), metavar="N",
-                        help="take so many links at once, 1 to 1023 (default 1)")
+                        help="take this many links at once, 1 to 1023 (default 1)")
     parser.add_argument("--stop-after", type=number(1, 1_000_000_000), metavar="N", help="stop after this many links")
 
 
@@ -187,10 +187,10 @@ def add_asking(parser):
 
 
 def add_copying(parser):
-    parser.add_argument("--append", action="store_true", help="put the records behind those of the other node's file")
+    parser.add_argument("--append", action="store_true", help="put the records after those of the other node's file")
     parser.add_argument("--relative", action="store_true", help="a relative file: lines are N<TAB>TEXT")
     parser.add_argument("--fixed", type=number(1, RECORD_LIMIT), metavar="BYTES",
-                        help="store records of so many bytes, and no lines")
+                        help="store records of this many bytes, and no lines")
     parser.add_argument("--lines", action="store_true", help="write a line for each record, also of one length")
     parser.add_argument("--replace", action="store_true", help="write a file of this host anew")
 
@@ -226,7 +226,7 @@ def add_put(parser):
     parser.add_argument("target", metavar="NODE::NAME")
     parser.add_argument("record", metavar="TEXT", type=os.fsencode)
     parser.add_argument("--number", type=number(1, MAX_NUMBER), metavar="N",
-                        help="the record's number (default behind all others)")
+                        help="the record's number (default after all others)")
 
 
 def add_password(parser):
@@ -322,7 +322,7 @@ def from_file(role, given):
 
 
 def find_nodes(parser, words):
-    """Puts nodes in the places of their names and addresses."""
+    """Replaces names and addresses by nodes."""
     path = words.nodes or config_file("nodes")
     try:
         names = read_names(path) if path else {}

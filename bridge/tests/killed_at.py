@@ -1,8 +1,8 @@
-"""A bridge that is killed at a place of its work, for tests.
+"""A bridge that is killed at a step of its work, for tests.
 
-usage: killed_at.py PLACE bridge.py WORDS
+usage: killed_at.py STEP bridge.py WORDS
 
-Places are before and after each write of a journal, each wait for the disk, each rename, and each frame that is sent; they
+Steps are before and after each write of a journal, each wait for the disk, each rename, and each frame that is sent; they
 are counted from 1. The folder of the package `decnet` is in PYTHONPATH.
 """
 import os
@@ -16,7 +16,7 @@ CALLS = ("pwrite", "fdatasync", "fsync", "replace")
 
 
 class Places:
-    """Counts the places, and kills at one of them."""
+    """Counts the steps, and kills at one of them."""
 
     def __init__(self, at):
         self.at, self.count = at, 0

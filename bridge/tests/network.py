@@ -1,4 +1,4 @@
-"""Two network namespaces that a pair of Ethernet interfaces joins, and captures of what goes between them."""
+"""Two network namespaces that a pair of Ethernet interfaces connects, and captures of what goes between them."""
 import ctypes
 import os
 import signal
@@ -24,14 +24,14 @@ def ip(*words):
 
 
 class Network:
-    """Two namespaces that a pair of Ethernet interfaces joins, each with the DECnet address of its node."""
+    """Two namespaces that a pair of Ethernet interfaces connects, each with the DECnet address of its node."""
 
     def __init__(self):
         self.names = {SERVING: f"daplive{os.getpid()}s", ASKING: f"daplive{os.getpid()}a"}
         self.interfaces = {SERVING: "serving", ASKING: "asking"}
 
     def make(self):
-        """Makes them; an AssertionError tells why, where they can't be."""
+        """Makes them; an AssertionError says why, where they can't be."""
         for name in self.names.values():
             ip("netns", "add", name)
         ip("link", "add", "serving", "netns", self.names[SERVING], "type", "veth",

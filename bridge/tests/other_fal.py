@@ -25,7 +25,7 @@ MORE = bytes.fromhex("0200020103")
 
 
 def take_number(body, at):
-    """An extensible field, and the place behind it."""
+    """An extensible field, and the offset after it."""
     value = shift = 0
     while True:
         byte, at = body[at], at + 1

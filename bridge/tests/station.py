@@ -103,7 +103,7 @@ class Station:
         expect_equal(packet.acks, ((Qualifier.ACK, number),), "the acknowledgement of a link service message")
 
     def hear_segments(self, count, first=1):
-        """So many segments; each is acknowledged."""
+        """This many segments; each is acknowledged."""
         found = b""
         for number in range(first, first + count):
             packet = self.hear_kind_of(nsp.SEGMENTS, number)

@@ -107,7 +107,7 @@ class PatienceTest(PairCase):
 
 class StandardFilesTest(AskCase):
     def redirected(self, how, requests=b"hello\n"):
-        """An asking bridge behind a shell that redirects its standard files."""
+        """An asking bridge started by a shell that redirects its standard files."""
         command = ["sh", "-c", f'exec "$@" {how}', "sh"]
         near = self.raw
         words = ["--frames", near.fileno(), "--node", ASKING, "--daplive", PROGRAM, "--to", SERVING, *HASTE]

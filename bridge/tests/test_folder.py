@@ -174,7 +174,7 @@ class WriteTest(FolderCase):
         self.assertEqual(self.lines(self.open()), [*others, *file_of("a", b"one")])
 
     def test_a_text_that_is_none_any_more(self):
-        """It stands among the others, and stays there; a kill between the two writes leaves both, and nothing is lost."""
+        """It is among the others, and stays there; a kill between the two writes leaves both, and nothing is lost."""
         self.put(a=b"one\n")
         folder = self.open()
         self.lines(folder)

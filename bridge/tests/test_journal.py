@@ -1,4 +1,4 @@
-"""The journal: each front of it and each altered byte of it is read as what was kept, or told as damage."""
+"""The journal: each prefix of it and each altered byte of it is read as what was kept, or reported as damage."""
 import os
 import random
 import re
@@ -34,7 +34,7 @@ class JournalCase(Case):
         return listing.fault
 
     def begun(self, count=LINES):
-        """A journal of so many lines; the lines, and where the mark of each ends."""
+        """A journal of this many lines; the lines, and where the mark of each ends."""
         chance, kept = random.Random(SEED), self.open()
         kept.go_on()
         self.assertIsNone(self.renew(kept))
@@ -220,7 +220,7 @@ class NotesTest(Case):
         self.assertEqual((left.taken, left.is_on, left.acknowledged, left.can_go_on), (2, False, 7, True))
 
     def test_several_links_that_were_left(self):
-        """One that was closed isn't; what is told of one is told of that one alone."""
+        """One that was closed isn't; what is reported of one is reported of that one alone."""
         others = ["#link 1.9 000000000000 0a02 0b02 64 segments", "#link 1.8 000000000000 0a03 0b03 64 none"]
         lines = [self.NOTE, *others, "> 04020a020b0780", "> 04010a020b0580", "#other 0a02 9 off", "close 0a03", "ack 0a01"]
         first, second = left_links(lines)

@@ -224,7 +224,7 @@ class SaveTest(KeptCase):
 
 class LoadTest(KeptCase):
     def test_a_file_that_was_cut_short_is_known(self):
-        """Of all fronts of a kept file only the empty one, and all but its last LF, are taken."""
+        """Of all prefixes of a kept file only the empty one, and all but its last LF, are taken."""
         taken = []
         for length in range(len(WHOLE) + 1):
             self.path.write_text(WHOLE[:length])

@@ -22,7 +22,7 @@ ACCESS = bytes.fromhex("03000100014603")
 
 
 class Hub:
-    """Joins sockets: each frame that comes from one goes to all others."""
+    """Connects sockets: each frame that comes from one goes to all others."""
 
     def __init__(self):
         self.sockets, self.lock = [], threading.Lock()

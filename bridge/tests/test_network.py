@@ -31,7 +31,7 @@ SETTINGS = ["--resend", "0.2", "--tries", "10"]
 HASTE = ["--resend", "0.05", "--tries", "100"]
 STATION = "1.3"
 PR_CAPBSET_DROP, CAP_NET_RAW = 24, 13
-# so many of 100 frames are lost, repeated and swapped, with the segment sizes of the serving and the asking side
+# how many of 100 frames are lost, repeated and swapped, with the segment sizes of the serving and the asking side
 TRANSFERS = ((0, 512, 512), (5, 230, 1400), (15, 1400, 100))
 FOLLOW = shlex.split(os.environ.get("BRIDGE_FOLLOW") or "") or [PROGRAM, "follow"]
 NETWORK = Network()
@@ -248,7 +248,7 @@ class LinkTest(CapturedCase):
         self.stop(server)
 
     def test_opening(self):
-        """Connect initiates and confirms that come again, and one that is never acknowledged."""
+        """Connect initiates and confirms that are retransmitted, and one that is never acknowledged."""
         server, station = self.serve("--resend", "0.1", "--tries", "6"), self.station()
         connect = nsp.connect(0x0222, 512, nsp.session())
         station.say(connect)

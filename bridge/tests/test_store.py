@@ -40,7 +40,7 @@ class StoreCase(UdpCase):
         return Parsed(self.path, self.path.read_bytes())
 
     def kept(self):
-        """The files as a live end stands that is told the store."""
+        """The files of a live end that is told the store."""
         return listed(PROGRAM, self.parsed().lines)
 
     def store(self, *words, **more):
@@ -106,7 +106,7 @@ class StartTest(StoreCase):
         asking.end()
 
     def test_odd_stores_stop_the_start_without_a_traceback(self):
-        """Altered ones, fronts, other files and any bytes; what is taken is a front of what was there."""
+        """Altered ones, prefixes, other files and any bytes; what is taken is a prefix of what was there."""
         child = self.store("--files", self.file("files", STORED))
         self.assertEqual(self.ask(b"hello\nopen 46 3\nconnect\nput 42\nclose\n").finish(), 0)
         child.finish(signal.SIGKILL)

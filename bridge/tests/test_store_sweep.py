@@ -1,4 +1,4 @@
-"""Sweeps over a store: it is cut at every length, and bridges are killed at every place of their work, or at any time."""
+"""Sweeps over a store: it is cut at every length, and bridges are killed at every step of their work, or at any time."""
 import concurrent.futures
 import os
 import random
@@ -45,11 +45,11 @@ class CutTest(UdpCase):
         while store.is_busy:
             (self.server.turn if self.server.is_busy else store.keeper.look)()
         self.asker = self.end("ask")
-        self.states = []  # behind each line: the size of the store, and the files
+        self.states = []  # after each line: the size of the store, and the files
         self.answered = []  # of each answer what was on the disk when it went out, and which state it was given in
 
     def tell(self, line):
-        """Tells the serving end a line; its answer."""
+        """Tells the server a line; its answer."""
         answer = self.server.say(line)
         self.states.append((self.journal.size, End.say(self.server, "files")))
         if any(text.startswith(("< 00", "< 20", "< 40", "< 60")) for text in answer):
@@ -119,7 +119,7 @@ class Bridges:
         return [BRIDGE, role, "--udp", f"{local}:{LOOPBACK}:{remote}", "--node", node, "--daplive", self.program]
 
     def serve(self, place=0, *words):
-        """A serving bridge that is killed at a place."""
+        """A serving bridge that is killed at a step."""
         command = self.words("serve", self.near, self.far, SERVING)
         more = ["--store", self.path, "--sync", self.sync, "--resend", "0.2", *words]
         env = {**os.environ, "PYTHONPATH": str(BRIDGE.parent)}
@@ -153,7 +153,7 @@ def files_in(lines):
 
 
 def effects(count):
-    """The files behind so many of the requests."""
+    """The files after this many of the requests."""
     files, name, last = {}, None, 0
     for request in REQUESTS[:count]:
         word, *rest = request.split()
@@ -174,7 +174,7 @@ def effects(count):
 
 
 def is_front(found, count):
-    """Whether the files are those of so many requests, with a front of the next one if that stores many records."""
+    """Whether the files are those of this many requests, with a prefix of the next one if that stores many records."""
     request = REQUESTS[count].split() if count < len(REQUESTS) else [""]
     if request[0] != "store":
         return False
@@ -191,12 +191,12 @@ class KillTest(UdpCase):
         self.addCleanup(Child.end_all)
 
     def places(self, last):
-        """All places up to the last one; or those around the opening of the link, and some others."""
+        """All steps up to the last one; or those around the opening of the link, and some others."""
         opening = range(7, 15)
         return range(1, last + 1) if ALL else sorted({*opening, *random.Random(SEED).sample(range(1, last + 1), 8)})
 
     def last_place(self, sync):
-        """How many places a whole run has."""
+        """How many steps a whole run has."""
         low, high = 1, 64
         while self.lose(f"find{high}{sync}", high, sync)[0] == "killed":
             low, high = high, 2 * high

@@ -1,4 +1,4 @@
-"""What waits for a peer that acknowledges slowly: how it is counted, and that the limit is told when it is met."""
+"""What waits for a peer that acknowledges slowly: how it is counted, and that the limit is reported when it is met."""
 from decnet import nsp
 from decnet.nsp import Kind
 from decnet.waiting import Waiting
@@ -20,9 +20,9 @@ def packet(kind, number=1, body=b"\x04\x00\x01"):
 
 
 class CountTest(Case):
-    """Rows of what happens before an end that serves while fewer than 100 bytes wait: `took` so many requests, one segment
-    each, `wrote` a segment of so many bytes and of a kind, the other end `has` the segments up to a number, no `memory`;
-    and whether the limit is met behind each."""
+    """Rows of what happens before a server that serves while fewer than 100 bytes wait: `took` N requests, one segment
+    each, `wrote` a segment of a size in bytes and of a kind, the other end `has` the segments up to a number, no `memory`;
+    and whether the limit is met after each."""
 
     ROWS = [
         ("one request, however long its answer is", 8, [("took", 1), ("wrote", 99), ("wrote", 99)], []),

@@ -1,4 +1,4 @@
-"""What is told of a link before its picture: files, records and refusals."""
+"""What is said of a link before its picture: files, records and refusals."""
 import collections
 from dataclasses import dataclass
 

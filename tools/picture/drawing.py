@@ -10,9 +10,9 @@ WIDTH, LEFT, RIGHT = 1120, 190, 890  # of a row, and where its lanes are
 INDENT = 14  # from a lane to a text
 LINE, SMALL_LINE, QUIET_LINE = 17, 15, 21  # heights of lines
 ACK_HEIGHT, PLAIN_HEIGHT = 15, 22
-MIN_DATA = 4  # so many Data of an NSP message are one line
+MIN_DATA = 4  # this many Data of an NSP message are one line
 DETAIL = 72  # characters of what is said of a message
-PAUSE = 1  # seconds without a packet that are told
+PAUSE = 1  # seconds without a packet that are shown
 NAMES = {Kind.CONNECT: "Connect Initiate", Kind.CONNECT_AGAIN: "Connect Initiate, retransmitted",
          Kind.CONFIRM: "Connect Confirm", Kind.DISCONNECT: "Disconnect Initiate",
          Kind.DISCONNECT_CONFIRM: "Disconnect Confirm",
@@ -161,7 +161,7 @@ class Picture:
         return f"{packet.mark} segment" + (" of a message that is never whole" if packet.is_unfinished else "")
 
     def lines_of(self, packet):
-        """The lines of a packet's messages, each with its message or None; and the messages that one line stands for."""
+        """The lines of a packet's messages, each with its message or None; and the messages that one line shows."""
         lines, folded, whole = [], [], packet.whole
         if whole.segments > 1:
             said = f"NSP message of {whole.segments} segments, {whole.first} to {whole.last}"

@@ -3,7 +3,7 @@ from dataclasses import dataclass
 
 from picture.messages import DELETE, FUNCTIONS, GET, PUT, RAC, UPDATE
 
-MIN_ROWS = 4  # so many rows of Data, exchanges alike, or packets without a message are folded
+MIN_ROWS = 4  # this many rows of Data, exchanges alike, or packets without a message are folded
 QUIET = ""  # the signature of what goes along in a fold
 
 
@@ -24,7 +24,7 @@ def is_quiet(packet):
 
 
 def signature(packet):
-    """What rows that are alike have in common; QUIET for what goes along; None for a row that stands alone."""
+    """What rows that are alike have in common; QUIET for what goes along; None for a row that is alone."""
     if packet.gaps or packet.is_unfinished:
         return None
     if is_quiet(packet):
@@ -40,7 +40,7 @@ def signature(packet):
 
 
 def word_of(one):
-    """A message's part of a signature; None where it makes its row stand alone."""
+    """A message's part of a signature; None where its row is alone by it."""
     function = one.number("func")
     if one.word == "data":
         return "data"
@@ -84,7 +84,7 @@ def longest_run(following, rows, entries, at):
 
 
 def widened(packets, rows, fold, after):
-    """A fold with the segments of its first message before it, and the acknowledgements behind it."""
+    """A fold with the segments of its first message before it, and the acknowledgements after it."""
     first, last = fold.first, fold.last
     while first > after and rows[first - 1] == QUIET and packets[first - 1].is_segment \
             and packets[first - 1].direction == packets[fold.first].direction:

@@ -1,4 +1,4 @@
-"""A page with the pictures of links: what is told of each, and its rows. It is one file, without a script."""
+"""A page with the pictures of links: what is said of each, and its rows. It is one file, without a script."""
 import html
 import pathlib
 

@@ -45,7 +45,7 @@ class Ahead:
 
 
 class Chosen:
-    """The packets of a range; all, and at most so many as a page may have, where there is none."""
+    """The packets of a range; all, and at most as many as a page may have, where there is none."""
 
     def __init__(self, name, chosen):
         self.name, self.range = name, chosen

@@ -1,4 +1,4 @@
-//! `dap_accessing`: the end that asks, without a link.
+//! `dap_accessing`: the client, without a link.
 
 use crate::trouble::{Lines, Trouble};
 use dap_accessing::{Accessing, Report, Request};

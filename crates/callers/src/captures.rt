@@ -8,7 +8,8 @@ use capture_file::Reading;
 use decnet_frames::{Counts, Ends, Listing, list_frames, read_frame, read_node};
 use std::alloc::Global;
 
-/// A pcap file: its header, a record with an acknowledgement from node 1.1 to 1.2, and one with a frame that isn't DECnet's.
+/// A pcap file: its header, a record with an acknowledgement from node 1.1 to 1.2, and one with a frame that isn't
+/// DECnet's.
 const FILE: &[u8] = &[
     0xd4, 0xc3, 0xb2, 0xa1, 2, 0, 4, 0, 0, 0, 0, 0, 0, 0, 0, 0, 0, 0, 4, 0, 1, 0, 0, 0, // header
     7, 0, 0, 0, 5, 0, 0, 0, 29, 0, 0, 0, 29, 0, 0, 0, // record: 7.000005, 29 bytes
@@ -75,7 +76,7 @@ fn read(alloc: Global, listing: &mut Listing, out: &mut Lines) -> Result<(), Tro
     Ok(())
 }
 
-/// Both ends, by their addresses.
+/// Returns both ends, by their addresses.
 fn ends() -> Option<Ends> {
     match (read_node(b"1.2"), read_node(b"1.1")) {
         (Some(first), Some(other)) => Some(Ends { first, other }),

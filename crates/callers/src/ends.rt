@@ -6,10 +6,10 @@ use dap_end::{AskingEnd, ServingEnd};
 use nsp_link::{LinkSetup, MAX_LIMIT};
 use std::alloc::Global;
 
-/// The end that serves goes on while fewer bytes wait than this: 1 MiB.
+/// The server goes on while fewer bytes wait than this: 1 MiB.
 const MAX_WAITING: u64 = 1 << 20;
 
-/// The limits of the link of an end with these addresses.
+/// Returns the limits of the link of an end with these addresses.
 fn setup(local: u16, remote: u16) -> LinkSetup {
     LinkSetup {
         local,
@@ -28,7 +28,7 @@ fn ask(alloc: Global, end: &mut AskingEnd, request: &Request) -> Result<Vec<u8>,
     Ok(end.resend(0)?)
 }
 
-/// Gives a packet to the end that serves; the packets that answer it.
+/// Gives a packet to the server, and returns the packets that answer it.
 fn serve(
     alloc: Global,
     end: &mut ServingEnd,
@@ -42,7 +42,7 @@ fn serve(
     Ok(back)
 }
 
-/// Gives a packet to the end that asks; the packets that answer it.
+/// Gives a packet to the client, and returns the packets that answer it.
 fn read(
     alloc: Global,
     end: &mut AskingEnd,
@@ -55,7 +55,7 @@ fn read(
     Ok(back)
 }
 
-/// An answer comes, and is acknowledged.
+/// Lets an answer come, which is acknowledged.
 fn acknowledge(
     alloc: Global,
     asking: &mut AskingEnd,
@@ -70,7 +70,7 @@ fn acknowledge(
     Ok(())
 }
 
-/// Both ends do what a request takes.
+/// Lets both ends do what a request takes.
 fn exchange(
     alloc: Global,
     asking: &mut AskingEnd,
@@ -85,7 +85,7 @@ fn exchange(
     Ok(())
 }
 
-/// Asks; the packet is lost and written again; the answer comes, and is acknowledged.
+/// Asks a request: its packet is lost and written again; the answer comes, and is acknowledged.
 pub fn call(alloc: Global, out: &mut Lines) -> Result<(), Trouble> {
     let mut asking = AskingEnd::new(alloc, 1024, setup(0x0101, 0x0202))?;
     let mut serving = ServingEnd::new(alloc, 1024, setup(0x0202, 0x0101))?;

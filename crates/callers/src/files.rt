@@ -32,7 +32,7 @@ fn put_all(stream: &mut Stream, file: &mut AnyFile, out: &mut Lines) -> Result<(
     Ok(())
 }
 
-/// Goes through the file.
+/// Prints the first record's number, the highest number, and the first record from 4 on.
 fn read(stream: &mut Stream, file: &AnyFile, out: &mut Lines) -> Result<(), Trouble> {
     stream.rewind();
     let first = stream.get(file, Pick::Next)?;
@@ -44,14 +44,14 @@ fn read(stream: &mut Stream, file: &AnyFile, out: &mut Lines) -> Result<(), Trou
     Ok(())
 }
 
-/// Puts records, and goes through them.
+/// Puts records, and reads the file.
 fn put_and_read(file: &mut AnyFile, out: &mut Lines) -> Result<(), Trouble> {
     let mut stream = Stream::new(RIGHTS);
     put_all(&mut stream, file, out)?;
     read(&mut stream, file, out)
 }
 
-/// A relative file, variable records, no limit of their size, numbers up to 9.
+/// Makes a relative file: variable records, no limit of their size, numbers up to 9.
 pub fn call(alloc: Global, out: &mut Lines) -> Result<(), Trouble> {
     let Some(shape) = Shape::check(16, 2, 0, 9) else {
         return Err(Trouble("a shape"));

@@ -4,7 +4,7 @@ use crate::trouble::{Lines, Trouble};
 use nsp_link::{LinkEnd, LinkSetup};
 use std::alloc::Global;
 
-/// The limits of an end with these addresses.
+/// Returns the limits of an end with these addresses.
 fn setup(local: u16, remote: u16) -> LinkSetup {
     LinkSetup {
         local,
@@ -15,7 +15,7 @@ fn setup(local: u16, remote: u16) -> LinkSetup {
     }
 }
 
-/// The packets of a message's first two segments.
+/// Sends a message, and returns the packets of its first two segments.
 fn send(alloc: Global, sender: &mut LinkEnd, message: &[u8]) -> Result<Vec<Vec<u8>>, Trouble> {
     sender.send(message)?;
     let mut packets = Vec::new(alloc);
@@ -27,14 +27,14 @@ fn send(alloc: Global, sender: &mut LinkEnd, message: &[u8]) -> Result<Vec<Vec<u
     Ok(packets)
 }
 
-/// Takes a packet.
+/// Receives a packet.
 fn take(end: &mut LinkEnd, packet: &[u8], out: &mut Lines) -> Result<(), Trouble> {
     let got = end.receive(packet)?;
     out.line(format_args!("links: {got:?}"));
     Ok(())
 }
 
-/// The message is taken, and acknowledged.
+/// Takes the message, and acknowledges it.
 fn finish(sender: &mut LinkEnd, receiver: &mut LinkEnd, out: &mut Lines) -> Result<(), Trouble> {
     if let Some(message) = receiver.take_message() {
         out.line(format_args!("links: a message of {} bytes", message.len()));
@@ -43,7 +43,7 @@ fn finish(sender: &mut LinkEnd, receiver: &mut LinkEnd, out: &mut Lines) -> Resu
     take(sender, &acknowledgement, out)
 }
 
-/// The packets come in the other order.
+/// Lets the packets come in the other order.
 fn take_all(end: &mut LinkEnd, packets: &[Vec<u8>], out: &mut Lines) -> Result<(), Trouble> {
     for packet in packets.iter().rev() {
         take(end, packet, out)?;
@@ -51,7 +51,7 @@ fn take_all(end: &mut LinkEnd, packets: &[Vec<u8>], out: &mut Lines) -> Result<(
     Ok(())
 }
 
-/// A message goes from the one end to the other.
+/// Sends a message from the one end to the other.
 fn exchange(
     alloc: Global,
     sender: &mut LinkEnd,
@@ -65,7 +65,7 @@ fn exchange(
     Ok(())
 }
 
-/// A message in two segments, of which the second comes first.
+/// Sends a message in two segments, of which the second comes first.
 pub fn call(alloc: Global, out: &mut Lines) -> Result<(), Trouble> {
     let mut sender = LinkEnd::new(alloc, setup(1, 2))?;
     let mut receiver = LinkEnd::new(alloc, setup(2, 1))?;

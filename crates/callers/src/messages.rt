@@ -10,7 +10,7 @@ const CREATE: &[u8] = &[2, 2, 3, 6, 16, 2, 3, 2, 8, 2, 0, 1, b'F', 15, 0, 0, 0];
 /// An NSP message with a Control and a Data message, which put a record.
 const PUT: &[u8] = &[4, 2, 3, 4, 1, 0, 8, 2, 4, 0, b'A', b'B', b'C'];
 
-/// Bytes as text.
+/// Returns bytes as text.
 fn text(bytes: &[u8]) -> &str {
     std::str::from_utf8(bytes).unwrap_or("bytes that are no text")
 }

@@ -1,4 +1,4 @@
-//! `dap_accessed`: the end that serves, without a link.
+//! `dap_accessed`: the server, without a link.
 
 use crate::trouble::{Lines, Trouble};
 use dap_accessed::Accessed;
@@ -29,7 +29,7 @@ fn serve_all(end: &mut Accessed, out: &mut Lines) -> Result<(), Trouble> {
     Ok(())
 }
 
-/// A new end serves them.
+/// Lets a new end serve them.
 pub fn call(alloc: Global, out: &mut Lines) -> Result<(), Trouble> {
     let mut end = Accessed::new(alloc, 1024);
     serve_all(&mut end, out)

@@ -53,7 +53,7 @@ fn drop_file(shared: &mut SharedFiles, out: &mut Lines) {
     }
 }
 
-/// A link begins anew, on which an Access may only ask for GET: what it had open is closed.
+/// Begins a link anew, on which an Access may only ask for GET: what it had open is closed.
 fn begin_to_read(shared: &mut SharedFiles, link: usize) -> Result<(), Trouble> {
     if link >= shared.links() {
         return Err(Trouble("a link"));
@@ -70,8 +70,7 @@ fn begin_to_read(shared: &mut SharedFiles, link: usize) -> Result<(), Trouble> {
     Ok(())
 }
 
-/// Two links are served, one message after another. Then the file is dropped, once the link that has it open begins
-/// anew.
+/// Serves two links, one message after another. Then drops the file, once the link that has it open begins anew.
 pub fn call(alloc: Global, out: &mut Lines) -> Result<(), Trouble> {
     let mut shared = SharedFiles::new(alloc, 1024, 2)?;
     for (link, message) in MESSAGES {

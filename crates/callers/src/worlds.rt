@@ -38,7 +38,7 @@ fn play_all(world: &mut World, out: &mut Lines) -> Result<(), Trouble> {
     Ok(())
 }
 
-/// A packet is written twice and comes once, and the rest is finished.
+/// Plays the events: a packet is written twice and comes once, and the rest is finished.
 pub fn call(alloc: Global, out: &mut Lines) -> Result<(), Trouble> {
     let mut world = World::new(alloc, SETUP)?;
     play_all(&mut world, out)

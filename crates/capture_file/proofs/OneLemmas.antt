@@ -4,7 +4,7 @@ use Rattle.std.proofs.lemmas.List.{take-append-le}
 use Rattle.std.proofs.Math.Seq.{take-append_seam, drop-append_seam}
 use Rattle.capture_file.specs.Units.{IsUnit, extent_of, head_len, kept_prefix}
 use Rattle.capture_file.specs.Files.{IsCutShort, IsNone, IsPart, IsWhole, Stops, Units, clamped as offset_of}
-use Rattle.capture_file.specs.Files.Units.{no_more, one_more}
+use Rattle.capture_file.specs.Files.Units.{no_unit_more, one_unit_more}
 use Rattle.capture_file.specs.Meanings.{Record, format_after, interfaces_after, meaning_of, records_of}
 use Rattle.capture_file.specs.declared.fault.FaultKind.{FaultKind}
 use Rattle.capture_file.specs.declared.units.Extent.{Extent}
@@ -46,7 +46,7 @@ never e kind h = cc
 never_meaning : (m : Meaning) (kind : FaultKind) → ◌≡◌ {A = Result Meaning FaultKind} (Ok m) (Err kind) → ⊥
 never_meaning m kind h = cc
 
--- two units at one place are one
+-- two units at one offset are one
 pub one_unit : (format : Format) (extent other : Extent) (unit last more rest : List ℕ) → IsUnit format extent unit → IsUnit format other last
     → unit ++ more ≡ last ++ rest → (extent ≡ other) × (unit ≡ last) × (more ≡ rest)
 one_unit format extent other unit last more rest is are e =
@@ -86,7 +86,7 @@ stuck_none format interfaces rest kind none unit more extent meaning e is means 
           never_meaning meaning kind (sym means ∙ (ap (λ x. meaning_of format interfaces (kept_prefix x unit)) one.0 ∙ (ap (λ xs. meaning_of format interfaces (kept_prefix bad.2 xs)) one.1 ∙ bad.5)))
     ]
 
--- two faults at one place are one
+-- two faults at one offset are one
 pub one_kind : (format : Format) (interfaces : List Interface) (rest : List ℕ) (kind other : FaultKind) → IsNone format interfaces rest kind
     → IsNone format interfaces rest other → kind ≡ other
 one_kind format interfaces rest kind other none nor =
@@ -139,12 +139,12 @@ pub one_reading : {format last end : Format} {interfaces described told : List I
     → Units format interfaces bytes records last described → Units format interfaces others more end told
     → IsStuck last described x → IsStuck end told y → bytes ++ x ≡ others ++ y
     → Same bytes others records more last end described told
-one_reading x y no_more no_more here there e = record { bytes_are = refl; records_are = refl; last_is = refl; described_are = refl }
-one_reading x y no_more (one_more {bytes} unit extent meaning is means units) here there e =
+one_reading x y no_unit_more no_unit_more here there e = record { bytes_are = refl; records_are = refl; last_is = refl; described_are = refl }
+one_reading x y no_unit_more (one_unit_more {bytes} unit extent meaning is means units) here there e =
     absurd (here unit (bytes ++ y) extent meaning (e ∙ append_assoc unit bytes y) is means)
-one_reading x y (one_more {bytes} unit extent meaning is means units) no_more here there e =
+one_reading x y (one_unit_more {bytes} unit extent meaning is means units) no_unit_more here there e =
     absurd (there unit (bytes ++ x) extent meaning (sym e ∙ append_assoc unit bytes x) is means)
-one_reading x y (one_more {format} {last} {interfaces} {described} {bytes} {records} unit extent meaning is means units) (one_more {last = end} {described = told} {bytes = others} {records = more} other extent2 meaning2 are mean units2) here there e =
+one_reading x y (one_unit_more {format} {last} {interfaces} {described} {bytes} {records} unit extent meaning is means units) (one_unit_more {last = end} {described = told} {bytes = others} {records = more} other extent2 meaning2 are mean units2) here there e =
     let one = one_unit format extent extent2 unit other (bytes ++ x) (others ++ y) is are (sym (append_assoc unit bytes x) ∙ (e ∙ append_assoc other others y)) in
     let mean_is : meaning ≡ meaning2 = ok_meaning meaning meaning2 (sym means ∙ (ap (λ z. meaning_of format interfaces (kept_prefix z unit)) one.0 ∙ (ap (λ xs. meaning_of format interfaces (kept_prefix extent2 xs)) one.1 ∙ mean))) in
     let kept_is : kept_prefix extent unit ≡ kept_prefix extent2 other = ap (λ z. kept_prefix z unit) one.0 ∙ ap (λ xs. kept_prefix extent2 xs) one.1 in
@@ -161,9 +161,9 @@ rest_one a b x y same e =
     sym (drop-append_seam a x) ∙ (ap (λ n. drop n (a ++ x)) (ap length same) ∙ (ap (λ xs. drop (length b) xs) e ∙ drop-append_seam b y))
 
 -- two stops of one file
-pub stops_one : (bytes : List ℕ) (records others : List Record) (kind other : FaultKind) (at place : ℕ) → Stops bytes records kind at → Stops bytes others other place
-    → (records ≡ others) × (kind ≡ other) × (at ≡ place)
-stops_one bytes records others kind other at place s t =
+pub stops_one : (bytes : List ℕ) (records others : List Record) (kind other : FaultKind) (at offset : ℕ) → Stops bytes records kind at → Stops bytes others other offset
+    → (records ≡ others) × (kind ≡ other) × (at ≡ offset)
+stops_one bytes records others kind other at offset s t =
     let joined = sym s.joined ∙ t.joined in
     let one = one_reading s.rest t.rest s.units t.units (stuck_none s.format s.interfaces s.rest kind s.none) (stuck_none t.format t.interfaces t.rest other t.none) joined in
     let rests = rest_one s.front t.front s.rest t.rest one.bytes_are joined in
@@ -172,8 +172,8 @@ stops_one bytes records others kind other at place s t =
     (subst (λ (xs : List ℕ). IsNone s.format s.interfaces xs kind) rests s.none)) in
     (one.records_are, one_kind t.format t.interfaces t.rest kind other none t.none, s.offset ∙ (ap (λ f. offset_of (length f)) one.bytes_are ∙ sym t.offset))
 
-pub cuts_one : (bytes : List ℕ) (records others : List Record) (at place : ℕ) → IsCutShort bytes records at → IsCutShort bytes others place → (records ≡ others) × (at ≡ place)
-cuts_one bytes records others at place s t =
+pub cuts_one : (bytes : List ℕ) (records others : List Record) (at offset : ℕ) → IsCutShort bytes records at → IsCutShort bytes others offset → (records ≡ others) × (at ≡ offset)
+cuts_one bytes records others at offset s t =
     let joined = sym s.joined ∙ t.joined in
     let one = one_reading s.rest t.rest s.units t.units (stuck_part s.format s.interfaces s.rest s.partial) (stuck_part t.format t.interfaces t.rest t.partial) joined in
     (one.records_are, s.offset ∙ (ap (λ f. offset_of (length f)) one.bytes_are ∙ sym t.offset))
@@ -211,8 +211,8 @@ whole_or_cut bytes records others at w s =
       | inr start ↦ w.begun (one.last_is ∙ start)
     ]
 
-pub cut_or_stops : (bytes : List ℕ) (records others : List Record) (kind : FaultKind) (at place : ℕ) → IsCutShort bytes records place → Stops bytes others kind at → ⊥
-cut_or_stops bytes records others kind at place s t =
+pub cut_or_stops : (bytes : List ℕ) (records others : List Record) (kind : FaultKind) (at offset : ℕ) → IsCutShort bytes records offset → Stops bytes others kind at → ⊥
+cut_or_stops bytes records others kind at offset s t =
     let joined = sym s.joined ∙ t.joined in
     let one = one_reading s.rest t.rest s.units t.units (stuck_part s.format s.interfaces s.rest s.partial) (stuck_none t.format t.interfaces t.rest kind t.none) joined in
     let rests = rest_one s.front t.front s.rest t.rest one.bytes_are joined in

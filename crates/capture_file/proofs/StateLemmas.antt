@@ -4,7 +4,7 @@ use Rattle.std.proofs.lemmas.List.{take-append-le, drop-append-le, drop_all, tak
 use Rattle.std.proofs.lemmas.Bool.{cond_both, ltb-true, ltb-false}
 use Rattle.capture_file.specs.Units.{IsUnit, extent_of, head_len, kept_prefix}
 use Rattle.capture_file.specs.Files.{HasUnits, IsNone, Stops, Units, clamped}
-use Rattle.capture_file.specs.Files.Units.{no_more, one_more}
+use Rattle.capture_file.specs.Files.Units.{no_unit_more, one_unit_more}
 use Rattle.capture_file.specs.Meanings.{Record, format_after, interfaces_after, meaning_of, records_of}
 use Rattle.capture_file.specs.Reading.{Gathers, HasRead, IsMeasured, given_in, keeps, wanted}
 use Rattle.capture_file.specs.Inner.State.{ReadsUnit, Lies, IsInUnits, KeepsUnits, given_by, goal_of}
@@ -182,14 +182,14 @@ unit_of r rest e g is long =
 pub units_more : {format last : Format} {interfaces described : List Interface} {bytes : List ℕ} {records : List Record} (unit : List ℕ) (e : Extent) (meaning : Meaning)
     → Units format interfaces bytes records last described → IsUnit last e unit → meaning_of last described (kept_prefix e unit) ≡ Ok meaning
     → Units format interfaces (bytes ++ unit) (records ++ records_of (kept_prefix e unit) meaning) (format_after last meaning) (interfaces_after described meaning)
-units_more unit e meaning (no_more {format} {interfaces}) is means =
-    let more = one_more unit e meaning is means no_more in
+units_more unit e meaning (no_unit_more {format} {interfaces}) is means =
+    let more = one_unit_more unit e meaning is means no_unit_more in
     subst (λ (records : List Record). Units format interfaces unit records (format_after format meaning) (interfaces_after interfaces meaning))
     (append-nil (records_of (kept_prefix e unit) meaning))
     (subst (λ (bytes : List ℕ). Units format interfaces bytes (records_of (kept_prefix e unit) meaning ++ []) (format_after format meaning) (interfaces_after interfaces meaning))
     (append-nil unit) more)
-units_more unit e meaning (one_more {format} {last} {interfaces} {described} {bytes} {records} first extent said is_first said_is units) is means =
-    let more = one_more first extent said is_first said_is (units_more unit e meaning units is means) in
+units_more unit e meaning (one_unit_more {format} {last} {interfaces} {described} {bytes} {records} first extent said is_first said_is units) is means =
+    let more = one_unit_more first extent said is_first said_is (units_more unit e meaning units is means) in
     subst (λ (all : List Record). Units format interfaces ((first ++ bytes) ++ unit) all (format_after last meaning) (interfaces_after described meaning))
     (sym (append_assoc (records_of (kept_prefix extent first) said) records (records_of (kept_prefix e unit) meaning)))
     (subst (λ (all : List ℕ). Units format interfaces all (records_of (kept_prefix extent first) said ++ (records ++ records_of (kept_prefix e unit) meaning)) (format_after last meaning) (interfaces_after described meaning))

@@ -7,7 +7,7 @@ use Rattle.byteorder.specs.Numbers.{big_number-reads_back, little_number-reads_b
 use Rattle.capture_file.specs.Numbers.{u32_at}
 use Rattle.capture_file.specs.Units.{IsUnit, extent_of, max_unit, record_extent}
 use Rattle.capture_file.specs.Files.{IsWhole, Units}
-use Rattle.capture_file.specs.Files.Units.{no_more, one_more}
+use Rattle.capture_file.specs.Files.Units.{no_unit_more, one_unit_more}
 use Rattle.capture_file.specs.Meanings.{Record, meaning_of, record_meaning, records_of}
 use Rattle.capture_file.specs.Written.{FitsFrame, Frame, file_header_bytes, pcap_bytes, record_bytes, record_of_frame}
 use Rattle.capture_file.specs.declared.fault.FaultKind.{FaultKind}
@@ -101,11 +101,11 @@ record_given order f =
 
 records_read : (order : Order) (frames : List Frame) → AllByRecursion FitsFrame frames
     → Units (Pcap order 6) [] (flat_map (record_bytes order) frames) (map record_of_frame frames) (Pcap order 6) []
-records_read order [] fits = no_more
+records_read order [] fits = no_unit_more
 records_read order (f ∷ frames) fits =
     subst (λ (some : List Record). Units (Pcap order 6) [] (record_bytes order f ++ flat_map (record_bytes order) frames) (some ++ map record_of_frame frames) (Pcap order 6) [])
     (record_given order f)
-    (one_more (record_bytes order f) (whole_of (16 + length f.bytes)) (meaning_for f) (record_unit order f fits.0) (record_means order f fits.0) (records_read order frames fits.1))
+    (one_unit_more (record_bytes order f) (whole_of (16 + length f.bytes)) (meaning_for f) (record_unit order f fits.0) (record_means order f fits.0) (records_read order frames fits.1))
 
 not_start : (order : Order) → Pcap order 6 ≡ Start → ⊥
 not_start order e = cc
@@ -115,5 +115,5 @@ written_read order frames fits = record {
   format = Pcap order 6;
   begun = not_start order;
   interfaces = [];
-  units = one_more (file_header_bytes order) (whole_of 24) (Begins (Pcap order 6)) (header_unit order) (header_means order) (records_read order frames fits);
+  units = one_unit_more (file_header_bytes order) (whole_of 24) (Begins (Pcap order 6)) (header_unit order) (header_means order) (records_read order frames fits);
 }

@@ -11,8 +11,8 @@ use Rattle.capture_file.specs.declared.meaning.Meaning.{Meaning}
 
 -- The bytes are units with these records, which lead from a format and its interfaces to others.
 pub data Units : Format → List Interface → (bytes : List ℕ) → List Record → Format → List Interface → Type 0 where
-  no_more : {format : Format} {interfaces : List Interface} → Units format interfaces [] [] format interfaces
-  one_more : {format last : Format} {interfaces described : List Interface} {bytes : List ℕ} {records : List Record}
+  no_unit_more : {format : Format} {interfaces : List Interface} → Units format interfaces [] [] format interfaces
+  one_unit_more : {format last : Format} {interfaces described : List Interface} {bytes : List ℕ} {records : List Record}
       (unit : List ℕ) (extent : Extent) (meaning : Meaning)
       → IsUnit format extent unit
       → meaning_of format interfaces (kept_prefix extent unit) ≡ Ok meaning
@@ -37,7 +37,7 @@ IsNone format interfaces rest kind =
     ⊎ ((unit more : List ℕ) × (extent : Extent) × (rest ≡ unit ++ more) × IsUnit format extent unit
     × (meaning_of format interfaces (kept_prefix extent unit) ≡ Err kind))
 
--- a count, or 2^64 - 1 where it is greater
+-- a count, or 2^64 - 1 where that is less
 abbrev pub clamped : ℕ → ℕ
 clamped offset = min offset 18446744073709551615
 

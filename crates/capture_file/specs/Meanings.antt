@@ -52,8 +52,8 @@ section_of (Some order) kept = if ends_well order kept then Ok (Begins (Section 
 abbrev pub section_meaning : List ℕ → Result Meaning FaultKind
 section_meaning kept = section_of (byte_order_of kept) kept
 
--- The value of the first option of a code, among at most this many. An option has a code, a length and that many bytes, which are
--- padded to a multiple of four; code 0 ends them.
+-- The value of the first option of a code, among at most this many. An option has a code, a length and that many
+-- bytes, which are padded to a multiple of four; code 0 ends them.
 abbrev pub value_from : (most : ℕ) → Order → (code : ℕ) → List ℕ → Option (List ℕ)
 value_from zero order code options = None
 value_from (suc n) order code options =
@@ -94,7 +94,8 @@ interface_meaning order count kept =
       offset = offset_of order options;
     })))
 
--- a packet of an interface, with a time, and how many bytes of its frame are there; without a declared interface it is passed over
+-- a packet of an interface, with a time, and how many bytes of its frame are there; without a declared interface it is
+-- passed over
 abbrev pub given_of : Option Interface → (parts count : ℕ) → Given
 given_of None parts count = record { time = None; is_ethernet = false; from = 28; count = count }
 given_of (Some i) parts count =

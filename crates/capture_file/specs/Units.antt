@@ -15,7 +15,7 @@ head_len (Pcap order digits) = 16
 head_len Start = 12
 head_len (Section order) = 12
 
--- the most bytes of a frame in a record, and of a block that is kept: as many as tcpdump takes
+-- the maximum of a frame in a record, and of a block that is kept, in bytes: that of tcpdump
 abbrev pub max_unit : ℕ
 max_unit = 262144
 

@@ -24,7 +24,7 @@ abbrev pub number_bytes : Order → ℕ → ℕ → List ℕ
 number_bytes Big n number = big_bytes n number
 number_bytes Little n number = little_bytes n number
 
--- the magic number, version 2.4, two numbers that are 0, the max_unit frame, and the link type of Ethernet
+-- the magic number, version 2.4, two numbers that are 0, the maximum of a frame, and the link type of Ethernet
 abbrev pub file_header_bytes : Order → List ℕ
 file_header_bytes order =
     number_bytes order 4 0xA1B2C3D4 ++ (number_bytes order 2 2 ++ (number_bytes order 2 4 ++ (number_bytes order 4 0

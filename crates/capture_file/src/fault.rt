@@ -26,7 +26,7 @@ pub enum FaultKind {
     /// The file is cut short, or empty.
     #[error("cut-short")]
     CutShort,
-    /// Memory was refused.
+    /// Out of memory.
     #[error("no-memory")]
     NoMemory,
 }

@@ -8,26 +8,26 @@ ghost use Rattle.capture_file.specs.Written.{FitsFrame, Frame, pcap_bytes, recor
 ghost use Rattle.capture_file.specs.declared.fault.FaultKind.{FaultKind};
 ghost use Rattle.capture_file.specs.declared.units.Order.{Order as TheOrder};
 
-/// Bytes are a whole file, or one at fault, or one that is cut short, and only one of these: with one list of records, and the fault
-/// or the cut at one offset.
+/// States that bytes are a whole file, or one at fault, or one that is cut short, and only one of these: with one list
+/// of records, and the fault or the cut at one offset.
 pub fn files_have_one_reading()
     ensures whole { (bytes : List ℕ) (records others : List Record) → IsWhole bytes records
         → IsWhole bytes others → records ≡ others }
     ensures stops { (bytes : List ℕ) (records others : List Record) (kind other : FaultKind)
-        (at place : ℕ) → Stops bytes records kind at → Stops bytes others other place
-        → (records ≡ others) × (kind ≡ other) × (at ≡ place) }
-    ensures cut { (bytes : List ℕ) (records others : List Record) (at place : ℕ)
-        → IsCutShort bytes records at → IsCutShort bytes others place
-        → (records ≡ others) × (at ≡ place) }
+        (at offset : ℕ) → Stops bytes records kind at → Stops bytes others other offset
+        → (records ≡ others) × (kind ≡ other) × (at ≡ offset) }
+    ensures cut { (bytes : List ℕ) (records others : List Record) (at offset : ℕ)
+        → IsCutShort bytes records at → IsCutShort bytes others offset
+        → (records ≡ others) × (at ≡ offset) }
     ensures whole_or_stops { (bytes : List ℕ) (records others : List Record) (kind : FaultKind)
         (at : ℕ) → IsWhole bytes records → Stops bytes others kind at → ⊥ }
     ensures whole_or_cut { (bytes : List ℕ) (records others : List Record) (at : ℕ)
         → IsWhole bytes records → IsCutShort bytes others at → ⊥ }
     ensures cut_or_stops { (bytes : List ℕ) (records others : List Record) (kind : FaultKind)
-        (at place : ℕ) → IsCutShort bytes records place → Stops bytes others kind at → ⊥ }
+        (at offset : ℕ) → IsCutShort bytes records offset → Stops bytes others kind at → ⊥ }
 {}
 
-/// A pcap file of frames, as a plain writer writes it, is read as these frames.
+/// States that a pcap file of frames, as a plain writer writes it, is read as these frames.
 pub fn written_files_are_read()
     ensures { (order : TheOrder) (frames : List Frame) → AllByRecursion FitsFrame frames
         → IsWhole (pcap_bytes order frames) (map record_of_frame frames) }

@@ -1,4 +1,4 @@
-//! Files of captured frames, pcap and pcapng, that come in pieces of any size.
+//! Files of captured frames, pcap and pcapng, that are read in pieces of any size.
 #![tactic(auto)]
 
 mod fault;

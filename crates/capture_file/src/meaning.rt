@@ -12,9 +12,9 @@ use crate::units::{
     pcap_of,
 };
 
-/// When a frame was captured. A second has 10 to the power of the resolution parts, or, where the resolution is above 127, 2 to
-/// that of what it is above 128 (`if_tsresol` of pcapng). The offset is in seconds, as two's complement (`if_tsoffset`).
-/// The sum of both counts from the beginning of 1970.
+/// When a frame was captured. A second has 10 to the power of the resolution parts, or, where the resolution is above
+/// 127, 2 to that of what it is above 128 (`if_tsresol` of pcapng). The offset is in seconds, as two's complement
+/// (`if_tsoffset`). The sum of both counts from the beginning of 1970.
 #[derive(Clone, Copy, Debug, PartialEq, Eq)]
 pub struct Time {
     pub parts: u64,
@@ -26,14 +26,14 @@ pub struct Time {
 #[derive(Clone, Copy, Debug, PartialEq, Eq)]
 pub struct Interface {
     pub is_ethernet: bool,
-    /// The most bytes of a captured frame; 0 is no limit.
+    /// The maximum of a captured frame in bytes; 0 sets no limit.
     pub limit: u32,
     pub resolution: u8,
     pub offset: u64,
 }
 
-/// A captured frame: its time, if the file has one; whether it is one of Ethernet; and where its bytes are in what is kept
-/// of its unit.
+/// A captured frame: its time, if the file has one; whether it is one of Ethernet; and where its bytes are in what is
+/// kept of its unit.
 #[derive(Clone, Copy, Debug, PartialEq, Eq)]
 pub struct Given {
     pub time: Option<Time>,
@@ -55,7 +55,7 @@ pub enum Meaning {
 /// The link type of Ethernet.
 const ETHERNET: u16 = 1;
 
-/// The most interfaces of a section.
+/// The maximum number of interfaces of a section.
 pub const MAX_INTERFACES: usize = 1024;
 
 /// The resolution of times that an interface has without an option.
@@ -73,7 +73,7 @@ const NO_MORE: u16 = 0;
 /// The code and the length of an option.
 const OPTION_HEAD: usize = 4;
 
-/// The value of the first option of a code.
+/// Returns the value of the first option of a code.
 #[tactic(auto, using(crate::proofs::OptionLemmas::one_option))]
 fn option_value(order: Order, code: u16, options: &[u8]) -> Option<&[u8]>
     ensures { option_map (λ value. value.now) result
@@ -103,7 +103,7 @@ fn option_value(order: Order, code: u16, options: &[u8]) -> Option<&[u8]>
     None
 }
 
-/// The resolution of an interface's times, by its options.
+/// Returns the resolution of an interface's times, by its options.
 fn resolution_of(order: Order, options: &[u8]) -> u8
     ensures { result ≡ the_resolution order options.now }
 {
@@ -113,7 +113,7 @@ fn resolution_of(order: Order, options: &[u8]) -> u8
     }
 }
 
-/// The seconds that are added to an interface's times, by its options.
+/// Returns the seconds that are added to an interface's times, by its options.
 fn offset_of(order: Order, options: &[u8]) -> u64
     ensures { result ≡ the_offset order options.now }
 {
@@ -123,7 +123,7 @@ fn offset_of(order: Order, options: &[u8]) -> u64
     }
 }
 
-/// What the header of a pcap file says.
+/// Returns what the header of a pcap file says.
 fn file_meaning(kept: &[u8]) -> Result<Meaning, FaultKind>
     requires { 12 ≤ length kept.now }
     ensures value { result ≡ the_file kept.now }
@@ -145,7 +145,7 @@ fn file_meaning(kept: &[u8]) -> Result<Meaning, FaultKind>
     Ok(Meaning::Begins(format))
 }
 
-/// What a record of a pcap file says.
+/// Returns what a record of a pcap file says.
 fn record_meaning(order: Order, digits: u8, kept: &[u8]) -> Result<Meaning, FaultKind>
     ensures value { result ≡ the_record order digits kept.now }
     ensures within { IfOk result (HasFrame kept.now) }
@@ -172,7 +172,7 @@ fn record_meaning(order: Order, digits: u8, kept: &[u8]) -> Result<Meaning, Faul
     }))
 }
 
-/// Whether the length at a block's end is the one in its head.
+/// Returns whether the length at a block's end is the one in its head.
 fn ends_well(order: Order, kept: &[u8]) -> bool
     requires { 12 ≤ length kept.now }
     ensures { result ≡ the_end order kept.now }
@@ -180,7 +180,7 @@ fn ends_well(order: Order, kept: &[u8]) -> bool
     u32_at(order, kept, kept.len() - TAIL) == u32_at(order, kept, 4)
 }
 
-/// What the header of a section says.
+/// Returns what the header of a section says.
 fn section_meaning(kept: &[u8]) -> Result<Meaning, FaultKind>
     requires { 12 ≤ length kept.now }
     ensures value { result ≡ the_section_meaning kept.now }
@@ -197,7 +197,7 @@ fn section_meaning(kept: &[u8]) -> Result<Meaning, FaultKind>
     }
 }
 
-/// What the description of an interface says.
+/// Returns what the description of an interface says.
 fn interface_meaning(order: Order, count: usize, kept: &[u8]) -> Result<Meaning, FaultKind>
     requires { 12 ≤ length kept.now }
     ensures value { result ≡ the_interface order count kept.now }
@@ -218,7 +218,7 @@ fn interface_meaning(order: Order, count: usize, kept: &[u8]) -> Result<Meaning,
     }))
 }
 
-/// What a packet's block says.
+/// Returns what a packet's block says.
 fn enhanced_meaning(
     order: Order,
     interfaces: &[Interface],
@@ -259,7 +259,7 @@ fn enhanced_meaning(
     }))
 }
 
-/// How many bytes of a frame of the first interface were captured.
+/// Returns how many bytes of a frame of the first interface were captured.
 fn captured_count(interfaces: &[Interface], count: u32) -> u32
     ensures { result ≡ the_captured interfaces.now count }
 {
@@ -269,7 +269,7 @@ fn captured_count(interfaces: &[Interface], count: u32) -> u32
     }
 }
 
-/// What a simple packet's block says, which is of the first interface.
+/// Returns what the block of a simple packet says, which is one of the first interface.
 fn simple_meaning(order: Order, interfaces: &[Interface], kept: &[u8]) -> Result<Meaning, FaultKind>
     requires { 12 ≤ length kept.now }
     ensures value { result ≡ the_simple order interfaces.now kept.now }
@@ -290,7 +290,7 @@ fn simple_meaning(order: Order, interfaces: &[Interface], kept: &[u8]) -> Result
     }))
 }
 
-/// What a block of a kind says.
+/// Returns what a block of a kind says.
 fn kind_meaning(order: Order, interfaces: &[Interface], kept: &[u8]) -> Result<Meaning, FaultKind>
     requires { 12 ≤ length kept.now }
     ensures value { result ≡ the_kind order interfaces.now kept.now (the_u32 order 0 kept.now) }
@@ -304,7 +304,7 @@ fn kind_meaning(order: Order, interfaces: &[Interface], kept: &[u8]) -> Result<M
     }
 }
 
-/// What a block says that begins no section.
+/// Returns what a block says that begins no section.
 fn block_meaning(order: Order, interfaces: &[Interface], kept: &[u8]) -> Result<Meaning, FaultKind>
     requires { 12 ≤ length kept.now }
     ensures value { result ≡ the_block order interfaces.now kept.now }
@@ -316,7 +316,7 @@ fn block_meaning(order: Order, interfaces: &[Interface], kept: &[u8]) -> Result<
     kind_meaning(order, interfaces, kept)
 }
 
-/// What a unit says, by what is kept of it.
+/// Returns what a unit says, by what is kept of it.
 pub(crate) fn meaning_of(
     format: Format,
     interfaces: &[Interface],

@@ -6,7 +6,7 @@ ghost use Rattle.capture_file.specs.Numbers.{u16_at as the_u16, u32_at as the_u3
 use crate::units::Order;
 use byteorder::{BigEndian, ByteOrder, LittleEndian};
 
-/// The number of four bytes at an offset.
+/// Returns the number of four bytes at an offset.
 #[tactic(auto, unfolding(crate::specs::Numbers::u32_at))]
 pub(crate) fn u32_at(order: Order, bytes: &[u8], at: usize) -> u32
     requires { at + 4 ≤ length bytes.now }
@@ -19,7 +19,7 @@ pub(crate) fn u32_at(order: Order, bytes: &[u8], at: usize) -> u32
     }
 }
 
-/// The number of two bytes at an offset.
+/// Returns the number of two bytes at an offset.
 #[tactic(auto, unfolding(crate::specs::Numbers::u16_at))]
 pub(crate) fn u16_at(order: Order, bytes: &[u8], at: usize) -> u16
     requires { at + 2 ≤ length bytes.now }
@@ -32,7 +32,7 @@ pub(crate) fn u16_at(order: Order, bytes: &[u8], at: usize) -> u16
     }
 }
 
-/// The number of eight bytes at an offset.
+/// Returns the number of eight bytes at an offset.
 #[tactic(auto, unfolding(crate::specs::Numbers::u64_at))]
 pub(crate) fn u64_at(order: Order, bytes: &[u8], at: usize) -> u64
     requires { at + 8 ≤ length bytes.now }

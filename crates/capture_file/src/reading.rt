@@ -12,8 +12,8 @@ use crate::units::{Extent, Format, TAIL, extent_of, head_len};
 use crate::{FaultKind, FileFault};
 use std::alloc::Global;
 
-/// A file, as far as it was read. What is kept is at most a unit, of at most 262,168 bytes, and the interfaces of a section,
-/// of which there are at most 1,024.
+/// A file, as far as it was read. What is kept is at most a unit, of at most 262,168 bytes, and the interfaces of a
+/// section, of which there are at most 1,024.
 #[derive(Drop)]
 pub struct Reading {
     pub(crate) format: Format,
@@ -36,7 +36,7 @@ pub struct Step {
 }
 
 impl Reading {
-    /// Nothing was read yet. It takes no memory.
+    /// Returns a reader that has read nothing yet. It takes no memory.
     pub fn new(alloc: Global) -> Self
         ensures { HasRead result [] [] }
     {
@@ -50,7 +50,7 @@ impl Reading {
         }
     }
 
-    /// How far the bytes go that are taken next, and whether they are kept.
+    /// Returns how far the bytes go that are taken next, and whether they are kept.
     fn goal(&self) -> (usize, bool)
         ensures { result ≡ goal_of self.now.format self.now.extent self.now.seen }
     {
@@ -163,7 +163,7 @@ impl Reading {
         }
     }
 
-    /// What the unit says, once it is whole.
+    /// Applies what the unit says, once it is whole.
     fn end(&mut self) -> Result<Option<Given>, FaultKind>
         requires stands { (bytes rest : List ℕ) × (records : List Record)
             × IsInUnits self.old bytes records rest }
@@ -217,8 +217,8 @@ impl Reading {
         }
     }
 
-    /// Takes bytes of a piece, at least one of them if there are any, but none after the end of the unit that is read. The frame
-    /// that is whole with them, if there is one, is what [`Reading::frame`] returns until more is taken.
+    /// Takes bytes of a piece, at least one of them if there are any, but none after the end of the unit that is read.
+    /// The frame that is whole with them, if there is one, is what [`Reading::frame`] returns until more is taken.
     ///
     /// Faults: the file is at fault, whatever follows; or memory was refused. Nothing can be taken after a fault.
     pub fn take(&mut self, piece: &[u8]) -> Result<Step, FileFault>
@@ -242,7 +242,7 @@ impl Reading {
         }
     }
 
-    /// The bytes of the frame that is whole with the last bytes that were taken.
+    /// Returns the bytes of the frame that is whole with the last bytes that were taken.
     pub fn frame(&self, given: Given) -> &[u8]
         requires { IsWithinKept self.now.kept.items given }
         ensures { result.now ≡ (frame_record self.now.kept.items given).bytes }
@@ -252,14 +252,14 @@ impl Reading {
         frame
     }
 
-    /// The offset of the unit that is read.
+    /// Returns the offset of the unit that is read.
     pub fn offset(&self) -> u64
         ensures { result ≡ self.now.offset }
     {
         self.offset
     }
 
-    /// Whether no unit was read yet.
+    /// Returns whether no unit was read yet.
     fn is_new(&self) -> bool
         ensures new { result ≡ true → self.now.format ≡ Format.Start }
         ensures begun { result ≡ false → self.now.format ≢ Format.Start }
@@ -270,7 +270,8 @@ impl Reading {
         }
     }
 
-    /// The end of the file: `CutShort`, with the offset of the unit that isn't whole, or 0 of an empty file.
+    /// Checks that the file may end here: `CutShort`, with the offset of the unit that isn't whole, or 0 of an empty
+    /// file.
     pub fn finish(&self) -> Result<(), FileFault>
         ensures whole { OnOk result ((bytes : List ℕ) (records : List Record)
             → HasRead self.now bytes records → IsWhole bytes records) }

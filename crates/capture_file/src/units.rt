@@ -33,10 +33,10 @@ pub struct Extent {
     pub whole: bool,
 }
 
-/// The most bytes of a record or of a block that is kept. tcpdump takes no more of a frame.
+/// The maximum of a record or of a block that is kept, in bytes. tcpdump takes no more of a frame.
 pub const MAX_UNIT: usize = 262_144;
 
-/// The length of a block, which stands at its end again (pcapng, 3.1).
+/// The length of a block, which is at its end again (pcapng, 3.1).
 pub(crate) const TAIL: usize = 4;
 
 /// The head of a block, and what begins a file.
@@ -66,7 +66,7 @@ const MICROSECONDS_TURNED: u32 = 0xD4C3_B2A1;
 
 const NANOSECONDS_TURNED: u32 = 0x4D3C_B2A1;
 
-/// How many bytes tell how long a unit is.
+/// Returns how many bytes tell how long a unit is.
 pub(crate) fn head_len(format: Format) -> usize
     ensures value { result ≡ the_head_len format }
     ensures least { 12 ≤ result }
@@ -78,7 +78,7 @@ pub(crate) fn head_len(format: Format) -> usize
     }
 }
 
-/// Whether the head is that of a section.
+/// Returns whether the head is that of a section.
 pub(crate) fn is_section(head: &[u8]) -> bool
     requires { 12 ≤ length head.now }
     ensures { result ≡ the_section head.now }
@@ -86,7 +86,7 @@ pub(crate) fn is_section(head: &[u8]) -> bool
     u32_at(Order::Big, head, 0) == SECTION
 }
 
-/// The byte order of a section.
+/// Returns the byte order of a section.
 pub(crate) fn order_of(head: &[u8]) -> Option<Order>
     requires { 12 ≤ length head.now }
     ensures { result ≡ the_order head.now }
@@ -100,7 +100,7 @@ pub(crate) fn order_of(head: &[u8]) -> Option<Order>
     None
 }
 
-/// What a pcap file's first four bytes say.
+/// Returns what a pcap file's first four bytes say.
 pub(crate) fn pcap_of(head: &[u8]) -> Option<Format>
     requires { 12 ≤ length head.now }
     ensures { result ≡ the_pcap head.now }
@@ -121,7 +121,7 @@ pub(crate) fn pcap_of(head: &[u8]) -> Option<Format>
     None
 }
 
-/// How a block of a kind lies.
+/// Returns the extent of a block of a kind.
 fn block_extent(least: usize, kind: u32, total: u32) -> Result<Extent, FaultKind>
     ensures value { result ≡ the_block_extent least kind total }
     ensures long { IfOk result (λ extent. least ≤ extent.long) }
@@ -143,7 +143,7 @@ fn block_extent(least: usize, kind: u32, total: u32) -> Result<Extent, FaultKind
     Ok(Extent { long, whole: true })
 }
 
-/// How the header of a section lies.
+/// Returns the extent of the header of a section.
 fn section_extent(head: &[u8]) -> Result<Extent, FaultKind>
     requires { 12 ≤ length head.now }
     ensures value { result ≡ the_section_extent head.now }
@@ -155,7 +155,7 @@ fn section_extent(head: &[u8]) -> Result<Extent, FaultKind>
     }
 }
 
-/// How long a unit is, by its head.
+/// Returns the extent of a unit, by its head.
 pub(crate) fn extent_of(format: Format, head: &[u8]) -> Result<Extent, FaultKind>
     requires { length head.now ≡ the_head_len format }
     ensures value { result ≡ the_extent format head.now }

@@ -1,11 +1,11 @@
-//! Which files of captured frames their first bytes tell.
+//! Which files of captured frames there are, by their first bytes.
 
 ghost use Rattle.std.specs.Prelude.{◌≡◌};
 ghost use Rattle.cli_faults.specs.Inner.Files.{kind_of_front};
 
 use std::fmt::{Display, Error, Formatter, Write as FmtWrite};
 
-/// How many bytes tell what a file is.
+/// How many bytes say what a file is.
 pub(crate) const MAGIC_LEN: usize = 4;
 
 /// How a pcap file begins whose times have microseconds, its high byte first.
@@ -39,7 +39,7 @@ impl Display for FileKind {
     }
 }
 
-/// Which file of captured frames begins with these four bytes.
+/// Returns which file of captured frames begins with these four bytes.
 pub(crate) fn file_kind(front: &[u8]) -> Option<FileKind>
     ensures { result ≡ kind_of_front front.now }
 {

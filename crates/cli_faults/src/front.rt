@@ -17,7 +17,7 @@ pub struct Fronted<R> {
 }
 
 impl<R: Read> Fronted<R> {
-    /// Nothing came through it yet.
+    /// Creates a reader through which nothing came yet.
     pub fn new(reader: R) -> Self
         ensures reader { result.reader ≡ reader }
         ensures front { result.front.items ≡ [] }
@@ -28,7 +28,7 @@ impl<R: Read> Fronted<R> {
         }
     }
 
-    /// The first bytes that came, at most four.
+    /// Returns the first bytes that came, at most four.
     pub fn front(&self) -> &[u8]
         ensures { result.now ≡ self.now.front.items }
     {

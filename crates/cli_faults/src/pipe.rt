@@ -18,7 +18,7 @@ pub struct Output<'a, W> {
 }
 
 impl<'a, W: Write> Output<'a, W> {
-    /// The cell is to tell whether its reader went away.
+    /// Creates the writer, with a cell that is to say whether its reader went away.
     pub fn new(writer: W, is_closed: &'a Cell<bool>) -> Self
         ensures { result.writer ≡ writer }
     {
@@ -60,7 +60,7 @@ pub struct ErrorOutput<'a, E> {
 }
 
 impl<'a, E: Write> ErrorOutput<'a, E> {
-    /// The cell says whether the reader of standard output went away.
+    /// Creates the writer, with a cell that says whether the reader of standard output went away.
     pub fn new(writer: E, is_closed: &'a Cell<bool>) -> Self
         ensures { result.writer ≡ writer }
     {
@@ -83,7 +83,7 @@ impl<E: Write> Write for ErrorOutput<'_, E> {
     }
 }
 
-/// The exit status of a program that would end with this one.
+/// Returns the exit status of a program that would end with this one.
 pub fn exit_status(status: u8, is_closed: bool) -> u8
     ensures open { is_closed ≡ false → result ≡ status }
     ensures closed { is_closed ≡ true → result ≡ 141 }

@@ -18,7 +18,7 @@ pub struct Reading {
     pub lines: &'static str,
 }
 
-/// Tells what helps with a fault, in a line with the name of the program and the number of the user's line.
+/// Reports what helps with a fault, in a line with the name of the program and the number of the user's line.
 fn help<E: Write>(reading: Reading, front: &[u8], fault: CaptureFault, error_writer: &mut E) {
     let Reading {
         program,
@@ -42,8 +42,8 @@ fn help<E: Write>(reading: Reading, front: &[u8], fault: CaptureFault, error_wri
     }
 }
 
-/// The exit status of an outcome, whose fault is reported in its line, and after that in one that helps, where a
-/// line is at fault or the input is a file of captured frames, of which the first four bytes are given.
+/// Returns the exit status of an outcome, whose fault is reported in its line, and after that in one that helps, where
+/// a line is at fault or the input is a file of captured frames, of which the first four bytes are given.
 pub fn finish_reading<E: Write>(
     reading: Reading,
     front: &[u8],

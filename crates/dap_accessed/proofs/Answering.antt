@@ -42,7 +42,7 @@ use Rattle.std.specs.List.{prefix_len, AllByRecursion}
 use Rattle.std.proofs.lemmas.List.Sums.{take_while-cons}
 use Rattle.dap_msg.specs.BothEnds.{message_limit}
 use Rattle.dap_accessed.specs.Standing.{Files, enters}
-use Rattle.dap_accessed.specs.Standing.{index_by, file_at, the_file, Place, Fresh, Ready, Opened, Connected, Store, Stopped, Group, Standing, Scene, Effect}
+use Rattle.dap_accessed.specs.Standing.{index_by, file_at, the_file, ServerState, Fresh, Ready, Opened, Connected, Store, Stopped, Group, Standing, Scene, Effect}
 use Rattle.dap_accessed.specs.Past.{asked_shape, kept_attributes, is_dropping, ordinal_so_far, next_ordinal}
 use Rattle.dap_accessed.specs.Replies.{bare_status, reason_status, sync_status, reason_of, refusal_status, done_status, record_status, too_large, completed, org_number, format_number, opened_with}
 use Rattle.dap_accessed.specs.Accesses.{permitted, rights_to_create, rights_to_open, make_file, open_file, create_file, access_file, end_stream, complete}
@@ -54,7 +54,7 @@ use Rattle.dap_accessed.specs.Groups.{Answers, stands_after, added}
 use Rattle.dap_accessed.specs.Sound.{AreFiles, IsOpenAt, IsSound}
 use Rattle.dap_accessed.proofs.Kept.{both}
 use Rattle.dap_accessed.proofs.SoundTables.{AllFiles, file-there}
-use Rattle.dap_accessed.proofs.SoundGroups.{Good, good-shape, place-within}
+use Rattle.dap_accessed.proofs.SoundGroups.{Good, good-shape, index-within}
 use Rattle.dap_accessed.proofs.SoundLists.{all-sound}
 use Rattle.dap_accessed.proofs.Writing.{org_small, format_small}
 
@@ -102,11 +102,11 @@ module _ (limit : ℕ) (least : min_buffer ≤ limit) where
   replying (Err r) = refusing r [] (lit≤ tt)
 
   out : (m : Message) → type_of m < 256 → IsSendable limit (sync_status m)
-  out m h = bare (codes.out_of_place (type_of m)) (omega (arith, h))
+  out m h = bare (codes.out_of_sequence (type_of m)) (omega (arith, h))
 
-  misplaced : (verb : Verb) → IsSendable limit (control_status verb)
-  misplaced verbs.Unknown = bare 0x2100 (lit< tt)
-  misplaced verb = bare (codes.out_of_place codes.types.control) (lit< tt)
+  out_of_order_sends : (verb : Verb) → IsSendable limit (control_status verb)
+  out_of_order_sends verbs.Unknown = bare 0x2100 (lit< tt)
+  out_of_order_sends verb = bare (codes.out_of_sequence codes.types.control) (lit< tt)
 
   malformed : (n : ℕ) → IsSendable limit (bare_status (codes.status_code_for n))
   malformed n = bare (codes.status_code_for n) (code_small n)
@@ -172,22 +172,22 @@ module _ (own : ServerSetup) (small_own : FieldsFit (Config own.identity)) (scen
   accessing : (a : AccessFields) (shape : Option Shape) → Good shape → Sends (access_file own scene a shape)
   accessing a shape g =
       let found = index_by own.names a.name scene.files in
-      either (a.func == codes.accfunc.opening) _ _ (opening a.fac found (place-within own.names a.name scene.files))
+      either (a.func == codes.accfunc.opening) _ _ (opening a.fac found (index-within own.names a.name scene.files))
       (either (a.func == codes.accfunc.creating) _ _ (creating a.name a.fac found shape g) (bare scene.limit least 0x20C0 (lit< tt), tt))
 
-  ending-sends : (o : OpenFile) (place : Place) → Sends (end_stream scene o place)
-  ending-sends o (Opened p) = (bare scene.limit least (codes.out_of_place codes.types.accomp) (lit< tt), tt)
+  ending-sends : (o : OpenFile) (state : ServerState) → Sends (end_stream scene o state)
+  ending-sends o (Opened p) = (bare scene.limit least (codes.out_of_sequence codes.types.accomp) (lit< tt), tt)
   ending-sends o Fresh = (ended scene.limit least, tt)
   ending-sends o Ready = (ended scene.limit least, tt)
   ending-sends o (Connected p s) = (ended scene.limit least, tt)
   ending-sends o (Store p s) = (ended scene.limit least, tt)
   ending-sends o (Stopped p s) = (ended scene.limit least, tt)
 
-  completing-sends : (func : ℕ) (o : OpenFile) (place : Place) → Sends (complete func scene o place)
-  completing-sends func o place =
+  completing-sends : (func : ℕ) (o : OpenFile) (state : ServerState) → Sends (complete func scene o state)
+  completing-sends func o state =
       either (func == codes.cmpfunc.close) _ _ (ended scene.limit least, tt)
       (either (func == codes.cmpfunc.purge) _ _ (ended scene.limit least, tt)
-      (either (func == codes.cmpfunc.end_of_stream) _ _ (ending-sends o place)
+      (either (func == codes.cmpfunc.end_of_stream) _ _ (ending-sends o state)
       (either (func == codes.cmpfunc.skip) _ _ (bare scene.limit least 0x21C0 (lit< tt), tt) (bare scene.limit least 0x91C0 (lit< tt), tt))))
 
   -- ---- Records.
@@ -252,11 +252,11 @@ module _ (own : ServerSetup) (small_own : FieldsFit (Config own.identity)) (scen
     resuming : (func : ℕ) (s : StreamVal) → Sends (continue_store func scene o s)
     resuming func s = resumed (func == codes.confunc.skip) func
 
-    -- ---- The places.
+    -- ---- The states.
 
     opened-control : (verb : Verb) → Sends (control_opened verb scene o)
     opened-control verbs.Connect = (short scene.limit least Ack answers_fit.ack, tt)
-    opened-control verb = (misplaced scene.limit least verb, tt)
+    opened-control verb = (out_of_order_sends scene.limit least verb, tt)
 
     connected-control : (verb : Verb) (s : StreamVal) (c : ControlFields) → SendsIn (control_connected verb scene o s c)
     connected-control verbs.Get s c = picked (get_pick (the_file scene.files o) s c) s
@@ -266,7 +266,7 @@ module _ (own : ServerSetup) (small_own : FieldsFit (Config own.identity)) (scen
     connected-control verbs.Store s c = tt
     connected-control verbs.Delete s c = (replying scene.limit least (act delete_record (the_file scene.files o) s).reply, tt)
     connected-control verbs.Rewind s c = (bare scene.limit least 0x1000 (lit< tt), tt)
-    connected-control verb s c = (misplaced scene.limit least verb, tt)
+    connected-control verb s c = (out_of_order_sends scene.limit least verb, tt)
 
     with-second : (change : Change) (s : StreamVal) (item : Item) → HasShortType item → Sends (effect_with change scene o s item)
     with-second change s (Malformed fault) h = (malformed scene.limit least fault.message_type, tt)
@@ -277,7 +277,7 @@ module _ (own : ServerSetup) (small_own : FieldsFit (Config own.identity)) (scen
   configuring true bufsiz = (bare scene.limit least 0x9040 (lit< tt), tt)
   configuring false bufsiz = (short scene.limit least _ (answers_fit.identity own.identity small_own), tt)
 
-  of-message : (past : List Group) (place : Place) → IsOpenAt scene.files place → (m : Message) → type_of m < 256 → SendsIn (turn_in own scene past place m)
+  of-message : (past : List Group) (state : ServerState) → IsOpenAt scene.files state → (m : Message) → type_of m < 256 → SendsIn (turn_in own scene past state m)
   of-message past Fresh h (Config c) t = configuring (is_too_small c.bufsiz) c.bufsiz
   of-message past Fresh h (Other _ _) t = tt
   of-message past Fresh h m t = (out scene.limit least m t, tt)
@@ -291,19 +291,19 @@ module _ (own : ServerSetup) (small_own : FieldsFit (Config own.identity)) (scen
   of-message past (Connected o s) h (Control c) t = connected-control o h (verb_of c) s c
   of-message past (Connected o s) h (Accomp c) t = completing-sends c.func o (Connected o s)
   of-message past (Connected o s) h m t = (out scene.limit least m t, tt)
-  of-message past (Store o s) h (Control c) t = (misplaced scene.limit least (verb_of c), tt)
+  of-message past (Store o s) h (Control c) t = (out_of_order_sends scene.limit least (verb_of c), tt)
   of-message past (Store o s) h (Filedata r body) t = either (is_dropping past) _ _ tt (storing o h (ordinal_so_far past) s body)
-  of-message past (Store o s) h (Contran func) t = either (is_dropping past) _ _ (resuming o h func s) (bare scene.limit least (codes.out_of_place codes.types.contran) (lit< tt), tt)
+  of-message past (Store o s) h (Contran func) t = either (is_dropping past) _ _ (resuming o h func s) (bare scene.limit least (codes.out_of_sequence codes.types.contran) (lit< tt), tt)
   of-message past (Store o s) h (Accomp c) t = completing-sends c.func o (Store o s)
   of-message past (Store o s) h m t = (out scene.limit least m t, tt)
-  of-message past (Stopped o s) h (Control c) t = (misplaced scene.limit least (verb_of c), tt)
+  of-message past (Stopped o s) h (Control c) t = (out_of_order_sends scene.limit least (verb_of c), tt)
   of-message past (Stopped o s) h (Contran func) t = continuing o h func s
   of-message past (Stopped o s) h (Accomp c) t = completing-sends c.func o (Stopped o s)
   of-message past (Stopped o s) h m t = (out scene.limit least m t, tt)
 
-  of-item : (past : List Group) (place : Place) → IsOpenAt scene.files place → (item : Item) → HasShortType item → SendsIn (turn_of own (record { scene = scene; place = place; past = past }) item)
-  of-item past place h (Malformed fault) t = (malformed scene.limit least fault.message_type, tt)
-  of-item past place h (Whole m) t = of-message past place h m t
+  of-item : (past : List Group) (state : ServerState) → IsOpenAt scene.files state → (item : Item) → HasShortType item → SendsIn (turn_of own (record { scene = scene; state = state; past = past }) item)
+  of-item past state h (Malformed fault) t = (malformed scene.limit least fault.message_type, tt)
+  of-item past state h (Whole m) t = of-message past state h m t
 
 -- ---- One item more, and every list of items.
 
@@ -311,7 +311,7 @@ module _ (own : ServerSetup) (small : FieldsFit (Config own.identity)) (first : 
   one-sends : (s : Standing) (b : Option Begun) (item : Item) → IsSound (record { standing = s; begun = b }) → HasShortType item → AreSendable s.scene.limit (answers_after own s b item)
   one-sends s None item h t =
       let h = h.standing in
-      of-item own small s.scene h.files.files h.least s.past s.place h.opened item t
+      of-item own small s.scene h.files.files h.least s.past s.state h.opened item t
   one-sends s (Some b) item h t = with-second own small s.scene h.standing.files.files h.standing.least b.opened h.begun b.change b.stream item t
 
   -- what one item more adds may be sent

@@ -22,12 +22,12 @@ use Rattle.dap_accessed.specs.declared.verbs.Verb.{Verb}
 use Rattle.dap_accessed.specs.declared.verbs.Verb.TheVariants as verbs
 use Rattle.dap_accessed.specs.Setup.{lacks, same_name}
 use Rattle.dap_accessed.specs.Replies.{bare_status}
-use Rattle.dap_accessed.specs.Standing.{Files, new_file, index_by, with_file, the_file, Place, Fresh, Ready, Opened, Connected, Store, Stopped, Group, Standing, Scene, Effect, start, enters}
+use Rattle.dap_accessed.specs.Standing.{Files, new_file, index_by, with_file, the_file, ServerState, Fresh, Ready, Opened, Connected, Store, Stopped, Group, Standing, Scene, Effect, start, enters}
 use Rattle.dap_accessed.specs.Past.{asked_shape, kept_attributes, is_dropping, ordinal_so_far}
 use Rattle.dap_accessed.specs.Accesses.{rights_to_create, rights_to_open, make_file, open_file, create_file, access_file, end_stream, complete}
 use Rattle.dap_accessed.specs.Records.{at_number, verb_of, get_pick, got, record_got, Change, Putting, Updating, changed, fits_limit}
 use Rattle.dap_accessed.specs.Transfers.{fetch, fetch_ends, continue_fetch}
-use Rattle.dap_accessed.specs.Effects.{Begun, Turn, Does, Begins, control_opened, control_connected, turn_in, turn_of, effect_with}
+use Rattle.dap_accessed.specs.Effects.{Begun, Turn, Does, BeginsGroup, control_opened, control_connected, turn_in, turn_of, effect_with}
 use Rattle.dap_accessed.specs.Groups.{Grouped, After, stands_after, next_group, more_after}
 use Rattle.dap_accessed.specs.Apart.{NamesAreApart}
 use Rattle.dap_accessed.proofs.Cuts.{cut-more}
@@ -48,7 +48,7 @@ module _ (own : ServerSetup) where
     -- an item that begins a group does nothing yet
     abbrev LeavesBy : Turn → Type 0
     LeavesBy (Does e) = Leaves e
-    LeavesBy (Begins b) = Unit {0}
+    LeavesBy (BeginsGroup b) = Unit {0}
 
     stays : Keeps scene.files scene.files
     stays h = h
@@ -85,7 +85,7 @@ module _ (own : ServerSetup) where
     purging o true h = distinct-without same scene.files o.at h
     purging o false h = h
 
-    ended : (o : OpenFile) (place : Place) → Leaves (end_stream scene o place)
+    ended : (o : OpenFile) (state : ServerState) → Leaves (end_stream scene o state)
     ended o Fresh = stays
     ended o Ready = stays
     ended o (Opened p) = stays
@@ -93,11 +93,11 @@ module _ (own : ServerSetup) where
     ended o (Store p s) = stays
     ended o (Stopped p s) = stays
 
-    completed : (func : ℕ) (o : OpenFile) (place : Place) → Leaves (complete func scene o place)
-    completed func o place =
+    completed : (func : ℕ) (o : OpenFile) (state : ServerState) → Leaves (complete func scene o state)
+    completed func o state =
         either (func == codes.cmpfunc.close) _ _ stays
         (either (func == codes.cmpfunc.purge) _ _ (purging o o.is_new)
-        (either (func == codes.cmpfunc.end_of_stream) _ _ (ended o place) (either (func == codes.cmpfunc.skip) _ _ stays stays)))
+        (either (func == codes.cmpfunc.end_of_stream) _ _ (ended o state) (either (func == codes.cmpfunc.skip) _ _ stays stays)))
 
     -- ---- Records and transfers.
 
@@ -129,7 +129,7 @@ module _ (own : ServerSetup) where
           either (func == codes.confunc.again) _ _ (fetching s)
           (either (func == codes.confunc.skip) _ _ (fetching (at_number (s.next + 1) s)) (either (func == codes.confunc.abort) _ _ stays stays))
 
-      -- ---- The places.
+      -- ---- The states.
 
       opened-control : (verb : Verb) → Leaves (control_opened verb scene o)
       opened-control verbs.Connect = stays
@@ -154,7 +154,7 @@ module _ (own : ServerSetup) where
     configuring true bufsiz = stays
     configuring false bufsiz = stays
 
-    of-message : (past : List Group) (place : Place) (m : Message) → LeavesBy (turn_in own scene past place m)
+    of-message : (past : List Group) (state : ServerState) (m : Message) → LeavesBy (turn_in own scene past state m)
     of-message past Fresh (Config c) = configuring (is_too_small c.bufsiz) c.bufsiz
     of-message past Fresh m = stays
     of-message past Ready (Access a) = accessing a (asked_shape (kept_attributes past))
@@ -177,11 +177,11 @@ module _ (own : ServerSetup) where
 
   one-leaves : (s : Standing) (item : Item) → LeavesBy s.scene (turn_of own s item)
   one-leaves s (Malformed fault) = stays s.scene
-  one-leaves s (Whole m) = of-message s.scene s.past s.place m
+  one-leaves s (Whole m) = of-message s.scene s.past s.state m
 
   next-leaves : (s : Standing) (item : Item) (t : Turn) → LeavesBy s.scene t → Keeps s.scene.files (next_group s item t).standing.scene.files
   next-leaves s item (Does e) h = h
-  next-leaves s item (Begins b) h = stays s.scene
+  next-leaves s item (BeginsGroup b) h = stays s.scene
 
   more-leaves : (s : Standing) (b : Option Begun) (item : Item) → Keeps s.scene.files (more_after own s b item).standing.scene.files
   more-leaves s None item = next-leaves s item (turn_of own s item) (one-leaves s item)

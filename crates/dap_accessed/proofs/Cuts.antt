@@ -7,7 +7,7 @@ use Rattle.std.proofs.lemmas.List.{append-nil}
 use Rattle.dap_msg.specs.declared.message.Message.{Message}
 use Rattle.dap_msg.specs.declared.items.Item.{Item}
 use Rattle.dap_accessed.specs.Standing.{Files, Standing, start}
-use Rattle.dap_accessed.specs.Effects.{Begun, Turn, Does, Begins, turn_of}
+use Rattle.dap_accessed.specs.Effects.{Begun, Turn, Does, BeginsGroup, turn_of}
 use Rattle.dap_accessed.specs.Groups.{Grouped, over, after_two, grouped, stands_after, added, answers_in, Answers, after_item, next_group, more_after, next_answers, answers_after, answers_of}
 use Rattle.dap_accessed.specs.Present.{present_of}
 
@@ -15,22 +15,22 @@ pub cut-more : (own : ServerSetup) (s : Standing) (items : List Item) (item : It
 cut-more own s [] item = refl
 cut-more own s (first ∷ []) item =
     elim (turn_of own s first) as (λ (t : Turn).
-    ◌≡◌ {A = Grouped} (elim t [ Does effect ↦ grouped own (over s s.place first effect) (item ∷ []) | Begins begun ↦ grouped own (after_two s begun item) [] ])
-    (after_item own (elim t [ Does effect ↦ record { standing = over s s.place first effect; begun = None } | Begins begun ↦ record { standing = s; begun = Some begun } ]) item)) [
+    ◌≡◌ {A = Grouped} (elim t [ Does effect ↦ grouped own (over s s.state first effect) (item ∷ []) | BeginsGroup begun ↦ grouped own (after_two s begun item) [] ])
+    (after_item own (elim t [ Does effect ↦ record { standing = over s s.state first effect; begun = None } | BeginsGroup begun ↦ record { standing = s; begun = Some begun } ]) item)) [
       | Does effect ↦ refl
-      | Begins begun ↦ refl
+      | BeginsGroup begun ↦ refl
     ]
 cut-more own s (first ∷ second ∷ items) item =
     elim (turn_of own s first) as (λ (t : Turn).
-    ◌≡◌ {A = Grouped} (elim t [ Does effect ↦ grouped own (over s s.place first effect) (second ∷ (items ++ item ∷ [])) | Begins begun ↦ grouped own (after_two s begun second) (items ++ item ∷ []) ])
-    (after_item own (elim t [ Does effect ↦ grouped own (over s s.place first effect) (second ∷ items) | Begins begun ↦ grouped own (after_two s begun second) items ]) item)) [
-      | Does effect ↦ cut-more own (over s s.place first effect) (second ∷ items) item
-      | Begins begun ↦ cut-more own (after_two s begun second) items item
+    ◌≡◌ {A = Grouped} (elim t [ Does effect ↦ grouped own (over s s.state first effect) (second ∷ (items ++ item ∷ [])) | BeginsGroup begun ↦ grouped own (after_two s begun second) (items ++ item ∷ []) ])
+    (after_item own (elim t [ Does effect ↦ grouped own (over s s.state first effect) (second ∷ items) | BeginsGroup begun ↦ grouped own (after_two s begun second) items ]) item)) [
+      | Does effect ↦ cut-more own (over s s.state first effect) (second ∷ items) item
+      | BeginsGroup begun ↦ cut-more own (after_two s begun second) items item
     ]
 
 next_answers-more : (s : Standing) (item : Item) (t : Turn) → answers_in (next_group s item t).standing.past ≡ answers_in s.past ++ next_answers t
 next_answers-more s item (Does effect) = refl
-next_answers-more s item (Begins begun) = sym (append-nil (answers_in s.past))
+next_answers-more s item (BeginsGroup begun) = sym (append-nil (answers_in s.past))
 
 -- the answers after an item are those before and its own
 pub answers_after-more : (own : ServerSetup) (s : Standing) (b : Option Begun) (item : Item) → answers_in (more_after own s b item).standing.past ≡ answers_in s.past ++ answers_after own s b item

@@ -22,7 +22,7 @@ name_of name = name.items
 abbrev pub view : Entry → List ℕ × FileVal
 view = view_by name_of any_value
 
--- the entry at the place has another file
+-- the entry at the index has another file
 module _ (es : List Entry) (at : ℕ) (old_file file : AnyFile) (files : Files) (seen : map view es ≡ files) (within : at < length files) (found : slice_get (values_of es) at ≡ Some old_file) where
   abbrev table : Files
   table = map view (set_value_at es at file)

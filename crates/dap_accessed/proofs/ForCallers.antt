@@ -11,8 +11,8 @@ pub use Rattle.dap_accessed.proofs.SoundLists.{all-sound}
 pub use Rattle.dap_accessed.proofs.SoundTables.{AllFiles, file-there, no-files}
 -- the shape that attributes ask for is one that the check gives
 pub use Rattle.dap_accessed.proofs.SoundGroups.{good-shape}
--- the place of a name is within the table
-pub use Rattle.dap_accessed.proofs.SoundGroups.{place-within}
+-- the index of a name is within the table
+pub use Rattle.dap_accessed.proofs.SoundGroups.{index-within}
 -- each answer to one message more has a spelling that the peer takes
 pub use Rattle.dap_accessed.proofs.Answering.{HasShortType, added-sends}
 -- before a Config the answers don't depend on the files, and the end stood so after each front of the items too

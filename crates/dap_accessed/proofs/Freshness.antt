@@ -8,34 +8,34 @@ use Rattle.dap_msg.specs.declared.items.Item.TheVariants.{Whole, Malformed}
 use Rattle.rec_file.specs.Acts.{StreamVal}
 use Rattle.dap_accessed.specs.declared.phase.OpenFile.{OpenFile}
 use Rattle.dap_accessed.specs.declared.phase.Phase.TheVariants as phases
-use Rattle.dap_accessed.specs.Standing.{Files, Place, Standing, Fresh, Ready, Opened, Connected, Store, Stopped, start}
+use Rattle.dap_accessed.specs.Standing.{Files, ServerState, Standing, Fresh, Ready, Opened, Connected, Store, Stopped, start}
 use Rattle.dap_accessed.specs.Present.{Memory, looked_back, Present, phase_at, phase_within, phase_of}
 use Rattle.dap_accessed.specs.Records.{Change, Putting, Updating}
-use Rattle.dap_accessed.specs.Effects.{Begun, Turn, Does, Begins, turn_of}
+use Rattle.dap_accessed.specs.Effects.{Begun, Turn, Does, BeginsGroup, turn_of}
 use Rattle.dap_accessed.specs.Groups.{Grouped, stands_after, next_group, more_after}
 use Rattle.dap_accessed.specs.Adding.{IsFresh, IsLate}
 use Rattle.dap_accessed.proofs.Cuts.{cut-more}
 
--- ---- The phase tells the place.
+-- ---- The phase tells the state.
 
 store-late : (d : Bool) (o : OpenFile) (s : StreamVal) (n : ℕ) → (if d then phases.Dropping o s n else phases.Storing o s n) ≡ phases.Fresh → ⊥
 store-late true o s n e = cc
 store-late false o s n e = cc
 
-place-fresh : (place : Place) (memory : Memory) → phase_at place memory ≡ phases.Fresh → place ≡ Fresh
-place-fresh Fresh memory e = refl
-place-fresh Ready memory e = cc
-place-fresh (Opened o) memory e = cc
-place-fresh (Connected o s) memory e = cc
-place-fresh (Store o s) memory e = absurd (store-late memory.dropping o s memory.ordinal e)
-place-fresh (Stopped o s) memory e = cc
+state-fresh : (state : ServerState) (memory : Memory) → phase_at state memory ≡ phases.Fresh → state ≡ Fresh
+state-fresh Fresh memory e = refl
+state-fresh Ready memory e = cc
+state-fresh (Opened o) memory e = cc
+state-fresh (Connected o s) memory e = cc
+state-fresh (Store o s) memory e = absurd (store-late memory.dropping o s memory.ordinal e)
+state-fresh (Stopped o s) memory e = cc
 
 within-late : (change : Change) (o : OpenFile) (s : StreamVal) → phase_within change o s ≡ phases.Fresh → ⊥
 within-late (Putting key) o s e = cc
 within-late Updating o s e = cc
 
-group-fresh : (s : Standing) (b : Option Begun) → phase_of s b ≡ phases.Fresh → s.place ≡ Fresh
-group-fresh s None e = place-fresh s.place (looked_back s.place s.past) e
+group-fresh : (s : Standing) (b : Option Begun) → phase_of s b ≡ phases.Fresh → s.state ≡ Fresh
+group-fresh s None e = state-fresh s.state (looked_back s.state s.past) e
 group-fresh s (Some b) e = absurd (within-late b.change b.opened b.stream e)
 
 pub is-fresh : (p : Present) → p.phase ≡ phases.Fresh → IsFresh p
@@ -44,16 +44,16 @@ is-fresh p e = record { is = λ first items h. (let c = stands_after p.setup fir
 -- ---- Before a Config no group is begun.
 
 abbrev IsWhole : Grouped → Type 0
-IsWhole c = c.standing.place ≡ Fresh → c.begun ≡ None
+IsWhole c = c.standing.state ≡ Fresh → c.begun ≡ None
 
-does : (own : ServerSetup) (s : Standing) (item : Item) (begun : Begun) → turn_of own (record s { place = Fresh }) item ≡ Begins begun → ⊥
+does : (own : ServerSetup) (s : Standing) (item : Item) (begun : Begun) → turn_of own (record s { state = Fresh }) item ≡ BeginsGroup begun → ⊥
 does own s (Malformed fault) begun e = cc
 does own s (Whole message) begun e = cc
 
 whole-by : (own : ServerSetup) (s : Standing) (item : Item) (t : Turn) → turn_of own s item ≡ t → IsWhole (next_group s item t)
 whole-by own s item (Does effect) e = λ at. refl
-whole-by own s item (Begins begun) e = λ at.
-    absurd (does own s item begun (ap (λ (p : Place). turn_of own (record s { place = p }) item) (sym at) ∙ e))
+whole-by own s item (BeginsGroup begun) e = λ at.
+    absurd (does own s item begun (ap (λ (p : ServerState). turn_of own (record s { state = p }) item) (sym at) ∙ e))
 
 whole-one : (own : ServerSetup) (s : Standing) (b : Option Begun) (item : Item) → IsWhole (more_after own s b item)
 whole-one own s None item = whole-by own s item (turn_of own s item) refl
@@ -66,7 +66,7 @@ whole-on own first before (item ∷ more) h =
     let one : IsWhole (stands_after own first (before ++ item ∷ [])) = subst IsWhole (sym (cut-more own (start first) before item)) (whole-one own c.standing c.begun item) in
     subst (λ (l : List Item). IsWhole (stands_after own first l)) (append_assoc before (item ∷ []) more) (whole-on own first (before ++ item ∷ []) more one)
 
-fresh-phase : (s : Standing) (b : Option Begun) → s.place ≡ Fresh → b ≡ None → phase_of s b ≡ phases.Fresh
+fresh-phase : (s : Standing) (b : Option Begun) → s.state ≡ Fresh → b ≡ None → phase_of s b ≡ phases.Fresh
 fresh-phase s b at none = rw (none, at) refl
 
 pub is-late : (p : Present) → (p.phase ≡ phases.Fresh → ⊥) → IsLate p

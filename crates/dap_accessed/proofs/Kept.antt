@@ -6,7 +6,7 @@ use Rattle.std.specs.FinMap.{get}
 use Rattle.rec_file.specs.declared.refusals.Refusal.{Refusal}
 use Rattle.rec_file.specs.Shapes.{is_seq, max_number, allows_length}
 use Rattle.rec_file.specs.Files.{FileVal, IsFile, highest_of}
-use Rattle.rec_file.specs.Acts.{Operation, get_record, put_record, update_record, delete_record, StreamVal, out_of_range, is_free_number, current_of, keeps_length, free_place, refusals_of, first_refusal, target_number, effect_of, outcome_of, act}
+use Rattle.rec_file.specs.Acts.{Operation, get_record, put_record, update_record, delete_record, StreamVal, out_of_range, is_free_number, current_of, keeps_length, free_number, refusals_of, first_refusal, target_number, effect_of, outcome_of, act}
 use Rattle.rec_file.proofs.ForCallers.{IsFile-placed, IsFile-replaced, IsFile-removed}
 
 pub passed : (b : Bool) (r : Refusal) (rest : Option Refusal) → (if b then Some r else rest) ≡ None → (b ≡ false) × (rest ≡ None)
@@ -57,9 +57,9 @@ after-keeps (get_record pick) file stream h e = h
 after-keeps (put_record None body) file stream h e =
     let p = passed (not stream.rights.put) _ _ e in
     let q = passed (not (allows_length file.shape (length body))) _ _ p.1 in
-    let r = passed (out_of_range file.shape (free_place file stream)) _ _ q.1 in
-    let range = in_range file (free_place file stream) r.0 in
-    IsFile-placed file (free_place file stream) body h range.0 range.1
+    let r = passed (out_of_range file.shape (free_number file stream)) _ _ q.1 in
+    let range = in_range file (free_number file stream) r.0 in
+    IsFile-placed file (free_number file stream) body h range.0 range.1
     (λ seq. ap (λ b. if b then highest_of file.records + 1 else stream.next) seq)
     (un_not (allows_length file.shape (length body)) q.0)
 after-keeps (put_record (Some n) body) file stream h e =

@@ -22,28 +22,28 @@ use Rattle.rec_file.specs.Acts.{StreamVal, act, get_record}
 use Rattle.dap_accessed.specs.declared.phase.OpenFile.{OpenFile}
 use Rattle.dap_accessed.specs.declared.verbs.Verb.{Verb}
 use Rattle.dap_accessed.specs.declared.verbs.Verb.TheVariants as verbs
-use Rattle.dap_accessed.specs.Standing.{Files, index_by, the_file, Place, Fresh, Ready, Opened, Connected, Store, Stopped, Group, Standing, Scene, Effect, start, enters}
+use Rattle.dap_accessed.specs.Standing.{Files, index_by, the_file, ServerState, Fresh, Ready, Opened, Connected, Store, Stopped, Group, Standing, Scene, Effect, start, enters}
 use Rattle.dap_accessed.specs.Past.{asked_shape, kept_attributes, is_dropping, ordinal_so_far}
 use Rattle.dap_accessed.specs.Replies.{bare_status, too_large}
 use Rattle.dap_accessed.specs.Accesses.{permitted, rights_to_create, rights_to_open, make_file, open_file, create_file, access_file, end_stream, complete}
 use Rattle.dap_accessed.specs.Records.{verb_of, get_pick, got, record_got, at_number, filedata_of, fits_limit, uncurrent, Change, Putting, Updating, changed}
 use Rattle.dap_accessed.specs.Transfers.{fetch, fetch_ends, continue_fetch}
-use Rattle.dap_accessed.specs.Effects.{Begun, Turn, Does, Begins, control_opened, control_connected, turn_in, turn_of, effect_with}
+use Rattle.dap_accessed.specs.Effects.{Begun, Turn, Does, BeginsGroup, control_opened, control_connected, turn_in, turn_of, effect_with}
 use Rattle.dap_accessed.specs.Groups.{Grouped, stands_after, next_group, more_after}
 use Rattle.dap_accessed.specs.Present.{Present, present_of, StandsAfter}
 use Rattle.dap_accessed.specs.Adding.{IsFresh}
 use Rattle.dap_accessed.proofs.Cuts.{cut-more}
 
-abbrev is_late : Place → Bool
+abbrev is_late : ServerState → Bool
 is_late Fresh = false
 is_late _ = true
 
 abbrev Late : Effect → Type 0
-Late e = is_late e.place ≡ true
+Late e = is_late e.state ≡ true
 
 abbrev LateTurn : Turn → Type 0
 LateTurn (Does e) = Late e
-LateTurn (Begins b) = Unit {0}
+LateTurn (BeginsGroup b) = Unit {0}
 
 module _ (scene : Scene) where
   either : (b : Bool) (one two : Effect) → Late one → Late two → Late (if b then one else two)
@@ -68,7 +68,7 @@ module _ (scene : Scene) where
       either (a.func == codes.accfunc.opening) _ _ (opening own a.fac found)
       (either (a.func == codes.accfunc.creating) _ _ (creating own a.name a.fac found shape) refl)
 
-  ended : (o : OpenFile) (place : Place) → Late (end_stream scene o place)
+  ended : (o : OpenFile) (state : ServerState) → Late (end_stream scene o state)
   ended o (Opened p) = refl
   ended o Fresh = refl
   ended o Ready = refl
@@ -76,11 +76,11 @@ module _ (scene : Scene) where
   ended o (Store p s) = refl
   ended o (Stopped p s) = refl
 
-  completing : (func : ℕ) (o : OpenFile) (place : Place) → is_late place ≡ true → Late (complete func scene o place)
-  completing func o place h =
+  completing : (func : ℕ) (o : OpenFile) (state : ServerState) → is_late state ≡ true → Late (complete func scene o state)
+  completing func o state h =
       either (func == codes.cmpfunc.close) _ _ refl
       (either (func == codes.cmpfunc.purge) _ _ refl
-      (either (func == codes.cmpfunc.end_of_stream) _ _ (ended o place) (either (func == codes.cmpfunc.skip) _ _ h h)))
+      (either (func == codes.cmpfunc.end_of_stream) _ _ (ended o state) (either (func == codes.cmpfunc.skip) _ _ h h)))
 
   module _ (o : OpenFile) where
     getting : (reply : Result ℕ Refusal) (before after : StreamVal) → Late (got reply scene o before after)
@@ -131,7 +131,7 @@ module _ (scene : Scene) where
     with-second change s (Whole (Filedata r body)) = second change s body
     with-second change s (Whole message) = refl
 
-  of-message : (own : ServerSetup) (past : List Group) (place : Place) → is_late place ≡ true → (m : Message) → LateTurn (turn_in own scene past place m)
+  of-message : (own : ServerSetup) (past : List Group) (state : ServerState) → is_late state ≡ true → (m : Message) → LateTurn (turn_in own scene past state m)
   of-message own past Fresh h m = cc
   of-message own past Ready h (Access a) = accessing own a (asked_shape (kept_attributes past))
   of-message own past Ready h m = refl
@@ -149,21 +149,21 @@ module _ (scene : Scene) where
   of-message own past (Stopped o s) h (Accomp c) = completing c.func o (Stopped o s) refl
   of-message own past (Stopped o s) h m = refl
 
-  pub of-item : (own : ServerSetup) (past : List Group) (place : Place) → is_late place ≡ true → (item : Item) → LateTurn (turn_of own (record { scene = scene; place = place; past = past }) item)
-  of-item own past place h (Malformed fault) = h
-  of-item own past place h (Whole m) = of-message own past place h m
+  pub of-item : (own : ServerSetup) (past : List Group) (state : ServerState) → is_late state ≡ true → (item : Item) → LateTurn (turn_of own (record { scene = scene; state = state; past = past }) item)
+  of-item own past state h (Malformed fault) = h
+  of-item own past state h (Whole m) = of-message own past state h m
 
 -- ---- Every list of items.
 
 abbrev LateThen : Grouped → Type 0
-LateThen c = is_late c.standing.place ≡ true
+LateThen c = is_late c.standing.state ≡ true
 
-next-late : (s : Standing) (item : Item) (t : Turn) → is_late s.place ≡ true → LateTurn t → LateThen (next_group s item t)
+next-late : (s : Standing) (item : Item) (t : Turn) → is_late s.state ≡ true → LateTurn t → LateThen (next_group s item t)
 next-late s item (Does e) h late = late
-next-late s item (Begins b) h late = h
+next-late s item (BeginsGroup b) h late = h
 
-more-late : (own : ServerSetup) (s : Standing) (b : Option Begun) (item : Item) → is_late s.place ≡ true → LateThen (more_after own s b item)
-more-late own s None item h = next-late s item (turn_of own s item) h (of-item s.scene own s.past s.place h item)
+more-late : (own : ServerSetup) (s : Standing) (b : Option Begun) (item : Item) → is_late s.state ≡ true → LateThen (more_after own s b item)
+more-late own s None item h = next-late s item (turn_of own s item) h (of-item s.scene own s.past s.state h item)
 more-late own s (Some b) item h = with-second s.scene b.opened b.change b.stream item
 
 -- ---- Before the Config.
@@ -178,8 +178,8 @@ pub record IsOfAny (own : ServerSetup) (first : Files) (items : List Item) : Typ
   pub any : (other : Files) → stands_after own other items ≡ with_files other (stands_after own first items)
   pub whole : (stands_after own first items).begun ≡ None
 
--- the place is that before any Config
-fresh_of : (place : Place) → is_late place ≡ false → place ≡ Fresh
+-- the state is that before any Config
+fresh_of : (state : ServerState) → is_late state ≡ false → state ≡ Fresh
 fresh_of Fresh e = refl
 fresh_of Ready e = cc
 fresh_of (Opened o) e = cc
@@ -206,18 +206,18 @@ configuring : (own : ServerSetup) (s : Standing) (c : Message) (small : Bool) (l
 configuring own s c true limit refusal answers = (refl, λ other. refl)
 configuring own s c false limit refusal answers = (refl, λ other. refl)
 
-fresh_step : (own : ServerSetup) (s : Standing) (item : Item) → DoesAnyway own (record s { place = Fresh }) item
+fresh_step : (own : ServerSetup) (s : Standing) (item : Item) → DoesAnyway own (record s { state = Fresh }) item
 fresh_step own s (Malformed fault) = record { files = refl; any = λ other. refl; whole = refl }
 fresh_step own s (Whole (Config c)) =
-    let both = configuring own (record s { place = Fresh }) (Config c) (is_too_small c.bufsiz) (message_limit c.bufsiz) (bare_status (codes.invalid codes.types.config) ∷ []) (Config own.identity ∷ []) in
+    let both = configuring own (record s { state = Fresh }) (Config c) (is_too_small c.bufsiz) (message_limit c.bufsiz) (bare_status (codes.invalid codes.types.config) ∷ []) (Config own.identity ∷ []) in
     record { files = both.0; any = both.1; whole = refl }
 fresh_step own s (Whole (Other n body)) = record { files = refl; any = λ other. refl; whole = refl }
 fresh_step own s (Whole m) = record { files = refl; any = λ other. refl; whole = refl }
 
-one_step : (own : ServerSetup) (s : Standing) (item : Item) → s.place ≡ Fresh → DoesAnyway own s item
-one_step own s item e = subst (λ (p : Place). DoesAnyway own (record s { place = p }) item) (sym e) (fresh_step own s item)
+one_step : (own : ServerSetup) (s : Standing) (item : Item) → s.state ≡ Fresh → DoesAnyway own s item
+one_step own s item e = subst (λ (p : ServerState). DoesAnyway own (record s { state = p }) item) (sym e) (fresh_step own s item)
 
-of_one_more : (own : ServerSetup) (first : Files) (before : List Item) (item : Item) → IsOfAny own first before → (stands_after own first before).standing.place ≡ Fresh → IsOfAny own first (before ++ item ∷ [])
+of_one_more : (own : ServerSetup) (first : Files) (before : List Item) (item : Item) → IsOfAny own first before → (stands_after own first before).standing.state ≡ Fresh → IsOfAny own first (before ++ item ∷ [])
 of_one_more own first before item h fresh =
     let c = stands_after own first before in
     let d = one_step own c.standing item fresh in
@@ -234,37 +234,37 @@ of_one_more own first before item h fresh =
     }
 
 -- it was so before the last item
-was_fresh : (own : ServerSetup) (c : Grouped) (item : Item) (late : Bool) → is_late c.standing.place ≡ late → is_late (more_after own c.standing c.begun item).standing.place ≡ false → is_late c.standing.place ≡ false
+was_fresh : (own : ServerSetup) (c : Grouped) (item : Item) (late : Bool) → is_late c.standing.state ≡ late → is_late (more_after own c.standing c.begun item).standing.state ≡ false → is_late c.standing.state ≡ false
 was_fresh own c item true e fresh = let late = more-late own c.standing c.begun item e in cc
 was_fresh own c item false e fresh = e
 
-of_any_on : (own : ServerSetup) (first : Files) (before more : List Item) → (is_late (stands_after own first before).standing.place ≡ false → IsOfAny own first before)
-    → is_late (stands_after own first (before ++ more)).standing.place ≡ false → IsOfAny own first (before ++ more)
+of_any_on : (own : ServerSetup) (first : Files) (before more : List Item) → (is_late (stands_after own first before).standing.state ≡ false → IsOfAny own first before)
+    → is_late (stands_after own first (before ++ more)).standing.state ≡ false → IsOfAny own first (before ++ more)
 of_any_on own first before [] h e =
-    subst (IsOfAny own first) (sym (append-nil before)) (h (subst (λ (l : List Item). is_late (stands_after own first l).standing.place ≡ false) (append-nil before) e))
+    subst (IsOfAny own first) (sym (append-nil before)) (h (subst (λ (l : List Item). is_late (stands_after own first l).standing.state ≡ false) (append-nil before) e))
 of_any_on own first before (item ∷ more) h e =
     let c = stands_after own first before in
     let same = append_assoc before (item ∷ []) more in
-    let one : is_late (stands_after own first (before ++ item ∷ [])).standing.place ≡ false → IsOfAny own first (before ++ item ∷ []) = λ f.
-    let fresh = was_fresh own c item (is_late c.standing.place) refl (subst (λ (g : Grouped). is_late g.standing.place ≡ false) (cut-more own (start first) before item) f) in
-    of_one_more own first before item (h fresh) (fresh_of c.standing.place fresh) in
-    subst (IsOfAny own first) same (of_any_on own first (before ++ item ∷ []) more one (subst (λ (l : List Item). is_late (stands_after own first l).standing.place ≡ false) (sym same) e))
+    let one : is_late (stands_after own first (before ++ item ∷ [])).standing.state ≡ false → IsOfAny own first (before ++ item ∷ []) = λ f.
+    let fresh = was_fresh own c item (is_late c.standing.state) refl (subst (λ (g : Grouped). is_late g.standing.state ≡ false) (cut-more own (start first) before item) f) in
+    of_one_more own first before item (h fresh) (fresh_of c.standing.state fresh) in
+    subst (IsOfAny own first) same (of_any_on own first (before ++ item ∷ []) more one (subst (λ (l : List Item). is_late (stands_after own first l).standing.state ≡ false) (sym same) e))
 
 -- before a Config the files are those at first, and an end with other files at first would stand so too
-pub of_any : (own : ServerSetup) (first : Files) (items : List Item) → (stands_after own first items).standing.place ≡ Fresh → IsOfAny own first items
+pub of_any : (own : ServerSetup) (first : Files) (items : List Item) → (stands_after own first items).standing.state ≡ Fresh → IsOfAny own first items
 of_any own first items fresh =
     of_any_on own first [] items (λ e. record { files = refl; any = λ other. refl; whole = refl }) (ap is_late fresh)
 
 -- and it stood there after each front of these items
-front_on : (own : ServerSetup) (first : Files) (before more : List Item) → is_late (stands_after own first (before ++ more)).standing.place ≡ false → is_late (stands_after own first before).standing.place ≡ false
-front_on own first before [] e = subst (λ (l : List Item). is_late (stands_after own first l).standing.place ≡ false) (append-nil before) e
+front_on : (own : ServerSetup) (first : Files) (before more : List Item) → is_late (stands_after own first (before ++ more)).standing.state ≡ false → is_late (stands_after own first before).standing.state ≡ false
+front_on own first before [] e = subst (λ (l : List Item). is_late (stands_after own first l).standing.state ≡ false) (append-nil before) e
 front_on own first before (item ∷ more) e =
     let c = stands_after own first before in
-    let later = front_on own first (before ++ item ∷ []) more (subst (λ (l : List Item). is_late (stands_after own first l).standing.place ≡ false) (sym (append_assoc before (item ∷ []) more)) e) in
-    was_fresh own c item (is_late c.standing.place) refl (subst (λ (g : Grouped). is_late g.standing.place ≡ false) (cut-more own (start first) before item) later)
+    let later = front_on own first (before ++ item ∷ []) more (subst (λ (l : List Item). is_late (stands_after own first l).standing.state ≡ false) (sym (append_assoc before (item ∷ []) more)) e) in
+    was_fresh own c item (is_late c.standing.state) refl (subst (λ (g : Grouped). is_late g.standing.state ≡ false) (cut-more own (start first) before item) later)
 
-pub front_fresh : (own : ServerSetup) (first : Files) (before more : List Item) → (stands_after own first (before ++ more)).standing.place ≡ Fresh → (stands_after own first before).standing.place ≡ Fresh
-front_fresh own first before more e = fresh_of (stands_after own first before).standing.place (front_on own first before more (ap is_late e))
+pub front_fresh : (own : ServerSetup) (first : Files) (before more : List Item) → (stands_after own first (before ++ more)).standing.state ≡ Fresh → (stands_after own first before).standing.state ≡ Fresh
+front_fresh own first before more e = fresh_of (stands_after own first before).standing.state (front_on own first before more (ap is_late e))
 
 -- ---- An end that is given files.
 

@@ -23,7 +23,7 @@ use Rattle.dap_accessed.specs.declared.phase.Phase.{Phase}
 use Rattle.dap_accessed.specs.declared.phase.Phase.TheVariants as phases
 use Rattle.dap_accessed.specs.declared.verbs.Verb.{Verb}
 use Rattle.dap_accessed.specs.declared.verbs.Verb.TheVariants as verbs
-use Rattle.dap_accessed.specs.Standing.{Files, the_file, index_by, Place, Group, Standing, Scene, Effect, Fresh, Ready, Opened, Connected, Store, Stopped, enters}
+use Rattle.dap_accessed.specs.Standing.{Files, the_file, index_by, ServerState, Group, Standing, Scene, Effect, Fresh, Ready, Opened, Connected, Store, Stopped, enters}
 use Rattle.dap_accessed.specs.Replies.{bare_status}
 use Rattle.dap_accessed.specs.Past.{is_filedata, is_dropping, ordinal_so_far}
 use Rattle.dap_accessed.specs.Accesses.{permitted, rights_to_create, rights_to_open, make_file, open_file, create_file, access_file, end_stream, complete}
@@ -69,15 +69,15 @@ module _ (scene : Scene) where
       either (a.func == codes.accfunc.opening) _ _ (opening own a.fac found)
       (either (a.func == codes.accfunc.creating) _ _ (creating own a.name a.fac found shape) (λ e. cc))
 
-  ending-stream : (o : OpenFile) (place : Place) → Answers (end_stream scene o place)
+  ending-stream : (o : OpenFile) (state : ServerState) → Answers (end_stream scene o state)
   ending-stream o (Opened p) = λ e. cc
-  ending-stream o place = λ e. cc
+  ending-stream o state = λ e. cc
 
-  completing : (func : ℕ) (o : OpenFile) (place : Place) → Answers (complete func scene o place)
-  completing func o place =
+  completing : (func : ℕ) (o : OpenFile) (state : ServerState) → Answers (complete func scene o state)
+  completing func o state =
       either (func == codes.cmpfunc.close) _ _ (λ e. cc)
       (either (func == codes.cmpfunc.purge) _ _ (λ e. cc)
-      (either (func == codes.cmpfunc.end_of_stream) _ _ (ending-stream o place) (either (func == codes.cmpfunc.skip) _ _ (λ e. cc) (λ e. cc))))
+      (either (func == codes.cmpfunc.end_of_stream) _ _ (ending-stream o state) (either (func == codes.cmpfunc.skip) _ _ (λ e. cc) (λ e. cc))))
 
   getting : (reply : Result ℕ Refusal) (o : OpenFile) (before after : StreamVal) → Answers (got reply scene o before after)
   getting (Err refusal) o before after = λ e. cc
@@ -178,7 +178,7 @@ in_store : (d : Bool) (o : OpenFile) (s : StreamVal) (n : ℕ) → d ≡ true �
 in_store true o s n e = refl
 in_store false o s n e = cc
 
-drops-at : (place : Place) (past : List Group) → is_dropping past ≡ true → is_storing (phase_at place (looked_back place past)) ≡ false
+drops-at : (state : ServerState) (past : List Group) → is_dropping past ≡ true → is_storing (phase_at state (looked_back state past)) ≡ false
 drops-at Fresh past e = refl
 drops-at Ready past e = refl
 drops-at (Opened o) past e = refl
@@ -191,7 +191,7 @@ drops-within (Putting key) o s = refl
 drops-within Updating o s = refl
 
 drops : (standing : Standing) (begun : Option Begun) → is_dropping standing.past ≡ true → is_storing (phase_of standing begun) ≡ false
-drops standing None e = drops-at standing.place standing.past e
+drops standing None e = drops-at standing.state standing.past e
 drops standing (Some b) e = drops-within b.change b.opened b.stream
 
 pub silent-in : (old : Present) (c : Grouped) (item : Item) → IsIn c old → IsSilentIn old.setup c item → is_silent old.phase item ≡ true

@@ -36,13 +36,13 @@ use Rattle.std.specs.Prelude.{◌==◌, take_while, drop}
 use Rattle.std.specs.List.{prefix_len, remove}
 use Rattle.dap_msg.specs.Codes as codes
 use Rattle.dap_accessed.specs.Replies.{bare_status}
-use Rattle.dap_accessed.specs.Standing.{Files, index_of, index_by, with_file, the_file, Place, Fresh, Ready, Opened, Connected, Store, Stopped, Group, Standing, Scene, Effect, start, enters}
+use Rattle.dap_accessed.specs.Standing.{Files, index_of, index_by, with_file, the_file, ServerState, Fresh, Ready, Opened, Connected, Store, Stopped, Group, Standing, Scene, Effect, start, enters}
 use Rattle.dap_accessed.specs.Past.{asked_shape, kept_attributes, is_dropping, ordinal_so_far}
 use Rattle.dap_accessed.specs.Accesses.{permitted, rights_to_create, rights_to_open, make_file, open_file, create_file, access_file, end_stream, complete}
 use Rattle.dap_accessed.specs.Records.{at_number, verb_of, get_pick, got, record_got, settled, Change, Putting, Updating, changed, fits_limit}
 use Rattle.dap_accessed.specs.Transfers.{fetch, fetch_ends, continue_fetch, store_one}
 use Rattle.dap_msg.specs.BothEnds.{is_too_small}
-use Rattle.dap_accessed.specs.Effects.{Begun, Turn, Does, Begins, control_opened, control_connected, turn_in, turn_of, effect_with}
+use Rattle.dap_accessed.specs.Effects.{Begun, Turn, Does, BeginsGroup, control_opened, control_connected, turn_in, turn_of, effect_with}
 use Rattle.dap_accessed.specs.Groups.{after_two}
 use Rattle.dap_accessed.specs.Sound.{AreFiles, IsOpenAt, IsSoundAt, IsSound}
 use Rattle.dap_accessed.specs.Groups.{next_group, more_after}
@@ -50,7 +50,7 @@ use Rattle.dap_accessed.proofs.Tables.{length-with}
 use Rattle.dap_accessed.proofs.Kept.{act-keeps, both}
 use Rattle.dap_accessed.proofs.SoundTables.{file-there, files-with, files-more, all-without, distinct-without, none_exact}
 
--- ---- Shapes, limits and places.
+-- ---- Shapes, limits and states.
 
 -- the shape that attributes ask for is one that a file may have
 abbrev pub Good : Option Shape → Type 0
@@ -94,29 +94,29 @@ within-of : (b : Bool) (n len : ℕ) → (b ≡ true → n < len) → IfSome (co
 within-of true n len f = f refl
 within-of false n len f = tt
 
-pub place-within : (names : Names) (name : List ℕ) (files : Files) → IfSome (index_by names name files) (λ n. n < length files)
-place-within names name files = within-of _ _ _ (λ e. grind (arith, nat_tests))
+pub index-within : (names : Names) (name : List ℕ) (files : Files) → IfSome (index_by names name files) (λ n. n < length files)
+index-within names name files = within-of _ _ _ (λ e. grind (arith, nat_tests))
 
 -- the end that a turn leaves is sound, or the open file is in the table
 abbrev IsSoundTurn : Scene → Turn → Type 0
-IsSoundTurn scene (Does e) = IsSoundAt e.scene e.place
-IsSoundTurn scene (Begins b) = b.opened.at < length scene.files
+IsSoundTurn scene (Does e) = IsSoundAt e.scene e.state
+IsSoundTurn scene (BeginsGroup b) = b.opened.at < length scene.files
 
 module _ (scene : Scene) (files : AreFiles scene.files) (least : 64 ≤ scene.limit) (most : scene.limit ≤ max_nsp_message) where
   abbrev Leaves : Effect → Type 0
-  Leaves e = IsSoundAt e.scene e.place
+  Leaves e = IsSoundAt e.scene e.state
 
-  entering : (place : Place) → IsOpenAt scene.files place → IsSoundAt scene place
-  entering place h = record { files = files; opened = h; least = least; most = most }
+  entering : (state : ServerState) → IsOpenAt scene.files state → IsSoundAt scene state
+  entering state h = record { files = files; opened = h; least = least; most = most }
 
   -- an operation on the open file
   acted : (op : Operation) (o : OpenFile) (s : StreamVal) → o.at < length scene.files → IsFile (act op (the_file scene.files o) s).file
   acted op o s h = act-keeps op (the_file scene.files o) s (file-there scene.files o.at files.files h)
 
-  changing : (op : Operation) (o : OpenFile) (s : StreamVal) (place : Place) (h : o.at < length scene.files)
-      → IsOpenAt (with_file o.at (act op (the_file scene.files o) s).file scene.files) place
-      → IsSoundAt (record scene { files = with_file o.at (act op (the_file scene.files o) s).file scene.files }) place
-  changing op o s place h there =
+  changing : (op : Operation) (o : OpenFile) (s : StreamVal) (state : ServerState) (h : o.at < length scene.files)
+      → IsOpenAt (with_file o.at (act op (the_file scene.files o) s).file scene.files) state
+      → IsSoundAt (record scene { files = with_file o.at (act op (the_file scene.files o) s).file scene.files }) state
+  changing op o s state h there =
       record {
         files = files-with scene.files o.at _ files (acted op o s h);
         opened = there;
@@ -159,14 +159,14 @@ module _ (scene : Scene) (files : AreFiles scene.files) (least : 64 ≤ scene.li
   accessing : (own : ServerSetup) (a : AccessFields) (shape : Option Shape) → Good shape → Leaves (access_file own scene a shape)
   accessing own a shape g =
       let found = index_by own.names a.name scene.files in
-      either (a.func == codes.accfunc.opening) _ _ (opening own a.fac found (place-within own.names a.name scene.files))
+      either (a.func == codes.accfunc.opening) _ _ (opening own a.fac found (index-within own.names a.name scene.files))
       (either (a.func == codes.accfunc.creating) _ _ (creating own a.name a.fac found shape refl g) (entering Ready tt))
 
   purging : (o : OpenFile) (new : Bool) → IsSoundAt (record scene { files = if new then remove scene.files o.at else scene.files }) Ready
   purging o true = record { files = record { files = all-without scene.files o.at files.files; distinct = distinct-without bytes_eq scene.files o.at files.distinct }; opened = tt; least = least; most = most }
   purging o false = entering Ready tt
 
-  ended-soundly : (o : OpenFile) (place : Place) → o.at < length scene.files → Leaves (end_stream scene o place)
+  ended-soundly : (o : OpenFile) (state : ServerState) → o.at < length scene.files → Leaves (end_stream scene o state)
   ended-soundly o (Opened p) h = entering (Opened o) h
   ended-soundly o Fresh h = entering (Opened o) h
   ended-soundly o Ready h = entering (Opened o) h
@@ -174,11 +174,11 @@ module _ (scene : Scene) (files : AreFiles scene.files) (least : 64 ≤ scene.li
   ended-soundly o (Store p s) h = entering (Opened o) h
   ended-soundly o (Stopped p s) h = entering (Opened o) h
 
-  completed-soundly : (func : ℕ) (o : OpenFile) (place : Place) → IsOpenAt scene.files place → o.at < length scene.files → Leaves (complete func scene o place)
-  completed-soundly func o place h e =
+  completed-soundly : (func : ℕ) (o : OpenFile) (state : ServerState) → IsOpenAt scene.files state → o.at < length scene.files → Leaves (complete func scene o state)
+  completed-soundly func o state h e =
       either (func == codes.cmpfunc.close) _ _ (entering Ready tt)
       (either (func == codes.cmpfunc.purge) _ _ (purging o o.is_new)
-      (either (func == codes.cmpfunc.end_of_stream) _ _ (ended-soundly o place e) (either (func == codes.cmpfunc.skip) _ _ (entering place h) (entering place h))))
+      (either (func == codes.cmpfunc.end_of_stream) _ _ (ended-soundly o state e) (either (func == codes.cmpfunc.skip) _ _ (entering state h) (entering state h))))
 
   -- ---- Records.
 
@@ -217,7 +217,7 @@ module _ (scene : Scene) (files : AreFiles scene.files) (least : 64 ≤ scene.li
     storing ordinal s body =
         changing (put_record None body) o s (Store o (act (put_record None body) (the_file scene.files o) s).stream) h (still o (act (put_record None body) (the_file scene.files o) s).file h)
 
-    -- ---- The places.
+    -- ---- The states.
 
     opened-control : (verb : Verb) → Leaves (control_opened verb scene o)
     opened-control verbs.Connect = entering (Connected o _) h
@@ -243,7 +243,7 @@ module _ (scene : Scene) (files : AreFiles scene.files) (least : 64 ≤ scene.li
   configuring false bufsiz e own =
       record { files = files; opened = tt; least = limit-least bufsiz e; most = limit-most bufsiz }
 
-  of-message : (own : ServerSetup) (past : List Group) (place : Place) → IsOpenAt scene.files place → (m : Message) → IsSoundTurn scene (turn_in own scene past place m)
+  of-message : (own : ServerSetup) (past : List Group) (state : ServerState) → IsOpenAt scene.files state → (m : Message) → IsSoundTurn scene (turn_in own scene past state m)
   of-message own past Fresh h (Config c) = configuring (is_too_small c.bufsiz) c.bufsiz refl own
   of-message own past Fresh h m = entering Fresh tt
   of-message own past Ready h (Access a) = accessing own a (asked_shape (kept_attributes past)) (good-shape (kept_attributes past))
@@ -262,9 +262,9 @@ module _ (scene : Scene) (files : AreFiles scene.files) (least : 64 ≤ scene.li
   of-message own past (Stopped o s) h (Accomp c) = completed-soundly c.func o (Stopped o s) h h
   of-message own past (Stopped o s) h m = entering (Stopped o s) h
 
-  pub of-item : (own : ServerSetup) (past : List Group) (place : Place) → IsOpenAt scene.files place → (item : Item) → IsSoundTurn scene (turn_of own (record { scene = scene; place = place; past = past }) item)
-  of-item own past place h (Malformed fault) = entering place h
-  of-item own past place h (Whole m) = of-message own past place h m
+  pub of-item : (own : ServerSetup) (past : List Group) (state : ServerState) → IsOpenAt scene.files state → (item : Item) → IsSoundTurn scene (turn_of own (record { scene = scene; state = state; past = past }) item)
+  of-item own past state h (Malformed fault) = entering state h
+  of-item own past state h (Whole m) = of-message own past state h m
 
   pub of-second : (change : Change) (o : OpenFile) (s : StreamVal) (item : Item) → o.at < length scene.files → Leaves (effect_with change scene o s item)
   of-second change o s item h = with-second o h change s item
@@ -274,16 +274,16 @@ module _ (scene : Scene) (files : AreFiles scene.files) (least : 64 ≤ scene.li
 pub start-sound : (first : Files) → AreFiles first → IsSound (record { standing = start first; begun = None })
 start-sound first good = record { standing = record { files = good; opened = tt; least = lit≤ tt; most = lit≤ tt }; begun = tt }
 
-one-sound : (own : ServerSetup) (s : Standing) (item : Item) → IsSoundAt s.scene s.place → IsSoundTurn s.scene (turn_of own s item)
+one-sound : (own : ServerSetup) (s : Standing) (item : Item) → IsSoundAt s.scene s.state → IsSoundTurn s.scene (turn_of own s item)
 one-sound own s item h =
-    of-item s.scene h.files h.least h.most own s.past s.place h.opened item
+    of-item s.scene h.files h.least h.most own s.past s.state h.opened item
 
-two-sound : (s : Standing) (b : Begun) (item : Item) → IsSoundAt s.scene s.place → b.opened.at < length s.scene.files → let t = after_two s b item in IsSoundAt t.scene t.place
+two-sound : (s : Standing) (b : Begun) (item : Item) → IsSoundAt s.scene s.state → b.opened.at < length s.scene.files → let t = after_two s b item in IsSoundAt t.scene t.state
 two-sound s b item h there = of-second s.scene h.files h.least h.most b.change b.opened b.stream item there
 
-next-sound : (s : Standing) (item : Item) (t : Turn) → IsSoundAt s.scene s.place → IsSoundTurn s.scene t → IsSound (next_group s item t)
+next-sound : (s : Standing) (item : Item) (t : Turn) → IsSoundAt s.scene s.state → IsSoundTurn s.scene t → IsSound (next_group s item t)
 next-sound s item (Does e) h sound = record { standing = sound; begun = tt }
-next-sound s item (Begins b) h there = record { standing = h; begun = there }
+next-sound s item (BeginsGroup b) h there = record { standing = h; begun = there }
 
 pub more-sound : (own : ServerSetup) (s : Standing) (b : Option Begun) (item : Item) → IsSound (record { standing = s; begun = b }) → IsSound (more_after own s b item)
 more-sound own s None item h = next-sound s item (turn_of own s item) h.standing (one-sound own s item h.standing)

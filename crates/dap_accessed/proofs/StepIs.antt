@@ -15,10 +15,10 @@ use Rattle.rec_file.specs.Acts.{StreamVal}
 use Rattle.dap_accessed.specs.declared.phase.OpenFile.{OpenFile}
 use Rattle.dap_accessed.specs.declared.phase.Phase.{Phase}
 use Rattle.dap_accessed.specs.declared.phase.Phase.TheVariants as phases
-use Rattle.dap_accessed.specs.Standing.{Files, Scene, Place, Group, Standing, Effect, Fresh, Ready, Opened, Connected, Store, Stopped}
+use Rattle.dap_accessed.specs.Standing.{Files, Scene, ServerState, Group, Standing, Effect, Fresh, Ready, Opened, Connected, Store, Stopped}
 use Rattle.dap_accessed.specs.Past.{asked_shape, kept_attributes, is_dropping, ordinal_so_far, this_store, is_skip, is_ready, is_store, is_access, is_filedata, attributes_in, since_access, was_refused, max_ordinal, next_ordinal}
 use Rattle.dap_accessed.specs.Records.{Change, Putting, Updating}
-use Rattle.dap_accessed.specs.Effects.{Begun, Turn, Does, Begins, turn_of, effect_with}
+use Rattle.dap_accessed.specs.Effects.{Begun, Turn, Does, BeginsGroup, turn_of, effect_with}
 use Rattle.dap_accessed.specs.Groups.{Grouped, over, added, stands_after, next_group, next_answers, after_item, answers_of}
 use Rattle.dap_accessed.specs.Present.{Present, Memory, looked_back, present_of, phase_at, StandsAfter}
 use Rattle.dap_accessed.specs.Sessions.{IsIn}
@@ -29,8 +29,8 @@ use Rattle.dap_accessed.proofs.Opens.{store_phase, store-moves}
 -- ---- What counts of the past after a group.
 
 module _ (past : List Group) where
-  abbrev group_of : Place → Item → List Message → Group
-  group_of place item answers = record { place = place; first = item; answers = answers }
+  abbrev group_of : ServerState → Item → List Message → Group
+  group_of state item answers = record { state = state; first = item; answers = answers }
 
   -- the groups in Ready since an Access, with one more
   shape-more : (item : Item) (answers : List Message) →
@@ -38,9 +38,9 @@ module _ (past : List Group) where
       ≡ asked_shape (unwrap_or (slice_get (filter_map (λ (g : Group). attributes_in g.first) (if not (is_access item) then group_of Ready item answers ∷ since_access past else [])) 0) no_attributes)
   shape-more item answers =
       ap (λ (l : List Group). asked_shape (unwrap_or (slice_get (filter_map (λ (g : Group). attributes_in g.first) l) 0) no_attributes))
-      (take_while-cons (λ (g : Group). not (is_access g.first)) (group_of Ready item answers) (filter (λ (g : Group). is_ready g.place) past))
+      (take_while-cons (λ (g : Group). not (is_access g.first)) (group_of Ready item answers) (filter (λ (g : Group). is_ready g.state) past))
 
-  shape-kept : (place : Place) (item : Item) (answers : List Message) → asked_shape (kept_attributes (group_of place item answers ∷ past)) ≡ (remembers (looked_back place past) place item answers).shape
+  shape-kept : (state : ServerState) (item : Item) (answers : List Message) → asked_shape (kept_attributes (group_of state item answers ∷ past)) ≡ (remembers (looked_back state past) state item answers).shape
   shape-kept Fresh item answers = refl
   shape-kept (Opened o) item answers = refl
   shape-kept (Connected o s) item answers = refl
@@ -82,8 +82,8 @@ module _ (past : List Group) where
     since_skip = take_while goes_on (this_store past)
 
     -- one group of the Store more
-    store-more : (group : Group) → is_store group.place ≡ true → this_store (group ∷ past) ≡ group ∷ this_store past
-    store-more group e = take_while-cons (λ (g : Group). is_store g.place) group past ∙ ap (λ b. if b then group ∷ this_store past else []) e
+    store-more : (group : Group) → is_store group.state ≡ true → this_store (group ∷ past) ≡ group ∷ this_store past
+    store-more group e = take_while-cons (λ (g : Group). is_store g.state) group past ∙ ap (λ b. if b then group ∷ this_store past else []) e
 
     more-drops : (item : Item) (answers : List Message) → is_dropping (group_of (Store o s) item answers ∷ past) ≡ list_any was_refused (if not (is_skip item) then group_of (Store o s) item answers ∷ since_skip else [])
     more-drops item answers =
@@ -113,8 +113,8 @@ module _ (past : List Group) where
     store-counts (Whole message) answers = more-counted (Whole message) answers
 
   -- the phase that is entered in a Store
-  store-entered : (place : Place) (item : Item) (answers : List Message) (o : OpenFile) (s : StreamVal) →
-      phase_at (Store o s) (looked_back (Store o s) (group_of place item answers ∷ past)) ≡ phase_at (Store o s) (remembers (looked_back place past) place item answers)
+  store-entered : (state : ServerState) (item : Item) (answers : List Message) (o : OpenFile) (s : StreamVal) →
+      phase_at (Store o s) (looked_back (Store o s) (group_of state item answers ∷ past)) ≡ phase_at (Store o s) (remembers (looked_back state past) state item answers)
   store-entered Fresh item answers o s = refl
   store-entered Ready item answers o s = refl
   store-entered (Opened p) item answers o s = refl
@@ -124,48 +124,48 @@ module _ (past : List Group) where
       ap (λ d. store_phase d o s (ordinal_so_far (group_of (Store p t) item answers ∷ past))) (store-drops p t (is_dropping past) refl item answers)
       ∙ ap (λ n. store_phase (drops_next (is_dropping past) item answers) o s n) (store-counts p t item answers)
 
-  entered : (q place : Place) (item : Item) (answers : List Message) →
-      phase_at q (looked_back q (group_of place item answers ∷ past)) ≡ phase_at q (remembers (looked_back place past) place item answers)
-  entered Fresh place item answers = refl
-  entered Ready place item answers = refl
-  entered (Opened o) place item answers = refl
-  entered (Connected o s) place item answers = refl
-  entered (Stopped o s) place item answers = refl
-  entered (Store o s) place item answers = store-entered place item answers o s
+  entered : (q state : ServerState) (item : Item) (answers : List Message) →
+      phase_at q (looked_back q (group_of state item answers ∷ past)) ≡ phase_at q (remembers (looked_back state past) state item answers)
+  entered Fresh state item answers = refl
+  entered Ready state item answers = refl
+  entered (Opened o) state item answers = refl
+  entered (Connected o s) state item answers = refl
+  entered (Stopped o s) state item answers = refl
+  entered (Store o s) state item answers = store-entered state item answers o s
 
 -- ---- Moves.
 
 module _ (own : ServerSetup) (scene : Scene) (past : List Group) where
-  abbrev at : Place → Standing
-  at place = record { scene = scene; place = place; past = past }
+  abbrev at : ServerState → Standing
+  at state = record { scene = scene; state = state; past = past }
 
-  abbrev kept_at : Place → Present
-  kept_at place = present_of own (record { standing = at place; begun = None })
+  abbrev kept_at : ServerState → Present
+  kept_at state = present_of own (record { standing = at state; begun = None })
 
-  -- after a group in a place that began with this item and had this effect
-  after-group : (p : Present) (s : Standing) (place : Place) (item : Item) (e : Effect) → p.own ≡ own.identity.bufsiz → p.setup ≡ own → s.past ≡ past →
-      present_of own (record { standing = over s place item e; begun = None }) ≡ (settles p (remembers (looked_back place past) place item e.answers) e).present
-  after-group p s place item e b o h = rw (b, o, h)
-      (ap (λ (k : Option Shape). let q : Present = record { own = own.identity.bufsiz; setup = own; limit = e.scene.limit; files = e.scene.files; kept = k; phase = phase_at e.place (looked_back e.place (group_of past place item e.answers ∷ past)) } in q) (shape-kept past place item e.answers)
-      ∙ ap (λ (f : Phase). let q : Present = record { own = own.identity.bufsiz; setup = own; limit = e.scene.limit; files = e.scene.files; kept = (remembers (looked_back place past) place item e.answers).shape; phase = f } in q) (entered past e.place place item e.answers))
+  -- after a group in a state that began with this item and had this effect
+  after-group : (p : Present) (s : Standing) (state : ServerState) (item : Item) (e : Effect) → p.own ≡ own.identity.bufsiz → p.setup ≡ own → s.past ≡ past →
+      present_of own (record { standing = over s state item e; begun = None }) ≡ (settles p (remembers (looked_back state past) state item e.answers) e).present
+  after-group p s state item e b o h = rw (b, o, h)
+      (ap (λ (k : Option Shape). let q : Present = record { own = own.identity.bufsiz; setup = own; limit = e.scene.limit; files = e.scene.files; kept = k; phase = phase_at e.state (looked_back e.state (group_of past state item e.answers ∷ past)) } in q) (shape-kept past state item e.answers)
+      ∙ ap (λ (f : Phase). let q : Present = record { own = own.identity.bufsiz; setup = own; limit = e.scene.limit; files = e.scene.files; kept = (remembers (looked_back state past) state item e.answers).shape; phase = f } in q) (entered past e.state state item e.answers))
 
   -- what an end keeps, and the answers, are those of the move
   pub record Agrees (step : Move) (present : Present) (answers : List Message) : Type 0 where
     pub same_present : present ≡ step.present
     pub same_answers : answers ≡ step.answers
 
-  turned : (place : Place) (item : Item) (t : Turn) →
-      Agrees (turns t (kept_at place) (looked_back place past) place item) (present_of own (next_group (at place) item t)) (next_answers t)
-  turned place item (Does effect) = record { same_present = after-group (kept_at place) (at place) place item effect refl refl refl; same_answers = refl }
-  turned place item (Begins begun) = record { same_present = refl; same_answers = refl }
+  turned : (state : ServerState) (item : Item) (t : Turn) →
+      Agrees (turns t (kept_at state) (looked_back state past) state item) (present_of own (next_group (at state) item t)) (next_answers t)
+  turned state item (Does effect) = record { same_present = after-group (kept_at state) (at state) state item effect refl refl refl; same_answers = refl }
+  turned state item (BeginsGroup begun) = record { same_present = refl; same_answers = refl }
 
-  abbrev Follows : Place → Item → Move → Type 0
-  Follows place item step =
-      Agrees step (present_of own (next_group (at place) item (turn_of own (at place) item))) (next_answers (turn_of own (at place) item))
+  abbrev Follows : ServerState → Item → Move → Type 0
+  Follows state item step =
+      Agrees step (present_of own (next_group (at state) item (turn_of own (at state) item))) (next_answers (turn_of own (at state) item))
 
   -- all that counts of the past was looked back for
-  turn-is : (place : Place) (item : Item) → turn_by own scene (looked_back place past) place item ≡ turn_of own (at place) item
-  turn-is place (Malformed fault) = refl
+  turn-is : (state : ServerState) (item : Item) → turn_by own scene (looked_back state past) state item ≡ turn_of own (at state) item
+  turn-is state (Malformed fault) = refl
   turn-is Fresh (Whole message) = refl
   turn-is Ready (Whole message) = refl
   turn-is (Opened o) (Whole message) = refl
@@ -173,12 +173,12 @@ module _ (own : ServerSetup) (scene : Scene) (past : List Group) where
   turn-is (Store o s) (Whole message) = refl
   turn-is (Stopped o s) (Whole message) = refl
 
-  follows : (place : Place) (item : Item) → Follows place item (between (kept_at place) (looked_back place past) place item)
-  follows place item =
-      subst (λ (t : Turn). Follows place item (turns t (kept_at place) (looked_back place past) place item)) (sym (turn-is place item))
-      (turned place item (turn_of own (at place) item))
+  follows : (state : ServerState) (item : Item) → Follows state item (between (kept_at state) (looked_back state past) state item)
+  follows state item =
+      subst (λ (t : Turn). Follows state item (turns t (kept_at state) (looked_back state past) state item)) (sym (turn-is state item))
+      (turned state item (turn_of own (at state) item))
 
-  pub one-follows : (place : Place) (item : Item) → Follows place item (move (kept_at place) item)
+  pub one-follows : (state : ServerState) (item : Item) → Follows state item (move (kept_at state) item)
   one-follows Fresh item = follows Fresh item
   one-follows Ready item = follows Ready item
   one-follows (Opened o) item = follows (Opened o) item
@@ -187,26 +187,26 @@ module _ (own : ServerSetup) (scene : Scene) (past : List Group) where
   one-follows (Store o s) item =
       subst (Follows (Store o s) item) (sym (store-moves (is_dropping past) o s (ordinal_so_far past) (kept_at (Store o s)) item)) (follows (Store o s) item)
 
-  pub two-follows : (place : Place) (o : OpenFile) (s : StreamVal) (change : Change) (first item : Item) →
+  pub two-follows : (state : ServerState) (o : OpenFile) (s : StreamVal) (change : Change) (first item : Item) →
       let begun : Begun = record { first = first; opened = o; stream = s; change = change } in
-      let c : Grouped = record { standing = at place; begun = Some begun } in
+      let c : Grouped = record { standing = at state; begun = Some begun } in
       Agrees (move (present_of own c) item) (present_of own (after_item own c item)) (answers_of own c item)
-  two-follows place o s (Putting key) first item =
+  two-follows state o s (Putting key) first item =
       record {
-        same_present = after-group (record { own = own.identity.bufsiz; setup = own; limit = scene.limit; files = scene.files; kept = asked_shape (kept_attributes past); phase = phases.PutDue o s key }) (at place) (Connected o s) first (effect_with (Putting key) scene o s item) refl refl refl;
+        same_present = after-group (record { own = own.identity.bufsiz; setup = own; limit = scene.limit; files = scene.files; kept = asked_shape (kept_attributes past); phase = phases.PutDue o s key }) (at state) (Connected o s) first (effect_with (Putting key) scene o s item) refl refl refl;
         same_answers = refl;
       }
-  two-follows place o s Updating first item =
+  two-follows state o s Updating first item =
       record {
-        same_present = after-group (record { own = own.identity.bufsiz; setup = own; limit = scene.limit; files = scene.files; kept = asked_shape (kept_attributes past); phase = phases.UpdateDue o s }) (at place) (Connected o s) first (effect_with Updating scene o s item) refl refl refl;
+        same_present = after-group (record { own = own.identity.bufsiz; setup = own; limit = scene.limit; files = scene.files; kept = asked_shape (kept_attributes past); phase = phases.UpdateDue o s }) (at state) (Connected o s) first (effect_with Updating scene o s item) refl refl refl;
         same_answers = refl;
       }
 
 pub step-is : (own : ServerSetup) (s : Standing) (begun : Option Begun) (item : Item) →
     let c : Grouped = record { standing = s; begun = begun } in
     Agrees own s.scene s.past (move (present_of own c) item) (present_of own (after_item own c item)) (answers_of own c item)
-step-is own s None item = one-follows own s.scene s.past s.place item
-step-is own s (Some b) item = two-follows own s.scene s.past s.place b.opened b.stream b.change b.first item
+step-is own s None item = one-follows own s.scene s.past s.state item
+step-is own s (Some b) item = two-follows own s.scene s.past s.state b.opened b.stream b.change b.first item
 
 -- the move of an end that stands as after some items
 pub present-moves : (own : ServerSetup) (first : Files) (items : List Item) (item : Item) → present_of own (stands_after own first (items ++ item ∷ [])) ≡ (move (present_of own (stands_after own first items)) item).present
@@ -219,12 +219,12 @@ answers-move own first items item = let c = stands_after own first items in adde
 abbrev KeepsOwn : (new old : Present) → Type 0
 KeepsOwn new old = (new.own ≡ old.own) × (new.setup ≡ old.setup)
 
-turns-own : (t : Turn) (p : Present) (memory : Memory) (place : Place) (item : Item) → KeepsOwn (turns t p memory place item).present p
-turns-own (Does effect) p memory place item = (refl, refl)
-turns-own (Begins begun) p memory place item = (refl, refl)
+turns-own : (t : Turn) (p : Present) (memory : Memory) (state : ServerState) (item : Item) → KeepsOwn (turns t p memory state item).present p
+turns-own (Does effect) p memory state item = (refl, refl)
+turns-own (BeginsGroup begun) p memory state item = (refl, refl)
 
-between-own : (p : Present) (memory : Memory) (place : Place) (item : Item) → KeepsOwn (between p memory place item).present p
-between-own p memory place item = turns-own (turn_by p.setup (scene_in p) memory place item) p memory place item
+between-own : (p : Present) (memory : Memory) (state : ServerState) (item : Item) → KeepsOwn (between p memory state item).present p
+between-own p memory state item = turns-own (turn_by p.setup (scene_in p) memory state item) p memory state item
 
 moves-own : (phase : Phase) (p : Present) (item : Item) → KeepsOwn (move_in phase p item).present p
 moves-own phases.Fresh p item = between-own p (plain_memory p.kept) Fresh item
@@ -264,5 +264,5 @@ pub answers-in : (old : Present) (item : Item) (c : Grouped) → IsIn c old → 
 answers-in old item c h = ap (λ (p : Present). (move p item).answers) h ∙ sym (step-is old.setup c.standing c.begun item).same_answers
 
 -- an Access uses up the attributes
-pub access-keeps : (past : List Group) (a : AccessFields) (answers : List Message) → asked_shape (kept_attributes (record { place = Ready; first = Whole (Access a); answers = answers } ∷ past)) ≡ asked_shape no_attributes
+pub access-keeps : (past : List Group) (a : AccessFields) (answers : List Message) → asked_shape (kept_attributes (record { state = Ready; first = Whole (Access a); answers = answers } ∷ past)) ≡ asked_shape no_attributes
 access-keeps past a answers = shape-kept past Ready (Whole (Access a)) answers

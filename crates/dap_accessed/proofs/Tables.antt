@@ -12,7 +12,7 @@ use Rattle.rec_file.specs.Acts.{Operation, StreamVal, Acts, Outcome, act, is_no_
 use Rattle.rec_file.specs.Files.{FileVal}
 use Rattle.dap_accessed.specs.Standing.{Files, file_at, name_at, with_file}
 
--- where two tests answer alike at every element of two lists of one length, the first that passes has one place
+-- where two tests answer alike at every element of two lists of one length, the first that passes has one index
 prefix_len-alike : {X Y Z : Type 0} (f : X → Y) (g : X → Z) (p : Y → Bool) (q : Z → Bool) → ((x : X) → p (f x) ≡ q (g x))
     → (xs : List X) → prefix_len (λ y. not (p y)) (map f xs) ≡ prefix_len (λ z. not (q z)) (map g xs)
 prefix_len-alike f g p q alike [] = refl

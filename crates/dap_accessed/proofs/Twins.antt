@@ -18,9 +18,9 @@ use Rattle.dap_accessed.specs.declared.phase.OpenFile.{OpenFile}
 use Rattle.dap_accessed.specs.declared.phase.Phase.{Phase}
 use Rattle.dap_accessed.specs.declared.phase.Phase.TheVariants as phases
 use Rattle.dap_accessed.specs.Replies.{bare_status}
-use Rattle.dap_accessed.specs.Standing.{Files, Place, Fresh, Ready, Opened, Connected, Store, Stopped, Scene, Effect, enters}
+use Rattle.dap_accessed.specs.Standing.{Files, ServerState, Fresh, Ready, Opened, Connected, Store, Stopped, Scene, Effect, enters}
 use Rattle.dap_accessed.specs.Records.{Putting, Updating}
-use Rattle.dap_accessed.specs.Effects.{Turn, Does, Begins, effect_fresh, effect_ready, effect_with}
+use Rattle.dap_accessed.specs.Effects.{Turn, Does, BeginsGroup, effect_fresh, effect_ready, effect_with}
 use Rattle.dap_accessed.specs.Groups.{After, Answers, added, limit_for, stands_after}
 use Rattle.dap_accessed.specs.Present.{Present, Memory, present_of}
 use Rattle.dap_accessed.specs.Twins.{AreTwins, SameMessages}
@@ -54,9 +54,9 @@ module _ (identity : Configuration) where
     present : other.present ≡ twin one.present
     answers : SameMessages p.setup.identity identity one.answers other.answers
 
-  follows-turn : (t : Turn) (p : Present) (memory : Memory) (place : Place) (item : Item) → Follows p (turns t p memory place item) (turns t (twin p) memory place item)
-  follows-turn (Does e) p memory place item = record { present = refl; answers = same_all p.setup.identity identity e.answers }
-  follows-turn (Begins b) p memory place item = record { present = refl; answers = tt }
+  follows-turn : (t : Turn) (p : Present) (memory : Memory) (state : ServerState) (item : Item) → Follows p (turns t p memory state item) (turns t (twin p) memory state item)
+  follows-turn (Does e) p memory state item = record { present = refl; answers = same_all p.setup.identity identity e.answers }
+  follows-turn (BeginsGroup b) p memory state item = record { present = refl; answers = tt }
 
   -- where nothing is said of the server, its identity doesn't count
   ready-same : (own : ServerSetup) (scene : Scene) (shape : Option Shape) (m : Message) → effect_ready (saying identity own) scene shape m ≡ effect_ready own scene shape m
@@ -84,9 +84,9 @@ module _ (identity : Configuration) where
       subst (λ (t : Turn). Follows p (between p memory Ready item) (turns t (twin p) memory Ready item)) (sym (ready-turn p.setup (scene_in p) memory item))
       (follows-turn (turn_by p.setup (scene_in p) memory Ready item) p memory Ready item)
 
-  -- in these places nothing is said of the server
-  abbrev Between : Place → Type 0
-  Between place = (p : Present) (memory : Memory) (item : Item) → Follows p (between p memory place item) (between (twin p) memory place item)
+  -- in these states nothing is said of the server
+  abbrev Between : ServerState → Type 0
+  Between state = (p : Present) (memory : Memory) (item : Item) → Follows p (between p memory state item) (between (twin p) memory state item)
 
   opened-follows : (o : OpenFile) → Between (Opened o)
   opened-follows o p memory (Malformed fault) = follows-turn (turn_by p.setup (scene_in p) memory (Opened o) (Malformed fault)) p memory (Opened o) (Malformed fault)

@@ -10,7 +10,7 @@ use Rattle.rec_file.specs.declared.refusals.Refusal.TheVariants.{NotPermitted}
 use Rattle.dap_accessed.specs.declared.phase.OpenFile.{OpenFile}
 use Rattle.dap_accessed.specs.declared.setup.ServerSetup.{ServerSetup}
 use Rattle.dap_accessed.specs.Setup.{lacks}
-use Rattle.dap_accessed.specs.Standing.{Files, new_file, index_by, file_at, Place, Ready, Opened, Scene, Effect, enters}
+use Rattle.dap_accessed.specs.Standing.{Files, new_file, index_by, file_at, ServerState, Ready, Opened, Scene, Effect, enters}
 use Rattle.dap_accessed.specs.Replies.{bare_status, reason_of, refused_access, opened_with, completed}
 
 -- the operations that FAC allows
@@ -79,15 +79,15 @@ abbrev pub purged : OpenFile → Files → Files
 purged opened files = if opened.is_new then remove files opened.at else files
 
 -- the end of a stream; without a stream it is out of synchronization
-abbrev pub end_stream : Scene → OpenFile → Place → Effect
-end_stream scene opened (Opened _) = enters scene (Opened opened) (bare_status (codes.out_of_place codes.types.accomp) ∷ [])
-end_stream scene opened place = enters scene (Opened opened) (completed ∷ [])
+abbrev pub end_stream : Scene → OpenFile → ServerState → Effect
+end_stream scene opened (Opened _) = enters scene (Opened opened) (bare_status (codes.out_of_sequence codes.types.accomp) ∷ [])
+end_stream scene opened state = enters scene (Opened opened) (completed ∷ [])
 
 -- an Access Complete, by CMPFUNC, while a file is open
-abbrev pub complete : (func : ℕ) → Scene → OpenFile → Place → Effect
-complete func scene opened place =
+abbrev pub complete : (func : ℕ) → Scene → OpenFile → ServerState → Effect
+complete func scene opened state =
     if func == codes.cmpfunc.close then enters scene Ready (completed ∷ [])
     else if func == codes.cmpfunc.purge then enters (record scene { files = purged opened scene.files }) Ready (completed ∷ [])
-    else if func == codes.cmpfunc.end_of_stream then end_stream scene opened place
-    else if func == codes.cmpfunc.skip then enters scene place (bare_status (codes.unsupported codes.types.accomp) ∷ [])
-    else enters scene place (bare_status (codes.invalid codes.types.accomp) ∷ [])
+    else if func == codes.cmpfunc.end_of_stream then end_stream scene opened state
+    else if func == codes.cmpfunc.skip then enters scene state (bare_status (codes.unsupported codes.types.accomp) ∷ [])
+    else enters scene state (bare_status (codes.invalid codes.types.accomp) ∷ [])

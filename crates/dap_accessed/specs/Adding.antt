@@ -15,11 +15,11 @@ use Rattle.dap_accessed.specs.Present.{Present, StandsAfter}
 
 -- No Configuration was served, whatever items left this server.
 pub record IsFresh (p : Present) : Type 0 where
-  pub is : (first : Files) (items : List Item) → StandsAfter first items p → (stands_after p.setup first items).standing.place ≡ Fresh
+  pub is : (first : Files) (items : List Item) → StandsAfter first items p → (stands_after p.setup first items).standing.state ≡ Fresh
 
 -- One was.
 pub record IsLate (p : Present) : Type 0 where
-  pub isnt : (first : Files) (items : List Item) → StandsAfter first items p → (stands_after p.setup first items).standing.place ≢ Fresh
+  pub isnt : (first : Files) (items : List Item) → StandsAfter first items p → (stands_after p.setup first items).standing.state ≢ Fresh
 
 -- ---- A file.
 

@@ -1,4 +1,4 @@
--- What each message does in each place, and its answers (DAP 5.6.0, message sequences). The answers to a message that
+-- What each message does in each phase, and its answers (DAP 5.6.0, message sequences). The answers to a message that
 -- is out of sequence are a choice of this implementation.
 use Rattle.std.specs.Prelude.{ℕ, Bool, if◌then◌else◌, List, [], ◌∷◌, Option}
 use Rattle.dap_msg.specs.Codes as codes
@@ -15,7 +15,7 @@ use Rattle.dap_accessed.specs.declared.setup.ServerSetup.{ServerSetup}
 use Rattle.dap_accessed.specs.declared.phase.OpenFile.{OpenFile}
 use Rattle.dap_accessed.specs.declared.verbs.Verb.{Verb}
 use Rattle.dap_accessed.specs.declared.verbs.Verb.TheVariants as verbs
-use Rattle.dap_accessed.specs.Standing.{the_file, Place, Fresh, Ready, Opened, Connected, Store, Stopped, Group, Standing, Scene, Effect, enters}
+use Rattle.dap_accessed.specs.Standing.{the_file, ServerState, Fresh, Ready, Opened, Connected, Store, Stopped, Group, Standing, Scene, Effect, enters}
 use Rattle.dap_accessed.specs.Replies.{bare_status, sync_status}
 use Rattle.dap_accessed.specs.Past.{asked_shape, kept_attributes, is_dropping, ordinal_so_far}
 use Rattle.dap_accessed.specs.Accesses.{access_file, complete}
@@ -33,26 +33,26 @@ pub record Begun : Type 0 where
 -- of two, and has no effect yet.
 pub data Turn : Type 0 where
   Does : Effect → Turn
-  Begins : Begun → Turn
+  BeginsGroup : Begun → Turn
 
 -- A message that is out of sequence changes nothing.
-abbrev pub sync : Scene → Place → Message → Effect
-sync scene place message = enters scene place (sync_status message ∷ [])
+abbrev pub sync : Scene → ServerState → Message → Effect
+sync scene state message = enters scene state (sync_status message ∷ [])
 
 -- the answer to a Control that is out of sequence while a file is open; an unknown CTLFUNC isn't supported
 abbrev pub control_status : Verb → Message
 control_status verbs.Unknown = bare_status (codes.unsupported codes.types.control)
-control_status verb = bare_status (codes.out_of_place codes.types.control)
+control_status verb = bare_status (codes.out_of_sequence codes.types.control)
 
 -- that answer, which changes nothing
-abbrev pub refuse_control : Verb → Scene → Place → Effect
-refuse_control verb scene place = enters scene place (control_status verb ∷ [])
+abbrev pub refuse_control : Verb → Scene → ServerState → Effect
+refuse_control verb scene state = enters scene state (control_status verb ∷ [])
 
--- what a message does while a file is open, if the place doesn't say otherwise
-abbrev pub common_effect : Scene → OpenFile → Place → Message → Effect
-common_effect scene opened place (Control control) = refuse_control (verb_of control) scene place
-common_effect scene opened place (Accomp c) = complete c.func scene opened place
-common_effect scene opened place message = sync scene place message
+-- what a message does while a file is open, unless the phase says otherwise
+abbrev pub common_effect : Scene → OpenFile → ServerState → Message → Effect
+common_effect scene opened state (Control control) = refuse_control (verb_of control) scene state
+common_effect scene opened state (Accomp c) = complete c.func scene opened state
+common_effect scene opened state message = sync scene state message
 
 -- ---- Fresh.
 
@@ -82,7 +82,7 @@ abbrev pub control_opened : Verb → Scene → OpenFile → Effect
 control_opened verbs.Connect scene opened = enters scene (Connected opened (new_stream opened.rights)) (Ack ∷ [])
 control_opened verb scene opened = refuse_control verb scene (Opened opened)
 
--- a Control, or what is common to all places with an open file
+-- a Control, or what is common to all phases with an open file
 abbrev pub effect_opened : Scene → OpenFile → Message → Effect
 effect_opened scene opened (Control control) = control_opened (verb_of control) scene opened
 effect_opened scene opened message = common_effect scene opened (Opened opened) message
@@ -92,7 +92,7 @@ effect_opened scene opened message = common_effect scene opened (Opened opened) 
 -- a Control that begins a group of two
 abbrev pub begins_with : ControlFields → OpenFile → StreamVal → Change → Turn
 begins_with control opened stream change =
-    Begins (record { first = Whole (Control control); opened = opened; stream = stream; change = change })
+    BeginsGroup (record { first = Whole (Control control); opened = opened; stream = stream; change = change })
 
 -- What a Control does with a stream. PUT and UPDATE begin a group of two. A fetch needs the right to GET. REWIND goes
 -- to number 1.
@@ -111,7 +111,7 @@ control_connected verbs.Rewind scene opened stream control =
     Does (enters scene (Connected opened (at_number 1 stream)) (bare_status codes.stscode.success ∷ []))
 control_connected verb scene opened stream control = Does (refuse_control verb scene (Connected opened stream))
 
--- a Control, or what is common to all places with an open file
+-- a Control, or what is common to all phases with an open file
 abbrev pub turn_connected : Scene → OpenFile → StreamVal → Message → Turn
 turn_connected scene opened stream (Control control) =
     control_connected (verb_of control) scene opened stream control
@@ -134,10 +134,10 @@ abbrev pub effect_stopped : Scene → OpenFile → StreamVal → Message → Eff
 effect_stopped scene opened stream (Contran func) = continue_fetch func scene opened stream
 effect_stopped scene opened stream message = common_effect scene opened (Stopped opened stream) message
 
--- ---- All places. Only in Connected does a message begin a group of two.
+-- ---- All phases. Only in Connected does a message begin a group of two.
 
--- what a message does in a place
-abbrev pub turn_in : (own : ServerSetup) → Scene → (past : List Group) → Place → Message → Turn
+-- what a message does in a phase
+abbrev pub turn_in : (own : ServerSetup) → Scene → (past : List Group) → ServerState → Message → Turn
 turn_in own scene past Fresh message = Does (effect_fresh own scene message)
 turn_in own scene past Ready message = Does (effect_ready own scene (asked_shape (kept_attributes past)) message)
 turn_in own scene past (Opened opened) message = Does (effect_opened scene opened message)
@@ -148,8 +148,8 @@ turn_in own scene past (Stopped opened stream) message = Does (effect_stopped sc
 
 -- What an item does outside a group of two. A malformed one is answered by the format Status of its type.
 abbrev pub turn_of : (own : ServerSetup) → Standing → Item → Turn
-turn_of own s (Malformed fault) = Does (enters s.scene s.place (bare_status (codes.status_code_for fault.message_type) ∷ []))
-turn_of own s (Whole message) = turn_in own s.scene s.past s.place message
+turn_of own s (Malformed fault) = Does (enters s.scene s.state (bare_status (codes.status_code_for fault.message_type) ∷ []))
+turn_of own s (Whole message) = turn_in own s.scene s.past s.state message
 
 -- ---- The second item of a group of two.
 

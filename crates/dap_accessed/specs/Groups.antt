@@ -5,16 +5,16 @@ use Rattle.std.specs.Prelude.{ℕ, List, [], ◌∷◌, ◌++◌, length, drop, 
 use Rattle.dap_msg.specs.declared.message.Message.{Message}
 use Rattle.dap_msg.specs.declared.items.Item.{Item}
 use Rattle.dap_accessed.specs.declared.setup.ServerSetup.{ServerSetup}
-use Rattle.dap_accessed.specs.Standing.{Files, Place, Connected, Group, Standing, Effect, start}
-use Rattle.dap_accessed.specs.Effects.{Begun, Turn, Does, Begins, turn_of, effect_with}
+use Rattle.dap_accessed.specs.Standing.{Files, ServerState, Connected, Group, Standing, Effect, start}
+use Rattle.dap_accessed.specs.Effects.{Begun, Turn, Does, BeginsGroup, turn_of, effect_with}
 
 -- the state after a group
-abbrev pub over : Standing → Place → Item → Effect → Standing
-over s place first effect =
+abbrev pub over : Standing → ServerState → Item → Effect → Standing
+over s state first effect =
     record {
       scene = effect.scene;
-      place = effect.place;
-      past = record { place = place; first = first; answers = effect.answers } ∷ s.past;
+      state = effect.state;
+      past = record { state = state; first = first; answers = effect.answers } ∷ s.past;
     }
 
 -- the state after a group of two
@@ -33,13 +33,13 @@ abbrev pub grouped : (own : ServerSetup) → Standing → List Item → Grouped
 grouped own s [] = record { standing = s; begun = None }
 grouped own s (item ∷ []) =
     elim (turn_of own s item) [
-      | Does effect ↦ record { standing = over s s.place item effect; begun = None }
-      | Begins begun ↦ record { standing = s; begun = Some begun }
+      | Does effect ↦ record { standing = over s s.state item effect; begun = None }
+      | BeginsGroup begun ↦ record { standing = s; begun = Some begun }
     ]
 grouped own s (item ∷ second ∷ items) =
     elim (turn_of own s item) [
-      | Does effect ↦ grouped own (over s s.place item effect) (second ∷ items)
-      | Begins begun ↦ grouped own (after_two s begun second) items
+      | Does effect ↦ grouped own (over s s.state item effect) (second ∷ items)
+      | BeginsGroup begun ↦ grouped own (after_two s begun second) items
     ]
 
 -- the answers of the groups, in order
@@ -51,7 +51,7 @@ answers_in (group ∷ past) = answers_in past ++ group.answers
 abbrev pub stands_after : (own : ServerSetup) → Files → List Item → Grouped
 stands_after own first items = grouped own (start first) items
 
--- the longest message that the peer takes then
+-- the maximum length of a message to the peer then
 abbrev pub limit_for : (own : ServerSetup) → Files → List Item → ℕ
 limit_for own first items = (stands_after own first items).standing.scene.limit
 
@@ -63,30 +63,30 @@ After own first items = (stands_after own first items).standing.scene.files
 abbrev pub Answers : (own : ServerSetup) → Files → List Item → List Message
 Answers own first items = answers_in (stands_after own first items).standing.past
 
--- the answers that one item more adds
+-- the answers that one more item adds
 abbrev pub added : (own : ServerSetup) → Files → List Item → Item → List Message
 added own first items item = drop (length (Answers own first items)) (Answers own first (items ++ item ∷ []))
 
--- ---- One item more finishes the group that was begun, or is a group, or begins one.
+-- ---- One more item finishes the group that was begun, or is a group, or begins one.
 
 -- the state after a group, or with one begun
 abbrev pub next_group : Standing → Item → Turn → Grouped
-next_group s item (Does effect) = record { standing = over s s.place item effect; begun = None }
-next_group s item (Begins begun) = record { standing = s; begun = Some begun }
+next_group s item (Does effect) = record { standing = over s s.state item effect; begun = None }
+next_group s item (BeginsGroup begun) = record { standing = s; begun = Some begun }
 
 -- the state after an item, where this group was begun
 abbrev pub more_after : (own : ServerSetup) → Standing → Option Begun → Item → Grouped
 more_after own s None item = next_group s item (turn_of own s item)
 more_after own s (Some begun) item = record { standing = after_two s begun item; begun = None }
 
--- the state after one item more
+-- the state after one more item
 abbrev pub after_item : (own : ServerSetup) → Grouped → Item → Grouped
 after_item own c item = more_after own c.standing c.begun item
 
 -- the answers of a group; one that is begun has none yet
 abbrev pub next_answers : Turn → List Message
 next_answers (Does effect) = effect.answers
-next_answers (Begins begun) = []
+next_answers (BeginsGroup begun) = []
 
 -- the answers to an item, where this group was begun
 abbrev pub answers_after : (own : ServerSetup) → Standing → Option Begun → Item → List Message

@@ -10,15 +10,15 @@ use Rattle.dap_msg.specs.declared.items.Item.{Item}
 use Rattle.dap_msg.specs.declared.items.Item.TheVariants.{Whole}
 use Rattle.rec_file.specs.declared.shapes.Shape.{Shape}
 use Rattle.rec_file.specs.Shapes.{checked_shape}
-use Rattle.dap_accessed.specs.Standing.{Place, Ready, Store, Group}
+use Rattle.dap_accessed.specs.Standing.{ServerState, Ready, Store, Group}
 
--- the place is Ready
-abbrev pub is_ready : Place → Bool
+-- the phase is Ready
+abbrev pub is_ready : ServerState → Bool
 is_ready Ready = true
 is_ready _ = false
 
--- the place is Store
-abbrev pub is_store : Place → Bool
+-- the phase is Store
+abbrev pub is_store : ServerState → Bool
 is_store (Store _ _) = true
 is_store _ = false
 
@@ -46,7 +46,7 @@ is_skip _ = false
 
 -- the groups in Ready since the Access before
 abbrev pub since_access : List Group → List Group
-since_access past = take_while (λ group. not (is_access group.first)) (filter (λ group. is_ready group.place) past)
+since_access past = take_while (λ group. not (is_access group.first)) (filter (λ group. is_ready group.state) past)
 
 -- the attributes of an Access: those of the last Attributes message in Ready since the Access before, or none
 abbrev pub kept_attributes : List Group → Attributes
@@ -61,9 +61,9 @@ asked_shape a = with_defaults checked_shape a
 
 -- the groups of this Store, since its PUT
 abbrev pub this_store : List Group → List Group
-this_store past = take_while (λ group. is_store group.place) past
+this_store past = take_while (λ group. is_store group.state) past
 
--- the ordinal stays at the largest number of 4 bytes
+-- the ordinal stays at the maximum of 4 bytes
 abbrev pub max_ordinal : ℕ
 max_ordinal = 4294967295
 

@@ -7,7 +7,7 @@ use Rattle.dap_accessed.specs.declared.setup.ServerSetup.{ServerSetup}
 use Rattle.dap_accessed.specs.declared.phase.OpenFile.{OpenFile}
 use Rattle.dap_accessed.specs.declared.phase.Phase.{Phase}
 use Rattle.dap_accessed.specs.declared.phase.Phase.TheVariants as phases
-use Rattle.dap_accessed.specs.Standing.{Files, Place, Group, Standing, Fresh, Ready, Opened, Connected, Store, Stopped}
+use Rattle.dap_accessed.specs.Standing.{Files, ServerState, Group, Standing, Fresh, Ready, Opened, Connected, Store, Stopped}
 use Rattle.dap_accessed.specs.Past.{is_store, is_dropping, ordinal_so_far, kept_attributes, asked_shape}
 use Rattle.dap_accessed.specs.Records.{Change, Putting, Updating}
 use Rattle.dap_accessed.specs.Effects.{Begun}
@@ -33,17 +33,17 @@ pub record Memory : Type 0 where
   pub dropping : Bool
   pub ordinal : ℕ
 
--- what counts of the past in this place
-abbrev pub looked_back : Place → List Group → Memory
-looked_back place past =
+-- what counts of the past in this phase
+abbrev pub looked_back : ServerState → List Group → Memory
+looked_back state past =
     record {
       shape = asked_shape (kept_attributes past);
-      dropping = is_store place && is_dropping past;
-      ordinal = if is_store place then ordinal_so_far past else 0;
+      dropping = is_store state && is_dropping past;
+      ordinal = if is_store state then ordinal_so_far past else 0;
     }
 
 -- the phase between groups
-abbrev pub phase_at : Place → Memory → Phase
+abbrev pub phase_at : ServerState → Memory → Phase
 phase_at Fresh memory = phases.Fresh
 phase_at Ready memory = phases.Ready
 phase_at (Opened opened) memory = phases.Opened opened
@@ -59,7 +59,7 @@ phase_within Updating opened stream = phases.UpdateDue opened stream
 
 -- the phase, also inside a group of two
 abbrev pub phase_of : Standing → Option Begun → Phase
-phase_of s None = phase_at s.place (looked_back s.place s.past)
+phase_of s None = phase_at s.state (looked_back s.state s.past)
 phase_of s (Some begun) = phase_within begun.change begun.opened begun.stream
 
 -- what a server keeps in this state

@@ -32,7 +32,7 @@ refused_access reason = reason_status codes.stscode.access_refused reason []
 
 -- out of synchronization: a message of this type may not come now
 abbrev pub sync_status : Message → Message
-sync_status message = bare_status (codes.out_of_place (type_of message))
+sync_status message = bare_status (codes.out_of_sequence (type_of message))
 
 -- the byte of the reason in STV, 0 if a refusal has none
 abbrev pub reason_of : Refusal → ℕ

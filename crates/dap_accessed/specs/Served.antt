@@ -18,7 +18,8 @@ use Rattle.dap_accessed.specs.Present.{Present, StandsAfter}
 abbrev pub AllAtMost : ℕ → List (List ℕ) → Type 0
 AllAtMost limit list = AllByRecursion (λ bytes. length bytes ≤ limit) list
 
--- NSP messages with these messages, each of which has a spelling, joined as far as the limit goes, and none longer than it
+-- NSP messages with these messages, each of which has a spelling, joined as far as the limit goes, and none longer than
+-- it
 pub record Answered (limit : ℕ) (messages : List Message) (answers : Vec (Vec ℕ)) : Type 0 where
   pub bytes : bodies answers.items ≡ all_joined (Blocked limit messages)
   pub within : AllAtMost limit (bodies answers.items)
@@ -27,7 +28,7 @@ pub record Answered (limit : ℕ) (messages : List Message) (answers : Vec (Vec 
 -- The item at this offset was served. Whatever items left the server before, it is as after those and this one, and
 -- its answers are those that the item adds, joined within the peer's limit. Each has a spelling, and no NSP message
 -- of them is longer than that limit.
-pub record Serves (bytes : List ℕ) (at : ℕ) (old new : Present) (served : Served) : Type 0 where
+pub record ServesItemAt (bytes : List ℕ) (at : ℕ) (old new : Present) (served : Served) : Type 0 where
   pub item : Item
   pub reads : ItemAt bytes at item served.next
   pub limit : ℕ

@@ -1,4 +1,5 @@
--- What a server is set up with: what it says of itself, how it compares names, and the most that an Access may ask for.
+-- What a server is set up with: what it says of itself, how it compares names, and the rights that an Access may ask
+-- for.
 use Rattle.std.specs.Prelude.{ℕ, ◌≤◌, Bool, true, not, ◌&&◌, ◌||◌, List, bytes_eq}
 use Rattle.file_names.specs.Folds.{fold}
 use Rattle.dap_msg.specs.BothEnds.{min_buffer, plain_identity}
@@ -27,7 +28,7 @@ lacks most asked =
 abbrev pub plain_setup : ℕ → ServerSetup
 plain_setup bufsiz = record { identity = plain_identity bufsiz; names = Exact; most = all_rights }
 
--- its Configuration has a spelling, and its BUFSIZ is at least the least
+-- its Configuration has a spelling, and its BUFSIZ is at least the minimum
 pub record IsServerSetup (own : ServerSetup) : Type 0 where
   pub fits : FieldsFit (Config own.identity)
   pub least : min_buffer ≤ own.identity.bufsiz

@@ -50,43 +50,43 @@ with_file n file files = set files n (name_at n files, file)
 abbrev pub the_file : Files → OpenFile → FileVal
 the_file files opened = file_at opened.at files
 
--- The place between groups: before the peer's Configuration; without a file; with a file; with a stream; in a
+-- The phase between groups: before the peer's Configuration; without a file; with a file; with a stream; in a
 -- sequential file transfer to this end; and in one to the peer that has stopped at a record too large.
-pub data Place : Type 0 where
-  Fresh : Place
-  Ready : Place
-  Opened : OpenFile → Place
-  Connected : OpenFile → StreamVal → Place
-  Store : OpenFile → StreamVal → Place
-  Stopped : OpenFile → StreamVal → Place
+pub data ServerState : Type 0 where
+  Fresh : ServerState
+  Ready : ServerState
+  Opened : OpenFile → ServerState
+  Connected : OpenFile → StreamVal → ServerState
+  Store : OpenFile → StreamVal → ServerState
+  Stopped : OpenFile → StreamVal → ServerState
 
--- a group that is over: the place in which it was served, its first item, and its answers
+-- a group that is over: the phase in which it was served, its first item, and its answers
 pub record Group : Type 0 where
-  pub place : Place
+  pub state : ServerState
   pub first : Item
   pub answers : List Message
 
--- the longest message that the peer takes, and the files
+-- the maximum length of a message to the peer, and the files
 pub record Scene : Type 0 where
   pub limit : ℕ
   pub files : Files
 
--- a state: the limit and the files, the place, and the groups so far, the newest first
+-- a state: the limit and the files, the phase, and the groups so far, the newest first
 pub record Standing : Type 0 where
   pub scene : Scene
-  pub place : Place
+  pub state : ServerState
   pub past : List Group
 
--- what a group leaves: the limit and the files, the place after it, and its answers
+-- what a group leaves: the limit and the files, the phase after it, and its answers
 pub record Effect : Type 0 where
   pub scene : Scene
-  pub place : Place
+  pub state : ServerState
   pub answers : List Message
 
 -- such an effect
-abbrev pub enters : Scene → Place → List Message → Effect
-enters scene place answers = record { scene = scene; place = place; answers = answers }
+abbrev pub enters : Scene → ServerState → List Message → Effect
+enters scene state answers = record { scene = scene; state = state; answers = answers }
 
--- The first state: these files, no Configuration of the peer, and the least limit.
+-- The first state: these files, no Configuration of the peer, and the minimum limit.
 abbrev pub start : Files → Standing
-start files = record { scene = record { limit = min_buffer; files = files }; place = Fresh; past = [] }
+start files = record { scene = record { limit = min_buffer; files = files }; state = Fresh; past = [] }

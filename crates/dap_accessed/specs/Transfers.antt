@@ -16,8 +16,8 @@ use Rattle.dap_accessed.specs.Records.{at_number, filedata_of, fits_limit}
 
 -- ---- To the peer.
 
--- The records that are sent, and the end of the fetch. At the end of the file the stream is after the last record
--- that was sent. At a record too large the stream is at that one, and the place is Stopped.
+-- The records that are sent, and the end of the fetch. At the end of the file the stream is after the last record that
+-- was sent. At a record too large the stream is at that one, and the phase is Stopped.
 abbrev pub fetch_ends : Scene → OpenFile → StreamVal → (given rest : List (ℕ × List ℕ)) → Effect
 fetch_ends scene opened stream given [] =
     enters scene (Connected opened (at_number (fold (λ n r. r.0 + 1) stream.next given) stream))

@@ -14,7 +14,7 @@ pub record AreTwins (one other : ServerSetup) : Type 0 where
 abbrev pub SameMessage : (one other : Configuration) → Message → Message → Type 0
 SameMessage one other m n = (m ≡ n) ⊎ ((m ≡ Config one) × (n ≡ Config other))
 
--- two lists of messages are the same, but that each server sends its own Configuration
+-- two lists of messages are the same, but that each server sends its Configuration
 abbrev pub SameMessages : (one other : Configuration) → List Message → List Message → Type 0
 SameMessages one other [] [] = Unit {0}
 SameMessages one other (m ∷ ms) (n ∷ ns) = SameMessage one other m n × SameMessages one other ms ns

@@ -1,15 +1,15 @@
-//! The accessed end.
+//! The server.
 
 ghost use Rattle.std.specs.Prelude.{◌≡◌, ◌≤◌, ◌<◌, ℕ, List, [], length, IfOk, IsOk, OnErr};
 ghost use Rattle.dap_msg.specs.BothEnds.{max_nsp_message, min_buffer};
 ghost use Rattle.dap_msg.specs.declared.items.Item.{Item as TheItem};
-ghost use Rattle.dap_msg.specs.Items.{IsPlace, ItemAt};
+ghost use Rattle.dap_msg.specs.Items.{IsOffset, ItemAt};
 ghost use Rattle.dap_msg.specs.declared.items.Item.TheVariants.{Whole};
 ghost use Rattle.dap_msg.specs.declared.message.Message.{Message as TheMessage};
 ghost use Rattle.dap_msg.specs.Decoding.{IsSpelled};
 ghost use Rattle.dap_accessed.specs.Groups.{After};
 ghost use Rattle.dap_accessed.specs.Present.{StandsAfter};
-ghost use Rattle.dap_accessed.specs.Served.{IsSilent, Serves};
+ghost use Rattle.dap_accessed.specs.Served.{IsSilent, ServesItemAt};
 ghost use Rattle.dap_accessed.specs.Setup.{IsServerSetup, plain_setup};
 ghost use Rattle.dap_accessed.specs.Standing.{Files};
 
@@ -22,9 +22,8 @@ use dap_msg::{Item, item_at};
 use std::alloc::Global;
 use std::marker::Model;
 
-/// The end that is accessed: it holds the files, and serves one message after another (DAP 5.6.0,
-/// message sequences). It keeps no list of what it served: it is as after any messages that
-/// leave what it keeps.
+/// The server: it holds the files, and serves one message after another (DAP 5.6.0, message sequences). It keeps no
+/// list of what it served: it is as after any messages that leave what it keeps.
 #[derive(Drop)]
 pub struct Accessed {
     pub(crate) files: FileTable,
@@ -46,7 +45,7 @@ impl Model for Accessed {
 }
 
 impl Accessed {
-    /// An end with no files that waits for the peer's Config, with a buffer of this many bytes, at least 64. It
+    /// Creates an end with no files that waits for the peer's Config, with a buffer of this many bytes, at least 64. It
     /// takes no memory.
     pub fn new(alloc: Global, bufsiz: u16) -> Accessed
         requires low { min_buffer ≤ bufsiz }
@@ -58,7 +57,7 @@ impl Accessed {
         Accessed::with_setup(alloc, ServerSetup::plain(bufsiz))
     }
 
-    /// An end with this setup, which has no files, and of which no message was served. It takes no memory.
+    /// Creates an end with this setup, which has no files, and of which no message was served. It takes no memory.
     pub fn with_setup(alloc: Global, setup: ServerSetup) -> Accessed
         requires { IsServerSetup setup }
         ensures setup { result.setup ≡ setup }
@@ -71,7 +70,7 @@ impl Accessed {
         }
     }
 
-    /// The files, in the order in which they were made: what all groups of messages so far have made of them.
+    /// Returns the files, in the order in which they were made: what all groups of messages so far have made of them.
     pub fn files(&self) -> &FileTable
         ensures held { result.now ≡ self.now.files }
         ensures after { (first : Files) (items : List TheItem) → StandsAfter first items self.now
@@ -87,8 +86,8 @@ impl Accessed {
     /// The only refusal is [`NoMemory`]. Nothing has changed then, and the same call may be made again. A message
     /// that has no answer and stores no record takes no memory.
     pub fn serve(&mut self, nsp_message: &[u8], at: usize) -> Result<Served, NoMemory>
-        requires { IsPlace at nsp_message.now }
-        ensures serves { IfOk result (Serves nsp_message.now at self.old self.new) }
+        requires { IsOffset at nsp_message.now }
+        ensures serves { IfOk result (ServesItemAt nsp_message.now at self.old self.new) }
         ensures within { IfOk result (λ served. served.next ≤ length nsp_message.now) }
         ensures further { at < length nsp_message.now → IfOk result (λ served. at < served.next) }
         ensures no_memory { OnErr result (self.new ≡ self.old) }
@@ -105,7 +104,7 @@ impl Accessed {
     pub fn serve_item(&mut self, item: Item<'_>, next: usize) -> Result<Served, NoMemory>
         requires { (m : TheMessage) → item ≡ Whole m → IsSpelled m }
         ensures serves { (bytes : List ℕ) (at : ℕ) → ItemAt bytes at item.entry next
-            → IfOk result (Serves bytes at self.old self.new) }
+            → IfOk result (ServesItemAt bytes at self.old self.new) }
         ensures next { IfOk result (λ served. served.next ≡ next) }
         ensures no_memory { OnErr result (self.new ≡ self.old) }
         ensures unrefused { (first : Files) (items : List TheItem)

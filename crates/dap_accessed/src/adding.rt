@@ -16,8 +16,8 @@ use dap_msg::MIN_BUFFER;
 use rec_file::{AnyFile, OneWalk, RecordFile, Refusal, Rights, Shape};
 
 impl Accessed {
-    /// Begins another link, over the same files: the end waits for a peer's Config again, an open file is closed, and a PUT
-    /// or an UPDATE that waits for its record is dropped.
+    /// Begins another link, over the same files: the end waits for a peer's Config again, an open file is closed, and a
+    /// PUT or an UPDATE that waits for its record is dropped.
     pub fn renew(&mut self)
         ensures own { self.new.own ≡ self.old.own }
         ensures setup { self.new.setup ≡ self.old.setup }
@@ -35,7 +35,7 @@ impl Accessed {
         self.session.renew_for(most);
     }
 
-    /// A file without records after the others, before the peer's Config was served. Its shape is one that
+    /// Adds a file without records after the others, before the peer's Config was served. Its shape is one that
     /// [`Shape::check`] gives.
     ///
     /// Refusals in order: Busy; FileExists, as the end compares names; NoMemory. Each leaves the end unchanged.
@@ -61,8 +61,8 @@ impl Accessed {
         Ok(())
     }
 
-    /// A record more in the newest file, under its number, before the peer's Config was served. In a sequential
-    /// file the number is the next one.
+    /// Adds a record to the newest file, under its number, before the peer's Config was served. In a sequential file
+    /// the number is the next one.
     ///
     /// Refusals in order: Busy, NoFile; as of a PUT with this number BadLength, NumberOutOfRange, RecordExists;
     /// NoMemory. Each leaves the end unchanged.
@@ -86,7 +86,7 @@ impl Accessed {
         self.files.add_record(count - 1, number, body)
     }
 
-    /// Whether the end waits for the peer's Config.
+    /// Returns whether the end waits for the peer's Config.
     fn is_fresh(&self) -> bool
         ensures yes { result ≡ true → IsFresh self.now }
         ensures no { result ≡ false → IsLate self.now }
@@ -118,7 +118,7 @@ pub(crate) fn add_record(file: &mut AnyFile, number: u32, body: &[u8]) -> Result
     }
 }
 
-/// In a sequential file a record would leave a gap before it.
+/// Returns whether a record would leave a gap before it in a sequential file.
 fn leaves_gap(file: &AnyFile, number: u32) -> bool
     ensures { result ≡ leaves_gap (any_value file.now) number }
 {

@@ -42,7 +42,7 @@ pub(crate) enum Answer<'a> {
     Record { number: [u8; 4], body: &'a [u8] },
 }
 
-/// The refusal of a record that is longer than the peer takes.
+/// Returns the refusal of a record that is longer than the peer takes.
 pub(crate) fn too_large<'a>() -> Answer<'a>
     ensures message { reply_message result ≡ too_large }
     ensures short { IsShortReply result }
@@ -53,7 +53,7 @@ pub(crate) fn too_large<'a>() -> Answer<'a>
     }
 }
 
-/// A Status with these fields.
+/// Returns a Status with these fields.
 #[tactic(auto, using(dap_msg::proofs::ForCallers::answers_fit))]
 fn status<'a>(code: u16, rfa: &'a [u8], recnum: &'a [u8], stv: &'a [u8]) -> MessageValue<'a>
     requires rfa { length rfa.now ≤ 4 }
@@ -71,7 +71,7 @@ fn status<'a>(code: u16, rfa: &'a [u8], recnum: &'a [u8], stv: &'a [u8]) -> Mess
     })
 }
 
-/// The ORG of an organization.
+/// Returns the ORG of an organization.
 fn org_code(org: Org) -> u8
     ensures { result ≡ org_number org }
 {
@@ -81,7 +81,7 @@ fn org_code(org: Org) -> u8
     }
 }
 
-/// The RFM of a record format.
+/// Returns the RFM of a record format.
 fn format_code(format: Format) -> u8
     ensures { result ≡ format_number format }
 {
@@ -91,7 +91,7 @@ fn format_code(format: Format) -> u8
     }
 }
 
-/// The Attributes of a file, with its MRN in these four bytes.
+/// Returns the Attributes of a file, with its MRN in these four bytes.
 #[tactic(auto, using(dap_msg::proofs::ForCallers::answers_fit, crate::proofs::Writing::org_small, crate::proofs::Writing::format_small))]
 fn attributes(shape: Shape, mrn: &[u8]) -> MessageValue<'_>
     requires { mrn.now ≡ four_bytes shape.mrn }
@@ -108,7 +108,7 @@ fn attributes(shape: Shape, mrn: &[u8]) -> MessageValue<'_>
     })
 }
 
-/// A record, with its number in these four bytes.
+/// Returns the Filedata of a record, with its number in these four bytes.
 #[tactic(auto, using(dap_msg::proofs::ForCallers::file_data_measured, dap_msg::proofs::ForCallers::file_data_fits))]
 fn record<'a>(number: &'a [u8], body: &'a [u8]) -> MessageValue<'a>
     requires four { length number.now ≡ 4 }
@@ -123,7 +123,7 @@ fn record<'a>(number: &'a [u8], body: &'a [u8]) -> MessageValue<'a>
     }
 }
 
-/// How many bytes the Filedata of a record has, with its number in 4 bytes.
+/// Returns how many bytes the Filedata of a record has, with its number in 4 bytes.
 #[tactic(auto, using(dap_msg::proofs::ForCallers::file_data_measured, dap_msg::proofs::ForCallers::file_data_fits))]
 pub(crate) fn filedata_len(body: &[u8]) -> usize
     requires { length body.now ≤ max_record }
@@ -136,7 +136,7 @@ pub(crate) fn filedata_len(body: &[u8]) -> usize
 }
 
 impl<'a> Answer<'a> {
-    /// The message that the answer is.
+    /// Returns the message that the answer is.
     #[tactic(auto, using(dap_msg::proofs::ForCallers::answers_fit))]
     fn message(&self) -> MessageValue<'_>
         requires { IsWritableReply self.now }
@@ -160,7 +160,7 @@ impl<'a> Answer<'a> {
     }
 }
 
-/// One answer in an NSP message of its own.
+/// Returns one answer in an NSP message.
 pub(crate) fn one(alloc: Global, limit: u16, answer: Answer<'_>) -> Result<Vec<Vec<u8>>, NoMemory>
     requires { FitsIn limit answer }
     ensures { IfOk result (Answered limit (reply_message answer.entry ∷ [])) }
@@ -184,7 +184,7 @@ pub(crate) fn append(
     Ok(())
 }
 
-/// The answers to an Access that opens a file.
+/// Returns the answers to an Access that opens a file.
 pub(crate) fn opening(alloc: Global, limit: u16, shape: Shape) -> Result<Vec<Vec<u8>>, NoMemory>
     requires { min_buffer ≤ limit }
     ensures { IfOk result (Answered limit (opened_with shape)) }
@@ -220,14 +220,14 @@ impl Model for Room {
 }
 
 impl Room {
-    /// Room for one answer, unless memory is refused.
+    /// Takes room for one short answer. The only refusal is out of memory.
     pub(crate) fn new(alloc: Global) -> Result<Room, NoMemory> {
         let answers = Vec::with_capacity(alloc, 1)?;
         let bytes = Vec::with_capacity(alloc, usize::from(MIN_BUFFER))?;
         Ok(Room { answers, bytes })
     }
 
-    /// The answer in an NSP message of its own.
+    /// Writes the answer into the room, as one NSP message.
     pub(crate) fn fill(self, limit: u16, answer: Answer<'_>) -> Vec<Vec<u8>>
         requires short { IsShortReply answer }
         requires room { min_buffer ≤ limit }

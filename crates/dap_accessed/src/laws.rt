@@ -19,7 +19,7 @@ ghost use Rattle.rec_file.specs.Shapes.{is_shape};
 ghost use Rattle.rec_file.specs.declared.shapes.Shape.{Shape};
 ghost use Rattle.dap_accessed.specs.Groups.{After, Answers, added, limit_for, stands_after};
 
-/// One message more adds its own answers to those of the messages before it, and no others.
+/// One more message adds its answers to those of the messages before it, and no others.
 pub fn answers_grow()
     ensures { (own : ServerSetup) (first : Files) (items : List TheItem) (item : TheItem)
         → Answers own first (items ++ item ∷ [])
@@ -34,7 +34,7 @@ pub fn stays_sound()
         → AreFiles first → IsSound (stands_after own first items) }
 {}
 
-/// Each answer to one message more that was read has a spelling, and none is longer than the peer takes.
+/// Each answer to one more message that was read has a spelling, and none is longer than the peer takes.
 pub fn answers_are_sendable()
     ensures { (own : ServerSetup) → FieldsFit (Config own.identity)
         → (first : Files) (items : List TheItem)
@@ -58,15 +58,16 @@ pub fn given_files_are_sound()
         → MayStore (file_at (newest files) files) n body → AreFiles (with_record n body files) }
 {}
 
-/// Where no two of the files at first had one name, as the server compares names, no two ever have. So with folded names no
-/// two files of the table fold alike.
+/// Where no two of the files at first had one name, as the server compares names, no two ever have. So with folded
+/// names no two files of the table fold alike.
 pub fn names_stay_apart()
     ensures { (own : ServerSetup) (first : Files) (items : List TheItem)
         → NamesAreApart own.names first → NamesAreApart own.names (After own first items) }
 {}
 
-/// Two servers that differ in what they say of themselves alone, of whatever BUFSIZ, do the same: the files after any messages
-/// are the same, so is the longest message that they send, and so are the answers, but that each sends its own Configuration.
+/// Two servers that differ in what they say of themselves alone, of whatever BUFSIZ, do the same: the files after any
+/// messages are the same, so is the maximum length of a message that they send, and so are the answers, but that each
+/// sends its Configuration.
 pub fn identity_is_told_alone()
     ensures files { (one other : ServerSetup) (first : Files) (items : List TheItem)
         → AreTwins one other → After one first items ≡ After other first items }

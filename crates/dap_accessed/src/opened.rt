@@ -17,7 +17,7 @@ use crate::verbs::{key_for, pick_for};
 use dap_msg::ControlFields;
 use rec_file::{Refusal, Stream};
 
-/// The stream with no current record.
+/// Returns the stream with no current record.
 pub(crate) fn without_current(mut stream: Stream) -> Stream
     ensures { result ≡ uncurrent stream }
 {
@@ -190,7 +190,7 @@ impl Session {
         Ok(room.fill(self.limit, settled(reply)))
     }
 
-    /// Stores the record of a Filedata in the place of the stream's current one.
+    /// Stores the record of a Filedata in place of the stream's current one.
     pub(crate) fn update(
         &mut self,
         files: &mut FileTable,

@@ -1,7 +1,7 @@
-//! Where the accessed end is between two messages.
+//! The phase of a server between two messages.
 
 ghost use Rattle.std.specs.Prelude.{◌≡◌};
-ghost use Rattle.dap_accessed.specs.Inner.Steps.{phase_behind};
+ghost use Rattle.dap_accessed.specs.Inner.Steps.{phase_after_refusal};
 ghost use Rattle.dap_accessed.specs.Sessions.{moved_up, phase_moved_up};
 
 use rec_file::{Refusal, Rights, Stream};
@@ -18,7 +18,7 @@ pub struct OpenFile {
 }
 
 impl OpenFile {
-    /// The open file after another was removed from the table at this index.
+    /// Returns the open file after another was removed from the table at this index.
     pub(crate) fn moved_up(self, removed: usize) -> OpenFile
         ensures { result ≡ moved_up removed self }
     {
@@ -33,7 +33,7 @@ impl OpenFile {
     }
 }
 
-/// What the end waits for (DAP 5.6.0, message sequences; the phases are own).
+/// What the end waits for (DAP 5.6.0, message sequences; the phases are a choice of this crate).
 #[derive(Clone, Copy)]
 pub enum Phase {
     /// The peer's Config.
@@ -57,9 +57,9 @@ pub enum Phase {
 }
 
 impl Phase {
-    /// The phase after an item that is refused: a group of two ends.
-    pub(crate) fn behind(self) -> Phase
-        ensures { result ≡ phase_behind self }
+    /// Returns the phase after an item that is refused, which ends a group of two.
+    pub(crate) fn after_refusal(self) -> Phase
+        ensures { result ≡ phase_after_refusal self }
     {
         match self {
             Phase::PutDue(opened, stream, _) | Phase::UpdateDue(opened, stream) => {
@@ -69,7 +69,7 @@ impl Phase {
         }
     }
 
-    /// The phase after a file that isn't open was removed from the table at this index.
+    /// Returns the phase after a file that isn't open was removed from the table at this index.
     pub(crate) fn moved_up(self, removed: usize) -> Phase
         ensures { result ≡ phase_moved_up removed self }
     {

@@ -13,7 +13,7 @@ use dap_msg::codes::{
 };
 use rec_file::Refusal;
 
-/// The one byte of STV for the reason of a refusal of an operation on a record, 0 where it has none.
+/// Returns the one byte of STV for the reason of a refusal of an operation on a record, 0 where it has none.
 pub fn reason_number(refusal: Refusal) -> u8
     ensures { result ≡ reason_of refusal }
 {
@@ -31,7 +31,7 @@ pub fn reason_number(refusal: Refusal) -> u8
     }
 }
 
-/// The Status of a refusal.
+/// Returns the Status of a refusal.
 pub(crate) fn refused<'a>(refusal: Refusal) -> Answer<'a>
     ensures message { reply_message result ≡ refusal_status refusal [] }
     ensures short { IsShortReply result }
@@ -45,7 +45,7 @@ pub(crate) fn refused<'a>(refusal: Refusal) -> Answer<'a>
     }
 }
 
-/// The Status of the refusal of a Filedata of a Store.
+/// Returns the Status of the refusal of a Filedata of a Store.
 pub(crate) fn store_refused<'a>(refusal: Refusal, ordinal: u32) -> Answer<'a>
     ensures message { reply_message result ≡ refusal_status refusal (four_bytes ordinal) }
     ensures short { IsShortReply result }
@@ -59,7 +59,7 @@ pub(crate) fn store_refused<'a>(refusal: Refusal, ordinal: u32) -> Answer<'a>
     }
 }
 
-/// The Status of a PUT, an UPDATE or a DELETE.
+/// Returns the Status of a PUT, an UPDATE or a DELETE.
 pub(crate) fn settled<'a>(reply: Result<u32, Refusal>) -> Answer<'a>
     ensures message { reply_message result ≡ record_status reply }
     ensures short { IsShortReply result }

@@ -5,6 +5,6 @@
 pub struct Served {
     /// The answers, each an NSP message.
     pub answers: Vec<Vec<u8>>,
-    /// The place in bytes where the next DAP message begins, the NSP message's length where none does.
+    /// The offset at which the next DAP message begins, the NSP message's length where none does.
     pub next: usize,
 }

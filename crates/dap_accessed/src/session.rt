@@ -1,4 +1,4 @@
-//! What the accessed end keeps of one link.
+//! What a server keeps of one link.
 
 ghost use Rattle.std.specs.Prelude.{◌≡◌, ◌≤◌, [], ◌∷◌, Some, IfOk, IsOk, OnOk, OnErr, true};
 ghost use Rattle.dap_msg.specs.BothEnds.{max_nsp_message, min_buffer};
@@ -76,7 +76,7 @@ pub(crate) const PLAIN: Shape = Shape {
     mrn: 0,
 };
 
-/// The rights that FAC gives, or those of the usual operation where it is 0.
+/// Returns the rights that FAC gives, or those of the usual operation where it is 0.
 fn rights_for(fac: u32, usual: FileAccess) -> Rights
     ensures { result ≡ rights_of (fac_or fac usual.0) }
 {
@@ -87,7 +87,7 @@ fn rights_for(fac: u32, usual: FileAccess) -> Rights
     }
 }
 
-/// The rights that an Access to create a file asks for: PUT too.
+/// Returns the rights that an Access to create a file asks for: PUT too.
 fn rights_to_create(fac: u32) -> Rights
     ensures { result ≡ rights_to_create fac }
 {
@@ -97,7 +97,7 @@ fn rights_to_create(fac: u32) -> Rights
     }
 }
 
-/// The answer to an Access that opens nothing.
+/// Returns the answer to an Access that opens nothing.
 fn refused_access<'a>(reason: u8) -> Answer<'a>
     ensures message { reply_message result ≡ refused_access reason }
     ensures short { IsShortReply result }
@@ -108,7 +108,7 @@ fn refused_access<'a>(reason: u8) -> Answer<'a>
     }
 }
 
-/// A file that is there, as an Access with this FAC opens it.
+/// Returns a file that is there, as an Access with this FAC opens it.
 fn there_at(at: usize, fac: u32) -> OpenFile
     ensures { result ≡ there_at fac at }
 {
@@ -119,7 +119,7 @@ fn there_at(at: usize, fac: u32) -> OpenFile
     }
 }
 
-/// The file that an Access would open, where it names one that is there, and asks for no right too many.
+/// Returns the file that an Access would open, where it names one that is there, and asks for no right too many.
 fn would_open(setup: &ServerSetup, files: &FileTable, access: &AccessFields<'_>) -> Option<OpenFile>
     ensures { result ≡ would_open setup.now files.now access.now }
 {
@@ -134,7 +134,7 @@ fn would_open(setup: &ServerSetup, files: &FileTable, access: &AccessFields<'_>)
 }
 
 impl Session {
-    /// A link on which no Config was served, with a buffer of this many bytes, at least 64. It takes no memory.
+    /// Creates a link on which no Config was served, with a buffer of this many bytes, at least 64. It takes no memory.
     pub fn new(alloc: Global, bufsiz: u16) -> Session
         requires low { min_buffer ≤ bufsiz }
         ensures { result ≡ new_session bufsiz }
@@ -142,7 +142,7 @@ impl Session {
         Session::with_setup(alloc, ServerSetup::plain(bufsiz))
     }
 
-    /// A link of a server with this setup on which no Config was served. It takes no memory.
+    /// Creates a link of a server with this setup on which no Config was served. It takes no memory.
     pub fn with_setup(alloc: Global, setup: ServerSetup) -> Session
         requires { IsServerSetup setup }
         ensures { result ≡ session_with setup }
@@ -156,8 +156,8 @@ impl Session {
         }
     }
 
-    /// Begins another link, with the same setup: the open file is closed, and a PUT or an UPDATE that waits for its record
-    /// is dropped.
+    /// Begins another link, with the same setup: the open file is closed, and a PUT or an UPDATE that waits for its
+    /// record is dropped.
     pub fn renew(&mut self)
         ensures session { self.new ≡ session_with self.old.setup }
         ensures own { self.new.own ≡ self.old.own }
@@ -176,14 +176,14 @@ impl Session {
         self.renew();
     }
 
-    /// The most that an Access may ask for.
+    /// Returns the rights that an Access may ask for.
     pub fn rights(&self) -> Rights
         ensures { result ≡ self.now.setup.most }
     {
         self.setup.most
     }
 
-    /// The file that is open, where one is.
+    /// Returns the file that is open, where one is.
     pub fn open_file(&self) -> Option<OpenFile>
         ensures { result ≡ open_at self.now.phase }
     {
@@ -199,8 +199,8 @@ impl Session {
         }
     }
 
-    /// The file that an item would open: an Access, while none is open, that names a file which is there, and asks for no
-    /// right too many.
+    /// Returns the file that an item would open: an Access, while none is open, that names a file which is there, and
+    /// asks for no right too many.
     pub fn asked(&self, files: &FileTable, item: &Item<'_>) -> Option<OpenFile>
         ensures { result ≡ asked_in self.now.setup files.now self.now.phase item.now }
     {
@@ -212,14 +212,14 @@ impl Session {
         }
     }
 
-    /// The file at this place of the table was removed: those after it have moved up.
+    /// Follows the removal of the file at this index of the table, where those after it have moved up.
     pub fn move_up(&mut self, removed: usize)
         ensures { self.new ≡ record self.old { phase = phase_moved_up removed self.old.phase } }
     {
         self.phase = self.phase.moved_up(removed);
     }
 
-    /// No answer.
+    /// Returns no answers.
     pub(crate) fn none(&self) -> Vec<Vec<u8>>
         ensures { Answered self.now.limit [] result }
     {
@@ -256,7 +256,7 @@ impl Session {
         }
     }
 
-    /// Another phase, without an answer.
+    /// Enters another phase, without an answer.
     pub(crate) fn enter(&mut self, phase: Phase) -> Vec<Vec<u8>>
         ensures { Enters self.old phase [] self.new result }
     {
@@ -264,7 +264,7 @@ impl Session {
         self.none()
     }
 
-    /// One short answer, and the phase after it.
+    /// Gives one short answer, and enters the phase after it.
     pub(crate) fn reply(
         &mut self,
         answer: Answer<'_>,
@@ -344,7 +344,8 @@ impl Session {
         Ok(answers)
     }
 
-    /// Answers an Access that opens a file. It is refused where there is none, and then where it asks for a right too many.
+    /// Answers an Access that opens a file. It is refused where there is none, and then where it asks for a right too
+    /// many.
     fn open(
         &mut self,
         files: &mut FileTable,
@@ -368,8 +369,8 @@ impl Session {
         Ok(answers)
     }
 
-    /// Answers an Access that creates a file. It is refused where there is one, then where it asks for a right too many, and
-    /// then where its attributes are bad.
+    /// Answers an Access that creates a file. It is refused where there is one, then where it asks for a right too
+    /// many, and then where its attributes are bad.
     fn create(
         &mut self,
         files: &mut FileTable,
@@ -409,11 +410,12 @@ impl Session {
         ensures no_memory { OnErr result (self.new ≡ self.old) }
         ensures most { self.old.limit ≤ max_nsp_message }
     {
+        // This line is only for the prover: it lets a proof see what is true of every session.
         let _ = &self.limit;
         self.refuse_access(files, Answer::Status(code))
     }
 
-    /// Serves what was read already, over these files: the message or fault that `item_at` answered, and the place
+    /// Serves what was read already, over these files: the message or fault that `item_at` answered, and the offset
     /// after it (DAP 5.6.0, message sequences). A file that is open is in the table.
     ///
     /// The only refusal is [`NoMemory`]. Nothing has changed then, and the same call may be made again. A message
@@ -455,7 +457,7 @@ impl Session {
     {
         match self.phase.step(item) {
             Ok(step) => self.act(files, &step),
-            Err(code) => self.reply(Answer::Status(code), self.phase.behind()),
+            Err(code) => self.reply(Answer::Status(code), self.phase.after_refusal()),
         }
     }
 }

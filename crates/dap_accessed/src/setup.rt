@@ -18,7 +18,7 @@ pub enum Names {
 }
 
 impl Names {
-    /// Whether two names are one.
+    /// Returns whether two names are one.
     pub(crate) fn are_same(self, one: &[u8], other: &[u8]) -> bool
         ensures { result ≡ same_name self one.now other.now }
     {
@@ -36,7 +36,7 @@ pub struct ServerSetup {
     pub identity: Configuration,
     /// By which names an Access finds a file.
     pub names: Names,
-    /// The most that an Access may ask for.
+    /// The rights that an Access may ask for.
     pub most: Rights,
 }
 
@@ -48,7 +48,7 @@ pub const ALL_RIGHTS: Rights = Rights {
     del: true,
 };
 
-/// The rights to do these operations.
+/// Returns the rights to do these operations.
 pub(crate) fn rights_for_access(access: FileAccess) -> Rights
     ensures { result ≡ rights_of access.0 }
 {
@@ -60,8 +60,8 @@ pub(crate) fn rights_for_access(access: FileAccess) -> Rights
     }
 }
 
-/// The rights for which the bits of a FAC stand: bit 0 PUT, 1 GET, 2 DELETE, 3 UPDATE; none for 0 (DAP 5.6.0, Access
-/// message).
+/// Returns the rights for which the bits of a FAC stand: bit 0 PUT, 1 GET, 2 DELETE, 3 UPDATE; none for 0 (DAP 5.6.0,
+/// Access message).
 pub fn rights_of_fac(fac: u32) -> Rights
     ensures { result ≡ rights_of fac }
 {
@@ -69,8 +69,8 @@ pub fn rights_of_fac(fac: u32) -> Rights
 }
 
 impl ServerSetup {
-    /// A server with a buffer of this many bytes of which nothing else is asked: names are compared byte by byte, and an
-    /// Access may ask for every right.
+    /// Returns a server with a buffer of this many bytes of which nothing else is asked: names are compared byte by
+    /// byte, and an Access may ask for every right.
     pub fn plain(bufsiz: u16) -> ServerSetup
         ensures { result ≡ plain_setup bufsiz }
     {
@@ -81,7 +81,7 @@ impl ServerSetup {
         }
     }
 
-    /// Whether one of these rights is more than an Access may ask for.
+    /// Returns whether one of these rights is more than an Access may ask for.
     pub(crate) fn lacks(&self, asked: Rights) -> bool
         ensures { result ≡ lacks self.now.most asked }
     {

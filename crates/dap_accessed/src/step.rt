@@ -26,8 +26,8 @@ use crate::verbs::{Verb, verb_of};
 use dap_msg::codes::{
     CMPFUNC_CLOSE, CMPFUNC_END_OF_STREAM, CMPFUNC_PURGE, CMPFUNC_SKIP, CONFUNC_ABORT,
     CONFUNC_AGAIN, CONFUNC_RESUME, CONFUNC_SKIP, END_OF_FILE, ORG_SEQUENTIAL, RFM_VARIABLE,
-    SUCCESS, TYPE_COMPLETE, TYPE_CONFIGURATION, TYPE_CONTINUE, TYPE_CONTROL, invalid, out_of_place,
-    unsupported,
+    SUCCESS, TYPE_COMPLETE, TYPE_CONFIGURATION, TYPE_CONTINUE, TYPE_CONTROL, invalid,
+    out_of_sequence, unsupported,
 };
 use dap_msg::{
     Attributes, ControlFields, Item, MessageValue, is_too_small, limit_of, number_of, status_for,
@@ -57,7 +57,7 @@ pub(crate) enum Step<'a> {
     Expect(OpenFile, Stream, ControlFields<'a>),
     /// A new record, under a key where there is one, unless the key was refused.
     Put(OpenFile, Stream, Result<Option<u32>, Refusal>, &'a [u8]),
-    /// A record in the place of the current one.
+    /// A record in place of the current one.
     Update(OpenFile, Stream, &'a [u8]),
     /// The current record removed.
     Delete(OpenFile, Stream),
@@ -66,8 +66,8 @@ pub(crate) enum Step<'a> {
 }
 
 impl Phase {
-    /// What an item asks for in this phase, or the code of the Status by which it is refused: no message
-    /// can be read, it is out of sequence, or it asks for nothing that is done.
+    /// Returns what an item asks for in this phase, or the code of the Status by which it is refused: no message can be
+    /// read, it is out of sequence, or it asks for nothing that is done.
     pub(crate) fn step<'a>(self, item: Item<'a>) -> Result<Step<'a>, u16>
         requires fits { ItemFits item }
         requires there { (files : Files) × IsOpenIn files self }
@@ -86,13 +86,13 @@ impl Phase {
                 MessageValue::Filedata { payload, .. } => Ok(Step::Put(
                     opened, stream, key, payload.0,
                 )),
-                _ => Err(out_of_place(message.number())),
+                _ => Err(out_of_sequence(message.number())),
             },
             Phase::UpdateDue(opened, stream) => match message {
                 MessageValue::Filedata { payload, .. } => Ok(Step::Update(
                     opened, stream, payload.0,
                 )),
-                _ => Err(out_of_place(message.number())),
+                _ => Err(out_of_sequence(message.number())),
             },
             Phase::Storing(opened, stream, ordinal) => match message {
                 MessageValue::Filedata { payload, .. } => {
@@ -107,7 +107,7 @@ impl Phase {
         }
     }
 
-    /// What a message asks for where a file is open without a stream.
+    /// Returns what a message asks for where a file is open without a stream.
     fn opened<'a>(self, opened: OpenFile, message: MessageValue<'a>) -> Result<Step<'a>, u16>
         requires { self ≡ phases.Opened opened }
         ensures { AsksFor self (Whole message.entry) result }
@@ -124,7 +124,7 @@ impl Phase {
         }
     }
 
-    /// What a message asks for where a stream is connected.
+    /// Returns what a message asks for where a stream is connected.
     fn connected<'a>(
         self,
         opened: OpenFile,
@@ -156,7 +156,7 @@ impl Phase {
         }
     }
 
-    /// What a message asks for in a Store that drops what comes.
+    /// Returns what a message asks for in a Store that drops what comes.
     fn dropping<'a>(
         self,
         opened: OpenFile,
@@ -181,7 +181,7 @@ impl Phase {
         }
     }
 
-    /// What a message asks for after a fetch that stopped.
+    /// Returns what a message asks for after a fetch that stopped.
     fn stopped<'a>(
         self,
         opened: OpenFile,
@@ -206,7 +206,7 @@ impl Phase {
         }
     }
 
-    /// What a message asks for in each phase in which a file is open, unless the phase says otherwise.
+    /// Returns what a message asks for in each phase in which a file is open, unless the phase says otherwise.
     fn otherwise<'a>(self, opened: OpenFile, message: MessageValue<'a>) -> Result<Step<'a>, u16>
         requires there { HasOpen self opened }
         requires common { IsCommon self message }
@@ -218,18 +218,18 @@ impl Phase {
                 CMPFUNC_CLOSE => Ok(Step::Reply(Answer::Complete, Phase::Ready)),
                 CMPFUNC_PURGE => Ok(Step::Purge(opened)),
                 CMPFUNC_END_OF_STREAM => match self {
-                    Phase::Opened(_) => Err(out_of_place(TYPE_COMPLETE)),
+                    Phase::Opened(_) => Err(out_of_sequence(TYPE_COMPLETE)),
                     _ => Ok(Step::Reply(Answer::Complete, Phase::Opened(opened))),
                 },
                 CMPFUNC_SKIP => Err(unsupported(TYPE_COMPLETE)),
                 _ => Err(invalid(TYPE_COMPLETE)),
             },
-            _ => Err(out_of_place(message.number())),
+            _ => Err(out_of_sequence(message.number())),
         }
     }
 }
 
-/// What a message asks for where the peer's Config is due.
+/// Returns what a message asks for where the peer's Config is due.
 fn fresh<'a>(message: MessageValue<'a>) -> Result<Step<'a>, u16>
     ensures { AsksFor phases.Fresh (Whole message.entry) result }
 {
@@ -239,11 +239,11 @@ fn fresh<'a>(message: MessageValue<'a>) -> Result<Step<'a>, u16>
         )),
         MessageValue::Config(config) => Ok(Step::Configure(limit_of(config.bufsiz))),
         MessageValue::Other { .. } => Ok(Step::Enter(Phase::Fresh)),
-        _ => Err(out_of_place(message.number())),
+        _ => Err(out_of_sequence(message.number())),
     }
 }
 
-/// What a message asks for where no file is open.
+/// Returns what a message asks for where no file is open.
 fn ready<'a>(message: MessageValue<'a>) -> Result<Step<'a>, u16>
     requires { IsSpelled message }
     ensures { AsksFor phases.Ready (Whole message.entry) result }
@@ -256,21 +256,21 @@ fn ready<'a>(message: MessageValue<'a>) -> Result<Step<'a>, u16>
             fac: access.fac,
         }),
         MessageValue::Other { .. } => Ok(Step::Enter(Phase::Ready)),
-        _ => Err(out_of_place(message.number())),
+        _ => Err(out_of_sequence(message.number())),
     }
 }
 
-/// The code where a Control is out of sequence and a file is open.
+/// Returns the code where a Control is out of sequence and a file is open.
 fn control_refused(verb: Verb) -> u16
     ensures { bare_status result ≡ control_status verb }
 {
     match verb {
         Verb::Unknown => unsupported(TYPE_CONTROL),
-        _ => out_of_place(TYPE_CONTROL),
+        _ => out_of_sequence(TYPE_CONTROL),
     }
 }
 
-/// The code where a Continue Transfer asks for nothing that is done here.
+/// Returns the code where a Continue Transfer asks for nothing that is done here.
 fn continuation_refused(func: u8) -> u16
     ensures { bare_status result ≡ continue_refused func }
 {
@@ -280,7 +280,7 @@ fn continuation_refused(func: u8) -> u16
     }
 }
 
-/// The shape that the attributes of a message that was read ask for.
+/// Returns the shape that the attributes of a message that was read ask for.
 fn shape_for(attributes: &Attributes<'_>) -> Option<Shape>
     requires { FieldsFit (Attrib attributes.now) }
     ensures same { result ≡ asked_shape attributes.now }

@@ -17,7 +17,7 @@ use crate::table::FileTable;
 use dap_msg::codes::END_OF_FILE;
 use rec_file::{Stream, first_record};
 
-/// The stream at another number, with no current record.
+/// Returns the stream at another number, with no current record.
 pub(crate) fn at_number(mut stream: Stream, number: u32) -> Stream
     requires above { 1 ≤ number }
     requires within { number ≤ max_record_number + 1 }
@@ -28,7 +28,7 @@ pub(crate) fn at_number(mut stream: Stream, number: u32) -> Stream
 }
 
 impl Session {
-    /// A Filedata of a Store.
+    /// Serves a Filedata of a Store.
     pub(crate) fn store(
         &mut self,
         files: &mut FileTable,
@@ -79,7 +79,7 @@ impl Session {
         Ok(answers)
     }
 
-    /// The records from the stream's next on, and the phase after them.
+    /// Returns the records from the stream's next on, and the phase after them.
     fn batch(
         &self,
         files: &FileTable,
@@ -87,7 +87,7 @@ impl Session {
         stream: Stream,
     ) -> Result<(Vec<Vec<u8>>, Phase), NoMemory>
         requires { opened.at < length files.now }
-        ensures place { IfOk result (λ r. r.1 ≡ fetched_phase
+        ensures phase { IfOk result (λ r. r.1 ≡ fetched_phase
             (with_files files.now self.now) opened stream) }
         ensures answers { IfOk result (λ r. HasFetched
             (with_files files.now self.now) opened stream r.0) }

@@ -28,13 +28,13 @@ pub enum Verb {
     Store,
     /// To remove the current record.
     Delete,
-    /// The front of the file.
+    /// The beginning of the file.
     Rewind,
     /// Nothing that this end knows.
     Unknown,
 }
 
-/// What a Control asks for: a GET or a PUT may be for a whole file.
+/// Returns what a Control asks for: a GET or a PUT may be for a whole file.
 pub(crate) fn verb_of(control: &ControlFields<'_>) -> Verb
     ensures { result ≡ verb_of control.now }
 {
@@ -52,7 +52,7 @@ pub(crate) fn verb_of(control: &ControlFields<'_>) -> Verb
     }
 }
 
-/// The number that KEY spells.
+/// Returns the number that KEY spells.
 fn key(control: &ControlFields<'_>) -> Result<u32, Refusal>
     ensures { result ≡ key_of control.now }
 {
@@ -62,7 +62,7 @@ fn key(control: &ControlFields<'_>) -> Result<u32, Refusal>
     }
 }
 
-/// The record that a GET is for.
+/// Returns the record that a GET is for.
 pub(crate) fn pick_for(
     file: &AnyFile,
     stream: Stream,
@@ -86,7 +86,7 @@ pub(crate) fn pick_for(
     }
 }
 
-/// The key of a PUT.
+/// Returns the key of a PUT.
 pub(crate) fn key_for(
     file: &AnyFile,
     stream: Stream,

@@ -21,7 +21,7 @@ use Rattle.dap_accessing.specs.Parts.{batch_ending}
 use Rattle.dap_accessing.specs.Phase.{phase_next, limit_next}
 use Rattle.dap_accessing.specs.Present.{ClientState, ClientAfter}
 use Rattle.std.proofs.lemmas.List.{append-nil}
-use Rattle.dap_accessing.specs.Each.{IsBatch, ReadsOn, kept_behind, none_kept, put_back, records_kept, reported_behind}
+use Rattle.dap_accessing.specs.Each.{IsBatch, ReadsOn, kept_after, none_kept, put_back, records_kept, reported_after}
 use Rattle.dap_accessing.specs.Inner.Gathers.{gather, gather_batch}
 use Rattle.dap_accessing.specs.Inner.Hears.{HearsNext}
 use Rattle.dap_accessing.proofs.Gathering.{gathered}
@@ -55,9 +55,9 @@ goes-on told records m q g = let e : Unexpected ≡ Waits = g [] ∙ still_waits
 
 -- the batch is reported
 record Ends (told records : List (ℕ × List ℕ)) (m : Message) (done : Report) : Type 0 where
-  behind : (rest : List Item) → gather_batch (told ++ records) (Whole m ∷ rest) ≡ Reports (reported_behind told done) rest
-  phase : (p : Phase) → phase_next p (reported_behind told done) ≡ phase_next p done
-  limit : (n : ℕ) → limit_next n (reported_behind told done) ≡ limit_next n done
+  behind : (rest : List Item) → gather_batch (told ++ records) (Whole m ∷ rest) ≡ Reports (reported_after told done) rest
+  phase : (p : Phase) → phase_next p (reported_after told done) ≡ phase_next p done
+  limit : (n : ℕ) → limit_next n (reported_after told done) ≡ limit_next n done
 
 same-phase : (told records : List (ℕ × List ℕ)) (e : Ending) (p : Phase) → phase_next p (report.Batch (told ++ records) e) ≡ phase_next p (report.Batch records e)
 same-phase told records ending.Complete p = refl
@@ -94,16 +94,16 @@ module _ (m : Message) (old new : ClientState) (told : List (ℕ × List ℕ)) (
   abbrev Stands : Option Report → Type 0
   Stands report =
       ClientAfter requests (answers ++ Whole m ∷ []) (put_back told new)
-      × (Told requests (answers ++ Whole m ∷ []) ≡ Told requests answers ++ option_to_list (option_map (reported_behind told) report))
+      × (Told requests (answers ++ Whole m ∷ []) ≡ Told requests answers ++ option_to_list (option_map (reported_after told) report))
 
   waits-on : HearsNext (Whole m) old new (Ok None) → Stands None
   waits-on t =
       let records = b.0 in
       let g = subst (λ (p : Pending). (rest : List Item) → gather p (Whole m ∷ rest) ≡ gather t.1 rest) (was-batch t.0 old.pending records t.2 b.1) t.3 in
       let on = goes-on told records m t.1 g in
-      let stood = stands_waiting (Whole m) (put_back told old) (pending.Batch (told ++ records)) (pending.Batch (told ++ (records ++ on.more))) (ap (kept_behind told) b.1) on.behind requests answers s in
+      let stood = stands_waiting (Whole m) (put_back told old) (pending.Batch (told ++ records)) (pending.Batch (told ++ (records ++ on.more))) (ap (kept_after told) b.1) on.behind requests answers s in
       let is : put_back told new ≡ record old { pending = Some (pending.Batch (told ++ (records ++ on.more))) } =
-      ap (put_back told) t.4 ∙ ap (λ (q : Pending). record old { pending = kept_behind told (Some q) }) on.is in
+      ap (put_back told) t.4 ∙ ap (λ (q : Pending). record old { pending = kept_after told (Some q) }) on.is in
       (subst (ClientAfter requests (answers ++ Whole m ∷ [])) (sym is) stood.0, stood.1)
 
   reports-on : (done : Report) → HearsNext (Whole m) old new (Ok (Some done)) → Stands (Some done)
@@ -111,11 +111,11 @@ module _ (m : Message) (old new : ClientState) (told : List (ℕ × List ℕ)) (
       let records = b.0 in
       let g = subst (λ (p : Pending). (rest : List Item) → gather p (Whole m ∷ rest) ≡ Reports done rest) (was-batch t.0 old.pending records t.1 b.1) t.2 in
       let end = ends told records m done g in
-      let stood = stands_reported (Whole m) (put_back told old) (pending.Batch (told ++ records)) (reported_behind told done) (ap (kept_behind told) b.1) end.behind requests answers s in
-      let is : put_back told new ≡ record old { phase = phase_next old.phase (reported_behind told done); limit = limit_next old.limit (reported_behind told done); pending = None } =
+      let stood = stands_reported (Whole m) (put_back told old) (pending.Batch (told ++ records)) (reported_after told done) (ap (kept_after told) b.1) end.behind requests answers s in
+      let is : put_back told new ≡ record old { phase = phase_next old.phase (reported_after told done); limit = limit_next old.limit (reported_after told done); pending = None } =
       ap (put_back told) t.3
       ∙ ap (λ (p : Phase). record old { phase = p; limit = limit_next old.limit done; pending = None }) (sym (end.phase old.phase))
-      ∙ ap (λ (n : ℕ). record old { phase = phase_next old.phase (reported_behind told done); limit = n; pending = None }) (sym (end.limit old.limit)) in
+      ∙ ap (λ (n : ℕ). record old { phase = phase_next old.phase (reported_after told done); limit = n; pending = None }) (sym (end.limit old.limit)) in
       (subst (ClientAfter requests (answers ++ Whole m ∷ [])) (sym is) stood.0, stood.1)
 
   stands-on : (report : Option Report) → HearsNext (Whole m) old new (Ok report) → Stands report
@@ -133,7 +133,7 @@ read_on bytes at m next old new reads report t =
     }
 
 -- where they are taken out, those that were taken out before and these are put back
-pub taken_out : (told : List (ℕ × List ℕ)) (o : Option Pending) → kept_behind (told ++ records_kept o) (none_kept o) ≡ kept_behind told o
+pub taken_out : (told : List (ℕ × List ℕ)) (o : Option Pending) → kept_after (told ++ records_kept o) (none_kept o) ≡ kept_after told o
 taken_out told (Some (pending.Batch records)) = ap (λ (l : List (ℕ × List ℕ)). Some (pending.Batch l)) (append-nil (told ++ records))
 taken_out told None = refl
 taken_out told (Some pending.Config) = refl

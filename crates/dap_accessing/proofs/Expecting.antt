@@ -14,21 +14,21 @@ use Rattle.dap_accessing.specs.declared.pending.Heard.{Heard}
 use Rattle.dap_accessing.specs.declared.pending.Heard.TheVariants as heard
 use Rattle.dap_accessing.specs.Told.{refusal}
 use Rattle.dap_accessing.specs.Parts.{batch_ending}
-use Rattle.dap_accessing.specs.Inner.Hears.{HasPlace, Hears, IsRecordOrRefusal}
+use Rattle.dap_accessing.specs.Inner.Hears.{Hears, IsInSequence, IsRecordOrRefusal}
 
-pub heard_place : (p : Pending) (item : Item) (h : Heard) → Hears p item h → (h ≡ heard.Unexpected → ⊥) → HasPlace p item
-heard_place p item (heard.Waits next) hears expected = inl (next, hears)
-heard_place p item (heard.Reports done) hears expected = inr (done, hears)
-heard_place p item heard.Unexpected hears expected = absurd (expected refl)
-heard_place p item (heard.NoMemory same) hears expected = hears.1
+pub heard_in_sequence : (p : Pending) (item : Item) (h : Heard) → Hears p item h → (h ≡ heard.Unexpected → ⊥) → IsInSequence p item
+heard_in_sequence p item (heard.Waits next) hears expected = inl (next, hears)
+heard_in_sequence p item (heard.Reports done) hears expected = inr (done, hears)
+heard_in_sequence p item heard.Unexpected hears expected = absurd (expected refl)
+heard_in_sequence p item (heard.NoMemory same) hears expected = hears.1
 
-pub record_place : (m : Message) → IsRecordOrRefusal m → HasPlace pending.Record (Whole m)
-record_place (Filedata recnum body) is = inr (report.Found (number_of recnum) body, λ rest. refl)
-record_place (Status status) is =
+pub record_in_sequence : (m : Message) → IsRecordOrRefusal m → IsInSequence pending.Record (Whole m)
+record_in_sequence (Filedata recnum body) is = inr (report.Found (number_of recnum) body, λ rest. refl)
+record_in_sequence (Status status) is =
     inr ((if status.code == codes.stscode.end_of_file then report.EndOfFile else refusal status), λ rest. rw is refl)
-record_place _ is = absurd is
+record_in_sequence _ is = absurd is
 
-pub batch_place : (records : List (ℕ × List ℕ)) (m : Message) → IsRecordOrRefusal m → HasPlace (pending.Batch records) (Whole m)
-batch_place records (Filedata recnum body) is = inl (pending.Batch (records ++ (number_of recnum, body) ∷ []), λ rest. refl)
-batch_place records (Status status) is = inr (report.Batch records (batch_ending status), λ rest. rw is refl)
-batch_place records _ is = absurd is
+pub batch_in_sequence : (records : List (ℕ × List ℕ)) (m : Message) → IsRecordOrRefusal m → IsInSequence (pending.Batch records) (Whole m)
+batch_in_sequence records (Filedata recnum body) is = inl (pending.Batch (records ++ (number_of recnum, body) ∷ []), λ rest. refl)
+batch_in_sequence records (Status status) is = inr (report.Batch records (batch_ending status), λ rest. rw is refl)
+batch_in_sequence records _ is = absurd is

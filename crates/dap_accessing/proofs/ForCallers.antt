@@ -26,7 +26,7 @@ pub use Rattle.dap_accessing.proofs.Laws.{Asked1}
 pub use Rattle.dap_accessing.proofs.Laws.{asked_one}
 -- where none is due, each request has its report
 pub use Rattle.dap_accessing.proofs.Laws.{each_told}
--- where each has, and each answer had its place, none is due
+-- where each has, and no answer was out of sequence, none is due
 pub use Rattle.dap_accessing.proofs.Laws.{none_due}
 -- what an end keeps follows from the requests and answers
 pub use Rattle.dap_accessing.proofs.One.{one_present}

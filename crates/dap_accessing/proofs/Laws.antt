@@ -15,10 +15,10 @@ use Rattle.dap_msg.specs.BothEnds.{max_nsp_message}
 use Rattle.dap_accessing.specs.declared.phase.Phase.TheVariants.{Fresh}
 use Rattle.dap_msg.specs.Sendable.{AreSendable}
 use Rattle.dap_accessing.specs.Phase.{phase_next, phase_after, limit_next, limit_after, phases_for, IsNoneDue, IsRefused}
-use Rattle.dap_accessing.specs.Inner.Hears.{pending_of, HasNoPlace, HasPlace, HearsNext}
+use Rattle.dap_accessing.specs.Inner.Hears.{pending_of, IsOutOfSequence, IsInSequence, HearsNext}
 use Rattle.dap_accessing.specs.Present.{ClientState, failed_after, ClientAfter, FitsDue}
 use Rattle.dap_accessing.specs.Inner.Gathers.{gather}
-use Rattle.dap_accessing.specs.Calls.{IsAdmittedBy, Asks, Reads, ReadRefused}
+use Rattle.dap_accessing.specs.Calls.{IsAdmittedBy, AsksRequest, Reads, ReadRefused}
 use Rattle.dap_accessing.specs.Prepared.{MayAsk}
 use Rattle.dap_msg.specs.Blocked.{Blocked, all_joined}
 use Rattle.std.specs.List.{IsAmong}
@@ -105,7 +105,7 @@ none_due_by r rs answers (Reports done rest) e right on = on rest (omega arith) 
 none_due_by r rs answers Waits e right on = let none : ⊥ = omega arith in absurd none
 none_due_by r rs answers Unexpected e right on = let none : ⊥ = omega arith in absurd none
 
--- and where each has, and each answer had its place, none is due
+-- and where each has, and no answer was out of sequence, none is due
 pub none_due : (rs : List Request) (answers : List Item) → length (Told rs answers) ≡ length rs → due_after rs answers ≢ Wrong → IsNoneDue rs answers
 none_due [] [] e right = refl
 none_due [] (a ∷ answers) e right = absurd (right refl)
@@ -268,9 +268,9 @@ is_wrong (AnswersDue _ _) = false
 is_wrong Wrong = true
 
 -- an answer that is out of sequence
-pub misplaced : (answer : Item) (old : ClientState) (p : Pending) → old.pending ≡ Some p → ((rest : List Item) → gather p (answer ∷ rest) ≡ Unexpected)
+pub not_in_sequence : (answer : Item) (old : ClientState) (p : Pending) → old.pending ≡ Some p → ((rest : List Item) → gather p (answer ∷ rest) ≡ Unexpected)
     → (requests : List Request) (answers : List Item) → ClientAfter requests answers old → due_after requests (answers ++ answer ∷ []) ≡ Wrong
-misplaced answer old p some e requests answers s =
+not_in_sequence answer old p some e requests answers s =
     let l = locate requests answers p s.alone (subst (λ p. FitsDue (due_after requests answers) p) some s.pending) in
     l.due (answer ∷ []) ∙ ap (due_by l.last [] (l.so_far ++ answer ∷ [])) (e [])
 
@@ -335,12 +335,12 @@ may_ask request old works none right sendable most = record { works = works; non
 wrong_unexpected : (requests : List Request) (answers : List Item) (answer : Item) → due_after requests (answers ++ answer ∷ []) ≡ Wrong → is_unexpected requests answers answer ≡ true
 wrong_unexpected requests answers answer e = ap is_wrong e
 
-unexpected_by : (answer : Item) (old : ClientState) (o : Option Pending) → old.pending ≡ o → HasNoPlace answer o → (requests : List Request) (answers : List Item) → ClientAfter requests answers old → is_unexpected requests answers answer ≡ true
+unexpected_by : (answer : Item) (old : ClientState) (o : Option Pending) → old.pending ≡ o → IsOutOfSequence answer o → (requests : List Request) (answers : List Item) → ClientAfter requests answers old → is_unexpected requests answers answer ≡ true
 unexpected_by answer old None e none requests answers s =
     wrong_unexpected requests answers answer (unasked requests answers answer (none_pending (due_after requests answers) (subst (λ p. FitsDue (due_after requests answers) p) e s.pending)))
-unexpected_by answer old (Some p) e none requests answers s = wrong_unexpected requests answers answer (misplaced answer old p e none requests answers s)
+unexpected_by answer old (Some p) e none requests answers s = wrong_unexpected requests answers answer (not_in_sequence answer old p e none requests answers s)
 
-pub unexpected : (answer : Item) (old : ClientState) → HasNoPlace answer old.pending → (requests : List Request) (answers : List Item) → ClientAfter requests answers old → is_unexpected requests answers answer ≡ true
+pub unexpected : (answer : Item) (old : ClientState) → IsOutOfSequence answer old.pending → (requests : List Request) (answers : List Item) → ClientAfter requests answers old → is_unexpected requests answers answer ≡ true
 unexpected answer old none requests answers s = unexpected_by answer old old.pending refl none requests answers s
 
 pub malformed : (p : Pending) (fault : MsgFault) (rest : List Item) → gather p (Malformed fault ∷ rest) ≡ Unexpected
@@ -354,9 +354,9 @@ malformed (pending.Batch bodies) fault rest = refl
 malformed (pending.Stored kept) fault rest = refl
 malformed pending.Closed fault rest = refl
 
-pub malformed_misplaced : (o : Option Pending) (fault : MsgFault) → HasNoPlace (Malformed fault) o
-malformed_misplaced None fault = tt
-malformed_misplaced (Some p) fault = λ rest. malformed p fault rest
+pub malformed_not_in_sequence : (o : Option Pending) (fault : MsgFault) → IsOutOfSequence (Malformed fault) o
+malformed_not_in_sequence None fault = tt
+malformed_not_in_sequence (Some p) fault = λ rest. malformed p fault rest
 
 fits_not_wrong : (due : Due) (o : Option Pending) → FitsDue due o → is_wrong due ≡ false
 fits_not_wrong NothingDue o f = refl
@@ -364,10 +364,10 @@ fits_not_wrong (AnswersDue request so_far) o f = refl
 fits_not_wrong Wrong None f = absurd f
 fits_not_wrong Wrong (Some p) f = absurd f
 
-placed : (answer : Item) (old : ClientState) (p : Pending) → old.pending ≡ Some p → HasPlace p answer → (requests : List Request) (answers : List Item) → ClientAfter requests answers old → is_unexpected requests answers answer ≡ false
-placed answer old p e (inl next) requests answers s =
+in_sequence : (answer : Item) (old : ClientState) (p : Pending) → old.pending ≡ Some p → IsInSequence p answer → (requests : List Request) (answers : List Item) → ClientAfter requests answers old → is_unexpected requests answers answer ≡ false
+in_sequence answer old p e (inl next) requests answers s =
     fits_not_wrong (due_after requests (answers ++ answer ∷ [])) (Some next.0) (stands_waiting answer old p next.0 e next.1 requests answers s).0.pending
-placed answer old p e (inr done) requests answers s =
+in_sequence answer old p e (inr done) requests answers s =
     fits_not_wrong (due_after requests (answers ++ answer ∷ [])) None (stands_reported answer old p done.0 e done.1 requests answers s).0.pending
 
 -- an answer that was taken in is read
@@ -376,49 +376,49 @@ pub taken_read : (bytes : List ℕ) (at : ℕ) (m : Message) (next : ℕ) (old n
 taken_read bytes at m next old new None works reads t =
     record {
       works = works;
-      goes_on = ap (λ (p : ClientState). p.failed) t.4 ∙ works;
+      still_works = ap (λ (p : ClientState). p.failed) t.4 ∙ works;
       answer = Whole m;
       reads = reads;
-      expected = placed (Whole m) old t.0 t.2 (inl (t.1, t.3));
+      expected = in_sequence (Whole m) old t.0 t.2 (inl (t.1, t.3));
       stands = λ requests answers s. subst (ClientAfter requests (answers ++ Whole m ∷ [])) (sym t.4) (stands_waiting (Whole m) old t.0 t.1 t.2 t.3 requests answers s).0;
       told = λ requests answers s. (stands_waiting (Whole m) old t.0 t.1 t.2 t.3 requests answers s).1;
     }
 taken_read bytes at m next old new (Some done) works reads t =
     record {
       works = works;
-      goes_on = ap (λ (p : ClientState). p.failed) t.3 ∙ works;
+      still_works = ap (λ (p : ClientState). p.failed) t.3 ∙ works;
       answer = Whole m;
       reads = reads;
-      expected = placed (Whole m) old t.0 t.1 (inr (done, t.2));
+      expected = in_sequence (Whole m) old t.0 t.1 (inr (done, t.2));
       stands = λ requests answers s. subst (ClientAfter requests (answers ++ Whole m ∷ [])) (sym t.3) (stands_reported (Whole m) old t.0 done t.1 t.2 requests answers s).0;
       told = λ requests answers s. (stands_reported (Whole m) old t.0 done t.1 t.2 requests answers s).1;
     }
 
 pub taken_refused : (bytes : List ℕ) (at : ℕ) (m : Message) (next : ℕ) (old new : ClientState) (f : ReadFault) → old.failed ≡ false → ItemAt bytes at (Whole m) next → HearsNext (Whole m) old new (Err f) → ReadRefused bytes at old new f
 taken_refused bytes at m next old new read_fault.Unexpected works reads t = (works, ap (λ (p : ClientState). p.failed) t.0, t.0, (Whole m, next, reads, unexpected (Whole m) old t.1))
-taken_refused bytes at m next old new read_fault.NoMemory works reads t = (works, t.0, (Whole m, next, reads, placed (Whole m) old t.1.0 t.1.1 t.1.2))
+taken_refused bytes at m next old new read_fault.NoMemory works reads t = (works, t.0, (Whole m, next, reads, in_sequence (Whole m) old t.1.0 t.1.1 t.1.2))
 taken_refused bytes at m next old new read_fault.Failed works reads t = absurd t
 
 -- without room for a report what is expected isn't read, and what isn't fails the end
-pub expected_refused : (bytes : List ℕ) (at : ℕ) (item : Item) (next : ℕ) (old : ClientState) → old.failed ≡ false → ItemAt bytes at item next → ((p : Pending) × (old.pending ≡ Some p) × HasPlace p item)
+pub expected_refused : (bytes : List ℕ) (at : ℕ) (item : Item) (next : ℕ) (old : ClientState) → old.failed ≡ false → ItemAt bytes at item next → ((p : Pending) × (old.pending ≡ Some p) × IsInSequence p item)
     → ReadRefused bytes at old old read_fault.NoMemory
-expected_refused bytes at item next old works reads (p, some, place) = (works, refl, (item, next, reads, placed item old p some place))
+expected_refused bytes at item next old works reads (p, some, allowed) = (works, refl, (item, next, reads, in_sequence item old p some allowed))
 
-pub unexpected_refused : (bytes : List ℕ) (at : ℕ) (item : Item) (next : ℕ) (old new : ClientState) → old.failed ≡ false → ItemAt bytes at item next → HasNoPlace item old.pending → new ≡ failed_after old
+pub unexpected_refused : (bytes : List ℕ) (at : ℕ) (item : Item) (next : ℕ) (old new : ClientState) → old.failed ≡ false → ItemAt bytes at item next → IsOutOfSequence item old.pending → new ≡ failed_after old
     → ReadRefused bytes at old new read_fault.Unexpected
 unexpected_refused bytes at item next old new works reads none failed =
     (works, ap (λ (p : ClientState). p.failed) failed, failed, (item, next, reads, unexpected item old none))
 
 pub rest_refused : (bytes : List ℕ) (at : ℕ) (fault : MsgFault) (next : ℕ) (old new : ClientState) → old.failed ≡ false → ItemAt bytes at (Malformed fault) next → new ≡ failed_after old → ReadRefused bytes at old new read_fault.Unexpected
 rest_refused bytes at fault next old new works reads failed =
-    (works, ap (λ (p : ClientState). p.failed) failed, failed, (Malformed fault, next, reads, unexpected (Malformed fault) old (malformed_misplaced old.pending fault)))
+    (works, ap (λ (p : ClientState). p.failed) failed, failed, (Malformed fault, next, reads, unexpected (Malformed fault) old (malformed_not_in_sequence old.pending fault)))
 
 pub asks_of : (request : Request) (old : ClientState) (p : Pending) (messages : List (List ℕ)) → MayAsk old request → messages ≡ all_joined (Blocked old.limit (messages_of old.identity request)) → p ≡ pending_of request
-    → Asks request old (record old { pending = Some p }) messages
+    → AsksRequest request old (record old { pending = Some p }) messages
 asks_of request old p messages may spelled e =
     record {
       works = may.works;
-      goes_on = may.works;
+      still_works = may.works;
       admissible = admit request old may;
       limit = old.limit;
       is_limit = λ requests answers s. s.limit;

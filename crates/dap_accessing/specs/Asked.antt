@@ -39,9 +39,9 @@ how_to_go_on Again = codes.confunc.again
 how_to_go_on Skip = codes.confunc.skip
 how_to_go_on Abort = codes.confunc.abort
 
--- The messages of a request, of a client with this Configuration. A Create or an OpenFile is Attributes and an Access. A Put
--- or an Update is a Control and a Data message. A Store is a PUT with RAC 3, a Data message for each record, and an
--- Access Complete that ends the stream. All others are one message.
+-- The messages of a request, of a client with this Configuration. A Create or an OpenFile is Attributes and an Access.
+-- A Put or an Update is a Control and a Data message. A Store is a PUT with RAC 3, a Data message for each record, and
+-- an Access Complete that ends the stream. All others are one message.
 abbrev pub messages_of : (own : Configuration) → Request → List Message
 messages_of own Hello = Config own ∷ []
 messages_of own (Create name org rfm mrs mrn fac) =

@@ -23,10 +23,10 @@ IsAdmittedBy old request =
 
 -- The request is asked: it is admissible, these NSP messages are its messages, joined within the peer's limit, and
 -- the client is as after this request too. No report is added.
-pub record Asks (request : Request) (old new : ClientState)
+pub record AsksRequest (request : Request) (old new : ClientState)
     (messages : List (List ℕ)) : Type 0 where
   pub works : old.failed ≡ false
-  pub goes_on : new.failed ≡ false
+  pub still_works : new.failed ≡ false
   pub admissible : IsAdmittedBy old request
   pub limit : ℕ
   pub is_limit : (requests : List Request) (answers : List Item) → ClientAfter requests answers old → limit ≡ limit_after (Told requests answers)
@@ -48,7 +48,7 @@ AskRefused request old fault =
 -- The answer at this offset was read: it was expected, and the report is the one that it adds, if any.
 pub record Reads (bytes : List ℕ) (at : ℕ) (old new : ClientState) (read : ReadStep) : Type 0 where
   pub works : old.failed ≡ false
-  pub goes_on : new.failed ≡ false
+  pub still_works : new.failed ≡ false
   pub answer : Item
   pub reads : ItemAt bytes at answer read.next
   pub expected : (requests : List Request) (answers : List Item) → ClientAfter requests answers old → is_unexpected requests answers answer ≡ false

@@ -1,4 +1,4 @@
--- Records of a batch that are told one by one, as they come. A client from which they are taken out stands as one that
+-- Records of a batch that are reported one by one, as they come. A client from which they are taken out is as one that
 -- keeps them, but that the report of the batch has the others alone.
 use Rattle.std.specs.Prelude.{ℕ, ◌≡◌, List, [], ◌∷◌, ◌++◌, Option, Some, option_map, option_to_list}
 use Rattle.dap_msg.specs.Items.{ItemAt}
@@ -23,25 +23,25 @@ none_kept (Some (pending.Batch records)) = Some (pending.Batch [])
 none_kept o = o
 
 -- with these records before those that are kept of a batch under way
-abbrev pub kept_behind : (told : List (ℕ × List ℕ)) → Option Pending → Option Pending
-kept_behind told (Some (pending.Batch records)) = Some (pending.Batch (told ++ records))
-kept_behind told o = o
+abbrev pub kept_after : (told : List (ℕ × List ℕ)) → Option Pending → Option Pending
+kept_after told (Some (pending.Batch records)) = Some (pending.Batch (told ++ records))
+kept_after told o = o
 
 -- a client in whose batch these records are put back
 abbrev pub put_back : (told : List (ℕ × List ℕ)) → ClientState → ClientState
-put_back told p = record p { pending = kept_behind told p.pending }
+put_back told p = record p { pending = kept_after told p.pending }
 
--- a report of a batch with these records before its own
-abbrev pub reported_behind : (told : List (ℕ × List ℕ)) → Report → Report
-reported_behind told (report.Batch records ending) = report.Batch (told ++ records) ending
-reported_behind told done = done
+-- a report of a batch with these records before its records
+abbrev pub reported_after : (told : List (ℕ × List ℕ)) → Report → Report
+reported_after told (report.Batch records ending) = report.Batch (told ++ records) ending
+reported_after told done = done
 
 -- a batch is under way
 abbrev pub IsBatch : ClientState → Type 0
 IsBatch p = (records : List (ℕ × List ℕ)) × (p.pending ≡ Some (pending.Batch records))
 
--- The answer at this offset was read while a batch was under way. Whatever records had been taken out before, the client
--- stands as one that keeps them, and reports the batch without them.
+-- The answer at this offset was read while a batch was under way. Whatever records had been taken out before, the
+-- client is as one that keeps them, and reports the batch without them.
 pub record ReadsOn (bytes : List ℕ) (at : ℕ) (old new : ClientState)
     (read : ReadStep) : Type 0 where
   pub answer : Item
@@ -49,4 +49,4 @@ pub record ReadsOn (bytes : List ℕ) (at : ℕ) (old new : ClientState)
   pub stands : (told : List (ℕ × List ℕ)) (requests : List Request) (answers : List Item) → IsBatch old → ClientAfter requests answers (put_back told old) →
       ClientAfter requests (answers ++ answer ∷ []) (put_back told new)
   pub told : (told : List (ℕ × List ℕ)) (requests : List Request) (answers : List Item) → IsBatch old → ClientAfter requests answers (put_back told old) →
-      Told requests (answers ++ answer ∷ []) ≡ Told requests answers ++ option_to_list (option_map (reported_behind told) read.report)
+      Told requests (answers ++ answer ∷ []) ≡ Told requests answers ++ option_to_list (option_map (reported_after told) read.report)

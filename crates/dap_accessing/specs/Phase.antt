@@ -32,7 +32,7 @@ phase_next phase _ = phase
 abbrev pub phase_after : List Report → Phase
 phase_after reports = fold phase_next Fresh reports
 
--- the longest message that the peer takes, after a report
+-- the maximum length of a message to the peer, after a report
 abbrev pub limit_next : ℕ → Report → ℕ
 limit_next limit (report.Ready bufsiz) = message_limit bufsiz
 limit_next limit _ = limit

@@ -17,8 +17,8 @@ pub record MayAsk (old : ClientState) (request : Request) : Type 0 where
   pub sendable : AreSendable old.limit (messages_of old.identity request)
   pub most : old.limit ≤ max_nsp_message
 
--- The client may ask the request, and this has the number that it carries, in four bytes, and the numbers of bytes of its first
--- message and its last.
+-- The client may ask the request, and this has the number that it carries, in four bytes, and the numbers of bytes of
+-- its first message and its last.
 pub record IsPrepared (old : ClientState) (request : Request) (p : Prepared) : Type 0 where
   pub may : MayAsk old request
   pub number : p.number ≡ four_bytes (number_carried request)

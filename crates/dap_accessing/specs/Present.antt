@@ -27,8 +27,8 @@ hear_from (pending.Stored first) answers =
     else hear_store_end (option_or first (first_told (statuses_in_front answers))) (after_those is_status answers)
 hear_from pending.Closed answers = hear_completed report.Closed answers
 
--- the client's BUFSIZ and its Configuration, whether it has failed, its phase, the peer's limit, and what is still to come of the answers
--- to a request
+-- the client's BUFSIZ and its Configuration, whether it has failed, its phase, the peer's limit, and what is still to
+-- come of the answers to a request
 pub record ClientState : Type 0 where
   pub own : ℕ
   pub identity : Configuration

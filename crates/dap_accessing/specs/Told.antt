@@ -1,5 +1,5 @@
--- What answers to requests report (DAP 5.6.0, message sequences): each request takes its answers from the front of
--- those that are left. Which answers a request takes is a choice of this implementation.
+-- What answers to requests report (DAP 5.6.0, message sequences): each request takes the first of the answers that are
+-- left. Which answers a request takes is a choice of this implementation.
 use Rattle.std.specs.Prelude.{ℕ, Bool, true, false, ◌&&◌, nat_le, ◌==◌, if◌then◌else◌, List, [], ◌∷◌, ◌++◌, drop, slice_get, take_while, filter_map, Option, Some, None, is_some, option_map}
 use Rattle.std.specs.List.{prefix_len, list_any}
 use Rattle.dap_msg.specs.Codes as codes

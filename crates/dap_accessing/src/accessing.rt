@@ -1,4 +1,4 @@
-//! The accessing end.
+//! The client.
 
 ghost use Rattle.std.specs.Prelude.{◌≡◌, ◌≢◌, ◌≤◌, ◌<◌, ℕ, List, [], ◌∷◌, ◌++◌, true, false, length, map, Some, IfOk, IfErr, OnOk, OnErr};
 ghost use Rattle.dap_accessing.specs.declared.fault.AskFault.TheVariants.{NoMemory};
@@ -8,13 +8,13 @@ ghost use Rattle.dap_msg.specs.declared.message.Message.TheVariants.{Config};
 ghost use Rattle.dap_msg.specs.declared.items.Item.{Item as TheItem};
 ghost use Rattle.dap_msg.specs.declared.items.Item.TheVariants.{Whole};
 ghost use Rattle.dap_msg.specs.Blocked.{bodies};
-ghost use Rattle.dap_accessing.specs.Inner.Hears.{HasNoPlace, HasPlace, HasShortNumbers, HearsNext};
+ghost use Rattle.dap_accessing.specs.Inner.Hears.{HasShortNumbers, HearsNext, IsInSequence, IsOutOfSequence};
 ghost use Rattle.dap_accessing.specs.declared.pending.Pending.{Pending as ThePending};
 ghost use Rattle.dap_msg.specs.declared.message.Message.{Message as TheMessage};
 ghost use Rattle.dap_msg.specs.Decoding.{IsSpelled};
 ghost use Rattle.dap_accessing.specs.Present.{ClientState, ClientAfter};
-ghost use Rattle.dap_msg.specs.Items.{IsPlace};
-ghost use Rattle.dap_accessing.specs.Calls.{Asks, AskRefused, IsAdmittedBy, Reads, ReadRefused};
+ghost use Rattle.dap_msg.specs.Items.{IsOffset};
+ghost use Rattle.dap_accessing.specs.Calls.{AsksRequest, AskRefused, IsAdmittedBy, Reads, ReadRefused};
 ghost use Rattle.dap_accessing.specs.Each.{ReadsOn, none_kept, put_back, records_kept};
 ghost use Rattle.dap_accessing.specs.Told.{Told};
 ghost use Rattle.dap_accessing.specs.Asked.{messages_of};
@@ -65,7 +65,7 @@ impl Model for Accessing {
 }
 
 impl Accessing {
-    /// An end that nothing was asked of, with a buffer of this many bytes, at least 64. It takes no memory.
+    /// Creates an end that nothing was asked of, with a buffer of this many bytes, at least 64. It takes no memory.
     pub fn new(alloc: Global, bufsiz: u16) -> Accessing
         requires low { min_buffer ≤ bufsiz }
         requires high { bufsiz ≤ max_nsp_message }
@@ -76,8 +76,8 @@ impl Accessing {
         Accessing::with_identity(alloc, Configuration::plain(bufsiz))
     }
 
-    /// An end that nothing was asked of and that says this of itself in its Configuration, with a BUFSIZ of at least 64.
-    /// It takes no memory.
+    /// Returns an end that nothing was asked of and that says this of itself in its Configuration, with a BUFSIZ of at
+    /// least 64. It takes no memory.
     pub fn with_identity(alloc: Global, identity: Configuration) -> Accessing
         requires low { min_buffer ≤ identity.bufsiz }
         requires fits { FieldsFit (Config identity) }
@@ -107,14 +107,14 @@ impl Accessing {
         self.pending = None;
     }
 
-    /// The messages of a request, joined to NSP messages as far as the peer's limit goes (DAP 5.6.0, message
-    /// sequences and blocking).
+    /// Asks a request, and returns its messages, joined to NSP messages as far as the peer's limit goes (DAP 5.6.0,
+    /// message sequences and blocking).
     ///
     /// Refusals in order: Failed, Busy, WrongPhase, TooLarge, NoMemory; each leaves the end
     /// unchanged.
     pub fn ask(&mut self, request: &Request) -> Result<Vec<Vec<u8>>, AskFault>
         ensures asks { IfOk result
-            (λ messages. Asks request.now self.old self.new (bodies messages.items)) }
+            (λ messages. AsksRequest request.now self.old self.new (bodies messages.items)) }
         ensures refused { IfErr result (λ f. AskRefused request.now self.old f) }
         ensures unchanged { OnErr result (self.new ≡ self.old) }
         ensures own { self.new.own ≡ self.old.own }
@@ -124,7 +124,7 @@ impl Accessing {
         self.ask_prepared(request, prepared)
     }
 
-    /// Whether `ask` would take the request, memory aside; refused as there. It takes no memory.
+    /// Checks whether `ask` would take the request, memory aside; refused as there. It takes no memory.
     pub fn check(&self, request: &Request) -> Result<(), AskFault>
         ensures works { OnOk result (self.now.failed ≡ false) }
         ensures admissible { OnOk result (IsAdmittedBy self.now request.now) }
@@ -136,7 +136,8 @@ impl Accessing {
         }
     }
 
-    /// What `ask_prepared` needs of a request that `ask` would take, memory aside; refused as there. It takes no memory.
+    /// Prepares what `ask_prepared` needs of a request that `ask` would take, memory aside; refused as there. It takes
+    /// no memory.
     pub fn prepare(&self, request: &Request) -> Result<Prepared, AskFault>
         ensures works { OnOk result (self.now.failed ≡ false) }
         ensures admissible { OnOk result (IsAdmittedBy self.now request.now) }
@@ -168,7 +169,7 @@ impl Accessing {
     ) -> Result<Vec<Vec<u8>>, AskFault>
         requires { IsPrepared self.old request.now prepared }
         ensures asks { IfOk result
-            (λ messages. Asks request.now self.old self.new (bodies messages.items)) }
+            (λ messages. AsksRequest request.now self.old self.new (bodies messages.items)) }
         ensures refused { IfErr result (λ f. f ≡ NoMemory) }
         ensures unchanged { OnErr result (self.new ≡ self.old) }
         ensures own { self.new.own ≡ self.old.own }
@@ -217,12 +218,12 @@ impl Accessing {
         }
     }
 
-    /// Reads the one DAP message that begins at `at`, in bytes, as the next answer (DAP 5.6.0, message
-    /// sequences).
+    /// Reads the one DAP message that begins at the offset `at` as the next answer (DAP 5.6.0, message sequences).
     ///
-    /// Refusals: Failed; Unexpected, after which the end has failed, and keeps nothing of its requests; NoMemory, which changes nothing.
+    /// Refusals: Failed; Unexpected, after which the end has failed, and keeps nothing of its requests; NoMemory, which
+    /// changes nothing.
     pub fn read(&mut self, nsp_message: &[u8], at: usize) -> Result<ReadStep, ReadFault>
-        requires { IsPlace at nsp_message.now }
+        requires { IsOffset at nsp_message.now }
         ensures reads { IfOk result (λ read. Reads nsp_message.now at self.old self.new read) }
         // So it reads also where records were taken out of the batch that is under way.
         ensures reads_on { IfOk result
@@ -248,14 +249,15 @@ impl Accessing {
         }
     }
 
-    /// Whether an unexpected answer failed this end, so that every request is refused as Failed until `renew`.
+    /// Returns whether an unexpected answer failed this end, so that every request is refused as Failed until `renew`.
     pub fn has_failed(&self) -> bool
         ensures { result ≡ self.now.failed }
     {
         self.failed
     }
 
-    /// The records that are kept of a batch under way: those that came and weren't taken out. None where no batch is under way.
+    /// Returns the records that are kept of a batch under way: those that came and weren't taken out. None where no
+    /// batch is under way.
     pub fn records(&self) -> &[(u64, Octets)]
         ensures { result.now ≡ records_kept self.now.pending }
     {
@@ -265,8 +267,8 @@ impl Accessing {
         }
     }
 
-    /// Takes the records out that are kept of a batch under way: those that came since the last call. The report of the batch
-    /// has the others alone. None where no batch is under way. It takes no memory.
+    /// Takes the records out that are kept of a batch under way: those that came since the last call. The report of the
+    /// batch has the others alone. None where no batch is under way. It takes no memory.
     pub fn take_records(&mut self) -> Numbered
         ensures records { result ≡ records_kept self.old.pending }
         ensures rest { self.new ≡ record self.old { pending = none_kept self.old.pending } }
@@ -279,11 +281,11 @@ impl Accessing {
         }
     }
 
-    /// What `read` answers where there is no room for a report: why the one DAP message that begins at `at` isn't
-    /// read. In order: Failed; Unexpected, after which the end has failed, and keeps nothing of its requests;
+    /// Returns what `read` answers where there is no room for a report: why the one DAP message that begins at `at`
+    /// isn't read. In order: Failed; Unexpected, after which the end has failed, and keeps nothing of its requests;
     /// NoMemory, which changes nothing.
     pub fn refuse(&mut self, nsp_message: &[u8], at: usize) -> ReadFault
-        requires { IsPlace at nsp_message.now }
+        requires { IsOffset at nsp_message.now }
         ensures refused { ReadRefused nsp_message.now at self.old self.new result }
         ensures own { self.new.own ≡ self.old.own }
         ensures identity { self.new.identity ≡ self.old.identity }
@@ -300,12 +302,12 @@ impl Accessing {
         ReadFault::Unexpected
     }
 
-    /// Whether what was read is a message, and expected as the next answer.
+    /// Returns whether what was read is a message, and expected as the next answer.
     fn may_come(&self, item: &Item<'_>) -> bool
         requires { (m : TheMessage) → item.now ≡ Whole m → IsSpelled m }
         ensures yes { result ≡ true → (p : ThePending) × (self.now.pending ≡ Some p)
-            × HasPlace p item.now }
-        ensures no { result ≡ false → HasNoPlace item.now self.now.pending }
+            × IsInSequence p item.now }
+        ensures no { result ≡ false → IsOutOfSequence item.now self.now.pending }
     {
         match (item, &self.pending) {
             (Item::Whole(message), Some(pending)) => pending.expects(message),
@@ -322,8 +324,8 @@ pub fn reports_grow()
         × (Told requests (answers ++ more) ≡ Told requests answers ++ reports) }
 {}
 
-/// What is asked depends on the client's Configuration only where that is sent, and which requests are admissible doesn't
-/// depend on it.
+/// What is asked depends on the client's Configuration only where that is sent, and which requests are admissible
+/// doesn't depend on it.
 pub fn identity_is_told_by_hello()
     ensures hello { (own : Own) → messages_of own Hello ≡ Config own ∷ [] }
     ensures others { (one two : Own) (request : TheRequest) → request ≢ Hello
@@ -333,7 +335,7 @@ pub fn identity_is_told_by_hello()
         → IsAdmissible one requests answers request → IsAdmissible two requests answers request }
 {}
 
-/// What an end keeps follows from the requests and answers that it is after, and from its own Configuration; and it works.
+/// What an end keeps follows from the requests and answers that it is after, and from its Configuration; and it works.
 pub fn standing_is_one()
     ensures one { (requests : List TheRequest) (answers : List TheItem) (one two : ClientState)
         → ClientAfter requests answers one → ClientAfter requests answers two

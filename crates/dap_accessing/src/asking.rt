@@ -24,7 +24,7 @@ use dap_msg::{
 };
 use std::alloc::Global;
 
-/// The number that a request carries in four bytes, 0 where it carries none.
+/// Returns the number that a request carries in four bytes, 0 where it carries none.
 fn carried_number(request: &Request) -> u32
     ensures { result ≡ number_carried request.now }
 {
@@ -40,8 +40,8 @@ fn carried_number(request: &Request) -> u32
 }
 
 impl Request {
-    /// The number that its messages carry, in four bytes, the lowest first: a file's MRN, a record's number or its address;
-    /// 0 where they carry none (DAP 5.6.0, Attributes and Control messages).
+    /// Returns the number that its messages carry, in four bytes, the lowest first: a file's MRN, a record's number or
+    /// its address; 0 where they carry none (DAP 5.6.0, Attributes and Control messages).
     pub(crate) fn number(&self) -> [u8; 4]
         ensures { result ≡ four_bytes (number_carried self.now) }
     {
@@ -49,7 +49,7 @@ impl Request {
     }
 }
 
-/// The Attributes of a file: ORG, RFM, MRS, and MRN in these bytes.
+/// Returns the Attributes of a file: ORG, RFM, MRS, and MRN in these bytes.
 fn attributes(org: u8, rfm: u8, mrs: u16, mrn: &[u8]) -> MessageValue<'_>
     ensures { (n : ℕ) → mrn.now ≡ four_bytes n → result ≡ attributes_of org rfm mrs n }
 {
@@ -62,7 +62,7 @@ fn attributes(org: u8, rfm: u8, mrs: u16, mrn: &[u8]) -> MessageValue<'_>
     })
 }
 
-/// An Access of this function to the file of this name.
+/// Returns an Access of this function to the file of this name.
 fn access(func: u8, name: &Octets, fac: u32) -> MessageValue<'_>
     ensures { result ≡ asked.access func name.now fac }
 {
@@ -77,7 +77,7 @@ fn access(func: u8, name: &Octets, fac: u32) -> MessageValue<'_>
     })
 }
 
-/// A Control with these fields alone.
+/// Returns a Control with these fields alone.
 fn control(func: u8, rac: Option<u8>, key: Option<Bytes<'_>>) -> MessageValue<'_>
     ensures { result ≡ asked.control func rac key.entry }
 {
@@ -92,7 +92,7 @@ fn control(func: u8, rac: Option<u8>, key: Option<Bytes<'_>>) -> MessageValue<'_
     })
 }
 
-/// The Filedata of a record, without a number.
+/// Returns the Filedata of a record, without a number.
 fn record(body: &Octets) -> MessageValue<'_>
     ensures { result ≡ Filedata [] body.now }
 {
@@ -102,7 +102,7 @@ fn record(body: &Octets) -> MessageValue<'_>
     }
 }
 
-/// The first message of a request that carries these four bytes.
+/// Returns the first message of a request that carries these four bytes.
 fn first_message<'a>(own: Configuration, request: &'a Request, number: &'a [u8]) -> MessageValue<'a>
     requires { number.now ≡ four_bytes (number_carried request.now) }
     ensures { result ≡ first_of own request.now }
@@ -138,7 +138,7 @@ fn first_message<'a>(own: Configuration, request: &'a Request, number: &'a [u8])
     }
 }
 
-/// The message after the first and the records, where there is one.
+/// Returns the message after the first and the records, where there is one.
 fn last_message(request: &Request) -> Option<MessageValue<'_>>
     ensures { result ≡ last_of request.now }
 {
@@ -151,7 +151,7 @@ fn last_message(request: &Request) -> Option<MessageValue<'_>>
     }
 }
 
-/// The records of a Store.
+/// Returns the records of a Store.
 fn records(request: &Request) -> &[Octets]
     ensures { result.now ≡ record_bodies request.now }
 {
@@ -161,7 +161,7 @@ fn records(request: &Request) -> &[Octets]
     }
 }
 
-/// The bytes of the message, where it has a spelling within the limit.
+/// Returns the number of bytes of the message, where it has a spelling within the limit.
 fn sendable_len(message: &MessageValue<'_>, limit: u16) -> Option<usize>
     ensures yes { IfSome result (λ n. IsSendable limit message.now) }
     ensures exact { IfSome result (λ n. n ≡ length (canon message.now)) }
@@ -183,10 +183,10 @@ const BEFORE_SHORT_RECORD: usize = 4;
 
 const BEFORE_LONG_RECORD: usize = 5;
 
-/// The bytes of the longest Filedata that has a header of 3 bytes.
+/// The maximum number of bytes of a Filedata with a header of 3 bytes.
 const MAX_SHORT_RECORD: u16 = 258;
 
-/// The bytes of the longest record whose Filedata is within the limit, where there is one.
+/// Returns the maximum number of bytes of a record whose Filedata is within the limit, where there is one.
 fn max_record_within(limit: u16) -> Option<usize>
     ensures some { IfSome result
         (λ most. (len : ℕ) → (len ≤ most) ↔ (file_data_size 0 len ≤ limit)) }
@@ -200,7 +200,7 @@ fn max_record_within(limit: u16) -> Option<usize>
     usize::from(limit).checked_sub(before)
 }
 
-/// Whether each record has a Filedata within the limit.
+/// Returns whether each record has a Filedata within the limit.
 fn are_sendable(records: &[Octets], limit: u16) -> bool
     ensures { IsTrue result ↔ AreSendable limit (map (Filedata []) records.now) }
 {
@@ -247,7 +247,7 @@ pub(crate) struct Outgoing<'a> {
 }
 
 impl<'a> Outgoing<'a> {
-    /// The messages of a request that carries these four bytes.
+    /// Returns the messages of a request that carries these four bytes.
     pub(crate) fn of(own: Configuration, request: &'a Request, number: &'a [u8]) -> Outgoing<'a>
         requires { number.now ≡ four_bytes (number_carried request.now) }
         ensures messages { outgoing_messages result ≡ asked.messages_of own request.now }
@@ -279,7 +279,7 @@ impl<'a> Outgoing<'a> {
         Some(Counts { first, last })
     }
 
-    /// The messages, joined as far as the limit goes. The first and the last aren't counted again.
+    /// Writes the messages, joined as far as the limit goes. The first and the last aren't counted again.
     pub(crate) fn blocked(
         &self,
         alloc: Global,
@@ -306,8 +306,8 @@ impl<'a> Outgoing<'a> {
     }
 }
 
-/// What [`crate::Accessing::prepare`] learned of a request: the number that it carries, in four bytes, and what was counted
-/// of its messages.
+/// What [`crate::Accessing::prepare`] learned of a request: the number that it carries, in four bytes, and what was
+/// counted of its messages.
 #[derive(Drop)]
 pub struct Prepared {
     pub(crate) number: [u8; 4],

@@ -9,7 +9,7 @@ use std::marker::Model;
 pub trait ToBytes {
     ghost bytes: { Self → List ℕ };
 
-    /// The bytes, in memory of their own.
+    /// Copies the bytes into other memory.
     fn to_bytes(&self, alloc: Global) -> Result<Vec<u8>, AllocError>
         ensures { IfOk result (λ copy. copy.items ≡ bytes self.now) };
 }
@@ -53,7 +53,7 @@ impl PartialEq for Octets {
 pub trait ToRecords {
     ghost records: { Self → List (List ℕ) };
 
-    /// The records, in memory of their own.
+    /// Copies the records into other memory.
     fn to_records(&self, alloc: Global) -> Result<Vec<Octets>, AllocError>
         ensures { IfOk result (λ copy. copy.items ≡ records self.now) };
 }

@@ -1,4 +1,4 @@
-//! Requests in memory of their own.
+//! Copies of requests.
 
 ghost use Rattle.std.specs.Prelude.{◌≡◌, IfOk};
 
@@ -7,7 +7,7 @@ use crate::request::Request;
 use std::alloc::{AllocError, Global};
 
 impl<H: ToBytes> Octets<H> {
-    /// A copy of the bytes. The only refusal is out of memory.
+    /// Copies the bytes. The only refusal is out of memory.
     pub(crate) fn copy(&self, alloc: Global) -> Result<Octets, AllocError>
         ensures { IfOk result (λ copy. copy ≡ self.now) }
     {
@@ -16,7 +16,7 @@ impl<H: ToBytes> Octets<H> {
 }
 
 impl<L: ToRecords> OctetsList<L> {
-    /// A copy of the records. The only refusal is out of memory.
+    /// Copies the records. The only refusal is out of memory.
     pub(crate) fn copy(&self, alloc: Global) -> Result<OctetsList, AllocError>
         ensures { IfOk result (λ copy. copy ≡ self.now) }
     {
@@ -25,7 +25,7 @@ impl<L: ToRecords> OctetsList<L> {
 }
 
 impl<H: ToBytes, L: ToRecords> Request<Octets<H>, OctetsList<L>> {
-    /// A copy of the request with memory of its own. The only refusal is out of memory.
+    /// Copies the request, with all its bytes. The only refusal is out of memory.
     pub fn to_request(&self, alloc: Global) -> Result<Request, AllocError>
         ensures { IfOk result (λ request. request ≡ self.now) }
     {
@@ -71,7 +71,7 @@ impl<H: ToBytes, L: ToRecords> Request<Octets<H>, OctetsList<L>> {
 }
 
 impl Request {
-    /// A copy of the request. The only refusal is out of memory.
+    /// Copies the request. The only refusal is out of memory.
     pub fn copy(&self, alloc: Global) -> Result<Request, AllocError>
         ensures { IfOk result (λ copy. copy ≡ self.now) }
     {

@@ -7,7 +7,7 @@ use thiserror::Error;
 #[derive(Clone, Copy, Drop, Debug, PartialEq, Eq, Error)]
 #[error("{}", self.text())]
 pub enum AskFault {
-    /// An answer had no place, so the end has failed.
+    /// An answer was out of sequence, so the end has failed.
     Failed,
     /// A report is still due.
     Busy,
@@ -20,7 +20,7 @@ pub enum AskFault {
 }
 
 impl AskFault {
-    /// What is printed of it.
+    /// Returns what is printed of it.
     fn text(self) -> &'static str {
         match self {
             AskFault::Failed => "an answer had no place, so the end has failed",
@@ -36,7 +36,7 @@ impl AskFault {
 #[derive(Clone, Copy, Drop, Debug, PartialEq, Eq, Error)]
 #[error("{}", self.text())]
 pub enum ReadFault {
-    /// An earlier answer had no place, so the end has failed.
+    /// An earlier answer was out of sequence, so the end has failed.
     Failed,
     /// The answer is out of sequence. Afterwards every call answers `Failed`.
     Unexpected,
@@ -45,7 +45,7 @@ pub enum ReadFault {
 }
 
 impl ReadFault {
-    /// What is printed of it.
+    /// Returns what is printed of it.
     fn text(self) -> &'static str {
         match self {
             ReadFault::Failed => "an earlier answer had no place, so the end has failed",
@@ -60,6 +60,6 @@ impl ReadFault {
 pub struct ReadStep {
     /// What it completes, if it is the last answer to its request.
     pub report: Option<Report>,
-    /// The place in bytes where the next message begins, the NSP message's length where none does.
+    /// The offset at which the next message begins, the NSP message's length where none does.
     pub next: usize,
 }

@@ -19,5 +19,5 @@ pub use fault::{AskFault, ReadFault, ReadStep};
 pub use report::{Ending, Report};
 pub use request::{By, How, Request as RequestOf};
 
-/// What is asked of the end that holds the files: the [`RequestOf`] whose names and bodies are [`Octets`].
+/// What is asked of the server: the [`RequestOf`] whose names and bodies are [`Octets`].
 pub type Request = request::Request<Octets, OctetsList>;

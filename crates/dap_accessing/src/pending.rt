@@ -5,7 +5,7 @@ ghost use Rattle.dap_msg.specs.declared.items.Item.TheVariants.{Whole};
 ghost use Rattle.dap_accessing.specs.declared.pending.Pending.TheVariants as pending;
 ghost use Rattle.dap_accessing.specs.Told.{ending_by, reason_in};
 ghost use Rattle.dap_accessing.specs.declared.pending.Heard.TheVariants as heard;
-ghost use Rattle.dap_accessing.specs.Inner.Hears.{AddsBody, HasNoPlace, HasPlace, HasShortNumbers, Hears, IsRecordOrRefusal, pending_of, refused_as};
+ghost use Rattle.dap_accessing.specs.Inner.Hears.{AddsBody, HasShortNumbers, Hears, IsInSequence, IsOutOfSequence, IsRecordOrRefusal, pending_of, refused_as};
 
 use crate::bytes::{Numbered, Octets};
 use crate::report::{Ending, Report};
@@ -48,7 +48,7 @@ pub(crate) enum Heard {
     NoMemory(Pending),
 }
 
-/// The reason, where there is one byte of it.
+/// Returns the reason, where there is one byte of it.
 fn reason(stv: &[u8]) -> u8
     ensures { result ≡ reason_in stv.now }
 {
@@ -58,7 +58,7 @@ fn reason(stv: &[u8]) -> u8
     }
 }
 
-/// How a fetch ended.
+/// Returns how a fetch ended.
 fn ending(code: u16, stv: &[u8]) -> Ending
     ensures { result ≡ ending_by code (reason_in stv.now) }
 {
@@ -71,7 +71,7 @@ fn ending(code: u16, stv: &[u8]) -> Ending
 }
 
 impl Pending {
-    /// What is to come once the request is asked.
+    /// Returns what is to come once the request is asked.
     pub(crate) fn of(alloc: Global, request: &Request) -> Pending
         ensures { result ≡ pending_of request.now }
     {
@@ -89,7 +89,7 @@ impl Pending {
         }
     }
 
-    /// What the message comes to as the next answer.
+    /// Returns what the message comes to as the next answer.
     pub(crate) fn hear(self, alloc: Global, message: &MessageValue<'_>) -> Heard
         requires { HasShortNumbers message.now }
         ensures { Hears self (Whole message.now) result }
@@ -107,12 +107,12 @@ impl Pending {
         }
     }
 
-    /// Whether a message is expected as the next answer.
-    #[tactic(auto, using(crate::proofs::Expecting::heard_place, crate::proofs::Expecting::record_place, crate::proofs::Expecting::batch_place))]
+    /// Returns whether a message is expected as the next answer.
+    #[tactic(auto, using(crate::proofs::Expecting::heard_in_sequence, crate::proofs::Expecting::record_in_sequence, crate::proofs::Expecting::batch_in_sequence))]
     pub(crate) fn expects(&self, answer: &MessageValue<'_>) -> bool
         requires { HasShortNumbers answer.now }
-        ensures yes { result ≡ true → HasPlace self.now (Whole answer.now) }
-        ensures no { result ≡ false → HasNoPlace (Whole answer.now) (Some self.now) }
+        ensures yes { result ≡ true → IsInSequence self.now (Whole answer.now) }
+        ensures no { result ≡ false → IsOutOfSequence (Whole answer.now) (Some self.now) }
     {
         match self {
             Pending::Record => is_record_or_refusal(answer),
@@ -130,14 +130,14 @@ impl Pending {
     }
 }
 
-/// Whether the message that came to this was expected.
+/// Returns whether the message that came to this was expected.
 fn is_expected(outcome: Heard) -> bool
     ensures { result ≡ false ↔ outcome ≡ heard.Unexpected }
 {
     !matches!(outcome, Heard::Unexpected)
 }
 
-/// Whether the message is a record, or a Status that says why there is none.
+/// Returns whether the message is a record, or a Status that says why there is none.
 fn is_record_or_refusal(message: &MessageValue<'_>) -> bool
     ensures yes { result ≡ true → IsRecordOrRefusal message.now }
     ensures no { result ≡ false → IsRecordOrRefusal message.now → ⊥ }
@@ -149,7 +149,7 @@ fn is_record_or_refusal(message: &MessageValue<'_>) -> bool
     }
 }
 
-/// A Status where a report is due: it refuses, or is out of sequence where it is a success.
+/// Returns what a Status comes to where a report is due: it refuses, or is out of sequence where it is a success.
 fn hear_status(code: u16, stv: &[u8]) -> Heard
     ensures { result ≡ refused_as code (reason_in stv.now) }
 {
@@ -160,7 +160,7 @@ fn hear_status(code: u16, stv: &[u8]) -> Heard
     }
 }
 
-/// What a message comes to where a Config is due.
+/// Returns what a message comes to where a Config is due.
 fn hear_config(message: &MessageValue<'_>) -> Heard
     ensures { Hears pending.Config (Whole message.now) result }
 {
@@ -177,7 +177,7 @@ fn hear_config(message: &MessageValue<'_>) -> Heard
     }
 }
 
-/// What a message comes to where the Attributes of an opened file are due.
+/// Returns what a message comes to where the Attributes of an opened file are due.
 fn hear_attributes(message: &MessageValue<'_>) -> Heard
     requires { HasShortNumbers message.now }
     ensures { Hears pending.Attributes (Whole message.now) result }
@@ -205,7 +205,7 @@ fn hear_attributes(message: &MessageValue<'_>) -> Heard
     }
 }
 
-/// What a message comes to where the Acknowledge after these attributes is due.
+/// Returns what a message comes to where the Acknowledge after these attributes is due.
 fn hear_opened(org: u8, rfm: u8, mrs: u16, mrn: u32, message: &MessageValue<'_>) -> Heard
     ensures { Hears (pending.Opened org rfm mrs mrn) (Whole message.now) result }
 {
@@ -217,7 +217,7 @@ fn hear_opened(org: u8, rfm: u8, mrs: u16, mrn: u32, message: &MessageValue<'_>)
     }
 }
 
-/// What a message comes to where the Acknowledge of a connection is due.
+/// Returns what a message comes to where the Acknowledge of a connection is due.
 fn hear_connected(message: &MessageValue<'_>) -> Heard
     ensures { Hears pending.Connected (Whole message.now) result }
 {
@@ -228,7 +228,7 @@ fn hear_connected(message: &MessageValue<'_>) -> Heard
     }
 }
 
-/// What a message comes to where the record of a get is due.
+/// Returns what a message comes to where the record of a get is due.
 fn hear_record(alloc: Global, message: &MessageValue<'_>) -> Heard
     requires { HasShortNumbers message.now }
     ensures { Hears pending.Record (Whole message.now) result }
@@ -251,7 +251,7 @@ fn hear_record(alloc: Global, message: &MessageValue<'_>) -> Heard
     }
 }
 
-/// What a message comes to where the Status of an operation is due.
+/// Returns what a message comes to where the Status of an operation is due.
 fn hear_done(message: &MessageValue<'_>) -> Heard
     requires { HasShortNumbers message.now }
     ensures { Hears pending.Done (Whole message.now) result }
@@ -282,7 +282,7 @@ fn hear_body(alloc: Global, bodies: Numbered, number: u64, payload: &[u8]) -> He
     }
 }
 
-/// What a message comes to in a fetch, after these records.
+/// Returns what a message comes to in a fetch, after these records.
 fn hear_batch(alloc: Global, bodies: Numbered, message: &MessageValue<'_>) -> Heard
     requires { HasShortNumbers message.now }
     ensures { Hears (pending.Batch bodies) (Whole message.now) result }
@@ -308,7 +308,7 @@ fn hear_batch(alloc: Global, bodies: Numbered, message: &MessageValue<'_>) -> He
     }
 }
 
-/// What a message comes to where the end of a store is due, whose first refusal is kept.
+/// Returns what a message comes to where the end of a store is due, whose first refusal is kept.
 fn hear_stored(kept: Option<(u16, u8, u64)>, message: &MessageValue<'_>) -> Heard
     requires { HasShortNumbers message.now }
     ensures { Hears (pending.Stored kept) (Whole message.now) result }
@@ -338,7 +338,7 @@ fn hear_stored(kept: Option<(u16, u8, u64)>, message: &MessageValue<'_>) -> Hear
     }
 }
 
-/// What a message comes to where the Access Complete of a close or a purge is due.
+/// Returns what a message comes to where the Access Complete of a close or a purge is due.
 fn hear_closed(message: &MessageValue<'_>) -> Heard
     ensures { Hears pending.Closed (Whole message.now) result }
 {

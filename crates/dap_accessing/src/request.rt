@@ -24,8 +24,8 @@ pub enum How {
     Abort,
 }
 
-/// What is asked of the end that holds the files, with names and bodies of type `B` and lists of records of type `L`. It is
-/// exported as `RequestOf`; where they are bytes of their own it is [`crate::Request`].
+/// What is asked of the server, with names and bodies of type `B` and lists of records of type `L`. It is exported as
+/// `RequestOf`; where it owns its bytes it is [`crate::Request`].
 #[derive(Drop, Debug, PartialEq)]
 pub enum Request<B = Octets, L = OctetsList> {
     /// The first request: each end sends its buffer size.

@@ -17,7 +17,7 @@ use Rattle.dap_orders.specs.Schedules.{Numbered, fault_unless}
 use Rattle.dap_orders.specs.Schedules.{event_fault}
 use Rattle.dap_capture.specs.Inner.Playing.{events_of}
 use Rattle.dap_text.specs.Tables.{files_text}
-use Rattle.dap_capture.specs.Played.{Plays, over, goes, stops, Played, empty, setup_refused, played, event_line, refusal_line, refusal_text}
+use Rattle.dap_capture.specs.Played.{Plays, all_played, one_played, stops, Played, empty, setup_refused, played, event_line, refusal_line, refusal_text}
 use Rattle.dap_capture.specs.Inner.Playing.{PlaysOne}
 
 -- what a text so far comes to, once the rest of the run is known
@@ -33,7 +33,7 @@ pub goes_further : (start s new : State) (events : List Event) (number at : ℕ)
     → lines ≡ (at, line) ∷ rest → Some e ≡ event_of line → PlaysOne number e s new text after Good
     → GoesOn start events s number (events_of lines) text → GoesOn start events new (number + 1) (events_of rest) after
 goes_further start s new events number at line rest lines e text after cut says one so_far outcome more run =
-    let whole = so_far outcome (event_line number one.1 ++ more) (subst (λ left. Plays s number left outcome (event_line number one.1 ++ more)) (sym (next_event at line rest lines e cut (sym says))) (goes one.0 new one.1 more one.2 one.3 run)) in
+    let whole = so_far outcome (event_line number one.1 ++ more) (subst (λ left. Plays s number left outcome (event_line number one.1 ++ more)) (sym (next_event at line rest lines e cut (sym says))) (one_played one.0 new one.1 more one.2 one.3 run)) in
     subst (Plays start 1 events outcome) (sym (append_assoc text (event_line number one.1) more) ∙ ap (λ t. t ++ more) (sym one.4)) whole
 
 pub stops_here : (start s new : State) (events : List Event) (number at : ℕ) (line : List ℕ) (rest lines : List Numbered) (e : Event) (text after end : List ℕ)
@@ -49,7 +49,7 @@ stops_here start s new events number at line rest lines e text after end cut say
 pub is_over : (start s : State) (events : List Event) (number : ℕ) (lines : List Numbered) (text end : List ℕ) → lines ≡ [] → end ≡ text ++ files_text (files_of s)
     → GoesOn start events s number (events_of lines) text → Plays start 1 events Good end
 is_over start s events number lines text end none files so_far =
-    let whole = so_far Good (files_text (files_of s)) (subst (λ left. Plays s number left Good (files_text (files_of s))) (sym (ap events_of none)) over) in
+    let whole = so_far Good (files_text (files_of s)) (subst (λ left. Plays s number left Good (files_text (files_of s))) (sym (ap events_of none)) all_played) in
     subst (Plays start 1 events Good) (sym files) whole
 
 no_fault : (number : ℕ) (o : Option Event) (e : Event) → Some e ≡ o → fault_unless number o ≡ None

@@ -22,7 +22,7 @@ use Rattle.dap_text.specs.Reports.{report_text}
 use Rattle.dap_text.specs.Tables.{files_text}
 use Rattle.dap_orders.specs.Orders.{event_of, world_setup_of}
 use Rattle.dap_orders.specs.Schedules.{Numbered, numbered_lines, schedule_faults}
-use Rattle.linewise.specs.Gives.{Gives}
+use Rattle.linewise.specs.Gives.{GivesText}
 use Rattle.linewise.specs.declared.fault.CaptureFault.{CaptureFault}
 use Rattle.linewise.specs.declared.fault.Outcome.{Outcome}
 use Rattle.linewise.specs.declared.fault.Outcome.TheVariants.{Good, Stopped}
@@ -41,16 +41,16 @@ end_text A = codes "a"
 end_text B = codes "b"
 
 -- the packet at this index of an end's wire, in hex
-abbrev pub IsPacketWritten : State → End → (place : ℕ) → (text : List ℕ) → Type 0
-IsPacketWritten s end place text =
-    (sending : Sending) × (slice_get (end_of s end).wire place ≡ Some sending) × (bytes : List ℕ) × IsOnWire s end sending bytes
-    × (text ≡ concat (codes "packet " ∷ end_text end ∷ codes " " ∷ decimal place ∷ codes " " ∷ encode_lower bytes ∷ []))
+abbrev pub IsPacketWritten : State → End → (index : ℕ) → (text : List ℕ) → Type 0
+IsPacketWritten s end index text =
+    (sending : Sending) × (slice_get (end_of s end).wire index ≡ Some sending) × (bytes : List ℕ) × IsOnWire s end sending bytes
+    × (text ≡ concat (codes "packet " ∷ end_text end ∷ codes " " ∷ decimal index ∷ codes " " ∷ encode_lower bytes ∷ []))
 
 -- The text of a step, by its answer and the state after it. Of a report it is the newest one.
 abbrev pub IsStepText : State → Event → Step → List ℕ → Type 0
 IsStepText s e (step.Asked count) text = text ≡ codes "asked " ++ decimal count
 IsStepText s e (step.Posted count) text = text ≡ codes "posted " ++ decimal count
-IsStepText s e (step.Packet place) text = (end : End) × (writing_end e ≡ Some end) × IsPacketWritten s end place text
+IsStepText s e (step.Packet index) text = (end : End) × (writing_end e ≡ Some end) × IsPacketWritten s end index text
 IsStepText s e (step.Delivered got) text = text ≡ got_text got
 IsStepText s e (step.Served count) text = text ≡ codes "served " ++ decimal count
 IsStepText s e step.Nothing text = text ≡ codes "read"
@@ -70,8 +70,8 @@ refusal_text fault.BadSetup = None
 -- The text of a run over events, numbered from this number: a line for each step, up to the first event without one,
 -- and then the files.
 pub data Plays : State → ℕ → List Event → Outcome → List ℕ → Type 0 where
-  over : {s : State} {number : ℕ} → Plays s number [] Good (files_text (files_of s))
-  goes : {s : State} {number : ℕ} {e : Event} {events : List Event} {outcome : Outcome}
+  all_played : {s : State} {number : ℕ} → Plays s number [] Good (files_text (files_of s))
+  one_played : {s : State} {number : ℕ} {e : Event} {events : List Event} {outcome : Outcome}
       (answer : Step) (new : State) (text rest : List ℕ)
       → Steps s e answer new → IsStepText new e answer text → Plays new (number + 1) events outcome rest
       → Plays s number (e ∷ events) outcome (event_line number text ++ rest)
@@ -94,4 +94,4 @@ pub data Played : List Numbered → Outcome → List ℕ → Type 0 where
 -- what `schedule` does with an input
 abbrev pub ScheduleGives : List ℕ → Option (List ℕ) → Option (List ℕ) → Result Outcome CaptureFault → Type 0
 ScheduleGives input =
-    Gives (schedule_faults (numbered_lines input)) (Played (numbered_lines input)) input
+    GivesText (schedule_faults (numbered_lines input)) (Played (numbered_lines input)) input

@@ -17,7 +17,7 @@ use dap_world::{Event, Step, World, WorldFault};
 use linewise::{CaptureFault, MAX_INPUT, Outcome};
 use std::alloc::Global;
 
-/// The event happens; a request is given away.
+/// Lets the event happen; a request is given away.
 fn happen(world: &mut World, event: Event) -> Result<Step, WorldFault>
     ensures { Went world.old event result world.new }
 {

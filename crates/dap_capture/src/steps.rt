@@ -16,7 +16,7 @@ use dap_text::{ask_word, got_word, push_decimal, push_hex, push_number, push_rep
 use dap_world::{End, Step, World, WorldFault};
 use std::alloc::AllocError;
 
-/// The word for an end.
+/// Returns the word for an end.
 fn end_word(end: End) -> &'static str
     ensures { result.now ≡ end_text end }
 {
@@ -26,7 +26,7 @@ fn end_word(end: End) -> &'static str
     }
 }
 
-/// The word for a refusal; out of memory has none.
+/// Returns the word for a refusal; out of memory has none.
 pub(crate) fn refusal_word(fault: WorldFault) -> Option<&'static str>
     ensures { option_copied result ≡ refusal_text fault }
 {
@@ -40,7 +40,7 @@ pub(crate) fn refusal_word(fault: WorldFault) -> Option<&'static str>
     }
 }
 
-/// The end that writes a packet in the event of this order.
+/// Returns the end that writes a packet in the event of this order.
 fn writing_end<'a>(order: &Order<'a>) -> Option<End>
     ensures { result ≡ writing_end (event_of_order order.now) }
 {
@@ -50,25 +50,25 @@ fn writing_end<'a>(order: &Order<'a>) -> Option<End>
     }
 }
 
-/// The packet at a place of an end's wire.
-fn packet_at(world: &World, end: End, place: usize) -> &[u8]
-    requires { place < length (end_of world.now end).wire }
-    ensures { IsPacketAt world.now end place result.now }
+/// Returns the packet at an index of an end's wire.
+fn packet_at(world: &World, end: End, index: usize) -> &[u8]
+    requires { index < length (end_of world.now end).wire }
+    ensures { IsPacketAt world.now end index result.now }
 {
     let wire = world.wire(end);
-    wire[place].packet.as_slice()
+    wire[index].packet.as_slice()
 }
 
-/// Appends the packet at a place of an end's wire.
-fn push_packet(text: &mut Vec<u8>, world: &World, end: End, place: usize) -> Result<(), AllocError>
-    requires { place < length (end_of world.now end).wire }
-    ensures { OnOk result (AddsSome text.old text.new (IsPacketWritten world.now end place)) }
+/// Appends the packet at an index of an end's wire.
+fn push_packet(text: &mut Vec<u8>, world: &World, end: End, index: usize) -> Result<(), AllocError>
+    requires { index < length (end_of world.now end).wire }
+    ensures { OnOk result (AddsSome text.old text.new (IsPacketWritten world.now end index)) }
 {
     push_str(text, "packet ")?;
     push_str(text, end_word(end))?;
-    push_number(text, " ", place)?;
+    push_number(text, " ", index)?;
     push_str(text, " ")?;
-    push_hex(text, packet_at(world, end, place))
+    push_hex(text, packet_at(world, end, index))
 }
 
 /// Appends the newest report.
@@ -98,11 +98,11 @@ fn push_step<'a>(
     match step {
         Step::Asked(count) => push_number(text, "asked ", count),
         Step::Posted(count) => push_number(text, "posted ", count),
-        Step::Packet(place) => {
+        Step::Packet(index) => {
             let Some(end) = writing_end(order) else {
                 unreachable!()
             };
-            push_packet(text, world, end, place)
+            push_packet(text, world, end, index)
         }
         Step::Delivered(got) => push_str(text, got_word(got)),
         Step::Served(count) => push_number(text, "served ", count),

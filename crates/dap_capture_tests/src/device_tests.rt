@@ -71,7 +71,7 @@ const WRITING: &[(Engine, &[u8], usize, &[u8])] = &[
     (Engine::Run, b"\n", 0, b""),
 ];
 
-/// What a run of an engine answers, and what it writes to a device.
+/// Returns what a run of an engine answers, and what it writes to a device.
 fn answer<R: Read>(
     alloc: Global,
     engine: Engine,
@@ -93,7 +93,7 @@ fn writers_that_fail(rt: HostRuntime) {
     }
 }
 
-/// Whether the engine tells that a write failed, and has written this by then.
+/// Returns whether the engine reports that a write failed, and has written this by then.
 fn fails_behind(
     alloc: Global,
     engine: Engine,
@@ -116,7 +116,7 @@ fn readers_that_fail(rt: HostRuntime) {
     }
 }
 
-/// Whether the engine tells that a read failed, and has written nothing.
+/// Returns whether the engine reports that a read failed, and has written nothing.
 fn fails_to_read(alloc: Global, engine: Engine, kind: ErrorKind) -> bool {
     let mut reader = breaking(alloc, kind, 0);
     let (outcome, held) = answer(alloc, engine, &mut reader, kind, 200);

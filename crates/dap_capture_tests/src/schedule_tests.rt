@@ -206,7 +206,7 @@ fn plays_schedules(rt: HostRuntime) -> Result<(), Fail> {
     Ok(())
 }
 
-/// Bytes, and others after them.
+/// Returns bytes, and others after them.
 fn joined(alloc: Global, front: &[u8], back: &[u8]) -> Result<Vec<u8>, AllocError> {
     let mut all = Vec::from_slice(alloc, front)?;
     all.extend_from_slice(back)?;
@@ -221,7 +221,7 @@ fn tells_bad_lines(rt: HostRuntime) {
     }
 }
 
-/// What a schedule of a setup and this line comes to.
+/// Returns what a schedule of a setup and this line comes to.
 fn behind_setup(alloc: Global, line: &[u8]) -> Result<Result<Outcome, CaptureFault>, AllocError> {
     let lines = joined(alloc, b"setup 512 8 1024 1024\n", line)?;
     let mut reader = lines.as_slice();
@@ -246,7 +246,7 @@ fn reports(rt: &impl Abort, alloc: Global, report: &Report, want: &str) {
     assert!(rt; is_printed && text.as_slice() == want.as_bytes(), "{want}");
 }
 
-/// Two records, the second one empty.
+/// Returns two records, the second one empty.
 fn records(alloc: Global) -> Result<Numbered, AllocError> {
     let mut bodies = Vec::new(alloc);
     bodies.push((1, Octets(Vec::from_slice(alloc, b"A")?)))?;

@@ -15,7 +15,7 @@ use linewise::finish;
 use std::alloc::Global;
 use std::io::{Read, Write};
 
-/// What errors in the lines of a command name.
+/// Returns what errors in the lines of a command name.
 fn reading(choice: Choice) -> Reading {
     let (command, lines) = match choice {
         Choice::Show => ("show", "a capture"),
@@ -47,7 +47,7 @@ fn run_lines<R: Read, W: Write>(
     }
 }
 
-/// Runs a command, and answers the exit status. Where it helps, what helps with a fault is told too.
+/// Runs a command, and returns the exit status. Where it helps, what helps with a fault is reported too.
 fn run_choice<R: Read, W: Write, E: Write>(
     alloc: Global,
     choice: Choice,
@@ -68,8 +68,8 @@ fn run_choice<R: Read, W: Write, E: Write>(
     }
 }
 
-/// Runs the command that the words name, the program's name first, and answers the exit status. Where it helps, what helps
-/// with a fault is told too.
+/// Runs the command that the words name, the program's name first, and returns the exit status. Where it helps, what
+/// helps with a fault is reported too.
 fn run_named<R: Read, W: Write, E: Write>(
     alloc: Global,
     words: &[String],
@@ -102,13 +102,12 @@ fn run_named<R: Read, W: Write, E: Write>(
     }
 }
 
-/// Runs the command that the words name, the program's name first, and answers the exit status.
+/// Runs the command that the words name, the program's name first, and returns the exit status.
 ///
-/// 0: all was done, or help was asked for and written. 1: a bad line, an input or a line over its
-/// limit, or a schedule that met an event without a step. 2: the words name no command; the writer
-/// gets nothing. 3: the reader or the writer failed, or memory ran out. Nothing is read where the words
-/// name no command or ask for help. A fault is told in one line to the error writer, and so is what is
-/// wrong with the words; a failure of the error writer changes nothing.
+/// 0: all was done, or help was asked for and written. 1: a bad line, an input or a line over its limit, or a schedule
+/// that met an event without a step. 2: the words name no command; the writer gets nothing. 3: the reader or the writer
+/// failed, or memory ran out. Nothing is read where the words name no command or ask for help. A fault is reported in
+/// one line to the error writer, and so is what is wrong with the words; a failure of the error writer changes nothing.
 pub fn run_words<R: Read, W: Write, E: Write>(
     alloc: Global,
     words: &[String],
@@ -139,8 +138,8 @@ pub fn run_words<R: Read, W: Write, E: Write>(
     run_named(alloc, words, false, reader, writer, error_writer)
 }
 
-/// Runs these words as `run_words` does, and tells in a line more what helps with a bad line, or with a file of captured
-/// frames in place of lines.
+/// Runs these words as `run_words` does, and reports in one more line what helps with a bad line, or with a file of
+/// captured frames in place of lines.
 pub fn run_program<R: Read, W: Write, E: Write>(
     alloc: Global,
     words: &[String],

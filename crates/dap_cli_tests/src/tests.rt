@@ -7,7 +7,7 @@ use std::io::{ErrorKind, Read, Write};
 use std::process::Abort;
 use std::test::Fail;
 
-/// What a run left: its exit status, what it wrote, and what it told.
+/// What a run left: its exit status, what it wrote, and what it printed as errors.
 #[derive(Drop)]
 struct Left {
     status: u8,
@@ -15,7 +15,7 @@ struct Left {
     told: Vec<u8>,
 }
 
-/// The program's name, and words after it.
+/// Returns the program's name, and words after it.
 fn words_of(alloc: Global, words: &[&str]) -> Result<Vec<String>, Fail> {
     let mut list = Vec::new(alloc);
     list.push(String::from_str(alloc, "dapnsp")?)?;
@@ -25,7 +25,7 @@ fn words_of(alloc: Global, words: &[&str]) -> Result<Vec<String>, Fail> {
     Ok(list)
 }
 
-/// Runs the program on words and devices: its exit status, and what it told.
+/// Runs the program on words and devices. Returns its exit status, and what it printed as errors.
 fn run_over<R: Read, W: Write>(
     alloc: Global,
     words: &[&str],
@@ -50,7 +50,7 @@ fn run(alloc: Global, words: &[&str], input: &[u8]) -> Result<Left, Fail> {
     })
 }
 
-/// Whether a run left this status, wrote this, and told this.
+/// Returns whether a run left this status, wrote this, and printed this as errors.
 fn leaves(left: &Left, status: u8, written: &[u8], told: &[u8]) -> bool {
     left.status == status && left.written.as_slice() == written && left.told.as_slice() == told
 }
@@ -75,7 +75,7 @@ fn lists_what_is_captured(rt: HostRuntime) -> Result<(), Fail> {
     Ok(())
 }
 
-/// Wants a status, nothing written and a line told.
+/// Wants a status, nothing written and a line of error output.
 fn fails(rt: &impl Abort, left: &Left, status: u8, line: &str) {
     assert!(rt; leaves(left, status, b"", line.as_bytes()));
 }
@@ -136,7 +136,7 @@ fn runs_a_schedule(rt: HostRuntime) -> Result<(), Fail> {
     Ok(())
 }
 
-/// Runs the program on a command and a reader, and tells what helps.
+/// Runs the program on a command and a reader, and prints what helps.
 fn run_helping<R: Read>(alloc: Global, command: &str, reader: &mut R) -> Result<Left, Fail> {
     let list = words_of(alloc, &[command])?;
     let mut written = Vec::new(alloc);
@@ -158,7 +158,7 @@ const PCAPNG: &[u8] =
     b"bad line 2\ndapnsp: line 1: a pcapng file; daplive frames turns it into lines \
 for dapnsp show and daplive follow\n";
 
-/// How files of captured frames begin, and what is told of them.
+/// How files of captured frames begin, and what is printed of them.
 const FILES: &[(&[u8], &[u8])] = &[
     (b"\xa1\xb2\xc3\xd4\x00\x02\x00\x04", PCAP),
     (b"\xd4\xc3\xb2\xa1\x02\x00\x04\x00", PCAP),
@@ -180,7 +180,8 @@ fn names_files_of_captured_frames(rt: HostRuntime) -> Result<(), Fail> {
     Ok(())
 }
 
-/// Words, inputs that are no file of captured frames, and what is told of them: too short, one byte else, one in front.
+/// Words, inputs that are no file of captured frames, and what is printed of them: too short, one byte else, one before
+/// them.
 const OTHERS: &[(&str, &[u8], &[u8])] = &[
     (
         "show",
@@ -325,7 +326,7 @@ impl Write for Broken {
     }
 }
 
-/// Some kinds of errors. Each is told as the others are, at once.
+/// Some kinds of errors. Each is reported as the others are, at once.
 const KINDS: &[ErrorKind] = &[
     ErrorKind::Other,
     ErrorKind::BrokenPipe,

@@ -18,11 +18,11 @@ use Rattle.dap_end.specs.Done.{ServingValue, ServerHistory, answers_to}
 use Rattle.dap_end.specs.Inner.ServingView.{serving_of}
 
 -- before a Config the answers are those of any files at first
-answers_given : (own : ServerSetup) (first other : Files) (before items : List Item) → (stands_after own first (before ++ items)).standing.place ≡ Fresh → answers_to own first before items ≡ answers_to own other before items
+answers_given : (own : ServerSetup) (first other : Files) (before items : List Item) → (stands_after own first (before ++ items)).standing.state ≡ Fresh → answers_to own first before items ≡ answers_to own other before items
 answers_given own first other before [] fresh = refl
 answers_given own first other before (item ∷ items) fresh =
-    let then : (stands_after own first ((before ++ item ∷ []) ++ items)).standing.place ≡ Fresh =
-    subst (λ (l : List Item). (stands_after own first l).standing.place ≡ Fresh) (sym (append_assoc before (item ∷ []) items)) fresh in
+    let then : (stands_after own first ((before ++ item ∷ []) ++ items)).standing.state ≡ Fresh =
+    subst (λ (l : List Item). (stands_after own first l).standing.state ≡ Fresh) (sym (append_assoc before (item ∷ []) items)) fresh in
     let here = of_any own first before (front_fresh own first before (item ∷ items) fresh) in
     let one = of_any own first (before ++ item ∷ []) (front_fresh own first (before ++ item ∷ []) items then) in
     let limit : limit_for own first before ≡ limit_for own other before = sym (ap (λ (g : Grouped). g.standing.scene.limit) (here.any other)) in

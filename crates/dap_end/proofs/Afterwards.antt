@@ -19,7 +19,7 @@ pub after_received : (past : ServerHistory) (v : ServingValue) (link : LinkValue
 after_received past v link g sends h =
     record {
       serving = h.serving;
-      gone = subst (λ (l : List (List ℕ)). GoneThrough past.given l v.port.place past.items) (sym g.inbox) (gone_stays past.given v.port.link.coming.inbox g.more v.port.place past.items h.gone);
+      gone = subst (λ (l : List (List ℕ)). GoneThrough past.given l v.port.offset past.items) (sym g.inbox) (gone_stays past.given v.port.link.coming.inbox g.more v.port.offset past.items h.gone);
       sends = sends past.handed h.sends;
       answers = h.answers;
       fit = h.fit;

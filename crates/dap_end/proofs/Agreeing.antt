@@ -9,7 +9,7 @@ use Rattle.dap_msg.specs.BothEnds.{max_nsp_message}
 use Rattle.dap_msg.specs.declared.message.Message.{Message}
 use Rattle.dap_msg.specs.declared.items.Item.{Item}
 use Rattle.dap_msg.specs.declared.items.Item.TheVariants.{Whole}
-use Rattle.dap_accessed.specs.Standing.{Place, Files, Group, Standing, start}
+use Rattle.dap_accessed.specs.Standing.{ServerState, Files, Group, Standing, start}
 use Rattle.dap_accessed.specs.Standing as at
 use Rattle.dap_accessed.specs.Groups.{Grouped, grouped, answers_in, stands_after}
 use Rattle.dap_accessed.specs.declared.phase.OpenFile.{OpenFile}
@@ -37,8 +37,8 @@ use Rattle.dap_end.proofs.Stores.{store_goes}
 -- ---- One request, in the place that it fits.
 
 module _ (own_a : Configuration) (own_b : ServerSetup) (a : IsBufsiz own_a.bufsiz) (b : IsBufsiz own_b.identity.bufsiz) (files : Files) (all : AllFiles files) (limit : ℕ) (past : List Group) (limit_a : ℕ) where
-  abbrev GoesAt : Phase → Place → Request → Type 0
-  GoesAt phase place r = Goes own_a own_b r phase (standing_at place files limit past) limit_a
+  abbrev GoesAt : Phase → ServerState → Request → Type 0
+  GoesAt phase state r = Goes own_a own_b r phase (standing_at state files limit past) limit_a
 
   goes_fresh : (r : Request) → phase_fits Fresh r ≡ true → GoesAt Fresh at.Fresh r
   goes_fresh request.Hello e = hello_goes own_a own_b files limit past limit_a a b
@@ -73,17 +73,17 @@ module _ (own_a : Configuration) (own_b : ServerSetup) (a : IsBufsiz own_a.bufsi
   goes_stopped h o s request.Purge e = purge_stopped own_a own_b files limit past limit_a h o s
   goes_stopped h o s r e = cc
 
-  goes : (phase : Phase) (place : Place) → AgreeAt own_a own_b phase place limit limit_a → (r : Request) → phase_fits phase r ≡ true → GoesAt phase place r
+  goes : (phase : Phase) (state : ServerState) → AgreeAt own_a own_b phase state limit limit_a → (r : Request) → phase_fits phase r ≡ true → GoesAt phase state r
   goes Fresh at.Fresh h r e = goes_fresh r e
   goes Ready at.Ready h r e = goes_ready h r e
   goes Opened (at.Opened o) h r e = goes_opened h o r e
   goes Connected (at.Connected o s) h r e = goes_connected h o s r e
   goes Stopped (at.Stopped o s) h r e = goes_stopped h o s r e
-  goes Fresh place h r e = absurd h
-  goes Ready place h r e = absurd h
-  goes Opened place h r e = absurd h
-  goes Connected place h r e = absurd h
-  goes Stopped place h r e = absurd h
+  goes Fresh state h r e = absurd h
+  goes Ready state h r e = absurd h
+  goes Opened state h r e = absurd h
+  goes Connected state h r e = absurd h
+  goes Stopped state h r e = absurd h
 
 -- ---- Answers that come to one report for each request.
 
@@ -204,7 +204,7 @@ module _ (own_a : Configuration) (own_b : ServerSetup) (a : IsBufsiz own_a.bufsi
     whole : after rs ≡ record { standing = standing; begun = None }
     reports : List Report
     heard : AllHeard rs (map Whole (answers_in standing.past)) reports
-    agree : AgreeAt own_a own_b (phase_after reports) standing.place standing.scene.limit (limit_after reports)
+    agree : AgreeAt own_a own_b (phase_after reports) standing.state standing.scene.limit (limit_after reports)
 
   answered : (rs : List Request) (y : Synced rs) → map Whole (asked_answers own_a own_b first rs) ≡ map Whole (answers_in y.standing.past)
   answered rs y = ap (λ (c : Grouped). map Whole (answers_in c.standing.past)) y.whole
@@ -226,15 +226,15 @@ module _ (own_a : Configuration) (own_b : ServerSetup) (a : IsBufsiz own_a.bufsi
       let s = y.standing in
       let told : Told rs (map Whole (asked_answers own_a own_b first rs)) ≡ y.reports = ap (Told rs) (answered rs y) ∙ told-heard rs (map Whole (answers_in s.past)) y.reports y.heard in
       let fits : phase_fits (phase_after y.reports) r ≡ true = ap (λ (l : List Report). phase_fits (phase_after l) r) (sym told) ∙ fits-where r (phase_after (Told rs (map Whole (asked_answers own_a own_b first rs)))) m.1 in
-      let g = goes own_a own_b a b s.scene.files (sound-after rs y) s.scene.limit s.past (limit_after y.reports) (phase_after y.reports) s.place y.agree r fits in
+      let g = goes own_a own_b a b s.scene.files (sound-after rs y) s.scene.limit s.past (limit_after y.reports) (phase_after y.reports) s.state y.agree r fits in
       record {
         standing = g.new;
         whole = after-more rs r ∙ ap (λ (c : Grouped). more_items own_b c (map Whole (messages_of own_a r))) y.whole ∙ g.cut_is;
         reports = y.reports ++ g.done ∷ [];
         heard = subst (λ (l : List Item). AllHeard (rs ++ r ∷ []) l (y.reports ++ g.done ∷ [])) (sym (ap (map Whole) g.adds ∙ map-append Whole (answers_in s.past) g.answers))
             (heard-more rs r (map Whole (answers_in s.past)) y.reports (map Whole g.answers) g.done y.heard g.heard);
-        agree = subst (λ (p : Phase). AgreeAt own_a own_b p g.new.place g.new.scene.limit (limit_after (y.reports ++ g.done ∷ []))) (sym (fold-append phase_next Fresh y.reports (g.done ∷ [])))
-            (subst (λ (l : ℕ). AgreeAt own_a own_b (phase_next (phase_after y.reports) g.done) g.new.place g.new.scene.limit l) (sym (fold-append limit_next max_nsp_message y.reports (g.done ∷ []))) g.agree);
+        agree = subst (λ (p : Phase). AgreeAt own_a own_b p g.new.state g.new.scene.limit (limit_after (y.reports ++ g.done ∷ []))) (sym (fold-append phase_next Fresh y.reports (g.done ∷ [])))
+            (subst (λ (l : ℕ). AgreeAt own_a own_b (phase_next (phase_after y.reports) g.done) g.new.state g.new.scene.limit l) (sym (fold-append limit_next max_nsp_message y.reports (g.done ∷ []))) g.agree);
       }
 
   all-more : (before rs : List Request) → Synced before → AreAllAdmissible own_a own_b first before rs → Synced (before ++ rs)
@@ -263,6 +263,6 @@ module _ (own_a : Configuration) (own_b : ServerSetup) (a : IsBufsiz own_a.bufsi
       let told : asked_reports own_a own_b first rs ≡ y.reports = ap (Told rs) (answered rs y) ∙ told-heard rs (map Whole (answers_in y.standing.past)) y.reports y.heard in
       record {
         whole = ap (λ (c : Grouped). c.begun) y.whole;
-        places = subst (λ (l : List Report). AgreeAt own_a own_b (phase_after l) (after rs).standing.place (after rs).standing.scene.limit (limit_after l)) (sym told)
-            (subst (λ (c : Grouped). AgreeAt own_a own_b (phase_after y.reports) c.standing.place c.standing.scene.limit (limit_after y.reports)) (sym y.whole) y.agree);
+        states = subst (λ (l : List Report). AgreeAt own_a own_b (phase_after l) (after rs).standing.state (after rs).standing.scene.limit (limit_after l)) (sym told)
+            (subst (λ (c : Grouped). AgreeAt own_a own_b (phase_after y.reports) c.standing.state c.standing.scene.limit (limit_after y.reports)) (sym y.whole) y.agree);
       }

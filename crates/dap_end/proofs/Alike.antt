@@ -28,9 +28,9 @@ use Rattle.dap_end.specs.Ports.{HandsOver, PortValue, gone_on}
 use Rattle.dap_end.specs.Moved.{with_outbox_sent, with_link}
 use Rattle.dap_end.specs.Asking.{HasAsked, AskedOne, ReadOne, ReadNone, HasDone}
 use Rattle.dap_end.specs.Hearing.{ReadOn, ReadsAll, hears}
-use Rattle.dap_end.specs.Hearing.{begins, goes}
+use Rattle.dap_end.specs.Hearing.{nothing_read, one_read}
 use Rattle.dap_end.specs.Done.{AskingValue, ClientHistory}
-use Rattle.dap_end.specs.Writing.{Behind}
+use Rattle.dap_end.specs.Writing.{Extends}
 use Rattle.dap_end.specs.Moved.{sent_more}
 use Rattle.dap_end.specs.Turns.{DidAll, WentOn, TakesPacket}
 use Rattle.dap_end.specs.Histories.{Still}
@@ -71,7 +71,7 @@ pub reading_one : (past : ClientHistory) (old one two : AskingValue) (r s : Opti
 reading_one past old one two r s h a b =
     let bytes : b.one.bytes ≡ a.one.bytes = (let both = sym b.one.came ∙ a.one.came in cc) in
     let later : b.one.later ≡ a.one.later = (let both = sym b.one.came ∙ a.one.came in cc) in
-    let same = one_item a.one.bytes old.port.place a.one.item b.one.item a.one.next b.one.next a.one.fits a.one.reads (subst (λ (l : List ℕ). ItemAt l old.port.place b.one.item b.one.next) bytes b.one.reads) in
+    let same = one_item a.one.bytes old.port.offset a.one.item b.one.item a.one.next b.one.next a.one.fits a.one.reads (subst (λ (l : List ℕ). ItemAt l old.port.offset b.one.item b.one.next) bytes b.one.reads) in
     let answers : past.answers ++ b.one.item ∷ [] ≡ past.answers ++ a.one.item ∷ [] = ap (λ (i : Item). past.answers ++ i ∷ []) same.0 in
     let present : one.present ≡ two.present =
     one_present past.requests (past.answers ++ a.one.item ∷ []) one.present two.present (a.past past h).asking (subst (λ (l : List Item). ClientAfter past.requests l two.present) answers (b.past past h).asking) (a.identity ∙ sym b.identity) in
@@ -111,18 +111,18 @@ abbrev Stops : AskingValue → Type 0
 Stops v = (next : AskingValue) (report : Option Report) → ReadOne v next report → ⊥
 
 reads_once : (past : ClientHistory) (old one two : AskingValue) (rs ss : List Report) → HasAsked past old → ReadOn old one rs → ReadOn old two ss → Stops one → Stops two → (one ≡ two) × (rs ≡ ss)
-reads_once past old one two rs ss h begins begins a b = (refl, refl)
-reads_once past old one two rs ss h begins (goes n s more y other js) a b = absurd (a n s y)
-reads_once past old one two rs ss h (goes m r more x on is) begins a b = absurd (b m r x)
-reads_once past old one two rs ss h (goes m r more x on is) (goes n s rest y other js) a b =
+reads_once past old one two rs ss h nothing_read nothing_read a b = (refl, refl)
+reads_once past old one two rs ss h nothing_read (one_read n s more y other js) a b = absurd (a n s y)
+reads_once past old one two rs ss h (one_read m r more x on is) nothing_read a b = absurd (b m r x)
+reads_once past old one two rs ss h (one_read m r more x on is) (one_read n s rest y other js) a b =
     let same = reading_one past old m n r s h x y in
     let next = reads_once (with_answer_read past x.one.bytes x.one.item x.one.next) m one two more rest (x.past past h) on (subst (λ (v : AskingValue). ReadOn v two rest) (sym same.0) other) a b in
     (next.0, is ∙ ap (λ (l : List Report). option_to_list r ++ l) next.1 ∙ ap (λ (o : Option Report). option_to_list o ++ rest) same.1 ∙ sym js)
 
 -- an end that failed reads nothing
 failed_reads : (old one : AskingValue) (rs : List Report) → old.present.failed ≡ true → ReadOn old one rs → (one ≡ old) × (rs ≡ [])
-failed_reads old one rs e begins = (refl, refl)
-failed_reads old one rs e (goes m r more x on is) = absurd (true≢false (sym e ∙ x.works))
+failed_reads old one rs e nothing_read = (refl, refl)
+failed_reads old one rs e (one_read m r more x on is) = absurd (true≢false (sym e ∙ x.works))
 
 read_past : (past : ClientHistory) (old new : AskingValue) (rs : List Report) → HasAsked past old → ReadOn old new rs → (now : ClientHistory) × HasAsked now new
 read_past past old new rs h on = let g = (read_grows old new rs on).past past h in (g.0, g.1.is)
@@ -137,24 +137,24 @@ not_wrong Wrong None e h = h
 not_wrong Wrong (Some p) e h = h
 
 -- an answer that is out of sequence is read by nobody
-no_place : (past : ClientHistory) (v new next : AskingValue) (report : Option Report) → HasAsked past v → ReadNone v new read_fault.Unexpected → ReadOne v next report → ⊥
-no_place past v new next report h n r =
+stays_out_of_sequence : (past : ClientHistory) (v new next : AskingValue) (report : Option Report) → HasAsked past v → ReadNone v new read_fault.Unexpected → ReadOne v next report → ⊥
+stays_out_of_sequence past v new next report h n r =
     let there = n.refused.3 in
     let bytes : n.bytes ≡ r.one.bytes = (let both = sym n.came ∙ r.one.came in cc) in
-    let same = one_item r.one.bytes v.port.place r.one.item there.0 r.one.next there.1 r.one.fits r.one.reads (subst (λ (l : List ℕ). ItemAt l v.port.place there.0 there.1) bytes there.2) in
+    let same = one_item r.one.bytes v.port.offset r.one.item there.0 r.one.next there.1 r.one.fits r.one.reads (subst (λ (l : List ℕ). ItemAt l v.port.offset there.0 there.1) bytes there.2) in
     let unexpected : is_unexpected past.requests past.answers r.one.item ≡ true =
     subst (λ (i : Item). is_unexpected past.requests past.answers i ≡ true) same.0 (there.3 past.requests past.answers h.asking) in
     not_wrong (due_after past.requests (past.answers ++ r.one.item ∷ [])) next.present.pending unexpected (r.past past h).asking.pending
 
 stops_unread : (v new : AskingValue) (f : ReadFault) → f ≢ read_fault.NoMemory → ReadNone v new f → ((past : ClientHistory) × HasAsked past v) → Stops v
 stops_unread v new read_fault.Failed want n p = λ next report r. true≢false (sym n.refused.0 ∙ r.works)
-stops_unread v new read_fault.Unexpected want n p = λ next report r. no_place p.0 v new next report p.1 n r
+stops_unread v new read_fault.Unexpected want n p = λ next report r. stays_out_of_sequence p.0 v new next report p.1 n r
 stops_unread v new read_fault.NoMemory want n p = absurd (want refl)
 
-read_alike : (old other one two : AskingValue) (before xs ys : List Report) → HasDone old → AreAlike old other → Behind before xs (ReadOn old one) → Behind before ys (ReadOn other two)
+read_alike : (old other one two : AskingValue) (before xs ys : List Report) → HasDone old → AreAlike old other → Extends before xs (ReadOn old one) → Extends before ys (ReadOn other two)
     → (((past : ClientHistory) × HasAsked past one) → Stops one) → (((past : ClientHistory) × HasAsked past two) → Stops two) → AreAlike one two × (xs ≡ ys) × HasDone one
 read_alike old other one two before xs ys (inl d) like ra rb sa sb =
-    let rc : Behind before ys (ReadOn old two) = subst (λ (v : AskingValue). Behind before ys (ReadOn v two)) (sym like) rb in
+    let rc : Extends before ys (ReadOn old two) = subst (λ (v : AskingValue). Extends before ys (ReadOn v two)) (sym like) rb in
     let pa = read_past d.0 old one ra.0 d.1 ra.2 in
     let pb = read_past d.0 old two rc.0 d.1 rc.2 in
     let s = reads_once d.0 old one two ra.0 rc.0 d.1 ra.2 rc.2 (sa pa) (sb pb) in
@@ -174,14 +174,14 @@ no_read_want f e k = true≢false (sym (ap (λ (x : ReadFault). is_want (end_fau
 
 -- where reading stopped at one that was refused
 abbrev Unread : (old new : AskingValue) → (before all : List Report) → ReadFault → Type 0
-Unread old new before all f = (mid : AskingValue) × Behind before all (ReadOn old mid) × ReadNone mid new f
+Unread old new before all f = (mid : AskingValue) × Extends before all (ReadOn old mid) × ReadNone mid new f
 
 unread : (old new : AskingValue) (before all : List Report) (f : ReadFault) → f ≢ read_fault.NoMemory → ReadsAll old new before all (Err f) → Unread old new before all f
 unread old new before all f want u = u
 
 -- where all was read, and what waits is refused
 abbrev Left : (old new : AskingValue) → (before all : List Report) → LinkFault → Type 0
-Left old new before all f = Behind before all (ReadOn old new) × (new.port.link.coming.inbox ≡ []) × SendAllFault new.port.link new.port.outbox f
+Left old new before all f = Extends before all (ReadOn old new) × (new.port.link.coming.inbox ≡ []) × SendAllFault new.port.link new.port.outbox f
 
 left_of : (old new : AskingValue) (before all : List Report) (f : LinkFault) → DidAll (hears before all) old new (Err (end_fault.Link f)) → Left old new before all f
 left_of old new before all f (mid, on, (is, none, h)) = subst (λ (v : AskingValue). Left old v before all f) (sym is) (on, none, h)
@@ -201,7 +201,7 @@ heard_alike old other one two before xs ys d like a b =
     )
 
 -- all that came was read, or reading stopped
-empty_apart : (old other one mid two : AskingValue) (before xs ys : List Report) (f : ReadFault) → HasDone old → AreAlike old other → f ≢ read_fault.NoMemory → Behind before xs (ReadOn old one) → one.port.link.coming.inbox ≡ [] → Behind before ys (ReadOn other mid)
+empty_apart : (old other one mid two : AskingValue) (before xs ys : List Report) (f : ReadFault) → HasDone old → AreAlike old other → f ≢ read_fault.NoMemory → Extends before xs (ReadOn old one) → one.port.link.coming.inbox ≡ [] → Extends before ys (ReadOn other mid)
     → ReadNone mid two f → ⊥
 empty_apart old other one mid two before xs ys f d like want ra none rb n =
     let t = read_alike old other one mid before xs ys d like ra rb (λ p. stops_empty one none) (λ p. stops_unread mid two f want n p) in

@@ -17,20 +17,20 @@ use Rattle.dap_accessed.specs.Standing.{Files}
 use Rattle.dap_end.specs.Agreement.{asked_answers, AreAllAdmissible}
 use Rattle.dap_end.specs.Agreement.{AreExpected}
 
-no_place_by : (r : Request) (rs : List Request) (answers : List Item) (answer : Item) (first : Hearing) → Stays first (hear r (answers ++ answer ∷ [])) (answer ∷ [])
+stays_out_of_sequence_by : (r : Request) (rs : List Request) (answers : List Item) (answer : Item) (first : Hearing) → Stays first (hear r (answers ++ answer ∷ [])) (answer ∷ [])
     → length (told_by rs first) ≡ suc (length rs) → ((rest : List Item) → length (Told rs rest) ≡ length rs → due_after rs (rest ++ answer ∷ []) ≡ Wrong)
     → due_by r rs (answers ++ answer ∷ []) (hear r (answers ++ answer ∷ [])) ≡ Wrong
-no_place_by r rs answers answer (Reports done rest) s e on = ap (due_by r rs (answers ++ answer ∷ [])) s ∙ on rest (omega arith)
-no_place_by r rs answers answer Waits s e on = let no : ⊥ = omega arith in absurd no
-no_place_by r rs answers answer Unexpected s e on = let no : ⊥ = omega arith in absurd no
+stays_out_of_sequence_by r rs answers answer (Reports done rest) s e on = ap (due_by r rs (answers ++ answer ∷ [])) s ∙ on rest (omega arith)
+stays_out_of_sequence_by r rs answers answer Waits s e on = let no : ⊥ = omega arith in absurd no
+stays_out_of_sequence_by r rs answers answer Unexpected s e on = let no : ⊥ = omega arith in absurd no
 
 -- where there is a report for each request, one answer more is out of sequence
-pub no_place : (rs : List Request) (answers : List Item) (answer : Item) → length (Told rs answers) ≡ length rs → due_after rs (answers ++ answer ∷ []) ≡ Wrong
-no_place [] [] answer e = refl
-no_place [] (a ∷ answers) answer e = refl
-no_place (r ∷ rs) answers answer e =
+pub stays_out_of_sequence : (rs : List Request) (answers : List Item) (answer : Item) → length (Told rs answers) ≡ length rs → due_after rs (answers ++ answer ∷ []) ≡ Wrong
+stays_out_of_sequence [] [] answer e = refl
+stays_out_of_sequence [] (a ∷ answers) answer e = refl
+stays_out_of_sequence (r ∷ rs) answers answer e =
     due-due_by r rs (answers ++ answer ∷ [])
-    ∙ no_place_by r rs answers answer (hear r answers) (stays r answers (answer ∷ [])) (ap length (sym (Told-told_by r rs answers)) ∙ e) (λ rest f. no_place rs rest answer f)
+    ∙ stays_out_of_sequence_by r rs answers answer (hear r answers) (stays r answers (answer ∷ [])) (ap length (sym (Told-told_by r rs answers)) ∙ e) (λ rest f. stays_out_of_sequence rs rest answer f)
 
 unexpected_by : (d : Due) → d ≡ Wrong → (elim d [ NothingDue ↦ false | AnswersDue _ _ ↦ false | Wrong ↦ true ]) ≡ true
 unexpected_by NothingDue e = absurd cc
@@ -38,7 +38,7 @@ unexpected_by (AnswersDue r l) e = absurd cc
 unexpected_by Wrong e = refl
 
 pub is_unexpected-then : (rs : List Request) (answers : List Item) (answer : Item) → length (Told rs answers) ≡ length rs → is_unexpected rs answers answer ≡ true
-is_unexpected-then rs answers answer e = unexpected_by (due_after rs (answers ++ answer ∷ [])) (no_place rs answers answer e)
+is_unexpected-then rs answers answer e = unexpected_by (due_after rs (answers ++ answer ∷ [])) (stays_out_of_sequence rs answers answer e)
 
 -- a front of the answers that leaves no report to come is all of them
 left_by : (own_a : Configuration) (own_b : ServerSetup) (first : Files) (rs : List Request) (front back : List Item) → AreExpected own_a own_b first rs → front ++ back ≡ map Whole (asked_answers own_a own_b first rs)

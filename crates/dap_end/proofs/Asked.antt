@@ -9,7 +9,7 @@ use Rattle.dap_fields.specs.Spelling.{AreBytes}
 use Rattle.dap_msg.specs.declared.message.Message.{Message}
 use Rattle.dap_msg.specs.Canon.{canon}
 use Rattle.dap_msg.specs.declared.items.Item.{Item}
-use Rattle.dap_msg.specs.Items.{IsPlace, ItemAt}
+use Rattle.dap_msg.specs.Items.{IsOffset, ItemAt}
 use Rattle.dap_msg.specs.Sendable.{AreSendable}
 use Rattle.dap_msg.specs.Blocked.{NspMessage, blocked_bytes, Blocked, blocked_after, all_joined, messages_in, AllFit}
 use Rattle.dap_msg.specs.Inner.Blocked.{IsWithinLimit, AllWithin}
@@ -24,12 +24,12 @@ use Rattle.dap_accessing.specs.Asked.{Asked, messages_of}
 use Rattle.dap_accessing.specs.Told.{Told}
 use Rattle.dap_accessing.specs.Phase.{limit_after}
 use Rattle.dap_accessing.specs.Present.{ClientState, ClientAfter}
-use Rattle.dap_accessing.specs.Each.{ReadsOn, put_back, reported_behind}
-use Rattle.dap_accessing.specs.Calls.{Asks, Reads}
+use Rattle.dap_accessing.specs.Each.{ReadsOn, put_back, reported_after}
+use Rattle.dap_accessing.specs.Calls.{AsksRequest, Reads}
 use Rattle.dap_end.specs.Histories.{AreFull, asked_one, with_answer_read}
 use Rattle.dap_end.specs.Ports.{HandsOver, PortValue, gone_on}
 use Rattle.dap_end.specs.Moved.{with_link, with_outbox_sent}
-use Rattle.dap_end.specs.Writing.{Behind}
+use Rattle.dap_end.specs.Writing.{Extends}
 use Rattle.dap_end.specs.Moved.{sent_more}
 use Rattle.dap_end.specs.Going.{processed_after}
 use Rattle.dap_end.specs.Going.{GoneThrough}
@@ -38,7 +38,7 @@ use Rattle.dap_accessing.specs.declared.fault.AskFault.TheVariants.{NoMemory}
 use Rattle.dap_accessing.specs.declared.fault.ReadFault.{ReadFault}
 use Rattle.dap_end.specs.Asking.{HasAsked, AskedOne, ReadOne, ReadNone}
 use Rattle.dap_end.specs.Hearing.{ReadOn}
-use Rattle.dap_end.specs.Hearing.{begins, goes}
+use Rattle.dap_end.specs.Hearing.{nothing_read, one_read}
 use Rattle.dap_end.specs.Done.{AskingValue, ClientHistory}
 use Rattle.dap_end.specs.Inner.Kept.{IsPort, AreMessages}
 use Rattle.dap_end.specs.Inner.AskingView.{asking_of}
@@ -53,7 +53,7 @@ pub still_received : (v : AskingValue) (link : LinkValue) → Grown v.port.link 
 still_received v link g sends = λ past h.
     record {
       asking = h.asking;
-      gone = subst (λ (l : List (List ℕ)). GoneThrough past.given l v.port.place past.answers) (sym g.inbox) (gone_stays past.given v.port.link.coming.inbox g.more v.port.place past.answers h.gone);
+      gone = subst (λ (l : List (List ℕ)). GoneThrough past.given l v.port.offset past.answers) (sym g.inbox) (gone_stays past.given v.port.link.coming.inbox g.more v.port.offset past.answers h.gone);
       sends = sends past.handed h.sends;
       messages = h.messages;
       waiting = h.waiting;
@@ -108,7 +108,7 @@ full-within limit ((m ∷ more) ∷ packets) h = ((λ e. (let none : ⊥ = cc in
 pub full-blocked : (limit : ℕ) (messages : List Message) → AreFull (Blocked limit messages)
 full-blocked limit messages = full-within limit (Blocked limit messages) (within_limit limit messages)
 
-pub asks_one : (request : Request) (old : AskingValue) (after : ClientState) (messages outbox : List (List ℕ)) (n : ℕ) → Asks request old.present after messages → after.own ≡ old.present.own → after.identity ≡ old.present.identity
+pub asks_one : (request : Request) (old : AskingValue) (after : ClientState) (messages outbox : List (List ℕ)) (n : ℕ) → AsksRequest request old.present after messages → after.own ≡ old.present.own → after.identity ≡ old.present.identity
     → outbox ≡ old.port.outbox ++ messages → n ≡ length messages → AskedOne request old (asking_of (record old.port { outbox = outbox }) after) n
 asks_one request old after messages outbox n asks own identity is count =
     record {
@@ -130,7 +130,7 @@ asked_past request old new n a past h =
     let outbox : new.port.outbox ≡ old.port.outbox ++ messages = ap (λ (p : PortValue). p.outbox) a.port in
     record {
       asking = asks.stands past.requests past.answers h.asking;
-      gone = subst (λ (p : PortValue). GoneThrough past.given p.link.coming.inbox p.place past.answers) (sym a.port) h.gone;
+      gone = subst (λ (p : PortValue). GoneThrough past.given p.link.coming.inbox p.offset past.answers) (sym a.port) h.gone;
       sends = subst (λ (p : PortValue). Sends p.link past.handed) (sym a.port) h.sends;
       messages = in_append past.asked block ∙ ap (λ (l : List Message). messages_in past.asked ++ l) (messages_in-Blocked limit (messages_of old.present.identity request))
           ∙ ap (λ (l : List Message). l ++ messages_of old.present.identity request) h.messages
@@ -174,7 +174,7 @@ unfolding AreWithin
 sendable-within limit [] h = tt
 sendable-within limit (m ∷ messages) h = (h.0.1, sendable-within limit messages h.1)
 
-pub asks_short : (request : Request) (old after : ClientState) (messages : List (List ℕ)) → Asks request old after messages → AreMessages messages
+pub asks_short : (request : Request) (old after : ClientState) (messages : List (List ℕ)) → AsksRequest request old after messages → AreMessages messages
 asks_short request old after messages asks =
     let limit = asks.limit in
     subst AreMessages (sym asks.spelled)
@@ -184,7 +184,7 @@ asks_short request old after messages asks =
 
 pub port_asks : (p : PortValue) (messages outbox : List (List ℕ)) → IsPort p → AreMessages messages → outbox ≡ p.outbox ++ messages → IsPort (record p { outbox = outbox })
 port_asks p messages outbox h short is =
-    record { place = h.place; short = subst AreMessages (sym is) (All-append (λ m. length m ≤ 65535) p.outbox messages h.short short) }
+    record { offset = h.offset; short = subst AreMessages (sym is) (All-append (λ m. length m ≤ 65535) p.outbox messages h.short short) }
 
 -- there are no more NSP messages than messages
 blocked-few : (limit : ℕ) (last : NspMessage) (messages : List Message) → length (blocked_after limit last messages) ≤ length messages + 1
@@ -203,7 +203,7 @@ few_blocked limit (m ∷ messages) = omega (arith, blocked-few limit (m ∷ []) 
 
 -- one answer more was read, where the client stands as after it
 read_past : (past : ClientHistory) (port new : PortValue) (before after : ClientState) (bytes : List ℕ) (later : List (List ℕ)) (answer : Item) (next : ℕ) → AreBytes bytes → port.link.coming.inbox ≡ bytes ∷ later
-    → ItemAt bytes port.place answer next → next ≤ length bytes → after.identity ≡ before.identity → new ≡ gone_on port bytes later next → HasAsked past (asking_of port before)
+    → ItemAt bytes port.offset answer next → next ≤ length bytes → after.identity ≡ before.identity → new ≡ gone_on port bytes later next → HasAsked past (asking_of port before)
     → ClientAfter past.requests (past.answers ++ answer ∷ []) after → HasAsked (with_answer_read past bytes answer next) (asking_of new after)
 read_past past port new before after bytes later answer next fits inbox reads within identity is h stands =
     subst (λ (p : PortValue). HasAsked (with_answer_read past bytes answer next) (asking_of p after)) (sym is) (record {
@@ -216,15 +216,15 @@ read_past past port new before after bytes later answer next fits inbox reads wi
       full = h.full;
     })
 
-pub reads_one : (old : AskingValue) (bytes : List ℕ) (later : List (List ℕ)) → AreBytes bytes → (after : ClientState) (port : PortValue) (step : ReadStep) → old.port.link.coming.inbox ≡ bytes ∷ later → IsPlace old.port.place bytes
-    → (r : Reads bytes old.port.place old.present after step) → ReadsOn bytes old.port.place old.present after step → step.next ≤ length bytes → after.own ≡ old.present.own → after.identity ≡ old.present.identity
+pub reads_one : (old : AskingValue) (bytes : List ℕ) (later : List (List ℕ)) → AreBytes bytes → (after : ClientState) (port : PortValue) (step : ReadStep) → old.port.link.coming.inbox ≡ bytes ∷ later → IsOffset old.port.offset bytes
+    → (r : Reads bytes old.port.offset old.present after step) → ReadsOn bytes old.port.offset old.present after step → step.next ≤ length bytes → after.own ≡ old.present.own → after.identity ≡ old.present.identity
     → port ≡ gone_on old.port bytes later step.next → ReadOne old (asking_of port after) step.report
-reads_one old bytes later fits after port step inbox place r on within own identity is =
-    let same : on.answer ≡ r.answer = (one_item bytes old.port.place r.answer on.answer step.next step.next fits r.reads on.reads).0 in
+reads_one old bytes later fits after port step inbox offset r on within own identity is =
+    let same : on.answer ≡ r.answer = (one_item bytes old.port.offset r.answer on.answer step.next step.next fits r.reads on.reads).0 in
     record {
       works = r.works;
-      goes_on = r.goes_on;
-      one = record { bytes = bytes; later = later; came = inbox; fits = fits; item = r.answer; next = step.next; reads = r.reads; place = place };
+      still_works = r.still_works;
+      one = record { bytes = bytes; later = later; came = inbox; fits = fits; item = r.answer; next = step.next; reads = r.reads; offset = offset };
       port = is;
       own = own;
       identity = identity;
@@ -233,7 +233,7 @@ reads_one old bytes later fits after port step inbox place r on within own ident
       told = λ past h. r.told past.requests past.answers h.asking;
       past_on = λ told past b h. read_past past old.port port (put_back told old.present) (put_back told after) bytes later r.answer step.next fits inbox r.reads within identity is h
           (subst (λ (i : Item). ClientAfter past.requests (past.answers ++ i ∷ []) (put_back told after)) same (on.stands told past.requests past.answers b h.asking));
-      told_on = λ told past b h. subst (λ (i : Item). Told past.requests (past.answers ++ i ∷ []) ≡ Told past.requests past.answers ++ option_to_list (option_map (reported_behind told) step.report)) same
+      told_on = λ told past b h. subst (λ (i : Item). Told past.requests (past.answers ++ i ∷ []) ≡ Told past.requests past.answers ++ option_to_list (option_map (reported_after told) step.report)) same
           (on.told told past.requests past.answers b h.asking);
     }
 
@@ -285,8 +285,8 @@ read_nothing v =
       );
     }
 
-pub read_none : (v : AskingValue) (reports : List Report) → Behind reports reports (ReadOn v v)
-read_none v reports = ([], sym (append-nil reports), begins)
+pub read_none : (v : AskingValue) (reports : List Report) → Extends reports reports (ReadOn v v)
+read_none v reports = ([], sym (append-nil reports), nothing_read)
 
 -- what left, and what is left
 split_given : (given inbox later : List (List ℕ)) (bytes : List ℕ) (next : ℕ) → inbox ≡ bytes ∷ later →
@@ -328,8 +328,8 @@ read_then a b c told report m r =
     }
 
 read_behind : (a b c : AskingValue) (told more all : List Report) → ReadMore a b told → ReadOn b c more → all ≡ told ++ more → ReadMore a c all
-read_behind a b c told more all m begins e = subst (ReadMore a b) (sym (e ∙ append-nil told)) m
-read_behind a b c told more all m (goes mid report rest r on is) e =
+read_behind a b c told more all m nothing_read e = subst (ReadMore a b) (sym (e ∙ append-nil told)) m
+read_behind a b c told more all m (one_read mid report rest r on is) e =
     read_behind a mid c (told ++ option_to_list report) rest all (read_then a b mid told report m r) on
     (e ∙ ap (λ (l : List Report). told ++ l) is ∙ sym (append_assoc told (option_to_list report) rest))
 
@@ -353,21 +353,21 @@ counted past old new reports h m =
     )
 
 read_on : (a b c : AskingValue) (reports : List Report) (report : Option Report) → ReadOn a b reports → ReadOne b c report → ReadOn a c (reports ++ option_to_list report)
-read_on a b c reports report begins r = goes c report [] r begins (sym (append-nil (option_to_list report)))
-read_on a b c reports report (goes mid first more s on is) r =
-    goes mid first (more ++ option_to_list report) s (read_on mid b c more report on r)
+read_on a b c reports report nothing_read r = one_read c report [] r nothing_read (sym (append-nil (option_to_list report)))
+read_on a b c reports report (one_read mid first more s on is) r =
+    one_read mid first (more ++ option_to_list report) s (read_on mid b c more report on r)
     (ap (λ (l : List Report). l ++ option_to_list report) is ∙ append_assoc (option_to_list first) more (option_to_list report))
 
-pub read_more : (a b c : AskingValue) (report : Option Report) (before all new : List Report) → Behind before all (ReadOn a b) → ReadOne b c report → new ≡ all ++ option_to_list report → Behind before new (ReadOn a c)
+pub read_more : (a b c : AskingValue) (report : Option Report) (before all new : List Report) → Extends before all (ReadOn a b) → ReadOne b c report → new ≡ all ++ option_to_list report → Extends before new (ReadOn a c)
 read_more a b c report before all new m r is = (
   m.0 ++ option_to_list report,
   is ∙ ap (λ (l : List Report). l ++ option_to_list report) m.1 ∙ append_assoc before m.0 (option_to_list report),
   read_on a b c m.0 report m.2 r,
 )
 
-pub read_falls : (old new : AskingValue) (report : Option Report) → ReadOne old new report → work new.port.link.coming.inbox - new.port.place < work old.port.link.coming.inbox - old.port.place
+pub read_falls : (old new : AskingValue) (report : Option Report) → ReadOne old new report → work new.port.link.coming.inbox - new.port.offset < work old.port.link.coming.inbox - old.port.offset
 read_falls old new report r =
-    subst (λ (p : PortValue). work p.link.coming.inbox - p.place < work old.port.link.coming.inbox - old.port.place) (sym r.port)
+    subst (λ (p : PortValue). work p.link.coming.inbox - p.offset < work old.port.link.coming.inbox - old.port.offset) (sym r.port)
     (item_left old.port r.one)
 
 pub still_sent : (v : AskingValue) (port : PortValue) (n : ℕ) → port ≡ sent_more v.port n → Still HasAsked v (record v { port = port })
@@ -385,7 +385,7 @@ works_after old new n h = ap (λ (v : AskingValue). v.port.link.failed) (handed_
 
 pub left_asked : (old new : AskingValue) (request : Request) (r : Result ℕ AskFault) → IfOk r (λ n. AskedOne request old new n) → IfErr r (λ f. (new.port ≡ old.port) × (new.present ≡ old.present) × (f ≡ NoMemory))
     → (old.present.failed ≡ true → 0 < length old.port.link.coming.inbox) → new.present.failed ≡ true → 0 < length new.port.link.coming.inbox
-left_asked old new request (Ok n) ok err left failed = absurd (true≢false (sym failed ∙ ok.asks.goes_on))
+left_asked old new request (Ok n) ok err left failed = absurd (true≢false (sym failed ∙ ok.asks.still_works))
 left_asked old new request (Err f) ok err left failed =
     subst (λ (p : PortValue). 0 < length p.link.coming.inbox) (sym err.0) (left (ap (λ (p : ClientState). p.failed) (sym err.1) ∙ failed))
 
@@ -393,5 +393,5 @@ pub left_unread : (old new : AskingValue) (f : ReadFault) → ReadNone old new f
 left_unread old new f n = subst (λ (p : PortValue). 0 < length p.link.coming.inbox) (sym n.port) (let some = ap length n.came in omega (arith, some))
 
 pub left_read : (old new : AskingValue) (r : Result (Option Report) ReadFault) → IfOk r (λ report. ReadOne old new report) → IfErr r (λ f. ReadNone old new f) → new.present.failed ≡ true → 0 < length new.port.link.coming.inbox
-left_read old new (Ok report) ok err failed = absurd (true≢false (sym failed ∙ ok.goes_on))
+left_read old new (Ok report) ok err failed = absurd (true≢false (sym failed ∙ ok.still_works))
 left_read old new (Err f) ok err failed = left_unread old new f err

@@ -8,13 +8,13 @@ use Rattle.nsp_link.specs.declared.link.Got.{Got}
 use Rattle.nsp_link.specs.Link.{LinkValue, IsLink, may_send, waiting_bytes}
 use Rattle.nsp_link.specs.Sending.{may_queue}
 use Rattle.nsp_link.proofs.ForCallers.{bytes_queued, may_queue_parts}
-use Rattle.dap_accessed.specs.Served.{Serves}
+use Rattle.dap_accessed.specs.Served.{ServesItemAt}
 use Rattle.dap_end.specs.declared.fault.EndFault.{EndFault}
 use Rattle.dap_end.specs.declared.fault.EndFault.TheVariants as end_fault
 use Rattle.dap_end.specs.declared.fault.TakeFault.{TakeFault}
 use Rattle.dap_end.specs.declared.fault.TakeFault.TheVariants as take_fault
 use Rattle.dap_end.specs.Ports.{EndValue, HandsOver, PortValue, bytes_waiting}
-use Rattle.dap_end.specs.By.{ServesAt, ServedBy, TurnsBy, MayServeAt, begins, goes, serves_by, end_with}
+use Rattle.dap_end.specs.By.{ServesAt, ServedBy, TurnsBy, MayServeAt, no_turn, one_turn, serves_by, end_with}
 use Rattle.dap_end.specs.Moved.{with_outbox_sent}
 use Rattle.dap_end.specs.Inner.Answered.{ended_by}
 use Rattle.dap_end.specs.Done.{ServingValue}
@@ -22,7 +22,7 @@ use Rattle.dap_end.specs.Serving.{ServedOne, MayServe}
 use Rattle.dap_end.specs.Taking.{HasRoom, ServedInTurn, serves}
 use Rattle.dap_end.specs.Taking as taking
 use Rattle.dap_end.specs.Turns.{WritesReplies, DidAll, EndOf, TakesPacket, WentOn, WroteThen}
-use Rattle.dap_end.specs.Writing.{Behind, WroteMore}
+use Rattle.dap_end.specs.Writing.{Extends, WroteMore}
 use Rattle.std.specs.Result.{result_map_both}
 use Rattle.dap_end.proofs.Turning.{went_by}
 use Rattle.dap_end.proofs.Proceeding.{work, item_left}
@@ -37,7 +37,7 @@ none_left p idle none = no_more p p.link.coming.inbox refl idle none
 
 -- how much is left to serve
 abbrev pub left : PortValue → ℕ
-left p = work p.link.coming.inbox - p.place
+left p = work p.link.coming.inbox - p.offset
 
 module _ {P : Type 0} where
   -- what came stays
@@ -53,7 +53,7 @@ module _ {P : Type 0} where
 
   pub falls : (serves : ServesAt P) (old new : EndValue P) (n : ℕ) → ServedBy serves old new n → left new.port < left old.port
   falls serves old new n s =
-      subst (λ (p : PortValue). work p.link.coming.inbox - p.place < left old.port) (sym s.port)
+      subst (λ (p : PortValue). work p.link.coming.inbox - p.offset < left old.port) (sym s.port)
       (item_left old.port s.one)
 
   -- by the number that the link tells
@@ -66,15 +66,15 @@ module _ {P : Type 0} where
       omega (arith, value, here, queued)
 
   pub on_more : (serves : ServesAt P) (most : ℕ) (a b posted c : EndValue P) (count n : ℕ) → TurnsBy serves most a b → HandsOver b posted count → HasRoom most b.port → ServedBy serves posted c n → TurnsBy serves most a c
-  on_more serves most a b posted c count n begins p room s = goes posted c count n p room s begins
-  on_more serves most a b posted c count n (goes first mid k m q has t on) p room s = goes first mid k m q has t (on_more serves most mid b posted c count n on p room s)
+  on_more serves most a b posted c count n no_turn p room s = one_turn posted c count n p room s no_turn
+  on_more serves most a b posted c count n (one_turn first mid k m q has t on) p room s = one_turn first mid k m q has t (on_more serves most mid b posted c count n on p room s)
 
   -- what waited was passed on
   pub hands : (p q : PortValue) (s : P) (n : ℕ) → IsTrue (may_queue p.link p.outbox) → (q ≡ with_outbox_sent p) × (n ≡ length p.outbox) → HandsOver (end_with p s) (end_with q s) n
   hands p q s n may is = (may, ap (λ (r : PortValue). end_with r s) is.0, is.1)
 
   -- all was served, and then segments were written
-  pub gone_by : (e : EndOf P) (old served : EndValue P) (port : PortValue) (out all : List (List ℕ)) (r : Result (Unit {0}) LinkFault) → DidAll e old served (Ok tt) → Behind out all (WroteMore served.port port) → OnOk r (may_send port.link ≡ false)
+  pub gone_by : (e : EndOf P) (old served : EndValue P) (port : PortValue) (out all : List (List ℕ)) (r : Result (Unit {0}) LinkFault) → DidAll e old served (Ok tt) → Extends out all (WroteMore served.port port) → OnOk r (may_send port.link ≡ false)
       → IfErr r (λ f. (f ≡ fault.NoMemory) × IsTrue (may_send port.link)) → WentOn e old (end_with port served.present) out all (result_map_both (λ done. done) end_fault.Link r)
   gone_by e old served port out all (Ok u) d w full why = went_by e old served (end_with port served.present) out all (Ok u) d refl w full why
   gone_by e old served port out all (Err f) d w full why = went_by e old served (end_with port served.present) out all (Err f) d refl w full why
@@ -107,26 +107,26 @@ module _ {P : Type 0} where
 
 -- ---- A server of one link.
 
-pub one_served : (old new : ServingValue) (n : ℕ) → ServedBy Serves old new n → ServedOne old new n
+pub one_served : (old new : ServingValue) (n : ℕ) → ServedBy ServesItemAt old new n → ServedOne old new n
 one_served old new n h =
-    served_one old h.one.bytes h.one.later h.one.came h.one.fits new.present h.served new.port h.one.next n h.idle h.one.place h.by h.next h.within h.port
+    served_one old h.one.bytes h.one.later h.one.came h.one.fits new.present h.served new.port h.one.next n h.idle h.one.offset h.by h.next h.within h.port
     (h.count ∙ ap length (ap (λ (p : PortValue). p.outbox) h.port))
 
 pub told : (old new : ServingValue) (o : Option ℕ)
-    → MatchOption o ((new.port ≡ old.port) × (new.present ≡ old.present) × (MayServeAt old.port → ⊥)) (λ n. ServedBy Serves old new n)
+    → MatchOption o ((new.port ≡ old.port) × (new.present ≡ old.present) × (MayServeAt old.port → ⊥)) (λ n. ServedBy ServesItemAt old new n)
     → MatchOption o ((new ≡ old) × (MayServe old → ⊥)) (λ n. ServedOne old new n)
 told old new None h = (ap (λ (p : PortValue). end_with p new.present) h.0 ∙ ap (end_with old.port) h.1, h.2)
 told old new (Some n) h = one_served old new n h
 
-turns : (most : ℕ) (a b : ServingValue) → TurnsBy Serves most a b → ServedInTurn most a b
-turns most a b begins = taking.begins
-turns most a b (goes posted mid count n p room s on) = taking.goes posted mid count n p room (one_served posted mid n s) (turns most mid b on)
+turns : (most : ℕ) (a b : ServingValue) → TurnsBy ServesItemAt most a b → ServedInTurn most a b
+turns most a b no_turn = taking.begins
+turns most a b (one_turn posted mid count n p room s on) = taking.goes posted mid count n p room (one_served posted mid n s) (turns most mid b on)
 
-halts : (most : ℕ) (a b : ServingValue) (w : EndFault) → (serves_by Serves most).halts a b w → (serves most).halts a b w
+halts : (most : ℕ) (a b : ServingValue) (w : EndFault) → (serves_by ServesItemAt most).halts a b w → (serves most).halts a b w
 halts most a b (end_fault.Link f) h = h
 halts most a b (end_fault.Read f) h = h
 
-pub one_link : (most : ℕ) → IsAlso (serves_by Serves most) (serves most)
+pub one_link : (most : ℕ) → IsAlso (serves_by ServesItemAt most) (serves most)
 one_link most =
     record {
       on = turns most;
@@ -135,10 +135,10 @@ one_link most =
       quiet = λ h. h;
     }
 
-pub did_ok : (most : ℕ) (a b : ServingValue) (r : Result (Unit {0}) LinkFault) → DidAll (serves_by Serves most) a b (ended_by r) → OnOk r (DidAll (serves most) a b (Ok tt))
-did_ok most a b (Ok u) d = map_did (serves_by Serves most) (serves most) (one_link most) a b (Ok tt) d
+pub did_ok : (most : ℕ) (a b : ServingValue) (r : Result (Unit {0}) LinkFault) → DidAll (serves_by ServesItemAt most) a b (ended_by r) → OnOk r (DidAll (serves most) a b (Ok tt))
+did_ok most a b (Ok u) d = map_did (serves_by ServesItemAt most) (serves most) (one_link most) a b (Ok tt) d
 did_ok most a b (Err f) d = tt
 
-pub did_err : (most : ℕ) (a b : ServingValue) (r : Result (Unit {0}) LinkFault) → DidAll (serves_by Serves most) a b (ended_by r) → IfErr r (λ f. DidAll (serves most) a b (Err (end_fault.Link f)))
+pub did_err : (most : ℕ) (a b : ServingValue) (r : Result (Unit {0}) LinkFault) → DidAll (serves_by ServesItemAt most) a b (ended_by r) → IfErr r (λ f. DidAll (serves most) a b (Err (end_fault.Link f)))
 did_err most a b (Ok u) d = tt
-did_err most a b (Err f) d = map_did (serves_by Serves most) (serves most) (one_link most) a b (Err (end_fault.Link f)) d
+did_err most a b (Err f) d = map_did (serves_by ServesItemAt most) (serves most) (one_link most) a b (Err (end_fault.Link f)) d

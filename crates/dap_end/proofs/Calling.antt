@@ -19,10 +19,10 @@ use Rattle.dap_end.specs.Wanting.{why}
 use Rattle.dap_end.specs.Runs.{RunsBy}
 use Rattle.dap_end.specs.declared.fault.EndFault.TheVariants as end_fault
 use Rattle.dap_end.specs.Ports.{HandsOver, PortValue}
-use Rattle.dap_end.specs.Writing.{Acknowledged, wants_ack, WroteMore, Behind, WroteAnswer, WrotePart}
+use Rattle.dap_end.specs.Writing.{Acknowledged, wants_ack, WroteMore, Extends, WroteAnswer, WrotePart}
 use Rattle.dap_end.specs.Asking.{AskedOne, ReadOne, ReadNone}
 use Rattle.dap_end.specs.Hearing.{ReadOn, ReadsAll, hears}
-use Rattle.dap_end.specs.Hearing.{begins, goes as reads_first}
+use Rattle.dap_end.specs.Hearing.{nothing_read, one_read as reads_first}
 use Rattle.dap_end.specs.Done.{AskingValue}
 use Rattle.dap_end.specs.Turns.{WritesReplies, DidAll, TakesPacket, TookIn, TookThen, WentOn, WroteThen}
 use Rattle.dap_end.specs.Headline.{Written, written_bytes}
@@ -91,14 +91,14 @@ module _ (comes : LinkValue → List ℕ → Type 0) where
   pub reading_is : (old new : AskingValue) (report : Option Report) → ReadOne old new report → AskingRunsAs comes [] old new (option_to_list report) []
   reading_is old new report r =
       one_event old new (By GoesOn) (option_to_list report) []
-      ((new, [], (new, (option_to_list report, refl, reads_first new report [] r begins (sym (append-nil (option_to_list report)))), inl refl), wrote_nothing new.port, refl, refl), refl)
+      ((new, [], (new, (option_to_list report, refl, reads_first new report [] r nothing_read (sym (append-nil (option_to_list report)))), inl refl), wrote_nothing new.port, refl, refl), refl)
 
   pub posting_is : (old new : AskingValue) (n : ℕ) → HandsOver old new n → AskingRunsAs comes [] old new [] []
-  posting_is old new n h = one_event old new (By GoesOn) [] [] ((new, [], (old, ([], refl, begins), inr (n, h)), wrote_nothing new.port, refl, refl), refl)
+  posting_is old new n h = one_event old new (By GoesOn) [] [] ((new, [], (old, ([], refl, nothing_read), inr (n, h)), wrote_nothing new.port, refl, refl), refl)
 
   pub writing_is : (old new : AskingValue) (bytes : List ℕ) → new ≡ record old { port = new.port } → WroteMore old.port new.port (bytes ∷ [])
       → AskingRunsAs comes [] old new [] (record { bytes = bytes; segment = Some (old.port.link.sent + 1); acks = old.port.link.coming.received } ∷ [])
-  writing_is old new bytes rest w = one_event old new (By GoesOn) [] _ ((old, bytes ∷ [], (old, ([], refl, begins), inl refl), w, rest, refl), refl)
+  writing_is old new bytes rest w = one_event old new (By GoesOn) [] _ ((old, bytes ∷ [], (old, ([], refl, nothing_read), inl refl), w, rest, refl), refl)
 
   pub again_is : (v : AskingValue) (i : ℕ) (bytes : List ℕ) → i < v.port.link.sent - v.port.link.acked → WritesSent v.port.link (Some (v.port.link.acked + 1 + i)) bytes
       → AskingRunsAs comes [] v v [] (record { bytes = bytes; segment = Some (v.port.link.acked + 1 + i); acks = v.port.link.coming.received } ∷ [])
@@ -158,21 +158,21 @@ module _ (comes : LinkValue → List ℕ → Type 0) where
 same_end : (mid new : AskingValue) → new.port ≡ mid.port → new.present ≡ mid.present → new ≡ mid
 same_end mid new p a = ap (λ (x : PortValue). record new { port = x }) p ∙ ap (λ (x : ClientState). record mid { present = x }) a
 
--- an answer that wasn't read, and has a place, left the end as it was
+-- an answer that wasn't read, and is in sequence, left the end as it was
 none_read : (mid new : AskingValue) (f : ReadFault) → ReadNone mid new f → f ≢ read_fault.Unexpected → new ≡ mid
 none_read mid new read_fault.Failed n other = same_end mid new n.port n.refused.1
 none_read mid new read_fault.NoMemory n other = same_end mid new n.port n.refused.1
 none_read mid new read_fault.Unexpected n other = absurd (other refl)
 
-part_read : (old new : AskingValue) (before after : List Report) (f : ReadFault) → ReadsAll old new before after (Err f) → f ≢ read_fault.Unexpected → Behind before after (ReadOn old new)
-part_read old new before after f (mid, on, n) other = subst (λ (v : AskingValue). Behind before after (ReadOn old v)) (sym (none_read mid new f n other)) on
+part_read : (old new : AskingValue) (before after : List Report) (f : ReadFault) → ReadsAll old new before after (Err f) → f ≢ read_fault.Unexpected → Extends before after (ReadOn old new)
+part_read old new before after f (mid, on, n) other = subst (λ (v : AskingValue). Extends before after (ReadOn old v)) (sym (none_read mid new f n other)) on
 
-heard_part : (old new : AskingValue) (before after : List Report) (f : EndFault) → DidAll (hears before after) old new (Err f) → f ≢ end_fault.Read read_fault.Unexpected → Behind before after (ReadOn old new)
-heard_part old new before after (end_fault.Link f) h other = subst (λ (v : AskingValue). Behind before after (ReadOn old v)) (sym h.2.0) h.1
+heard_part : (old new : AskingValue) (before after : List Report) (f : EndFault) → DidAll (hears before after) old new (Err f) → f ≢ end_fault.Read read_fault.Unexpected → Extends before after (ReadOn old new)
+heard_part old new before after (end_fault.Link f) h other = subst (λ (v : AskingValue). Extends before after (ReadOn old v)) (sym h.2.0) h.1
 heard_part old new before after (end_fault.Read f) h other = part_read old new before after f h (λ e. other (ap (λ (x : ReadFault). end_fault.Read x) e))
 
 module _ (comes : LinkValue → List ℕ → Type 0) where
-  read_so : (old new : AskingValue) (before all : List Report) → Behind before all (ReadOn old new) → (reports : List Report) × AskingRunsAs comes [] old new reports [] × (all ≡ before ++ reports)
+  read_so : (old new : AskingValue) (before all : List Report) → Extends before all (ReadOn old new) → (reports : List Report) × AskingRunsAs comes [] old new reports [] × (all ≡ before ++ reports)
   read_so old new before all r = (r.0, one_event comes old new (By GoesOn) r.0 [] ((new, [], (new, (r.0, refl, r.2), inl refl), wrote_nothing new.port, refl, refl), refl), r.1)
 
   pub reading_all_is : (old new : AskingValue) (before all : List Report) (r : Result (Unit {0}) ReadFault) → IfErr r (λ f. f ≢ read_fault.Unexpected) → ReadsAll old new before all r
@@ -181,7 +181,7 @@ module _ (comes : LinkValue → List ℕ → Type 0) where
   reading_all_is old new before all (Err f) other s = read_so old new before all (part_read old new before all f s other)
 
   -- some was read, and nothing else done
-  read_only : (old new : AskingValue) (out all : List (List ℕ)) (before after : List Report) → Behind before after (ReadOn old new) → all ≡ out → AreAskingCalls comes old new out all before after
+  read_only : (old new : AskingValue) (out all : List (List ℕ)) (before after : List Report) → Extends before after (ReadOn old new) → all ≡ out → AreAskingCalls comes old new out all before after
   read_only old new out all before after r same =
       (r.0, [], one_event comes old new (By GoesOn) r.0 [] ((new, [], (new, (r.0, refl, r.2), inl refl), wrote_nothing new.port, refl, refl), refl), same ∙ sym (append-nil out), r.1)
 

@@ -57,7 +57,7 @@ pub serving_one : (past : ServerHistory) (old one two : ServingValue) (n m : ℕ
 serving_one past old one two n m h a b =
     let bytes : b.one.bytes ≡ a.one.bytes = (let both = sym b.one.came ∙ a.one.came in cc) in
     let later : b.one.later ≡ a.one.later = (let both = sym b.one.came ∙ a.one.came in cc) in
-    let same = one_item a.one.bytes old.port.place a.one.item b.one.item a.one.next b.one.next a.one.fits a.one.reads (subst (λ (l : List ℕ). ItemAt l old.port.place b.one.item b.one.next) bytes b.one.reads) in
+    let same = one_item a.one.bytes old.port.offset a.one.item b.one.item a.one.next b.one.next a.one.fits a.one.reads (subst (λ (l : List ℕ). ItemAt l old.port.offset b.one.item b.one.next) bytes b.one.reads) in
     let items : past.items ++ a.one.item ∷ [] ≡ past.items ++ b.one.item ∷ [] = ap (λ (i : Item). past.items ++ i ∷ []) (sym same.0) in
     let own : one.present.setup ≡ two.present.setup = a.setup ∙ sym b.setup in
     let ha = a.past past h in

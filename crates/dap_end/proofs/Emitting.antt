@@ -11,7 +11,7 @@ use Rattle.nsp_link.proofs.ForCallers.{may_send_parts}
 use Rattle.dap_end.specs.Ports.{PortValue}
 use Rattle.dap_end.specs.Moved.{with_link}
 use Rattle.nsp_link.specs.declared.fault.LinkFault.TheVariants as fault
-use Rattle.dap_end.specs.Writing.{Acknowledged, AreSegments, WroteMore, Behind, wants_ack, WroteAnswer, WrotePart}
+use Rattle.dap_end.specs.Writing.{Acknowledged, AreSegments, WroteMore, Extends, wants_ack, WroteAnswer, WrotePart}
 use Rattle.dap_end.specs.Moved.{sent_more}
 
 -- ---- One.
@@ -47,7 +47,7 @@ segments_more v k (p ∷ packets) bytes h w = (h.0, segments_more v (k + 1) pack
 pub wrote_nothing : (p : PortValue) → WroteMore p p []
 wrote_nothing p = record { sent = ap (λ (n : ℕ). with_link p (record p.link { sent = n })) (sym (add-zero p.link.sent)); writes = tt; there = λ some. absurd (omega arith); within = λ some. absurd (omega arith) }
 
-pub wrote_none : (p : PortValue) (out : List (List ℕ)) → Behind out out (WroteMore p p)
+pub wrote_none : (p : PortValue) (out : List (List ℕ)) → Extends out out (WroteMore p p)
 wrote_none p out = ([], sym (append-nil out), wrote_nothing p)
 
 still_sends : (a : PortValue) (n : ℕ) (handed : List (List ℕ)) → Sends a.link handed → Sends (sent_more a n).link handed
@@ -67,34 +67,34 @@ wrote_then a b c packets bytes m w =
           (w.writes.0 handed (subst (λ (p : PortValue). Sends p.link handed) (sym m.sent) (still_sends a (length packets) handed h)))));
     }
 
-pub wrote_more : (a b c : PortValue) (out all new : List (List ℕ)) (bytes : List ℕ) → Behind out all (WroteMore a b) → WroteMore b c (bytes ∷ []) → new ≡ all ++ bytes ∷ [] → Behind out new (WroteMore a c)
+pub wrote_more : (a b c : PortValue) (out all new : List (List ℕ)) (bytes : List ℕ) → Extends out all (WroteMore a b) → WroteMore b c (bytes ∷ []) → new ≡ all ++ bytes ∷ [] → Extends out new (WroteMore a c)
 wrote_more a b c out all new bytes m w is =
     (m.0 ++ bytes ∷ [], is ∙ ap (λ (l : List (List ℕ)). l ++ bytes ∷ []) m.1 ∙ append_assoc out m.0 (bytes ∷ []), wrote_then a b c m.0 bytes m.2 w)
 
 -- ---- An answer.
 
 -- how many were written
-pub written_count : (old new : PortValue) (out all : List (List ℕ)) → (w : Behind out all (WroteMore old new)) → length all ≡ length out + length w.0
+pub written_count : (old new : PortValue) (out all : List (List ℕ)) → (w : Extends out all (WroteMore old new)) → length all ≡ length out + length w.0
 written_count old new out all w = ap length w.1 ∙ length-append out w.0
 
 -- one acknowledgement more is written, or none
-acked : (new : PortValue) (out all after written : List (List ℕ)) (wants : Bool) → all ≡ out ++ written → Acknowledged new wants all after → Behind out after (Acknowledged new wants written)
+acked : (new : PortValue) (out all after written : List (List ℕ)) (wants : Bool) → all ≡ out ++ written → Acknowledged new wants all after → Extends out after (Acknowledged new wants written)
 acked new out all after written false e a = (written, a ∙ e, refl)
 acked new out all after written true e a = (written ++ a.0 ∷ [], a.1 ∙ ap (λ (l : List (List ℕ)). l ++ a.0 ∷ []) e ∙ append_assoc out written (a.0 ∷ []), (a.0, refl, a.2))
 
-pub answered : (old new : PortValue) (got : Got) (out all after : List (List ℕ)) (count : ℕ) (r : Result (Unit {0}) LinkFault) → (w : Behind out all (WroteMore old new)) → may_send new.link ≡ false → length w.0 ≡ count
-    → OnOk r (Acknowledged new (wants_ack got count) all after) → OnOk r (Behind out after (WroteAnswer old new got))
+pub answered : (old new : PortValue) (got : Got) (out all after : List (List ℕ)) (count : ℕ) (r : Result (Unit {0}) LinkFault) → (w : Extends out all (WroteMore old new)) → may_send new.link ≡ false → length w.0 ≡ count
+    → OnOk r (Acknowledged new (wants_ack got count) all after) → OnOk r (Extends out after (WroteAnswer old new got))
 answered old new got out all after count (Ok u) w full long a =
     let b = acked new out all after w.0 (wants_ack got (length w.0)) w.1 (subst (λ (n : ℕ). Acknowledged new (wants_ack got n) all after) (sym long) a) in
     (b.0, b.1, (w.0, w.2, full, b.2))
 answered old new got out all after count (Err f) w full long a = tt
 
 -- memory was wanting for a segment, or for it
-pub part_emit : (old new : PortValue) (got : Got) (out all : List (List ℕ)) (f : LinkFault) → Behind out all (WroteMore old new) → (f ≡ fault.NoMemory) × IsTrue (may_send new.link) → (f ≡ fault.NoMemory) × Behind out all (WrotePart old new got)
+pub part_emit : (old new : PortValue) (got : Got) (out all : List (List ℕ)) (f : LinkFault) → Extends out all (WroteMore old new) → (f ≡ fault.NoMemory) × IsTrue (may_send new.link) → (f ≡ fault.NoMemory) × Extends out all (WrotePart old new got)
 part_emit old new got out all f w h = (h.0, (w.0, w.1, (w.2, inl h.1)))
 
-pub part_ack : (old new : PortValue) (got : Got) (out all after : List (List ℕ)) (count : ℕ) (r : Result (Unit {0}) LinkFault) → (w : Behind out all (WroteMore old new)) → length w.0 ≡ count → OnErr r (wants_ack got count ≡ true)
-    → IfErr r (λ f. f ≡ fault.NoMemory) → OnErr r (after ≡ all) → IfErr r (λ f. (f ≡ fault.NoMemory) × Behind out after (WrotePart old new got))
+pub part_ack : (old new : PortValue) (got : Got) (out all after : List (List ℕ)) (count : ℕ) (r : Result (Unit {0}) LinkFault) → (w : Extends out all (WroteMore old new)) → length w.0 ≡ count → OnErr r (wants_ack got count ≡ true)
+    → IfErr r (λ f. f ≡ fault.NoMemory) → OnErr r (after ≡ all) → IfErr r (λ f. (f ≡ fault.NoMemory) × Extends out after (WrotePart old new got))
 part_ack old new got out all after count (Ok u) w long wants h same = tt
 part_ack old new got out all after count (Err f) w long wants h same =
     (h, (w.0, same ∙ w.1, (w.2, inr (ap (wants_ack got) long ∙ wants))))

@@ -40,29 +40,29 @@ front_items bytes (item ∷ begun) (x ∷ y ∷ all) at to fits h k =
     let rest = front_items bytes begun (y ∷ all) h.0 to fits h.3 (subst (λ (n : ℕ). ItemsFrom bytes n (y ∷ all)) same.1 k.3) in
     (rest.0, ap (λ (z : Item). z ∷ (y ∷ all)) same.0 ∙ ap (λ (l : List Item). item ∷ l) rest.1)
 
-front_of_next : (inbox rest : List (List ℕ)) (begun b : List Item) (place : ℕ) → (0 < length begun → AreBytes (oldest_message inbox)) → StandFrom (oldest_message inbox) 0 begun place → AreItemsOf (inbox ++ rest) b → (more : List Item) × (b ≡ begun ++ more)
-front_of_next inbox rest [] b place fits h k = (b, refl)
-front_of_next [] rest (item ∷ begun) b place fits h k = absurd (omega (arith, h.1))
-front_of_next (m ∷ inbox) rest (item ∷ begun) b place fits h k =
-    let front = front_items m (item ∷ begun) k.0 0 place (fits (omega arith)) h k.3 in
+front_of_next : (inbox rest : List (List ℕ)) (begun b : List Item) (offset : ℕ) → (0 < length begun → AreBytes (oldest_message inbox)) → StandFrom (oldest_message inbox) 0 begun offset → AreItemsOf (inbox ++ rest) b → (more : List Item) × (b ≡ begun ++ more)
+front_of_next inbox rest [] b offset fits h k = (b, refl)
+front_of_next [] rest (item ∷ begun) b offset fits h k = absurd (omega (arith, h.1))
+front_of_next (m ∷ inbox) rest (item ∷ begun) b offset fits h k =
+    let front = front_items m (item ∷ begun) k.0 0 offset (fits (omega arith)) h k.3 in
     (front.0 ++ k.1, k.2 ∙ ap (λ (l : List Item). l ++ k.1) front.1 ∙ append_assoc (item ∷ begun) front.0 k.1)
 
-gone_front : (given inbox rest : List (List ℕ)) (place : ℕ) (items : List Item) → GoneThrough given inbox place items → AreFrontOf (given ++ (inbox ++ rest)) items
-gone_front given inbox rest place items g = λ all k.
+gone_front : (given inbox rest : List (List ℕ)) (offset : ℕ) (items : List Item) → GoneThrough given inbox offset items → AreFrontOf (given ++ (inbox ++ rest)) items
+gone_front given inbox rest offset items g = λ all k.
     let s = items_split given (inbox ++ rest) all k in
-    let next = front_of_next inbox rest g.begun s.1 place g.front_bytes g.front s.4 in (
+    let next = front_of_next inbox rest g.begun s.1 offset g.front_bytes g.front s.4 in (
       next.0,
       s.2 ∙ ap (λ (l : List Item). l ++ s.1) (same_items given s.0 g.done g.bytes s.3 g.whole) ∙ ap (λ (l : List Item). g.done ++ l) next.1
           ∙ sym (append_assoc g.done g.begun next.0) ∙ ap (λ (l : List Item). l ++ next.0) (sym g.all),
     )
 
 -- what was processed is a front of what came
-pub here_front : (given inbox : List (List ℕ)) (place : ℕ) (items : List Item) → GoneThrough given inbox place items → AreFrontOf (given ++ inbox) items
-here_front given inbox place items g = subst (λ (l : List (List ℕ)). AreFrontOf (given ++ l) items) (append-nil inbox) (gone_front given inbox [] place items g)
+pub here_front : (given inbox : List (List ℕ)) (offset : ℕ) (items : List Item) → GoneThrough given inbox offset items → AreFrontOf (given ++ inbox) items
+here_front given inbox offset items g = subst (λ (l : List (List ℕ)). AreFrontOf (given ++ l) items) (append-nil inbox) (gone_front given inbox [] offset items g)
 
-pub served_front : (v : LinkValue) (size : ℕ) (messages given : List (List ℕ)) (place : ℕ) (items : List Item) → 0 < size → Stands v size messages given → GoneThrough given v.coming.inbox place items → AreFrontOf messages items
-served_front v size messages given place items pos s g =
+pub served_front : (v : LinkValue) (size : ℕ) (messages given : List (List ℕ)) (offset : ℕ) (items : List Item) → 0 < size → Stands v size messages given → GoneThrough given v.coming.inbox offset items → AreFrontOf messages items
+served_front v size messages given offset items pos s g =
     let w = whole_of v.coming size messages given pos s.taken in
     let rest = drop w.count messages in
     let is : given ++ (v.coming.inbox ++ rest) ≡ messages = sym (append_assoc given v.coming.inbox rest) ∙ ap (λ (l : List (List ℕ)). l ++ rest) w.inbox ∙ take-append-drop w.count messages in
-    subst (λ (l : List (List ℕ)). AreFrontOf l items) is (gone_front given v.coming.inbox rest place items g)
+    subst (λ (l : List (List ℕ)). AreFrontOf l items) is (gone_front given v.coming.inbox rest offset items g)

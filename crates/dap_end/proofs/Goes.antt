@@ -22,7 +22,7 @@ use Rattle.dap_accessed.specs.declared.phase.OpenFile.{OpenFile}
 use Rattle.std.specs.Prelude.{take_while, drop}
 use Rattle.std.specs.List.{prefix_len}
 use Rattle.dap_msg.specs.Codes as codes
-use Rattle.dap_accessed.specs.Standing.{Files, Place, Group, Standing, Scene, Effect, enters, the_file, index_by, file_at}
+use Rattle.dap_accessed.specs.Standing.{Files, ServerState, Group, Standing, Scene, Effect, enters, the_file, index_by, file_at}
 use Rattle.dap_accessed.specs.Standing as at
 use Rattle.dap_accessed.specs.Replies.{reason_of, refused_access, bare_status, record_status, reason_of, too_large}
 use Rattle.dap_accessed.specs.Records.{uncurrent, at_number, filedata_of, fits_limit, get_pick, put_key, record_got, got, refused_effect, settled, changed, Change, Putting, Updating}
@@ -57,7 +57,7 @@ use Rattle.dap_msg.specs.BothEnds.{no_attributes}
 use Rattle.dap_accessed.specs.Past.{asked_shape, kept_attributes}
 use Rattle.dap_accessed.specs.Replies.{reason_of, refused_access, opened_with, org_number, format_number}
 use Rattle.dap_accessed.proofs.ForCallers.{AllFiles, file-there, after_item}
-use Rattle.dap_accessed.proofs.ForCallers.{good-shape, place-within}
+use Rattle.dap_accessed.proofs.ForCallers.{good-shape, index-within}
 use Rattle.dap_accessing.specs.Told.{hear_attributes}
 use Rattle.dap_accessing.proofs.ForCallers.{behind-more, records-more}
 use Rattle.dap_end.specs.Agreement.{IsBufsiz}
@@ -76,10 +76,10 @@ pub record Goes (own_a : Configuration) (own_b : ServerSetup) (request : Request
   pub cut_is : more_items own_b (record { standing = s; begun = None }) (map Whole (messages_of own_a request)) ≡ record { standing = new; begun = None }
   pub adds : answers_in new.past ≡ answers_in s.past ++ answers
   pub heard : hear request (map Whole answers) ≡ Reports done []
-  pub agree : AgreeAt own_a own_b (phase_next phase done) new.place new.scene.limit (limit_next limit_a done)
+  pub agree : AgreeAt own_a own_b (phase_next phase done) new.state new.scene.limit (limit_next limit_a done)
 
-abbrev pub standing_at : Place → Files → ℕ → List Group → Standing
-standing_at place files limit past = record { scene = record { limit = limit; files = files }; place = place; past = past }
+abbrev pub standing_at : ServerState → Files → ℕ → List Group → Standing
+standing_at state files limit past = record { scene = record { limit = limit; files = files }; state = state; past = past }
 
 -- ---- Operations on records.
 
@@ -181,7 +181,7 @@ module _ (own_a : Configuration) (own_b : ServerSetup) (scene : Scene) (limit_a 
   -- the answers of an effect come to a report by this hearing, and the ends agree after it
   abbrev pub Comes : Phase → (List Item → Hearing) → Effect → Type 0
   Comes phase hearing e =
-      (done : Report) × (hearing (map Whole e.answers) ≡ Reports done []) × AgreeAt own_a own_b (phase_next phase done) e.place e.scene.limit (limit_next limit_a done)
+      (done : Report) × (hearing (map Whole e.answers) ≡ Reports done []) × AgreeAt own_a own_b (phase_next phase done) e.state e.scene.limit (limit_next limit_a done)
 
   -- such a report leaves the phase and the limit
   stays_connected : (r : Result ℕ Refusal) (o : OpenFile) (s : StreamVal) → AgreeAt own_a own_b (phase_next Connected (record_report r)) (at.Connected o s) scene.limit (limit_next limit_a (record_report r))
@@ -346,14 +346,14 @@ module _ (own_a : Configuration) (own_b : ServerSetup) (files : Files) (limit : 
   pub open_goes : (name : List ℕ) (fac : ℕ) → AreLimits own_a own_b limit limit_a → AllFiles files → Goes own_a own_b (request.OpenFile name fac) Ready (standing_at at.Ready files limit past) limit_a
   open_goes name fac h all =
       let scene : Scene = record { limit = limit; files = files } in
-      let r = opens own_a own_b scene limit_a h fac (index_by own_b.names name files) (shape-there files (index_by own_b.names name files) all (place-within own_b.names name files)) in
+      let r = opens own_a own_b scene limit_a h fac (index_by own_b.names name files) (shape-there files (index_by own_b.names name files) all (index-within own_b.names name files)) in
       record { answers = _; done = r.0; new = _; cut_is = refl; adds = adds-two past _; heard = r.1; agree = r.2 }
 
   pub create_goes : (name : List ℕ) (org rfm mrs mrn fac : ℕ) → AreLimits own_a own_b limit limit_a → Goes own_a own_b (request.Create name org rfm mrs mrn fac) Ready (standing_at at.Ready files limit past) limit_a
   create_goes name org rfm mrs mrn fac h =
       let scene : Scene = record { limit = limit; files = files } in
       let a : Attributes = record no_attributes { org = Some org; rfm = Some rfm; mrs = Some mrs; mrn = Some (four_bytes mrn) } in
-      let kept : Attributes = kept_attributes (record { place = at.Ready; first = Whole (Attrib a); answers = [] } ∷ past) in
+      let kept : Attributes = kept_attributes (record { state = at.Ready; first = Whole (Attrib a); answers = [] } ∷ past) in
       let r = creates own_a own_b scene limit_a h name fac (index_by own_b.names name files) (asked_shape kept) (good-shape kept) in
       record { answers = _; done = r.0; new = _; cut_is = refl; adds = adds-two past _; heard = r.1; agree = r.2 }
 

@@ -202,7 +202,7 @@ pub run_hears : (size : ℕ) (messages : List (List ℕ)) (events : List AskingE
     → AskingEventRuns (IsFromPeer size messages) old events new reports wrote → (past : ClientHistory) × HasAsked past new × AreFrontOf messages past.answers
 run_hears size messages events old new reports wrote pos h stands works r =
     let t = run_listens size messages events (old, [], []) (new, reports, wrote) r (record { past = nothing_asked; is = h; stands = (stands, works) }) in
-    (t.past, t.is, served_front new.port.link size messages t.past.given new.port.place t.past.answers pos t.stands.0 t.is.gone)
+    (t.past, t.is, served_front new.port.link size messages t.past.given new.port.offset t.past.answers pos t.stands.0 t.is.gone)
 
 pub run_stands : (size : ℕ) (messages : List (List ℕ)) (events : List AskingEvent) (old new : AskingValue) (reports : List Report) (wrote : List Written) → HasAsked nothing_asked old → StandsThen old.port.link size messages []
     → AskingEventRuns (IsFromPeer size messages) old events new reports wrote → (given : List (List ℕ)) × StandsThen new.port.link size messages given

@@ -139,11 +139,11 @@ pub headline : (first : Files) (p : Pair) → IsLinked first p → PairHeadline 
 headline first p j =
     let own = p.b.present.setup in
     let t = first_ones j.asked.asked j.asked.handed p.a.port.outbox j.served.items j.asking.full j.asking.fit j.asking.waiting
-    (served_front p.b.port.link p.a.port.link.setup.seg_size j.asked.handed j.served.given p.b.port.place j.served.items j.ways.there.positive j.ways.there.stands j.serving.gone) in
+    (served_front p.b.port.link p.a.port.link.setup.seg_size j.asked.handed j.served.given p.b.port.offset j.served.items j.ways.there.positive j.ways.there.stands j.serving.gone) in
     let packets = answers_to own j.served.first [] j.served.items in
     let answers : messages_in packets ≡ Answers own j.served.first j.served.items = answers_from own j.served.first [] j.served.items in
     let r = first_ones packets j.served.handed p.b.port.outbox j.asked.answers (answers_full own j.served.first [] j.served.items) (subst AllFit (sym answers) j.serving.fit) j.serving.answers
-    (served_front p.a.port.link p.b.port.link.setup.seg_size j.served.handed j.asked.given p.a.port.place j.asked.answers j.ways.back.positive j.ways.back.stands j.asking.gone) in
+    (served_front p.a.port.link p.b.port.link.setup.seg_size j.served.handed j.asked.given p.a.port.offset j.asked.answers j.ways.back.positive j.ways.back.stands j.asking.gone) in
     record {
       taken = t.taken;
       taken_in_order = (t.rest, t.split ∙ j.asking.messages ∙ ap (Asked p.a.present.identity) j.requests);

@@ -9,7 +9,7 @@ use Rattle.dap_end.specs.declared.fault.EndFault.TheVariants as end_fault
 use Rattle.dap_end.specs.declared.fault.TakeFault.{TakeFault}
 use Rattle.dap_end.specs.declared.fault.TakeFault.TheVariants as take_fault
 use Rattle.dap_end.specs.Ports.{HandsOver, PortValue}
-use Rattle.dap_end.specs.By.{HaltsBy, TurnsBy, begins, goes}
+use Rattle.dap_end.specs.By.{HaltsBy, TurnsBy, no_turn, one_turn}
 use Rattle.dap_end.specs.Node.{NodeLinkValue, serves_on}
 use Rattle.dap_end.specs.Turns.{WritesReplies, DidAll, TakesPacket, WroteThen}
 
@@ -30,8 +30,8 @@ module _ (A : Type 0) (f : NotedValue → A) (kept : Keeps f) where
   by-hands a b n h = ap (λ (v : NodeLinkValue). f v.present) h.1
 
   by-turns : (link most : ℕ) (a b : NodeLinkValue) → TurnsBy (NotedServed link) most a b → Same a b
-  by-turns link most a b begins = refl
-  by-turns link most a b (goes posted mid count n p room s on) = by-turns link most mid b on ∙ (kept link _ _ _ _ _ s.by ∙ by-hands a posted count p)
+  by-turns link most a b no_turn = refl
+  by-turns link most a b (one_turn posted mid count n p room s on) = by-turns link most mid b on ∙ (kept link _ _ _ _ _ s.by ∙ by-hands a posted count p)
 
   by-halts : (most : ℕ) (a b : NodeLinkValue) (w : EndFault) → HaltsBy most a b w → Same a b
   by-halts most a b (end_fault.Link w) (inl h) = ap (λ (v : NodeLinkValue). f v.present) h.0

@@ -5,7 +5,7 @@ use Rattle.std.proofs.lemmas.Bool.{cases_eq, ne_eqb}
 use Rattle.std.proofs.lemmas.List.{append-nil}
 use Rattle.std.proofs.lemmas.List.Elements.{All-append}
 use Rattle.dap_msg.specs.declared.items.Item.{Item}
-use Rattle.dap_msg.specs.Items.{IsPlace}
+use Rattle.dap_msg.specs.Items.{IsOffset}
 use Rattle.nsp_link.specs.declared.fault.LinkFault.{LinkFault}
 use Rattle.nsp_link.specs.declared.fault.LinkFault.TheVariants as fault
 use Rattle.nsp_link.specs.declared.link.LinkSetup.{LinkSetup}
@@ -19,10 +19,10 @@ use Rattle.dap_end.specs.Moved.{with_outbox_sent}
 use Rattle.dap_end.specs.Serving.{IsAfter, ServedOne, MayServe}
 use Rattle.dap_end.specs.Taking.{ServedInTurn, begins, goes}
 use Rattle.dap_end.specs.Done.{ServingValue, ServerHistory}
-use Rattle.dap_end.specs.Writing.{Behind, WroteMore}
+use Rattle.dap_end.specs.Writing.{Extends, WroteMore}
 use Rattle.dap_end.specs.Moved.{sent_more}
 use Rattle.dap_end.specs.Taking.{HasRoom, serves}
-use Rattle.dap_end.specs.Calls.{WorkedOn, rests, serves_one, hands_over}
+use Rattle.dap_end.specs.Calls.{WorkedOn, nothing_done, item_served, outbox_posted}
 use Rattle.dap_end.specs.Inner.Running.{Grew, ServedMore}
 use Rattle.dap_end.proofs.Afterwards.{posted_is, posted_past}
 use Rattle.dap_end.proofs.ServingOne.{port_given}
@@ -146,23 +146,23 @@ all_grew most a b (Err (end_fault.Read f)) d = absurd d.2
 -- ---- Served and passed on, in any order.
 
 pub worked_grew : (a b : ServingValue) → WorkedOn a b → ServedMore a b
-worked_grew a b rests = more_none a
-worked_grew a b (serves_one mid n s on) = more_trans a mid b (more_served a mid n s) (worked_grew mid b on)
-worked_grew a b (hands_over mid n p on) = more_trans a mid b (more_posted a mid n p) (worked_grew mid b on)
+worked_grew a b nothing_done = more_none a
+worked_grew a b (item_served mid n s on) = more_trans a mid b (more_served a mid n s) (worked_grew mid b on)
+worked_grew a b (outbox_posted mid n p on) = more_trans a mid b (more_posted a mid n p) (worked_grew mid b on)
 
 pub one_served : (a b : ServingValue) (n : ℕ) → ServedOne a b n → WorkedOn a b
-one_served a b n s = serves_one b n s rests
+one_served a b n s = item_served b n s nothing_done
 
 pub one_posted : (a b : ServingValue) (n : ℕ) → HandsOver a b n → WorkedOn a b
-one_posted a b n p = hands_over b n p rests
+one_posted a b n p = outbox_posted b n p nothing_done
 
 turn_worked : (most : ℕ) (a b c : ServingValue) → ServedInTurn most a b → WorkedOn b c → WorkedOn a c
 turn_worked most a b c begins w = w
-turn_worked most a b c (goes posted mid count n p room s on) w = hands_over posted count p (serves_one mid n s (turn_worked most mid b c on w))
+turn_worked most a b c (goes posted mid count n p room s on) w = outbox_posted posted count p (item_served mid n s (turn_worked most mid b c on w))
 
 pub all_worked : (most : ℕ) (a b : ServingValue) (r : Result (Unit {0}) EndFault) → DidAll (serves most) a b r → WorkedOn a b
 all_worked most a b (Ok u) d = turn_worked most a d.0 b d.2 (one_posted d.0 b d.1 d.4)
-all_worked most a b (Err (end_fault.Link f)) (mid, on, inl (is, h)) = subst (WorkedOn a) (sym is) (turn_worked most a mid mid on rests)
+all_worked most a b (Err (end_fault.Link f)) (mid, on, inl (is, h)) = subst (WorkedOn a) (sym is) (turn_worked most a mid mid on nothing_done)
 all_worked most a b (Err (end_fault.Link f)) (mid, on, inr (want, room, p, may)) = turn_worked most a mid b on (one_posted mid b p.0 p.1)
 all_worked most a b (Err (end_fault.Read f)) d = absurd d.2
 
@@ -200,33 +200,33 @@ work [] = 0
 work (m ∷ inbox) = length m + 1 + work inbox
 
 abbrev pub left : ServingValue → ℕ
-left v = work v.port.link.coming.inbox - v.port.place
+left v = work v.port.link.coming.inbox - v.port.offset
 
-less_ends : (later : List (List ℕ)) (bytes : List ℕ) (place : ℕ) → IsPlace place bytes → work later - 0 < work (bytes ∷ later) - place
-less_ends later bytes place (inl lt) = omega arith
-less_ends later bytes place (inr none) = omega (arith, none.0, none.1)
+less_ends : (later : List (List ℕ)) (bytes : List ℕ) (offset : ℕ) → IsOffset offset bytes → work later - 0 < work (bytes ∷ later) - offset
+less_ends later bytes offset (inl lt) = omega arith
+less_ends later bytes offset (inr none) = omega (arith, none.0, none.1)
 
-less_inside : (later : List (List ℕ)) (bytes : List ℕ) (place next : ℕ) → IsPlace place bytes → (place < length bytes → place < next) → next < length bytes → work (bytes ∷ later) - next < work (bytes ∷ later) - place
-less_inside later bytes place next (inl lt) onward inside = let h = onward lt in omega arith
-less_inside later bytes place next (inr none) onward inside = absurd (omega (arith, none.1))
+less_inside : (later : List (List ℕ)) (bytes : List ℕ) (offset next : ℕ) → IsOffset offset bytes → (offset < length bytes → offset < next) → next < length bytes → work (bytes ∷ later) - next < work (bytes ∷ later) - offset
+less_inside later bytes offset next (inl lt) onward inside = let h = onward lt in omega arith
+less_inside later bytes offset next (inr none) onward inside = absurd (omega (arith, none.1))
 
-less_left : (inbox later : List (List ℕ)) (bytes : List ℕ) (place next : ℕ) → inbox ≡ bytes ∷ later → IsPlace place bytes → (place < length bytes → place < next) → next ≤ length bytes →
-    let ends = next == length bytes in work (if ends then later else inbox) - (if ends then 0 else next) < work inbox - place
-less_left inbox later bytes place next came at onward within =
+less_left : (inbox later : List (List ℕ)) (bytes : List ℕ) (offset next : ℕ) → inbox ≡ bytes ∷ later → IsOffset offset bytes → (offset < length bytes → offset < next) → next ≤ length bytes →
+    let ends = next == length bytes in work (if ends then later else inbox) - (if ends then 0 else next) < work inbox - offset
+less_left inbox later bytes offset next came at onward within =
     elim (cases_eq next (length bytes)) [
-      | inl end ↦ rw (eq-eqb next (length bytes) end, came) (less_ends later bytes place at)
-      | inr inside ↦ rw (ne_eqb next (length bytes) inside, came) (less_inside later bytes place next at onward (omega (arith, within, inside)))
+      | inl end ↦ rw (eq-eqb next (length bytes) end, came) (less_ends later bytes offset at)
+      | inr inside ↦ rw (ne_eqb next (length bytes) inside, came) (less_inside later bytes offset next at onward (omega (arith, within, inside)))
     ]
 
 pub item_left : (p : PortValue) (one : NextItem p) →
-    let ends = one.next == length one.bytes in work (if ends then one.later else p.link.coming.inbox) - (if ends then 0 else one.next) < work p.link.coming.inbox - p.place
+    let ends = one.next == length one.bytes in work (if ends then one.later else p.link.coming.inbox) - (if ends then 0 else one.next) < work p.link.coming.inbox - p.offset
 item_left p one =
-    let goes = item_ends one.bytes p.place one.item one.next one.place one.reads in
-    less_left p.link.coming.inbox one.later one.bytes p.place one.next one.came one.place goes.0 goes.1
+    let goes = item_ends one.bytes p.offset one.item one.next one.offset one.reads in
+    less_left p.link.coming.inbox one.later one.bytes p.offset one.next one.came one.offset goes.0 goes.1
 
 pub falls : (old new : ServingValue) (n : ℕ) → ServedOne old new n → left new < left old
 falls old new n s =
-    subst (λ (p : PortValue). work p.link.coming.inbox - p.place < left old) (sym s.port)
+    subst (λ (p : PortValue). work p.link.coming.inbox - p.offset < left old) (sym s.port)
     (item_left old.port s.one)
 
 -- ---- Writing.
@@ -238,7 +238,7 @@ pub still_by : (v : ServingValue) (port : PortValue) (n : ℕ) → port ≡ sent
 still_by v port n e = subst (λ (p : PortValue). Still IsAfter v (with_port v p)) (sym e) (still_sent v n)
 
 -- all was served, and then segments were written
-pub gone_by : (most : ℕ) (old served : ServingValue) (port : PortValue) (out all : List (List ℕ)) (r : Result (Unit {0}) LinkFault) → DidAll (serves most) old served (Ok tt) → Behind out all (WroteMore served.port port) → OnOk r (may_send port.link ≡ false)
+pub gone_by : (most : ℕ) (old served : ServingValue) (port : PortValue) (out all : List (List ℕ)) (r : Result (Unit {0}) LinkFault) → DidAll (serves most) old served (Ok tt) → Extends out all (WroteMore served.port port) → OnOk r (may_send port.link ≡ false)
     → IfErr r (λ f. (f ≡ fault.NoMemory) × IsTrue (may_send port.link)) → WentOn (serves most) old (with_port served port) out all (result_map_both (λ done. done) end_fault.Link r)
 gone_by most old served port out all (Ok u) d w full why = went_by (serves most) old served (with_port served port) out all (Ok u) d refl w full why
 gone_by most old served port out all (Err f) d w full why = went_by (serves most) old served (with_port served port) out all (Err f) d refl w full why

@@ -17,10 +17,10 @@ pub received : (old new : LinkValue) (bytes : List ℕ) (r : Result Got LinkFaul
 received old new bytes r h =
     let g = grown old new bytes r h in
     record {
-      gone = λ given place items through. subst (λ (l : List (List ℕ)). GoneThrough given l place items) (sym g.inbox) (gone_stays given old.coming.inbox g.more place items through);
+      gone = λ given offset items through. subst (λ (l : List (List ℕ)). GoneThrough given l offset items) (sym g.inbox) (gone_stays given old.coming.inbox g.more offset items through);
       sends = h.sends;
     }
 
 -- segments were sent
 pub sent : (p : PortValue) (n : ℕ) → LinkMoved p.link (sent_more p n).link
-sent p n = record { gone = λ given place items through. through; sends = λ messages h. record { queue = h.queue; acked = h.acked; part = h.part } }
+sent p n = record { gone = λ given offset items through. through; sends = λ messages h. record { queue = h.queue; acked = h.acked; part = h.part } }

@@ -28,7 +28,7 @@ use Rattle.dap_end.specs.Serving.{IsAfter, ServedOne}
 use Rattle.dap_end.specs.Done.{ServingValue, ServerHistory, answers_to, nothing_yet}
 use Rattle.dap_end.specs.Turns.{DidAll, WentOn, TookIn, TakesPacket}
 use Rattle.dap_end.specs.Taking.{serves}
-use Rattle.dap_end.specs.Calls.{WorkedOn, rests}
+use Rattle.dap_end.specs.Calls.{WorkedOn, nothing_done}
 use Rattle.dap_end.specs.Runs.{RunsBy}
 use Rattle.dap_end.specs.Headline.{Written, written_bytes, AreWrittenOf, IsFromPeer}
 use Rattle.dap_end.specs.Calls.{numbered_packets, WroteOne, EndEvent, Came, GoesOn, Repeats, EndStepped, Stepped, EventRuns, RunsAs}
@@ -209,7 +209,7 @@ pub run_from : (events : List EndEvent) (old new : ServingValue) (wrote : List W
     → EventRuns (IsFromPeer size messages) old events new wrote → (now : ServerHistory) × IsAfter now new × (now.first ≡ past.first) × AreFrontOf messages now.items
 run_from events old new wrote size messages past pos is stands works r =
     let h = run_hears events (old, []) (new, wrote) size messages past.first r (record { past = past; is = is; had = refl; stands = stands; works = works }) in
-    (h.past, h.is, h.had, served_front new.port.link size messages h.past.given new.port.place h.past.items pos h.stands h.is.gone)
+    (h.past, h.is, h.had, served_front new.port.link size messages h.past.given new.port.offset h.past.items pos h.stands h.is.gone)
 
 -- so the link stands where it should
 pub run_stands : (events : List EndEvent) (old new : ServingValue) (wrote : List Written) (size : ℕ) (messages : List (List ℕ)) (past : ServerHistory) → IsAfter past old → StandsThen old.port.link size messages past.given
@@ -232,7 +232,7 @@ refused_due old new size messages given bytes e s f h =
 
 -- it may do nothing
 none : (v : ServingValue) → WorkedOn v v
-none v = rests
+none v = nothing_done
 
 -- with packets that were there before
 pub shifted : (comes : LinkValue → List ℕ → Type 0) (events : List EndEvent) (front : List Written) (old new : Wrote) → RunsBy (Stepped comes) old events new → RunsBy (Stepped comes) (old.0, front ++ old.1) events (new.0, front ++ new.1)

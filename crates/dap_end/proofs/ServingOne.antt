@@ -7,7 +7,7 @@ use Rattle.std.proofs.lemmas.List.Elements.{All-cons}
 use Rattle.dap_accessed.specs.declared.setup.ServerSetup.{ServerSetup}
 use Rattle.dap_fields.specs.Spelling.{AreBytes}
 use Rattle.dap_msg.specs.declared.items.Item.{Item}
-use Rattle.dap_msg.specs.Items.{ItemAt, IsPlace}
+use Rattle.dap_msg.specs.Items.{ItemAt, IsOffset}
 use Rattle.dap_msg.specs.Blocked.{NspMessage, Blocked, all_joined, bodies, blocked_bytes, AllFit}
 use Rattle.dap_msg.specs.declared.message.Message.{Message}
 use Rattle.nsp_link.specs.Link.{Stands, with_inbox}
@@ -15,7 +15,7 @@ use Rattle.nsp_link.proofs.ForCallers.{stands_given}
 use Rattle.dap_accessed.specs.Groups.{Answers, added, limit_for}
 use Rattle.dap_accessed.proofs.ForCallers.{Answers-more}
 use Rattle.dap_accessed.specs.Present.{Present}
-use Rattle.dap_accessed.specs.Served.{Serves, AllAtMost}
+use Rattle.dap_accessed.specs.Served.{ServesItemAt, AllAtMost}
 use Rattle.dap_accessed.specs.declared.served.Served.{Served}
 use Rattle.dap_end.specs.Histories.{served}
 use Rattle.dap_end.specs.Ports.{PortValue, gone_on}
@@ -28,7 +28,7 @@ use Rattle.dap_end.specs.Inner.Kept.{IsPort, AreMessages}
 use Rattle.dap_end.specs.Inner.ServingView.{serving_of}
 use Rattle.dap_end.proofs.Going.{gone_one}
 use Rattle.dap_end.proofs.Answering.{answer_to, answers-more}
-use Rattle.dap_end.proofs.Taking.{first_place}
+use Rattle.dap_end.proofs.Taking.{first_offset}
 
 pub no_first : (inbox : List (List ℕ)) → slice_get inbox 0 ≡ None → inbox ≡ []
 no_first [] e = refl
@@ -45,11 +45,11 @@ no_length (x ∷ l) e = absurd (omega arith)
 -- what `advance` does, by whether the message was the last one
 abbrev pub GoesOn : PortValue → PortValue → Bool → ℕ → Type 0
 GoesOn p new last next =
-    (last ≡ false → new ≡ record p { place = next })
-    × (last ≡ true → (bytes : List ℕ) (later : List (List ℕ)) → p.link.coming.inbox ≡ bytes ∷ later → new ≡ record p { link = with_inbox p.link later; place = 0 })
+    (last ≡ false → new ≡ record p { offset = next })
+    × (last ≡ true → (bytes : List ℕ) (later : List (List ℕ)) → p.link.coming.inbox ≡ bytes ∷ later → new ≡ record p { link = with_inbox p.link later; offset = 0 })
 
 gone_by : (p new : PortValue) (last : Bool) (bytes : List ℕ) (later : List (List ℕ)) (next : ℕ) → p.link.coming.inbox ≡ bytes ∷ later → GoesOn p new last next
-    → new ≡ record p { link = with_inbox p.link (if last then later else p.link.coming.inbox); place = if last then 0 else next }
+    → new ≡ record p { link = with_inbox p.link (if last then later else p.link.coming.inbox); offset = if last then 0 else next }
 gone_by p new true bytes later next inbox h = h.1 refl bytes later inbox
 gone_by p new false bytes later next inbox h = h.0 refl
 
@@ -67,10 +67,10 @@ port_given p bytes later next size messages given inbox h =
     ]
 
 -- and what was processed
-pub port_gone : (p : PortValue) (bytes : List ℕ) (later : List (List ℕ)) (next : ℕ) (given : List (List ℕ)) (items : List Item) (item : Item) → AreBytes bytes → p.link.coming.inbox ≡ bytes ∷ later → GoneThrough given p.link.coming.inbox p.place items
-    → ItemAt bytes p.place item next → next ≤ length bytes → GoneThrough (processed_after given bytes next) (gone_on p bytes later next).link.coming.inbox (gone_on p bytes later next).place (items ++ item ∷ [])
+pub port_gone : (p : PortValue) (bytes : List ℕ) (later : List (List ℕ)) (next : ℕ) (given : List (List ℕ)) (items : List Item) (item : Item) → AreBytes bytes → p.link.coming.inbox ≡ bytes ∷ later → GoneThrough given p.link.coming.inbox p.offset items
+    → ItemAt bytes p.offset item next → next ≤ length bytes → GoneThrough (processed_after given bytes next) (gone_on p bytes later next).link.coming.inbox (gone_on p bytes later next).offset (items ++ item ∷ [])
 port_gone p bytes later next given items item fits inbox h reads within =
-    let gone = gone_one given later bytes p.place next items item fits (subst (λ (l : List (List ℕ)). GoneThrough given l p.place items) inbox h) reads within in
+    let gone = gone_one given later bytes p.offset next items item fits (subst (λ (l : List (List ℕ)). GoneThrough given l p.offset items) inbox h) reads within in
     subst (λ (l : List (List ℕ)). let ends = next == length bytes in GoneThrough (processed_after given bytes next) (if ends then later else l) (if ends then 0 else next) (items ++ item ∷ [])) (sym inbox) gone
 
 pub fit-both : (one two : List Message) → AllFit one → AllFit two → AllFit (one ++ two)
@@ -78,7 +78,7 @@ fit-both [] two h k = k
 fit-both (m ∷ one) two h k = (h.0, fit-both one two h.1 k)
 
 module _ (old : ServingValue) (bytes : List ℕ) (later : List (List ℕ)) (inbox : old.port.link.coming.inbox ≡ bytes ∷ later) (fits : AreBytes bytes) where
-  past_one : (after : Present) (s : Served) (serves : Serves bytes old.port.place old.present after s) → old.port.outbox ≡ [] → s.next ≤ length bytes
+  past_one : (after : Present) (s : Served) (serves : ServesItemAt bytes old.port.offset old.present after s) → old.port.outbox ≡ [] → s.next ≤ length bytes
       → (past : ServerHistory) → IsAfter past old
       → IsAfter (served past bytes serves.item s.next) (serving_of (record (gone_on old.port bytes later s.next) { outbox = bodies s.answers.items }) after)
   past_one after s serves idle within past h =
@@ -102,16 +102,16 @@ module _ (old : ServingValue) (bytes : List ℕ) (later : List (List ℕ)) (inbo
       }
 
   pub served_one : (after : Present) (s : Served) (port : PortValue) (next n : ℕ)
-      → old.port.outbox ≡ [] → IsPlace old.port.place bytes → (serves : Serves bytes old.port.place old.present after s)
+      → old.port.outbox ≡ [] → IsOffset old.port.offset bytes → (serves : ServesItemAt bytes old.port.offset old.present after s)
       → s.next ≡ next → next ≤ length bytes
       → port ≡ record (gone_on old.port bytes later next) { outbox = bodies s.answers.items } → n ≡ length (bodies s.answers.items)
       → ServedOne old (serving_of port after) n
-  served_one after s port next n idle place serves same within port_is count =
+  served_one after s port next n idle offset serves same within port_is count =
       let to : port ≡ record (gone_on old.port bytes later s.next) { outbox = bodies s.answers.items } = port_is ∙ ap (λ (k : ℕ). record (gone_on old.port bytes later k) { outbox = bodies s.answers.items }) (sym same) in
       let le : s.next ≤ length bytes = omega arith in
       record {
         idle = idle;
-        one = record { bytes = bytes; later = later; came = inbox; fits = fits; item = serves.item; next = s.next; reads = serves.reads; place = place };
+        one = record { bytes = bytes; later = later; came = inbox; fits = fits; item = serves.item; next = s.next; reads = serves.reads; offset = offset };
         port = to ∙ ap (λ (l : List (List ℕ)). record (gone_on old.port bytes later s.next) { outbox = l }) (sym (ap (λ (p : PortValue). p.outbox) to));
         own = serves.same_own;
         setup = serves.same_setup;
@@ -119,8 +119,8 @@ module _ (old : ServingValue) (bytes : List ℕ) (later : List (List ℕ)) (inbo
         past = λ past h. subst (λ (p : PortValue). IsAfter (served past bytes serves.item s.next) (serving_of p after)) (sym to) (past_one after s serves idle le past h);
       }
 
-pub place_there : (p : PortValue) (bytes : List ℕ) (later : List (List ℕ)) → p.link.coming.inbox ≡ bytes ∷ later → IsPort p → IsPlace p.place bytes
-place_there p bytes later inbox h = subst (λ (l : List (List ℕ)). IsPlace p.place (oldest_message l)) inbox h.place
+pub offset_there : (p : PortValue) (bytes : List ℕ) (later : List (List ℕ)) → p.link.coming.inbox ≡ bytes ∷ later → IsPort p → IsOffset p.offset bytes
+offset_there p bytes later inbox h = subst (λ (l : List (List ℕ)). IsOffset p.offset (oldest_message l)) inbox h.offset
 
 -- ---- The port stays one.
 
@@ -132,9 +132,9 @@ pub port_goes : (p : PortValue) (bytes : List ℕ) (later outbox : List (List �
     → limit ≤ 65535 → AllAtMost limit outbox → IsPort (record (gone_on p bytes later next) { outbox = outbox })
 port_goes p bytes later outbox next limit inbox h within le short =
     record {
-      place =
+      offset =
           elim (cases_eq next (length bytes)) [
-            | inl end ↦ rw (eq-eqb next (length bytes) end) (first_place (oldest_message later))
+            | inl end ↦ rw (eq-eqb next (length bytes) end) (first_offset (oldest_message later))
             | inr inside ↦ rw (ne_eqb next (length bytes) inside, inbox) (inl (omega (arith, within, inside)))
           ];
       short = all_short limit outbox le short;

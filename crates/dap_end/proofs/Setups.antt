@@ -10,7 +10,7 @@ use Rattle.dap_end.specs.declared.fault.EndFault.TheVariants as end_fault
 use Rattle.dap_end.specs.declared.fault.TakeFault.{TakeFault}
 use Rattle.dap_end.specs.declared.fault.TakeFault.TheVariants as take_fault
 use Rattle.dap_end.specs.Ports.{HandsOver, PortValue}
-use Rattle.dap_end.specs.By.{HaltsBy, TurnsBy, begins, goes}
+use Rattle.dap_end.specs.By.{HaltsBy, TurnsBy, no_turn, one_turn}
 use Rattle.dap_end.specs.Node.{NodeLinkValue, serves_on}
 use Rattle.dap_end.specs.Turns.{WritesReplies, DidAll, TakesPacket, TookIn}
 use Rattle.dap_end.specs.Writing.{WroteMore}
@@ -26,8 +26,8 @@ by-hands : (a b : NodeLinkValue) (n : ℕ) → HandsOver a b n → Same a b
 by-hands a b n h = ap setup-of h.1
 
 by-turns : (link most : ℕ) (a b : NodeLinkValue) → TurnsBy (NotedServed link) most a b → Same a b
-by-turns link most a b begins = refl
-by-turns link most a b (goes posted mid count n p room s on) =
+by-turns link most a b no_turn = refl
+by-turns link most a b (one_turn posted mid count n p room s on) =
     by-turns link most mid b on ∙ (ap (λ (q : PortValue). q.link.setup) s.port ∙ by-hands a posted count p)
 
 by-halts : (most : ℕ) (a b : NodeLinkValue) (w : EndFault) → HaltsBy most a b w → Same a b

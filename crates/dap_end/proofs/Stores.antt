@@ -15,7 +15,7 @@ use Rattle.rec_file.specs.declared.refusals.Refusal.{Refusal}
 use Rattle.rec_file.specs.declared.refusals.Refusal.TheVariants.{NotPermitted, NoCurrent, RecordNotFound, RecordExists, NumberOutOfRange, BadLength, BadAccessMode, DeleteNotAllowed, BadKey, EndOfFile, NoMemory}
 use Rattle.rec_file.specs.Acts.{StreamVal, act, put_record}
 use Rattle.dap_accessed.specs.declared.phase.OpenFile.{OpenFile}
-use Rattle.dap_accessed.specs.Standing.{Files, Place, Group, Standing, Scene, Effect, enters, the_file}
+use Rattle.dap_accessed.specs.Standing.{Files, ServerState, Group, Standing, Scene, Effect, enters, the_file}
 use Rattle.dap_accessed.specs.Standing as at
 use Rattle.dap_accessed.specs.Past.{is_dropping, ordinal_so_far, next_ordinal}
 use Rattle.dap_accessed.specs.Transfers.{store_one, stored_answers}
@@ -59,15 +59,15 @@ are_refusals (Err NoMemory) ordinal = one_refusal _ refl
 -- the effect of one record leaves a Store, and its answers are refusals
 record OneStored (limit : ℕ) (o : OpenFile) (e : Effect) : Type 0 where
   stream : StreamVal
-  place : e.place ≡ at.Store o stream
+  state : e.state ≡ at.Store o stream
   same : e.scene.limit ≡ limit
   refusals : AreRefusals e.answers
 
 one_stored : (scene : Scene) (o : OpenFile) (s : StreamVal) (body : List ℕ) (ordinal : ℕ) (dropping : Bool) → OneStored scene.limit o (if dropping then enters scene (at.Store o s) [] else store_one ordinal scene o s body)
-one_stored scene o s body ordinal true = record { stream = s; place = refl; same = refl; refusals = λ rest. (refl, refl) }
+one_stored scene o s body ordinal true = record { stream = s; state = refl; same = refl; refusals = λ rest. (refl, refl) }
 one_stored scene o s body ordinal false =
     let outcome = act (put_record None body) (the_file scene.files o) s in
-    record { stream = outcome.stream; place = refl; same = refl; refusals = are_refusals outcome.reply (next_ordinal ordinal) }
+    record { stream = outcome.stream; state = refl; same = refl; refusals = are_refusals outcome.reply (next_ordinal ordinal) }
 
 -- the records that are left, and the end of the stream
 abbrev to_come : List (List ℕ) → List Item
@@ -81,19 +81,19 @@ record Stores (own : ServerSetup) (bodies : List (List ℕ)) (s : Standing) (o :
   adds : answers_in new.past ≡ answers_in s.past ++ answers
   refused : has_success (statuses_in_front (map Whole answers)) ≡ false
   completed : after_those is_status (map Whole answers) ≡ Whole (complete_with 2) ∷ []
-  place : new.place ≡ at.Opened o
+  state : new.state ≡ at.Opened o
   same : new.scene.limit ≡ s.scene.limit
 
 stores : (own : ServerSetup) (bodies : List (List ℕ)) (files : Files) (limit : ℕ) (past : List Group) (o : OpenFile) (s : StreamVal)
     → Stores own bodies (standing_at (at.Store o s) files limit past) o
 stores own [] files limit past o s =
-    record { answers = complete_with 2 ∷ []; new = _; cut_is = refl; adds = refl; refused = refl; completed = refl; place = refl; same = refl }
+    record { answers = complete_with 2 ∷ []; new = _; cut_is = refl; adds = refl; refused = refl; completed = refl; state = refl; same = refl }
 stores own (body ∷ bodies) files limit past o s =
     let scene : Scene = record { limit = limit; files = files } in
     let e = if is_dropping past then enters scene (at.Store o s) [] else store_one (ordinal_so_far past) scene o s body in
     let one : OneStored limit o e = one_stored scene o s body (ordinal_so_far past) (is_dropping past) in
     let t = over (standing_at (at.Store o s) files limit past) (at.Store o s) (Whole (Filedata [] body)) e in
-    let rest = subst (λ (p : Place). Stores own bodies (standing_at p e.scene.files e.scene.limit t.past) o) (sym one.place) (stores own bodies e.scene.files e.scene.limit t.past o one.stream) in
+    let rest = subst (λ (p : ServerState). Stores own bodies (standing_at p e.scene.files e.scene.limit t.past) o) (sym one.state) (stores own bodies e.scene.files e.scene.limit t.past o one.stream) in
     let all = map-append Whole e.answers rest.answers in
     let refusals = one.refusals (map Whole rest.answers) in
     record {
@@ -103,7 +103,7 @@ stores own (body ∷ bodies) files limit past o s =
       adds = rest.adds ∙ append_assoc (answers_in past) e.answers rest.answers;
       refused = ap (λ l. has_success (statuses_in_front l)) all ∙ refusals.0 ∙ rest.refused;
       completed = ap (after_those is_status) all ∙ refusals.1 ∙ rest.completed;
-      place = rest.place;
+      state = rest.state;
       same = rest.same ∙ one.same;
     }
 
@@ -118,7 +118,7 @@ pub store_goes : (own_a : Configuration) (own_b : ServerSetup) (files : Files) (
     → Goes own_a own_b (request.Store bodies) Connected (standing_at (at.Connected o s) files limit past) limit_a
 store_goes own_a own_b files limit past limit_a h o s bodies =
     let first : Item = Whole (control 4 (Some 3) None) in
-    let group : Group = record { place = at.Connected o s; first = first; answers = [] } in
+    let group : Group = record { state = at.Connected o s; first = first; answers = [] } in
     let r = stores own_b bodies files limit (group ∷ past) o s in
     record {
       answers = r.answers;
@@ -127,5 +127,5 @@ store_goes own_a own_b files limit past limit_a h o s bodies =
       cut_is = r.cut_is;
       adds = r.adds ∙ ap (λ l. l ++ r.answers) (append-nil (answers_in past));
       heard = hear_stores (map Whole r.answers) r.refused r.completed;
-      agree = subst (λ (p : Place). AgreeAt own_a own_b Opened p r.new.scene.limit limit_a) (sym r.place) (subst (λ (l : ℕ). AreLimits own_a own_b l limit_a) (sym r.same) h);
+      agree = subst (λ (p : ServerState). AgreeAt own_a own_b Opened p r.new.scene.limit limit_a) (sym r.state) (subst (λ (l : ℕ). AreLimits own_a own_b l limit_a) (sym r.same) h);
     }

@@ -22,7 +22,7 @@ PortList = List (Option PortValue)
 abbrev Test : Type 0
 Test = Option PortValue → Bool
 
--- ---- The place of a port that alone passes a test.
+-- ---- The index of a port that alone passes a test.
 
 none-by : (test : Test) (ports : PortList) → ((k : ℕ) (o : Option PortValue) → slice_get ports k ≡ Some o → test o ≡ true → ⊥) → (r : Option ℕ) → position test ports ≡ r → r ≡ None
 none-by test ports none None e = refl
@@ -102,7 +102,7 @@ module _ (table : List (Option ℕ)) (ports : PortList) (h : IsTable table ports
       let same : Some r ≡ Some (Some link) = sym e ∙ listed-at local link (Some p) at (eq-eqb p.link.setup.local local is) in
       (let one : r ≡ Some link = cc in one)
 
--- ---- Lists in which one place was set.
+-- ---- Lists in which one index was set.
 
 set-here : {A : Type 0} (xs : List A) (i : ℕ) (a : A) → i < length xs → slice_get (set xs i a) i ≡ Some a
 set-here [] i a lt = absurd (omega (arith, lt))

@@ -10,7 +10,7 @@ use Rattle.nsp_link.specs.Cutting.{Piece}
 use Rattle.nsp_link.specs.Coming.{Coming, with_taken, with_all_taken, body_with}
 use Rattle.nsp_link.specs.Link.{LinkValue, piece_of, failed_link, with_acked}
 use Rattle.nsp_link.specs.Receiving.{Received, run, segment_number, taking_in, ends_link, Bounded, BoundedBytes, LetsGo, Receives}
-use Rattle.dap_msg.specs.Items.{IsPlace}
+use Rattle.dap_msg.specs.Items.{IsOffset}
 use Rattle.dap_end.specs.Ports.{PortValue}
 use Rattle.dap_end.specs.Moved.{with_link}
 use Rattle.dap_end.specs.Going.{oldest_message}
@@ -81,21 +81,21 @@ grown_by old new bytes r false e h = from_bytes old new bytes r (h.any e)
 pub grown : (old new : LinkValue) (bytes : List ℕ) (r : Result Got LinkFault) → Receives old new bytes r → Grown old new
 grown old new bytes r h = grown_by old new bytes r old.failed refl h
 
--- ---- The place stays one in the oldest NSP message.
+-- ---- The offset stays one in the oldest NSP message.
 
-pub first_place : (bytes : List ℕ) → IsPlace 0 bytes
-first_place [] = inr (refl, refl)
-first_place (b ∷ bytes) = inl (omega arith)
+pub first_offset : (bytes : List ℕ) → IsOffset 0 bytes
+first_offset [] = inr (refl, refl)
+first_offset (b ∷ bytes) = inl (omega arith)
 
-pub place_stays : (place : ℕ) (inbox more : List (List ℕ)) → IsPlace place (oldest_message inbox) → IsPlace place (oldest_message (inbox ++ more))
-place_stays place [] more (inl h) = absurd (omega arith)
-place_stays place [] more (inr h) = subst (λ (n : ℕ). IsPlace n (oldest_message more)) (sym h.0) (first_place (oldest_message more))
-place_stays place (m ∷ inbox) more h = h
+pub offset_stays : (offset : ℕ) (inbox more : List (List ℕ)) → IsOffset offset (oldest_message inbox) → IsOffset offset (oldest_message (inbox ++ more))
+offset_stays offset [] more (inl h) = absurd (omega arith)
+offset_stays offset [] more (inr h) = subst (λ (n : ℕ). IsOffset n (oldest_message more)) (sym h.0) (first_offset (oldest_message more))
+offset_stays offset (m ∷ inbox) more h = h
 
 pub port_stays : (p : PortValue) (link : LinkValue) → Grown p.link link → IsPort p → IsPort (with_link p link)
 port_stays p link g h =
     record {
-      place = subst (λ (l : List (List ℕ)). IsPlace p.place (oldest_message l)) (sym g.inbox) (place_stays p.place p.link.coming.inbox g.more h.place);
+      offset = subst (λ (l : List (List ℕ)). IsOffset p.offset (oldest_message l)) (sym g.inbox) (offset_stays p.offset p.link.coming.inbox g.more h.offset);
       short = h.short;
     }
 

@@ -14,7 +14,7 @@ use Rattle.dap_end.specs.declared.fault.TakeFault.{TakeFault}
 use Rattle.dap_end.specs.declared.fault.TakeFault.TheVariants as take_fault
 use Rattle.dap_end.specs.Ports.{EndValue, PortValue}
 use Rattle.dap_end.specs.Moved.{with_link}
-use Rattle.dap_end.specs.Writing.{Behind, WroteMore, WroteAnswer, WrotePart}
+use Rattle.dap_end.specs.Writing.{Extends, WroteMore, WroteAnswer, WrotePart}
 use Rattle.dap_end.specs.Moved.{sent_more}
 use Rattle.dap_end.specs.Turns.{EndOf, DidAll, WentOn, WritesReplies, TookIn, TookThen, TakesPacket}
 use Rattle.dap_end.specs.Wanting.{is_want, why}
@@ -29,12 +29,12 @@ abbrev linked : LinkFault → EndFault
 linked f = end_fault.Link f
 
 pub answered_by : {P : Type 0} (end : EndOf P) (old mid new : EndValue P) (got : Got) (out all : List (List ℕ)) (r : Result (Unit {0}) LinkFault) → DidAll end old mid (Ok tt) → new ≡ record mid { port = new.port }
-    → OnOk r (Behind out all (WroteAnswer mid.port new.port got)) → IfErr r (λ f. (f ≡ fault.NoMemory) × Behind out all (WrotePart mid.port new.port got)) → WritesReplies end old new got out all (ended_by r)
+    → OnOk r (Extends out all (WroteAnswer mid.port new.port got)) → IfErr r (λ f. (f ≡ fault.NoMemory) × Extends out all (WrotePart mid.port new.port got)) → WritesReplies end old new got out all (ended_by r)
 answered_by end old mid new got out all (Ok u) done rest w why = record { mid = mid; done = done; rest = rest; wrote = w }
 answered_by end old mid new got out all (Err f) done rest w why = inr (ap linked why.0, record { mid = mid; done = done; rest = rest; wrote = why.1 })
 
 pub went_by : {P : Type 0} (end : EndOf P) (old mid new : EndValue P) (out all : List (List ℕ)) (r : Result (Unit {0}) LinkFault) → DidAll end old mid (Ok tt) → new ≡ record mid { port = new.port }
-    → Behind out all (WroteMore mid.port new.port) → OnOk r (may_send new.port.link ≡ false) → IfErr r (λ f. (f ≡ fault.NoMemory) × IsTrue (may_send new.port.link)) → WentOn end old new out all (ended_by r)
+    → Extends out all (WroteMore mid.port new.port) → OnOk r (may_send new.port.link ≡ false) → IfErr r (λ f. (f ≡ fault.NoMemory) × IsTrue (may_send new.port.link)) → WentOn end old new out all (ended_by r)
 went_by end old mid new out all (Ok u) done rest w full why =
     record { mid = mid; done = done; rest = rest; wrote = (w.0, w.1, (w.0, w.2, full, refl)) }
 went_by end old mid new out all (Err f) done rest w full why = inr (ap linked why.0, record { mid = mid; done = done; rest = rest; wrote = (w.0, w.1, (w.2, inl why.1)) })

@@ -6,7 +6,7 @@ use Rattle.dap_accessed.specs.declared.setup.ServerSetup.{ServerSetup}
 use Rattle.dap_msg.specs.BothEnds.{max_nsp_message, min_buffer}
 use Rattle.dap_msg.specs.declared.items.Item.{Item}
 use Rattle.dap_msg.specs.declared.items.Item.TheVariants.{Whole}
-use Rattle.dap_accessed.specs.Standing.{Files, Place}
+use Rattle.dap_accessed.specs.Standing.{Files, ServerState}
 use Rattle.dap_accessed.specs.Groups.{Answers, stands_after}
 use Rattle.dap_accessing.specs.Request.{Request}
 use Rattle.dap_accessing.specs.declared.report.Report.{Report}
@@ -45,8 +45,8 @@ AreAllAdmissible own_a own_b first before (request ∷ requests) =
 abbrev pub AreLimits : (own_a : Configuration) (own_b : ServerSetup) → (limit_b limit_a : ℕ) → Type 0
 AreLimits own_a own_b limit_b limit_a = (limit_b ≡ own_a.bufsiz) × (limit_a ≡ own_b.identity.bufsiz)
 
--- the client's phase is that of the server's place
-abbrev pub AgreeAt : (own_a : Configuration) (own_b : ServerSetup) → Phase → Place → (limit_b limit_a : ℕ) → Type 0
+-- the client's phase is that of the server
+abbrev pub AgreeAt : (own_a : Configuration) (own_b : ServerSetup) → Phase → ServerState → (limit_b limit_a : ℕ) → Type 0
 AgreeAt own_a own_b Fresh at.Fresh limit_b limit_a = limit_b ≡ min_buffer
 AgreeAt own_a own_b Ready at.Ready limit_b limit_a = AreLimits own_a own_b limit_b limit_a
 AgreeAt own_a own_b Opened (at.Opened _) limit_b limit_a = AreLimits own_a own_b limit_b limit_a
@@ -57,10 +57,10 @@ AgreeAt own_a own_b _ _ limit_b limit_a = ⊥
 -- The two ends agree after these requests, and the server isn't inside a group.
 pub record AreAgreed (own_a : Configuration) (own_b : ServerSetup) (first : Files) (requests : List Request) : Type 0 where
   pub whole : (stands_after own_b first (asked_items own_a requests)).begun ≡ None
-  pub places :
+  pub states :
       let s = (stands_after own_b first (asked_items own_a requests)).standing in
       let reports = asked_reports own_a own_b first requests in
-      AgreeAt own_a own_b (phase_after reports) s.place s.scene.limit (limit_after reports)
+      AgreeAt own_a own_b (phase_after reports) s.state s.scene.limit (limit_after reports)
 
 -- no answer so far, and not the next one, is unexpected
 abbrev pub AreExpected : (own_a : Configuration) (own_b : ServerSetup) → Files → List Request → Type 0

@@ -9,10 +9,10 @@ use Rattle.dap_accessing.specs.Request.{Request}
 use Rattle.dap_accessing.specs.declared.report.Report.{Report}
 use Rattle.dap_accessing.specs.declared.fault.ReadFault.{ReadFault}
 use Rattle.dap_accessing.specs.Told.{Told, is_unexpected}
-use Rattle.dap_accessing.specs.Calls.{Asks, ReadRefused}
+use Rattle.dap_accessing.specs.Calls.{AsksRequest, ReadRefused}
 use Rattle.dap_end.specs.Ports.{gone_on}
 use Rattle.dap_end.specs.Going.{processed_after, NextItem, GoneThrough}
-use Rattle.dap_accessing.specs.Each.{IsBatch, reported_behind}
+use Rattle.dap_accessing.specs.Each.{IsBatch, reported_after}
 use Rattle.dap_end.specs.Done.{AskingValue, ClientHistory}
 use Rattle.dap_end.specs.Each.{with_told}
 
@@ -21,7 +21,7 @@ use Rattle.dap_end.specs.Each.{with_told}
 -- waits, are the messages of the requests. The law `asking_ends_stand` says what follows.
 pub record HasAsked (history : ClientHistory) (v : AskingValue) : Type 0 where
   pub asking : ClientAfter history.requests history.answers v.present
-  pub gone : GoneThrough history.given v.port.link.coming.inbox v.port.place history.answers
+  pub gone : GoneThrough history.given v.port.link.coming.inbox v.port.offset history.answers
   pub sends : Sends v.port.link history.handed
   pub messages : messages_in history.asked ≡ Asked v.present.identity history.requests
   pub waiting : history.handed ++ v.port.outbox ≡ all_joined history.asked
@@ -40,7 +40,7 @@ HasDone v =
 -- The request was asked: its messages, n NSP messages, wait.
 pub record AskedOne (request : Request) (old new : AskingValue) (n : ℕ) : Type 0 where
   pub messages : List (List ℕ)
-  pub asks : Asks request old.present new.present messages
+  pub asks : AsksRequest request old.present new.present messages
   pub own : new.present.own ≡ old.present.own
   pub identity : new.present.identity ≡ old.present.identity
   pub port : new.port ≡ record old.port { outbox = old.port.outbox ++ messages }
@@ -51,7 +51,7 @@ pub record AskedOne (request : Request) (old new : AskingValue) (n : ℕ) : Type
 -- The next item of the oldest NSP message was read. It was expected, and the report is the one that it adds.
 pub record ReadOne (old new : AskingValue) (report : Option Report) : Type 0 where
   pub works : old.present.failed ≡ false
-  pub goes_on : new.present.failed ≡ false
+  pub still_works : new.present.failed ≡ false
   pub one : NextItem old.port
   pub port : new.port ≡ gone_on old.port one.bytes one.later one.next
   pub own : new.present.own ≡ old.present.own
@@ -61,7 +61,7 @@ pub record ReadOne (old new : AskingValue) (report : Option Report) : Type 0 whe
   pub told : (history : ClientHistory) → HasAsked history old → Told history.requests (history.answers ++ one.item ∷ []) ≡ Told history.requests history.answers ++ option_to_list report
   -- While a batch is under way of which records were taken out, these count, but the report comes without them.
   pub past_on : (told : List (ℕ × List ℕ)) (history : ClientHistory) → IsBatch old.present → HasAsked history (with_told told old) → HasAsked (record history { given = processed_after history.given one.bytes one.next; answers = history.answers ++ one.item ∷ [] }) (with_told told new)
-  pub told_on : (told : List (ℕ × List ℕ)) (history : ClientHistory) → IsBatch old.present → HasAsked history (with_told told old) → Told history.requests (history.answers ++ one.item ∷ []) ≡ Told history.requests history.answers ++ option_to_list (option_map (reported_behind told) report)
+  pub told_on : (told : List (ℕ × List ℕ)) (history : ClientHistory) → IsBatch old.present → HasAsked history (with_told told old) → Told history.requests (history.answers ++ one.item ∷ []) ≡ Told history.requests history.answers ++ option_to_list (option_map (reported_after told) report)
 
 -- why nothing was read, and the client then: after an unexpected answer it has failed
 pub record ReadNone (old new : AskingValue) (f : ReadFault) : Type 0 where
@@ -71,4 +71,4 @@ pub record ReadNone (old new : AskingValue) (f : ReadFault) : Type 0 where
   pub port : new.port ≡ old.port
   pub own : new.present.own ≡ old.present.own
   pub identity : new.present.identity ≡ old.present.identity
-  pub refused : ReadRefused bytes old.port.place old.present new.present f
+  pub refused : ReadRefused bytes old.port.offset old.present new.present f

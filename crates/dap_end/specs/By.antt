@@ -20,7 +20,7 @@ pub record ServedBy {P : Type 0} (serves : ServesAt P) (old new : EndValue P) (n
   pub idle : old.port.outbox ≡ []
   pub one : NextItem old.port
   pub served : Served
-  pub by : serves one.bytes old.port.place old.present new.present served
+  pub by : serves one.bytes old.port.offset old.present new.present served
   pub next : served.next ≡ one.next
   pub within : one.next ≤ length one.bytes
   pub port : new.port ≡ record (gone_on old.port one.bytes one.later one.next) { outbox = bodies served.answers.items }
@@ -32,8 +32,8 @@ MayServeAt p = (p.outbox ≡ []) × (0 < length p.link.coming.inbox)
 
 -- While fewer bytes wait than this, what waits is passed on and the next item is served, again and again.
 pub data TurnsBy {P : Type 0} (serves : ServesAt P) (most : ℕ) : EndValue P → EndValue P → Type 0 where
-  begins : {v : EndValue P} → TurnsBy serves most v v
-  goes : {old new : EndValue P} (posted mid : EndValue P) (count n : ℕ)
+  no_turn : {v : EndValue P} → TurnsBy serves most v v
+  one_turn : {old new : EndValue P} (posted mid : EndValue P) (count n : ℕ)
       → HandsOver old posted count → HasRoom most old.port → ServedBy serves posted mid n → TurnsBy serves most mid new → TurnsBy serves most old new
 
 -- all that came is served, or the limit of bytes that wait is reached

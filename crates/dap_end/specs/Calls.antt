@@ -15,7 +15,7 @@ use Rattle.dap_end.specs.Done.{ServingValue, AskingValue}
 use Rattle.dap_end.specs.Serving.{ServedOne}
 use Rattle.dap_end.specs.Asking.{AskedOne}
 use Rattle.dap_end.specs.Hearing.{ReadOn}
-use Rattle.dap_end.specs.Writing.{Behind, WroteMore}
+use Rattle.dap_end.specs.Writing.{Extends, WroteMore}
 use Rattle.dap_end.specs.Runs.{RunsBy}
 use Rattle.dap_end.specs.Headline.{Arrival, Written}
 use Rattle.dap_end.specs.Joined.{Pair, IsBrought}
@@ -56,13 +56,13 @@ abbrev pub IsOneOf : List Arrival → LinkValue → List ℕ → Type 0
 IsOneOf [] v bytes = ⊥
 IsOneOf (c ∷ came) v bytes = (c ≡ (v, bytes)) ⊎ IsOneOf came v bytes
 
--- ---- The end that serves.
+-- ---- The server.
 
 -- The server served items that came, and passed on what waited, in any order.
 pub data WorkedOn : ServingValue → ServingValue → Type 0 where
-  rests : {v : ServingValue} → WorkedOn v v
-  serves_one : {old new : ServingValue} (mid : ServingValue) (n : ℕ) → ServedOne old mid n → WorkedOn mid new → WorkedOn old new
-  hands_over : {old new : ServingValue} (mid : ServingValue) (n : ℕ) → HandsOver old mid n → WorkedOn mid new → WorkedOn old new
+  nothing_done : {v : ServingValue} → WorkedOn v v
+  item_served : {old new : ServingValue} (mid : ServingValue) (n : ℕ) → ServedOne old mid n → WorkedOn mid new → WorkedOn old new
+  outbox_posted : {old new : ServingValue} (mid : ServingValue) (n : ℕ) → HandsOver old mid n → WorkedOn mid new → WorkedOn old new
 
 -- an event, after which the packets of the event follow those before
 abbrev pub Stepped : (comes : LinkValue → List ℕ → Type 0) → ServingValue × List Written → EndEvent → List Written → ServingValue × List Written → Type 0
@@ -80,7 +80,7 @@ RunsAs comes old new wrote = (events : List EndEvent) × EventRuns comes old eve
 abbrev pub ServerRuns : List Arrival → (old new : ServingValue) → List Written → Type 0
 ServerRuns came old new wrote = RunsAs (IsOneOf came) old new wrote
 
--- ---- The end that asks.
+-- ---- The client.
 
 -- A request was asked, or an event of either end.
 pub data AskingEvent : Type 0 where
@@ -89,7 +89,7 @@ pub data AskingEvent : Type 0 where
 
 -- answers were read, whose reports follow those before, and then what waited was passed on, or not
 abbrev pub HeardMore : (before after : List Report) → AskingValue → AskingValue → Type 0
-HeardMore before after old new = (heard : AskingValue) × Behind before after (ReadOn old heard) × ((new ≡ heard) ⊎ ((n : ℕ) × HandsOver heard new n))
+HeardMore before after old new = (heard : AskingValue) × Extends before after (ReadOn old heard) × ((new ≡ heard) ⊎ ((n : ℕ) × HandsOver heard new n))
 
 -- an event, after which its reports and packets follow those before
 abbrev pub AskingStepped : (comes : LinkValue → List ℕ → Type 0) → AskingValue × List Report × List Written → AskingEvent → List Written → AskingValue × List Report × List Written → Type 0

@@ -10,7 +10,7 @@ use Rattle.dap_accessing.specs.Present as accessing
 use Rattle.dap_accessing.specs.Request.{Request}
 use Rattle.dap_end.specs.Ports.{EndValue}
 
--- ---- The end that serves.
+-- ---- The server.
 
 -- a server with its link
 abbrev pub ServingValue : Type 0
@@ -33,7 +33,7 @@ answers_to own first before [] = []
 answers_to own first before (item ∷ items) =
     Blocked (limit_for own first before) (added own first before item) ++ answers_to own first (before ++ item ∷ []) items
 
--- ---- The end that asks.
+-- ---- The client.
 
 -- a client with its link
 abbrev pub AskingValue : Type 0

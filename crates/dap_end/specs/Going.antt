@@ -3,7 +3,7 @@ use Rattle.std.specs.Prelude.{◌≡◌, ℕ, ◌<◌, ◌==◌, if◌then◌els
 use Rattle.std.specs.List.{AllByRecursion}
 use Rattle.dap_fields.specs.Spelling.{AreBytes}
 use Rattle.dap_msg.specs.declared.items.Item.{Item}
-use Rattle.dap_msg.specs.Items.{ItemAt, Items, IsPlace}
+use Rattle.dap_msg.specs.Items.{ItemAt, Items, IsOffset}
 use Rattle.dap_end.specs.Ports.{PortValue}
 
 -- the items of these NSP messages, in order
@@ -30,8 +30,8 @@ pub record NextItem (p : PortValue) : Type 0 where
   pub fits : AreBytes bytes
   pub item : Item
   pub next : ℕ
-  pub reads : ItemAt bytes p.place item next
-  pub place : IsPlace p.place bytes
+  pub reads : ItemAt bytes p.offset item next
+  pub offset : IsOffset p.offset bytes
 
 -- ---- What was processed so far.
 
@@ -47,11 +47,11 @@ StandFrom bytes at (item ∷ items) to =
 
 -- The items are those of the NSP messages that were processed, and those before the offset in the oldest one that
 -- is left.
-pub record GoneThrough (given inbox : List (List ℕ)) (place : ℕ) (items : List Item) : Type 0 where
+pub record GoneThrough (given inbox : List (List ℕ)) (offset : ℕ) (items : List Item) : Type 0 where
   pub done : List Item
   pub begun : List Item
   pub all : items ≡ done ++ begun
   pub whole : AreItemsOf given done
-  pub front : StandFrom (oldest_message inbox) 0 begun place
+  pub front : StandFrom (oldest_message inbox) 0 begun offset
   pub bytes : AllByRecursion AreBytes given
   pub front_bytes : 0 < length begun → AreBytes (oldest_message inbox)

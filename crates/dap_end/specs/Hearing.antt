@@ -5,7 +5,7 @@ use Rattle.dap_accessing.specs.declared.report.Report.{Report}
 use Rattle.dap_accessing.specs.declared.fault.ReadFault.{ReadFault}
 use Rattle.dap_end.specs.declared.fault.EndFault.{EndFault}
 use Rattle.dap_end.specs.declared.fault.EndFault.TheVariants as end_fault
-use Rattle.dap_end.specs.Writing.{Behind}
+use Rattle.dap_end.specs.Writing.{Extends}
 use Rattle.dap_end.specs.Turns.{DidAll, EndOf}
 use Rattle.dap_accessing.specs.Present.{ClientState}
 use Rattle.dap_end.specs.Asking.{ReadOne, ReadNone}
@@ -13,8 +13,8 @@ use Rattle.dap_end.specs.Done.{AskingValue}
 
 -- Answers that came were read, one after another, and these reports were added.
 pub data ReadOn : AskingValue → AskingValue → List Report → Type 0 where
-  begins : {v : AskingValue} → ReadOn v v []
-  goes : {old new : AskingValue} {all : List Report} (mid : AskingValue) (report : Option Report) (more : List Report)
+  nothing_read : {v : AskingValue} → ReadOn v v []
+  one_read : {old new : AskingValue} {all : List Report} (mid : AskingValue) (report : Option Report) (more : List Report)
       → ReadOne old mid report → ReadOn mid new more → all ≡ option_to_list report ++ more → ReadOn old new all
 
 -- why nothing more is read or passed on: what waits is refused, once all is read; or the next answer isn't read
@@ -27,7 +27,7 @@ HearFault old new (end_fault.Read f) = ReadNone old new f
 abbrev pub hears : (before reports : List Report) → EndOf ClientState
 hears before reports =
     record {
-      on = λ old new. Behind before reports (ReadOn old new);
+      on = λ old new. Extends before reports (ReadOn old new);
       rests = λ v. v.port.link.coming.inbox ≡ [];
       halts = HearFault;
       quiet = reports ≡ before;
@@ -35,5 +35,5 @@ hears before reports =
 
 -- all that came was read, or this is why not
 abbrev pub ReadsAll : (old new : AskingValue) → (before reports : List Report) → Result (Unit {0}) ReadFault → Type 0
-ReadsAll old new before reports (Ok done) = Behind before reports (ReadOn old new) × (new.port.link.coming.inbox ≡ [])
+ReadsAll old new before reports (Ok done) = Extends before reports (ReadOn old new) × (new.port.link.coming.inbox ≡ [])
 ReadsAll old new before reports (Err f) = DidAll (hears before reports) old new (Err (end_fault.Read f))

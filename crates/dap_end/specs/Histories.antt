@@ -16,15 +16,15 @@ use Rattle.dap_end.specs.Done.{ClientHistory}
 abbrev pub Still : {P V : Type 0} → (Fits : P → V → Type 0) → (old new : V) → Type 0
 Still {P} Fits old new = (history : P) → Fits history old → Fits history new
 
--- a server's, with one item more
+-- a server's, with one more item
 abbrev pub served : ServerHistory → (bytes : List ℕ) → Item → (next : ℕ) → ServerHistory
 served history bytes item next = record history { given = processed_after history.given bytes next; items = history.items ++ item ∷ [] }
 
--- a client's, with one answer more
+-- a client's, with one more answer
 abbrev pub with_answer_read : ClientHistory → (bytes : List ℕ) → Item → (next : ℕ) → ClientHistory
 with_answer_read history bytes item next = record history { given = processed_after history.given bytes next; answers = history.answers ++ item ∷ [] }
 
--- a client's, with one request more
+-- a client's, with one more request
 abbrev pub asked_one : ClientHistory → (own : Configuration) → Request → ClientHistory
 asked_one history own request =
     record history {

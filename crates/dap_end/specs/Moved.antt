@@ -5,7 +5,7 @@ use Rattle.nsp_link.specs.Link.{LinkValue}
 use Rattle.nsp_link.specs.Sending.{queued_link}
 use Rattle.dap_end.specs.Ports.{PortValue}
 
--- the port with another link in place of its own
+-- the port with another link in place of the one that it has
 abbrev pub with_link : PortValue → LinkValue → PortValue
 with_link p link = record p { link = link }
 

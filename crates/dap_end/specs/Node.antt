@@ -14,7 +14,8 @@ use Rattle.dap_end.specs.Ports.{EndValue, HasCome, PortValue, new_port}
 use Rattle.dap_end.specs.Turns.{EndOf}
 use Rattle.dap_end.specs.By.{serves_by}
 
--- what is kept of all exchanges, the address of each link, what was noted of locks, and the port of each link that is there
+-- what is kept of all exchanges, the address of each link, what was noted of locks, and the port of each link that is
+-- there
 pub record NodeValue : Type 0 where
   pub noted : NotedValue
   pub ports : List (Option PortValue)
@@ -37,17 +38,17 @@ AtPort link v Says = (p : PortValue) × HasPort link v p × Says p
 
 -- ---- Which link it is.
 
--- the link is there, and this is its own address
+-- the link is there, and this is its local address
 abbrev pub has_local : (local : ℕ) → Option PortValue → Bool
 has_local local None = false
 has_local local (Some p) = p.link.setup.local == local
 
--- the link is there, and these are its own address and its peer's
+-- the link is there, and these are its local address and its peer's
 abbrev pub is_between : (local remote : ℕ) → Option PortValue → Bool
 is_between local remote None = false
 is_between local remote (Some p) = (p.link.setup.local == local) && (p.link.setup.remote == remote)
 
--- another link has this own address
+-- another link has this local address
 abbrev pub IsTaken : (link local : ℕ) → NodeValue → Type 0
 IsTaken link local v = (other : ℕ) × (p : PortValue) × HasPort other v p × (p.link.setup.local ≡ local) × (other ≢ link)
 
@@ -81,8 +82,8 @@ pub record BeganOn (link : ℕ) (setup : LinkSetup) (most : Rights) (old new : N
   pub address : HasAddress link setup.local old.noted new.noted
   pub ports : new.ports ≡ set old.ports link (Some (new_port setup))
 
--- Why a link doesn't begin: a limit of its setup isn't in its range, or another link has its own address; or memory is
--- refused.
+-- Why a link doesn't begin: a limit of its setup isn't in its range, or another link has its local address; or memory
+-- is refused.
 abbrev pub NotBegun : (link : ℕ) → LinkSetup → NodeValue → LinkFault → Type 0
 NotBegun link setup v f =
     ((f ≡ BadSetup) × ((IsSetup setup → ⊥) ⊎ IsTaken link setup.local v))

@@ -9,7 +9,7 @@ use Rattle.nsp_link.specs.Sending.{may_queue, queued_link}
 pub record PortValue : Type 0 where
   pub link : LinkValue
   pub outbox : List (List ℕ)  -- the NSP messages that wait
-  pub place : ℕ  -- where the next DAP message begins in the oldest NSP message that came
+  pub offset : ℕ  -- where the next DAP message begins in the oldest NSP message that came
 
 -- an end: its port, and the state of its client or server
 pub record EndValue (P : Type 0) : Type 0 where
@@ -23,13 +23,13 @@ bytes_waiting p = waiting_bytes p.link + total_length p.outbox
 
 -- a new port
 abbrev pub new_port : LinkSetup → PortValue
-new_port setup = record { link = new_link setup; outbox = []; place = 0 }
+new_port setup = record { link = new_link setup; outbox = []; offset = 0 }
 
 -- The offset moves on. At the end of the NSP message this leaves the link.
 abbrev pub gone_on : PortValue → (bytes : List ℕ) (later : List (List ℕ)) → (next : ℕ) → PortValue
 gone_on p bytes later next =
     let ends = next == length bytes in
-    record p { link = with_inbox p.link (if ends then later else p.link.coming.inbox); place = if ends then 0 else next }
+    record p { link = with_inbox p.link (if ends then later else p.link.coming.inbox); offset = if ends then 0 else next }
 
 -- All that waits is passed to the link, which takes it: n NSP messages.
 abbrev pub HandsOver : {P : Type 0} → (old new : EndValue P) → ℕ → Type 0

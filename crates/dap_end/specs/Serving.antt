@@ -15,7 +15,7 @@ use Rattle.dap_end.specs.Done.{ServingValue, ServerHistory, answers_to}
 -- what follows.
 pub record IsAfter (history : ServerHistory) (v : ServingValue) : Type 0 where
   pub serving : StandsAfter history.first history.items v.present
-  pub gone : GoneThrough history.given v.port.link.coming.inbox v.port.place history.items
+  pub gone : GoneThrough history.given v.port.link.coming.inbox v.port.offset history.items
   pub sends : Sends v.port.link history.handed
   pub answers : history.handed ++ v.port.outbox ≡ all_joined (answers_to v.present.setup history.first [] history.items)
   -- each answer has a spelling

@@ -10,12 +10,12 @@ use Rattle.dap_end.specs.declared.fault.EndFault.TheVariants as end_fault
 use Rattle.dap_end.specs.declared.fault.TakeFault.{TakeFault}
 use Rattle.dap_end.specs.declared.fault.TakeFault.TheVariants as take_fault
 use Rattle.dap_end.specs.Ports.{EndValue, HandsOver, PortValue}
-use Rattle.dap_end.specs.Writing.{Behind, WroteAnswer, WrotePart}
+use Rattle.dap_end.specs.Writing.{Extends, WroteAnswer, WrotePart}
 
 -- One of the two ends.
 pub record EndOf (P : Type 0) : Type 1 where
-  pub on : EndValue P → EndValue P → Type 0  -- some of what came was gone through
-  pub rests : EndValue P → Type 0  -- nothing is left to go through here
+  pub on : EndValue P → EndValue P → Type 0  -- some of what came was processed
+  pub rests : EndValue P → Type 0  -- nothing is left to process here
   pub halts : EndValue P → EndValue P → EndFault → Type 0  -- why the first end goes on no further, and what it is then
   pub quiet : Type 0  -- nothing is reported
 
@@ -31,7 +31,7 @@ pub record WroteThen {P : Type 0} (end : EndOf P) (writes : PortValue → PortVa
   pub mid : EndValue P
   pub done : DidAll end old mid (Ok tt)
   pub rest : new ≡ record mid { port = new.port }
-  pub wrote : Behind out all (writes mid.port new.port)
+  pub wrote : Extends out all (writes mid.port new.port)
 
 -- All was done, and all packets that answer this are written; or not all was done, and none is; or memory was refused
 -- for a packet, and those before it are.

@@ -7,8 +7,8 @@ use Rattle.nsp_link.specs.Sending.{WritesSent, ack_packet_of}
 use Rattle.dap_end.specs.Ports.{PortValue}
 
 -- what follows that which was there is as this says
-abbrev pub Behind : {A : Type 0} → (out all : List A) → (Are : List A → Type 0) → Type 0
-Behind {A} out all Are = (more : List A) × (all ≡ out ++ more) × Are more
+abbrev pub Extends : {A : Type 0} → (out all : List A) → (Are : List A → Type 0) → Type 0
+Extends {A} out all Are = (more : List A) × (all ≡ out ++ more) × Are more
 
 -- whatever was passed to the link, these are the packets of its segments from this number on
 abbrev pub AreSegments : LinkValue → (from : ℕ) → List (List ℕ) → Type 0

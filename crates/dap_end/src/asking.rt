@@ -1,4 +1,4 @@
-//! The end that asks.
+//! The client.
 
 ghost use Rattle.std.specs.Prelude.{◌≡◌, ◌≢◌, ◌≤◌, ◌<◌, ◌+◌, ◌-◌, ℕ, List, [], ◌∷◌, Ok, Err, Some, None, true, false, length, IfOk, IfErr, OnOk, IsErrOf, IsTrue, ◌++◌, option_to_list, vec_len, vec_capacity};
 ghost use Rattle.dap_msg.specs.BothEnds.{min_buffer, plain_identity};
@@ -19,7 +19,7 @@ ghost use Rattle.dap_end.specs.declared.fault.EndFault.TheVariants as end_fault;
 ghost use Rattle.dap_fields.specs.Spelling.{AreBytes};
 ghost use Rattle.dap_end.specs.Ports.{new_port};
 ghost use Rattle.dap_end.specs.Going.{oldest_message};
-ghost use Rattle.dap_end.specs.Writing.{Behind};
+ghost use Rattle.dap_end.specs.Writing.{Extends};
 ghost use Rattle.dap_end.specs.Asking.{HasAsked, AskedOne, ReadOne, ReadNone};
 ghost use Rattle.dap_end.specs.Each.{with_told};
 ghost use Rattle.dap_end.specs.Hearing.{ReadOn, ReadsAll, hears};
@@ -50,13 +50,13 @@ pub enum Heard {
     Report(Report),
 }
 
-/// The end that asks, with its link.
+/// The client, with its link.
 pub type AskingEnd = End<Accessing>;
 
 impl End<Accessing> {
-    /// An end of which nothing was asked, with a buffer of this many bytes, at least 64. A setup with `max_message`
-    /// 65,535 takes all that an end may send. Refused: `BadSetup` where a limit of the setup isn't in its range;
-    /// `NoMemory`.
+    /// Creates an end of which nothing was asked, with a buffer of this many bytes, at least 64. A setup with
+    /// `max_message` 65,535 takes all that an end may send. Refused: `BadSetup` where a limit of the setup isn't in its
+    /// range; `NoMemory`.
     pub fn new(alloc: Global, bufsiz: u16, setup: LinkSetup) -> Result<AskingEnd, LinkFault>
         requires { min_buffer ≤ bufsiz }
         ensures ok { IfOk result (λ end. HasAsked nothing_asked end
@@ -72,8 +72,8 @@ impl End<Accessing> {
         })
     }
 
-    /// An end of which nothing was asked, and which says this of itself in its Configuration, with a BUFSIZ of at
-    /// least 64. Refused as `new` is.
+    /// Returns an end of which nothing was asked, and which says this of itself in its Configuration, with a BUFSIZ of
+    /// at least 64. Refused as `new` is.
     pub fn with_identity(
         alloc: Global,
         identity: Configuration,
@@ -120,7 +120,7 @@ impl End<Accessing> {
         self.ask_prepared(request, prepared)
     }
 
-    /// Whether `ask` would take the request, memory aside; refused as there. It takes no memory.
+    /// Checks whether `ask` would take the request, memory aside; refused as there. It takes no memory.
     pub fn check(&self, request: &Request) -> Result<(), AskFault>
         ensures works { OnOk result (self.now.present.failed ≡ false) }
         ensures admissible { OnOk result (IsAdmittedBy self.now.present request.now) }
@@ -130,7 +130,7 @@ impl End<Accessing> {
         self.role.check(request)
     }
 
-    /// What `ask_prepared` needs of a request that `ask` would take, memory aside, as
+    /// Prepares what `ask_prepared` needs of a request that `ask` would take, memory aside, as
     /// [`dap_accessing::Accessing::prepare`] makes it; refused as `ask` is. It takes no memory.
     pub fn prepare(&self, request: &Request) -> Result<Prepared, AskFault>
         ensures works { OnOk result (self.now.present.failed ≡ false) }
@@ -142,8 +142,8 @@ impl End<Accessing> {
         self.role.prepare(request)
     }
 
-    /// Asks a request that `prepare` looked at, as `ask` does. It isn't looked at again, and this fails only if memory is
-    /// refused, with nothing changed.
+    /// Asks a request that `prepare` looked at, as `ask` does. It isn't looked at again, and this fails only if memory
+    /// is refused, with nothing changed.
     pub fn ask_prepared(&mut self, request: &Request, prepared: Prepared) -> Result<usize, AskFault>
         requires { IsPrepared self.old.present request.now prepared }
         ensures ok { IfOk result (λ n. AskedOne request.now self.old self.new n) }
@@ -152,15 +152,15 @@ impl End<Accessing> {
         ask_next(&mut self.port, &mut self.role, request, prepared)
     }
 
-    /// Whether an unexpected answer failed this end, so that every request is refused as `Failed` until `renew`. It
-    /// takes no memory.
+    /// Returns whether an unexpected answer failed this end, so that every request is refused as `Failed` until
+    /// `renew`. It takes no memory.
     pub fn has_failed(&self) -> bool
         ensures { result ≡ self.now.present.failed }
     {
         self.role.has_failed()
     }
 
-    /// Whether something came that wasn't read.
+    /// Returns whether something came that wasn't read.
     pub fn may_read(&self) -> bool
         ensures yes { result ≡ true → 0 < length self.now.port.link.coming.inbox }
         ensures no { result ≡ false → self.now.port.link.coming.inbox ≡ [] }
@@ -172,9 +172,9 @@ impl End<Accessing> {
         }
     }
 
-    /// Reads the next answer of the oldest NSP message that came, and gives the report that it completes; nothing, where
-    /// nothing is left to read (DAP 5.6.0, message sequences). Refused: `Failed`; `Unexpected`, after which the end has
-    /// failed; `NoMemory`, which changes nothing.
+    /// Reads the next answer of the oldest NSP message that came, and gives the report that it completes; nothing,
+    /// where nothing is left to read (DAP 5.6.0, message sequences). Refused: `Failed`; `Unexpected`, after which the
+    /// end has failed; `NoMemory`, which changes nothing.
     pub fn read(&mut self) -> Result<Heard, ReadFault>
         ensures nothing { result ≡ Ok Nothing
             → (self.old.port.link.coming.inbox ≡ []) × (self.new ≡ self.old) }
@@ -203,15 +203,16 @@ impl End<Accessing> {
         read_next(&mut self.port, &mut self.role)
     }
 
-    /// The records that were read so far of a batch under way, and weren't taken out. None where no batch is under way.
+    /// Returns the records that were read so far of a batch under way, and weren't taken out. None where no batch is
+    /// under way.
     pub fn records(&self) -> &[(u64, Octets)]
         ensures { result.now ≡ records_kept self.now.present.pending }
     {
         self.role.records()
     }
 
-    /// Takes out the records that were read so far of a batch under way, and weren't taken: the report of the batch comes
-    /// without them. None where no batch is under way. It takes no memory.
+    /// Takes out the records that were read so far of a batch under way, and weren't taken: the report of the batch
+    /// comes without them. None where no batch is under way. It takes no memory.
     pub fn take_records(&mut self) -> Numbered
         ensures records { result ≡ records_kept self.old.present.pending }
         ensures rest { self.new ≡ record self.old {
@@ -228,7 +229,7 @@ impl End<Accessing> {
     /// Reads all that came, and adds the reports after those in `reports`. Refused as `read` is; what was read before
     /// that stays so. A failed end is unchanged, and reports nothing.
     pub fn read_all(&mut self, reports: &mut Vec<Report>) -> Result<(), ReadFault>
-        ensures ok { OnOk result (Behind reports.old.items reports.new.items
+        ensures ok { OnOk result (Extends reports.old.items reports.new.items
             (ReadOn self.old self.new)) }
         ensures all { OnOk result (self.new.port.link.coming.inbox ≡ []) }
         ensures err { IfErr result (λ f. ReadsAll self.old self.new reports.old.items
@@ -287,12 +288,12 @@ impl End<Accessing> {
         ended(self.port.emit_all(out))
     }
 
-    /// Takes a packet in, and returns what became of it; reads all that came, passes on what waits, and writes all
+    /// Receives a packet, and returns what became of it; reads all that came, passes on what waits, and writes all
     /// segments that were never sent, as far as the window allows; or where a segment came and none is written, one
     /// acknowledgement. The packets follow those in `out`, the reports those in `reports`.
     ///
-    /// Refusals: `Refused` as `receive` is, and nothing of the packet was taken; `Unfinished`, once it was taken
-    /// in: `go_on` does what is left, and the same packet is answered again.
+    /// Refusals: `Refused` as `receive` is, and nothing of the packet was taken; `Unfinished`, once it was received:
+    /// `go_on` does what is left, and the same packet is answered again.
     pub fn take(
         &mut self,
         packet: &[u8],
@@ -327,7 +328,7 @@ impl End<Accessing> {
     }
 }
 
-/// How a call ends that ends as its link does.
+/// Returns how a call ends that ends as its link does.
 fn ended(done: Result<(), LinkFault>) -> Result<(), EndFault>
     ensures { result ≡ ended_by done }
 {
@@ -337,7 +338,7 @@ fn ended(done: Result<(), LinkFault>) -> Result<(), EndFault>
     }
 }
 
-/// An NSP message that came is left; it is of bytes.
+/// Returns true. It is only for the prover: by its contract an NSP message that came is of bytes.
 fn is_left(message: &[u8]) -> bool
     ensures yes { result ≡ true }
     ensures bytes { AreBytes message.now }
@@ -356,7 +357,7 @@ fn keep(reports: &mut Vec<Report>, report: Option<Report>)
     }
 }
 
-/// How many messages a request has at most.
+/// Returns a number that the messages of a request don't exceed.
 fn most_messages(request: &Request) -> usize
     ensures { (own : Own) → length (messages_of own request.now) ≤ result }
 {
@@ -390,7 +391,7 @@ fn ask_next(
     Ok(count)
 }
 
-/// Why the next answer isn't read where there is no room for a report.
+/// Returns why the next answer isn't read where there is no room for a report.
 fn refuse_next(port: &mut Port, accessing: &mut Accessing) -> ReadFault
     requires kept { IsPort port.old }
     requires some { 0 < length port.old.link.coming.inbox }
@@ -398,9 +399,9 @@ fn refuse_next(port: &mut Port, accessing: &mut Accessing) -> ReadFault
         (asking_of port.new accessing.new) result }
     ensures kept { IsPort port.new }
 {
-    let place = port.place;
+    let offset = port.offset;
     let message = port.link.peek_message().unwrap();
-    accessing.refuse(message, place)
+    accessing.refuse(message, offset)
 }
 
 /// Reads the next answer of the oldest NSP message that came.
@@ -413,9 +414,9 @@ fn read_next(port: &mut Port, accessing: &mut Accessing) -> Result<Option<Report
     ensures err { IfErr result (λ f. ReadNone (asking_of port.old accessing.old)
         (asking_of port.new accessing.new) f) }
 {
-    let place = port.place;
+    let offset = port.offset;
     let message = port.link.peek_message().unwrap();
-    match accessing.read(message, place) {
+    match accessing.read(message, offset) {
         Ok(step) => {
             let at_end = is_end(message, step.next);
             port.advance(at_end, step.next);

@@ -39,7 +39,7 @@ impl<R: Role> Model for End<R> {
 }
 
 impl<R: Role> End<R> {
-    /// Takes a packet in, as [`nsp_link::LinkEnd::receive_bounded`] does; nothing is processed by that.
+    /// Receives a packet, as [`nsp_link::LinkEnd::receive_bounded`] does; nothing is processed by that.
     pub fn receive(&mut self, packet: &[u8]) -> Result<Got, LinkFault>
         ensures rest { self.new ≡ record self.old {
           port = record self.old.port { link = self.new.port.link };
@@ -50,9 +50,9 @@ impl<R: Role> End<R> {
         self.port.receive(packet)
     }
 
-    /// Hands all that waits to the link, and returns how many NSP messages these are. Refused, with nothing
-    /// changed: `Failed`; `MessageTooLong`, above the setup's `max_message`, which never comes where that is
-    /// 65,535; `Exhausted`, where this end would have had more than 2^40 segments; `NoMemory`.
+    /// Passes all that waits to the link, and returns how many NSP messages these are. Refused, with nothing changed:
+    /// `Failed`; `MessageTooLong`, above the setup's `max_message`, which never comes where that is 65,535;
+    /// `Exhausted`, where this end would have had more than 2^40 segments; `NoMemory`.
     pub fn post(&mut self) -> Result<usize, LinkFault>
         ensures ok { IfOk result (λ n. HandsOver self.old self.new n) }
         ensures err { IfErr result (λ f. (self.new ≡ self.old)
@@ -63,7 +63,7 @@ impl<R: Role> End<R> {
         self.port.post()
     }
 
-    /// Hands all that waits to the link, as `post` does, where the link takes it, as
+    /// Passes all that waits to the link, as `post` does, where the link takes it, as
     /// [`nsp_link::LinkEnd::check_messages`] says: it isn't looked at again. Fails only if memory is refused, with
     /// nothing changed.
     pub fn post_checked(&mut self) -> Result<usize, LinkFault>
@@ -74,7 +74,7 @@ impl<R: Role> End<R> {
         self.port.post_checked()
     }
 
-    /// The packet of the next segment that was never sent, or none where none waits or the window is full, as
+    /// Returns the packet of the next segment that was never sent, or none where none waits or the window is full, as
     /// [`nsp_link::LinkEnd::next_packet`] writes it (NSP 4.0.0, data segment message).
     pub fn emit(&mut self) -> Result<Option<Vec<u8>>, LinkFault>
         ensures rest { self.new ≡ record self.old { port = self.new.port } }
@@ -89,8 +89,8 @@ impl<R: Role> End<R> {
         self.port.emit()
     }
 
-    /// The packet that `emit` writes, where the link hasn't failed and [`nsp_link::LinkEnd::may_send`] says that it
-    /// has one to send: neither is looked at again. Fails only if memory is refused, with nothing changed.
+    /// Writes the packet that `emit` writes, where the link hasn't failed and [`nsp_link::LinkEnd::may_send`] says that
+    /// it has one to send: neither is looked at again. Fails only if memory is refused, with nothing changed.
     pub fn write_next(&mut self) -> Result<Vec<u8>, LinkFault>
         requires works { self.old.port.link.failed ≡ false }
         requires may { IsTrue (may_send self.old.port.link) }
@@ -102,24 +102,24 @@ impl<R: Role> End<R> {
         self.port.write_next()
     }
 
-    /// The packet of a segment that was sent and isn't acknowledged, again: the oldest is at index 0, as
+    /// Writes the packet of a segment that was sent and isn't acknowledged, again: the oldest is at index 0, as
     /// [`nsp_link::LinkEnd::resend`] writes it (NSP 4.0.0, data segment message).
-    pub fn resend(&self, place: usize) -> Result<Vec<u8>, LinkFault>
+    pub fn resend(&self, index: usize) -> Result<Vec<u8>, LinkFault>
         ensures wrote { IfOk result (λ v. WritesSent self.now.port.link
-            (Some (self.now.port.link.acked + 1 + place)) v.items) }
+            (Some (self.now.port.link.acked + 1 + index)) v.items) }
         ensures failed { IsTrue self.now.port.link.failed → IsErrOf result Failed }
         ensures missing { self.now.port.link.failed ≡ false
-            → self.now.port.link.sent - self.now.port.link.acked ≤ place
+            → self.now.port.link.sent - self.now.port.link.acked ≤ index
             → IsErrOf result NoSuchSegment }
         ensures memory { self.now.port.link.failed ≡ false
-            → place < self.now.port.link.sent - self.now.port.link.acked
+            → index < self.now.port.link.sent - self.now.port.link.acked
             → IfErr result (λ f. f ≡ fault.NoMemory) }
     {
-        self.port.link.resend(place)
+        self.port.link.resend(index)
     }
 
-    /// A packet that only acknowledges all segments that were taken, as [`nsp_link::LinkEnd::ack_packet`] writes it
-    /// (NSP 4.0.0, data acknowledgement message).
+    /// Writes a packet that only acknowledges all segments that were taken, as [`nsp_link::LinkEnd::ack_packet`] writes
+    /// it (NSP 4.0.0, data acknowledgement message).
     pub fn ack(&self) -> Result<Vec<u8>, LinkFault>
         ensures wrote { IfOk result (λ v. IsSpelling (ack_packet_of self.now.port.link) v.items) }
         ensures failed { IsTrue self.now.port.link.failed → IsErrOf result Failed }
@@ -129,14 +129,14 @@ impl<R: Role> End<R> {
         self.port.link.ack_packet()
     }
 
-    /// The link, with its counts.
+    /// Returns the link, with its counts.
     pub fn link(&self) -> &LinkEnd
         ensures { result.now ≡ self.now.port.link }
     {
         &self.port.link
     }
 
-    /// The NSP messages that wait to be handed to the link, the oldest first.
+    /// Returns the NSP messages that wait to be passed to the link, the oldest first.
     pub fn waiting(&self) -> &[Vec<u8>]
         ensures { bodies result.now ≡ self.now.port.outbox }
     {

@@ -22,7 +22,7 @@ pub enum TakeFault {
     /// The link refused it, and nothing of it was taken.
     #[error("the packet was refused: {0}")]
     Refused(LinkFault),
-    /// The link took it in so, and then not all was done; what is left does a call that goes on.
+    /// The link took it in so, and then not all was done; a call that goes on does what is left.
     #[error("the packet was taken in, and then not all was done: {1}")]
     Unfinished(Got, EndFault),
 }

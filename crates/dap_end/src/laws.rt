@@ -20,7 +20,7 @@ ghost use Rattle.dap_accessed.specs.Groups.{After, Answers};
 ghost use Rattle.dap_accessed.specs.Present.{StandsAfter};
 ghost use Rattle.dap_accessing.specs.Present.{ClientAfter as WaitsAfter};
 ghost use Rattle.dap_accessing.specs.Asked.{Asked, messages_of};
-ghost use Rattle.dap_accessing.specs.Each.{IsBatch, none_kept, records_kept, reported_behind};
+ghost use Rattle.dap_accessing.specs.Each.{IsBatch, none_kept, records_kept, reported_after};
 ghost use Rattle.dap_accessing.specs.Phase.{limit_after};
 ghost use Rattle.dap_accessing.specs.Told.{Told};
 ghost use Rattle.dap_accessing.specs.Request.{Request as TheRequest};
@@ -48,26 +48,26 @@ ghost use Rattle.dap_end.specs.Headline.{AreWrittenOf, Arrival, IsFromPeer, Writ
 ghost use Rattle.dap_end.specs.Joined.{IsBrought, Pair};
 ghost use Rattle.dap_end.specs.Calls.{AskingRuns, PairRuns, ServerRuns};
 
-/// What follows for a server that is as after something: its files are those after the items that it served; these are a
-/// prefix of the items in the NSP messages that came, and the next one is at the port's place; what waited counts as handed
-/// over once it was; and what was served on comes after what was served before.
+/// What follows for a server that is as after something: its files are those after the items that it served; these are
+/// a prefix of the items in the NSP messages that came, and the next one is at the port's offset; what waited counts as
+/// passed on once it was; and what was served on comes after what was served before.
 pub fn serving_ends_stand()
     ensures files { (history : ServerHistory) (v : ServingValue) → IsAfter history v
         → v.present.files ≡ After v.present.setup history.first history.items }
     ensures front { (history : ServerHistory) (v : ServingValue) → IsAfter history v
         → AreFrontOf (history.given ++ v.port.link.coming.inbox) history.items }
-    // The next item is the one at the port's place.
+    // The next item is the one at the port's offset.
     ensures next { (history : ServerHistory) (v : ServingValue) (bytes : List ℕ)
         (later : List (List ℕ))
         (rest : List Item) → IsAfter history v → v.port.link.coming.inbox ≡ bytes ∷ later
-        → ItemsFrom bytes v.port.place rest
+        → ItemsFrom bytes v.port.offset rest
         → AreItemsOf (history.given ++ bytes ∷ []) (history.items ++ rest) }
     ensures posted { (history : ServerHistory) (old new : ServingValue) (n : ℕ)
         → IsAfter history old
         → HandsOver old new n
         → IsAfter (record history { handed = history.handed ++ old.port.outbox }) new }
-    // What was served on counts after that, and so does what was passed on. Of the link only what came and what is queued
-    // moved.
+    // What was served on counts after that, and so does what was passed on. Of the link only what came and what is
+    // queued moved.
     ensures served_on { (most : ℕ) (history : ServerHistory) (old new : ServingValue)
         → IsAfter history old
         → ServedInTurn most old new → (given handed : List (List ℕ)) × (items : List Item)
@@ -87,16 +87,16 @@ pub fn serving_ends_stand()
         → messages_in (answers_to own first [] items) ≡ Answers own first items }
 {}
 
-/// What follows for a client that has asked something: what it read is a prefix of the items in the NSP messages that came,
-/// and the next one is at the port's place; one request more that was asked, and what waited once it was passed on, count
-/// too; and what was read on comes after what was read before, with the reports that it adds.
+/// What follows for a client that has asked something: what it read is a prefix of the items in the NSP messages that
+/// came, and the next one is at the port's offset; one more request that was asked, and what waited once it was passed
+/// on, count too; and what was read on comes after what was read before, with the reports that it adds.
 pub fn asking_ends_stand()
     ensures front { (history : ClientHistory) (v : AskingValue) → HasAsked history v
         → AreFrontOf (history.given ++ v.port.link.coming.inbox) history.answers }
-    // The next answer is the one at the port's place.
+    // The next answer is the one at the port's offset.
     ensures next { (history : ClientHistory) (v : AskingValue) (bytes : List ℕ)
         (later : List (List ℕ)) (rest : List Item) → HasAsked history v
-        → v.port.link.coming.inbox ≡ bytes ∷ later → ItemsFrom bytes v.port.place rest
+        → v.port.link.coming.inbox ≡ bytes ∷ later → ItemsFrom bytes v.port.offset rest
         → AreItemsOf (history.given ++ bytes ∷ []) (history.answers ++ rest) }
     ensures asked { (history : ClientHistory) (request : TheRequest) (old new : AskingValue) (n : ℕ)
         → HasAsked history old → AskedOne request old new n → HasAsked (record history {
@@ -122,8 +122,9 @@ pub fn asking_ends_stand()
         × (new.port.link ≡ with_inbox old.port.link new.port.link.coming.inbox) }
 {}
 
-/// Records of a batch under way may be taken out as they come. With all that were taken put back, a client stands as one that
-/// keeps them, whatever it does on its link and whatever it reads; but the report of the batch has the others alone.
+/// Records of a batch under way may be taken out as they come. With all that were taken put back, a client is as one
+/// that keeps them, whatever it does on its link and whatever it reads; but the report of the batch has the others
+/// alone.
 pub fn taken_records_count()
     ensures taken { (told : List (ℕ × List ℕ)) (history : ClientHistory) (v : AskingValue)
         → HasAsked history (with_told told v)
@@ -138,7 +139,7 @@ pub fn taken_records_count()
         }) (with_told told new)
         × (Told history.requests (history.answers ++ answer ∷ [])
         ≡ Told history.requests history.answers
-        ++ option_to_list (option_map (reported_behind told) report)) }
+        ++ option_to_list (option_map (reported_after told) report)) }
     ensures received { (told : List (ℕ × List ℕ)) (history : ClientHistory) (old new : AskingValue)
         (packet : List ℕ) (r : Result TheGot TheFault) → HasAsked history (with_told told old)
         → TookIn old new packet r → HasAsked history (with_told told new) }
@@ -198,8 +199,8 @@ pub fn calls_are_runs()
         × (all ≡ out ++ written_bytes wrote) }
 {}
 
-/// Each call of a client is a run, refused or not, but one in which an answer is out of sequence. No call is one, and two
-/// are one where the second begins as the first ends.
+/// Each call of a client is a run, refused or not, but one in which an answer is out of sequence. No call is one, and
+/// two are one where the second begins as the first ends.
 pub fn asking_calls_are_runs()
     ensures none { (v : AskingValue) → AskingRuns [] [] v v [] [] }
     ensures more { (came later : List Arrival) (requests others : List TheRequest)
@@ -254,9 +255,9 @@ pub fn asking_calls_are_runs()
         × (all ≡ out ++ written_bytes wrote) × (after ≡ before ++ reports) }
 {}
 
-/// Whatever bytes come to an end that served nothing yet, and whatever it was called to do, there is a list of
-/// items that it served: its files are those after them, what it handed to its link is a prefix of the answers to
-/// them, and each packet that it wrote carries its segment of that.
+/// Whatever bytes come to an end that served nothing yet, and whatever it was called to do, there is a list of items
+/// that it served: its files are those after them, what it passed to its link is a prefix of the answers to them, and
+/// each packet that it wrote carries its segment of that.
 pub fn every_run_is_served()
     ensures { (came : List Arrival) (first : Files) (old new : ServingValue)
         (wrote : List Written) → IsAfter (nothing_yet first) old → ServerRuns came old new wrote
@@ -337,8 +338,8 @@ pub fn asking_is_determined()
         → (one ≡ two) × (r ≡ s) × (xs ≡ ys) × (rs ≡ ss) × HasDone one }
 {}
 
-/// A packet that is taken in leaves one end, and is answered by one list of packets, and of reports, by what the
-/// end did before; so is one that is refused, or of which not all is done, unless memory is refused.
+/// A packet that is received leaves one end, and is answered by one list of packets, and of reports, by what the end
+/// did before; so is one that is refused, or of which not all is done, unless memory is refused.
 pub fn taking_is_determined()
     ensures serving { (most : ℕ) (history : ServerHistory) (old one two : ServingValue)
         (bytes : List ℕ)
@@ -369,10 +370,10 @@ pub fn posting_is_determined()
         → SendAllFault old.link old.outbox f → SendAllFault old.link old.outbox g → f ≡ g }
 {}
 
-/// Whatever bytes come to an end of which nothing was asked, and whatever is asked of it, up to the first answer
-/// that is out of sequence: its reports are those of the definition for the requests and of the answers that it
-/// read, what it handed to its link is a prefix of the requests' messages, and each packet that it wrote carries
-/// its segment of that.
+/// Whatever bytes come to an end of which nothing was asked, and whatever is asked of it, up to the first answer that
+/// is out of sequence: its reports are those of the definition for the requests and of the answers that it read, what
+/// it passed to its link is a prefix of the requests' messages, and each packet that it wrote carries its segment of
+/// that.
 pub fn every_run_is_told()
     ensures { (came : List Arrival) (requests : List TheRequest) (old new : AskingValue)
         (reports : List TheReport) (wrote : List Written)
@@ -394,8 +395,9 @@ pub fn a_peer_is_heard_in_order()
         → (history : ClientHistory) × HasAsked history new × AreFrontOf messages history.answers }
 {}
 
-/// What an end holds follows from what it did, from its port, and from its setup or its Configuration. So whatever a call leaves by which an
-/// end is as after something known, as those do that make it, renew it or give it files, is determined.
+/// What an end holds follows from what it did, from its port, and from its setup or its Configuration. So whatever a
+/// call leaves by which an end is as after something known, as those do that make it, renew it or give it files, is
+/// determined.
 pub fn ends_are_one()
     ensures serving { (history : ServerHistory) (one two : ServingValue) → IsAfter history one
         → IsAfter history two
@@ -405,8 +407,8 @@ pub fn ends_are_one()
         → one ≡ two }
 {}
 
-/// What taking a packet in leaves, and what is answered, follows from the end and the packet, out of memory aside; and so does
-/// the next segment that an end writes, or that there is none.
+/// What receiving a packet leaves, and what is answered, follows from the end and the packet, out of memory aside; and
+/// so does the next segment that an end writes, or that there is none.
 pub fn packets_are_determined()
     ensures serving { (old one two : ServingValue) (bytes : List ℕ) (r s : Result TheGot TheFault)
         → AreBytes bytes → r ≢ Err fault.NoMemory → s ≢ Err fault.NoMemory
@@ -421,8 +423,8 @@ pub fn packets_are_determined()
         → may_send old.link ≡ false → ⊥ }
 {}
 
-/// A packet of a peer that sends some NSP messages, and nothing too old or too far ahead, is refused where memory is, or where
-/// the end would have taken more than 2^40 segments, and for nothing else; and then it changes nothing.
+/// A packet of a peer that sends some NSP messages, and nothing too old or too far ahead, is refused where memory is,
+/// or where the end would have taken more than 2^40 segments, and for nothing else; and then it changes nothing.
 pub fn peers_are_taken_in()
     ensures serving { (setup : TheSetup) (first : Files) (size : ℕ) (messages : List (List ℕ))
         (came : List Arrival) (old mid new : ServingValue) (wrote : List Written)
@@ -489,8 +491,8 @@ pub fn two_ends_keep_the_headline()
         × (new.reports ≡ Told new.requests (map Whole read)) }
 {}
 
-/// No answer between two such ends is unexpected, so that `two_ends_keep_the_headline` speaks of every list of their calls: where
-/// the files that the server had at first are files, and both have a BUFSIZ that an end may have.
+/// No answer between two such ends is unexpected, so that `two_ends_keep_the_headline` speaks of every list of their
+/// calls: where the files that the server had at first are files, and both have a BUFSIZ that an end may have.
 pub fn no_answer_is_unexpected()
     ensures { (s t : TheSetup) (first : Files) (a : AskingValue) (b : ServingValue) (new : Pair)
         (after : AskingValue) (f : TheReadFault) → IsSetup s → IsSetup t → t ≡ record s {

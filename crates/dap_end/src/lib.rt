@@ -2,12 +2,12 @@
 //! follows DAP 5.6.0, message sequences, over the data segments of NSP 4.0.0.
 #![tactic(auto)]
 
+mod addresses;
 mod asking;
 mod end;
 mod fault;
 mod laws;
 mod node;
-mod places;
 mod port;
 mod role;
 mod serving;

@@ -23,7 +23,7 @@ ghost use Rattle.std.specs.Result.{result_map_both};
 
 use crate::fault::TakeFault;
 use crate::port::Port;
-use crate::{places, turns};
+use crate::{addresses, turns};
 use dap_accessed::{ALL_RIGHTS, AddFault, FileTable, NoMemory, ServerSetup};
 use dap_shared::{NotedFiles, RemoveFault};
 use nsp_link::{Got, LinkEnd, LinkFault, LinkSetup};
@@ -31,13 +31,13 @@ use rec_file::{Rights, Shape};
 use std::alloc::Global;
 use std::marker::Model;
 
-/// A server of several links. A link is a number from 0, and is there or not. No two links have one own address, and a
-/// link is found by its own address in as many steps as if it were alone.
+/// A server of several links. A link has an index, and is there or not. No two links have one local address, and a link
+/// is found by its local address in as many steps as if it were alone.
 #[derive(Drop)]
 pub struct ServingNode {
     noted: NotedFiles,
     ports: Vec<Option<Port>>,
-    /// At each own address the link that has it.
+    /// At each local address the link that has it.
     by_local: Vec<Option<usize>>,
 }
 
@@ -58,7 +58,7 @@ impl Model for ServingNode {
 /// The address of a link that isn't there.
 const NO_ADDRESS: u16 = 0;
 
-/// This many links that aren't there.
+/// Returns this many links that aren't there.
 fn no_ports(alloc: Global, links: usize) -> Result<Vec<Option<Port>>, NoMemory>
     ensures { IfOk result (λ ports. ports.items ≡ replicate links None) }
 {
@@ -69,7 +69,7 @@ fn no_ports(alloc: Global, links: usize) -> Result<Vec<Option<Port>>, NoMemory>
     Ok(ports)
 }
 
-/// The port of a link.
+/// Returns the port of a link.
 fn port_of(ports: &[Option<Port>], link: usize) -> &Port
     requires { (p : PortValue) × (slice_get ports.now link ≡ Some (Some p)) }
     ensures { slice_get ports.now link ≡ Some (Some result.now) }
@@ -80,7 +80,7 @@ fn port_of(ports: &[Option<Port>], link: usize) -> &Port
     }
 }
 
-/// Whether a link is there, and a segment came on it.
+/// Returns whether a link is there, and a segment came on it.
 fn has_come_on(port: &Option<Port>) -> bool
     ensures { result ≡ come_on port.now }
 {
@@ -90,7 +90,7 @@ fn has_come_on(port: &Option<Port>) -> bool
     }
 }
 
-/// Whether a segment came on a link.
+/// Returns whether a segment came on a link.
 fn has_come(ports: &[Option<Port>]) -> bool
     ensures { result ≡ list_any come_on ports.now }
 {
@@ -98,8 +98,9 @@ fn has_come(ports: &[Option<Port>]) -> bool
 }
 
 impl ServingNode {
-    /// A node with no files, with a buffer of this many bytes, at least 64, and room for this many links, of which none
-    /// is there. However many it is, the table by which they are found has a place for each of the 65,536 addresses.
+    /// Creates a node with no files, with a buffer of this many bytes, at least 64, and room for this many links, of
+    /// which none is there. However many it is, the table by which they are found has an element for each of the 65,536
+    /// addresses.
     pub fn new(alloc: Global, bufsiz: u16, links: usize) -> Result<ServingNode, NoMemory>
         requires { min_buffer ≤ bufsiz }
         ensures stands { IfOk result (λ node. SharedAfter [] [] node.noted.shared) }
@@ -113,7 +114,7 @@ impl ServingNode {
         ServingNode::with_setup(alloc, ServerSetup::plain(bufsiz), links)
     }
 
-    /// A node with this setup and no files, and room for this many links, of which none is there.
+    /// Creates a node with this setup and no files, and room for this many links, of which none is there.
     pub fn with_setup(
         alloc: Global,
         own: ServerSetup,
@@ -130,7 +131,7 @@ impl ServingNode {
     {
         let noted = NotedFiles::with_setup(alloc, own, links)?;
         let ports = no_ports(alloc, links)?;
-        let by_local = places::no_links(alloc)?;
+        let by_local = addresses::no_links(alloc)?;
         Ok(ServingNode {
             noted,
             ports,
@@ -138,29 +139,30 @@ impl ServingNode {
         })
     }
 
-    /// The files, in the order in which they were made: what all messages so far, of all links, have made of them.
+    /// Returns the files, in the order in which they were made: what all messages so far, of all links, have made of
+    /// them.
     pub fn files(&self) -> &FileTable
         ensures { result.now ≡ self.now.noted.shared.files }
     {
         self.noted.files()
     }
 
-    /// Of each Access that the last [`ServingNode::take`] or [`ServingNode::go_on`] refused, as another link has the file
-    /// open: the lowest address of a link that locks it out. In the order of the Accesses.
+    /// Returns, for each Access that the last [`ServingNode::take`] or [`ServingNode::go_on`] refused as another link
+    /// has the file open, the lowest address of a link that locks it out. They are in the order of the Accesses.
     pub fn locked(&self) -> &[u16]
         ensures { result.now ≡ self.now.noted.locked }
     {
         self.noted.locked()
     }
 
-    /// How many links there is room for.
+    /// Returns how many links there is room for.
     pub fn links(&self) -> usize
         ensures { result ≡ length self.now.ports }
     {
         self.ports.len()
     }
 
-    /// The link of a number, with its counts, where it is there.
+    /// Returns the link at this index, with its counts, where it is there.
     pub fn link(&self, link: usize) -> Option<&LinkEnd>
         ensures there { IfSome result (λ end. (p : PortValue) × HasPort link self.now p
             × (end.now ≡ p.link)) }
@@ -172,30 +174,30 @@ impl ServingNode {
         }
     }
 
-    /// The link that has this own address, where one is there: it is the only one.
+    /// Returns the link that has this local address, where one is there: it is the only one.
     pub fn find_local(&self, local: u16) -> Option<usize>
         ensures found { result ≡ position (has_local local) self.now.ports }
         ensures only { (link : ℕ) (p : PortValue) → HasPort link self.now p
             → p.link.setup.local ≡ local → result ≡ Some link }
     {
-        places::find_local(&self.by_local, local)
+        addresses::find_local(&self.by_local, local)
     }
 
-    /// The link that has this own address and this peer, where one is there.
+    /// Returns the link that has this local address and this peer, where one is there.
     pub fn find_between(&self, local: u16, remote: u16) -> Option<usize>
         ensures { result ≡ position (is_between local remote) self.now.ports }
     {
-        places::find_between(&self.by_local, &self.ports, local, remote)
+        addresses::find_between(&self.by_local, &self.ports, local, remote)
     }
 
-    /// The first link that isn't there; none where all are.
+    /// Returns the first link that isn't there; none where all are.
     pub fn find_free(&self) -> Option<usize>
         ensures { result ≡ position is_free_link self.now.ports }
     {
-        places::find_free(&self.ports)
+        addresses::find_free(&self.ports)
     }
 
-    /// The most that an Access on a link may ask for: what it began with, where it is there.
+    /// Returns the rights that an Access on a link may ask for: those that it began with, where it is there.
     pub fn rights(&self, link: usize) -> Rights
         requires { link < length self.now.ports }
         ensures held { result ≡ rights_on link self.now.noted.shared }
@@ -207,10 +209,10 @@ impl ServingNode {
         self.noted.rights(link)
     }
 
-    /// Begins a link, or begins it anew, with the own address of the setup: what was open on it is closed, a PUT or an
-    /// UPDATE that waits for its record is dropped, and so is all that waits. An Access on it may ask for so much until
-    /// it begins again. Refused, with nothing changed: `BadSetup` where a limit of the setup isn't in its range, or
-    /// another link has its own address; `NoMemory`.
+    /// Begins a link, or begins it anew, with the local address of the setup: what was open on it is closed, a PUT or
+    /// an UPDATE that waits for its record is dropped, and so is all that waits. An Access on it may ask for these
+    /// rights at most until it begins again. Refused, with nothing changed: `BadSetup` where a limit of the setup isn't
+    /// in its range, or another link has its local address; `NoMemory`.
     pub fn begin(
         &mut self,
         alloc: Global,
@@ -224,11 +226,11 @@ impl ServingNode {
         ensures alone { OnOk result (IsTaken link setup.local self.old → ⊥) }
         ensures err { IfErr result (λ f. (self.new ≡ self.old) × NotBegun link setup self.old f) }
     {
-        if places::is_taken(&self.by_local, link, setup.local) {
+        if addresses::is_taken(&self.by_local, link, setup.local) {
             return Err(LinkFault::BadSetup);
         }
         let port = Port::new(alloc, setup)?;
-        places::list_anew(&mut self.by_local, &self.ports[link], link, setup.local);
+        addresses::list_anew(&mut self.by_local, &self.ports[link], link, setup.local);
         self.ports[link] = Some(port);
         self.noted.begin(link, setup.local, most);
         Ok(())
@@ -239,12 +241,12 @@ impl ServingNode {
         requires { link < length self.old.ports }
         ensures { EndedOn link self.old self.new }
     {
-        places::unlist(&mut self.by_local, &self.ports[link]);
+        addresses::unlist(&mut self.by_local, &self.ports[link]);
         self.ports[link] = None;
         self.noted.begin(link, NO_ADDRESS, ALL_RIGHTS);
     }
 
-    /// What [`crate::ServingEnd::take`] does, on one of the links: no other link moves. What was noted before is
+    /// Does what [`crate::ServingEnd::take`] does, on one of the links: no other link moves. What was noted before is
     /// forgotten.
     pub fn take(
         &mut self,
@@ -266,7 +268,7 @@ impl ServingNode {
         }
     }
 
-    /// What [`crate::ServingEnd::go_on`] does, on one of the links: no other link moves. What was noted before is
+    /// Does what [`crate::ServingEnd::go_on`] does, on one of the links: no other link moves. What was noted before is
     /// forgotten.
     pub fn go_on(
         &mut self,
@@ -287,24 +289,24 @@ impl ServingNode {
         }
     }
 
-    /// What [`crate::ServingEnd::resend`] writes, on one of the links: the packet of a segment that was sent and isn't
-    /// acknowledged, again. The oldest is at place 0.
-    pub fn resend(&self, link: usize, place: usize) -> Result<Vec<u8>, LinkFault>
+    /// Writes what [`crate::ServingEnd::resend`] writes, on one of the links: the packet of a segment that was sent and
+    /// isn't acknowledged, again. The oldest is at index 0.
+    pub fn resend(&self, link: usize, index: usize) -> Result<Vec<u8>, LinkFault>
         requires { (p : PortValue) × HasPort link self.now p }
         ensures wrote { AtPort link self.now (λ p. IfOk result
-            (λ v. WritesSent p.link (Some (p.link.acked + 1 + place)) v.items)) }
+            (λ v. WritesSent p.link (Some (p.link.acked + 1 + index)) v.items)) }
         ensures failed { AtPort link self.now (λ p. IsTrue p.link.failed
             → IsErrOf result Failed) }
         ensures missing { AtPort link self.now (λ p. p.link.failed ≡ false
-            → p.link.sent - p.link.acked ≤ place → IsErrOf result NoSuchSegment) }
+            → p.link.sent - p.link.acked ≤ index → IsErrOf result NoSuchSegment) }
         ensures memory { AtPort link self.now (λ p. p.link.failed ≡ false
-            → place < p.link.sent - p.link.acked → IfErr result (λ f. f ≡ fault.NoMemory)) }
+            → index < p.link.sent - p.link.acked → IfErr result (λ f. f ≡ fault.NoMemory)) }
     {
-        port_of(&self.ports, link).link.resend(place)
+        port_of(&self.ports, link).link.resend(index)
     }
 
-    /// What [`crate::ServingEnd::ack`] writes, on one of the links: a packet that only acknowledges all segments that
-    /// were taken.
+    /// Writes what [`crate::ServingEnd::ack`] writes, on one of the links: a packet that only acknowledges all segments
+    /// that were taken.
     pub fn ack(&self, link: usize) -> Result<Vec<u8>, LinkFault>
         requires { (p : PortValue) × HasPort link self.now p }
         ensures wrote { AtPort link self.now (λ p. IfOk result
@@ -317,7 +319,7 @@ impl ServingNode {
         port_of(&self.ports, link).link.ack_packet()
     }
 
-    /// The NSP messages of a link that wait to be handed to it, the oldest first; none where it isn't there.
+    /// Returns the NSP messages of a link that wait to be passed to it, the oldest first; none where it isn't there.
     pub fn waiting(&self, link: usize) -> &[Vec<u8>]
         ensures there { (p : PortValue) → HasPort link self.now p → bodies result.now ≡ p.outbox }
         ensures none { ((p : PortValue) → HasPort link self.now p → ⊥) → bodies result.now ≡ [] }
@@ -328,7 +330,7 @@ impl ServingNode {
         }
     }
 
-    /// A file without records after the others, before a segment came on any link. Its shape is one that
+    /// Adds a file without records after the others, before a segment came on any link. Its shape is one that
     /// [`Shape::check`] gives.
     ///
     /// Refusals in order: Busy, FileExists, NoMemory; each leaves the node unchanged.
@@ -354,7 +356,7 @@ impl ServingNode {
         self.noted.add(name, shape)
     }
 
-    /// A record more in the file of this name, under its number, before a segment came on any link. In a sequential
+    /// Adds a record to the file of this name, under its number, before a segment came on any link. In a sequential
     /// file the number is the next one.
     ///
     /// Refusals in order: Busy, NoFile; as of a PUT with this number BadLength, NumberOutOfRange, RecordExists;

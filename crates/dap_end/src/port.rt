@@ -1,4 +1,4 @@
-//! One end of a link, with the NSP messages that wait to be handed to it, and the place in the oldest one that came.
+//! One end of a link, with the NSP messages that wait to be passed to it, and the offset in the oldest one that came.
 
 ghost use Rattle.std.specs.Prelude.{◌≡◌, ◌≢◌, ◌+◌, ◌-◌, ◌<◌, ◌≤◌, ◌∷◌, ◌++◌, [], ℕ, List, Ok, Some, None, length, false, true, IfOk, IfErr, IfSome, OnOk, OnErr, IsErrOf, slice_get, IsTrue};
 ghost use Rattle.nsp_link.specs.Limits.{max_limit};
@@ -8,7 +8,7 @@ ghost use Rattle.nsp_link.specs.declared.fault.LinkFault.TheVariants.{Failed, Me
 ghost use Rattle.std.specs.Prelude.{◌==◌};
 ghost use Rattle.dap_fields.specs.Spelling.{AreBytes};
 ghost use Rattle.dap_msg.specs.Blocked.{bodies};
-ghost use Rattle.dap_end.specs.Writing.{Acknowledged, WroteMore, Behind, WroteAnswer, WrotePart, wants_ack};
+ghost use Rattle.dap_end.specs.Writing.{Acknowledged, WroteMore, Extends, WroteAnswer, WrotePart, wants_ack};
 ghost use Rattle.dap_end.specs.Moved.{sent_more};
 ghost use Rattle.nsp_link.specs.Receiving.{Receives};
 ghost use Rattle.dap_end.specs.Ports.{new_port, gone_on, HasCome};
@@ -25,7 +25,7 @@ pub(crate) struct Port {
     /// The NSP messages that wait.
     pub(crate) outbox: Vec<Vec<u8>>,
     /// Where the next DAP message begins in the oldest NSP message that came.
-    pub(crate) place: usize,
+    pub(crate) offset: usize,
 }
 
 impl Model for Port {
@@ -39,7 +39,7 @@ impl Model for Port {
 }
 
 impl Port {
-    /// A port with a new link of these limits, where nothing waits.
+    /// Creates a port with a new link of these limits, where nothing waits.
     pub(crate) fn new(alloc: Global, setup: LinkSetup) -> Result<Port, LinkFault>
         ensures ok { IfOk result (λ p. IsSetup setup × (p ≡ new_port setup)) }
         ensures err { IfErr result (SetupFault setup) }
@@ -48,22 +48,23 @@ impl Port {
         Ok(Port {
             link,
             outbox: Vec::new(alloc),
-            place: 0,
+            offset: 0,
         })
     }
 
-    /// Takes a packet in.
+    /// Receives a packet.
     pub(crate) fn receive(&mut self, packet: &[u8]) -> Result<Got, LinkFault>
         ensures rest { self.new ≡ with_link self.old self.new.link }
         ensures receives { Receives self.old.link self.new.link packet.now result }
         ensures kept { IsPort self.old → IsPort self.new }
     {
         let received = self.link.receive_bounded(packet);
+        // This line is only for the prover: the contract of `unacked` says what is true of the link.
         let _ = self.link.unacked();
         received
     }
 
-    /// Whether a segment came, and was taken or is held.
+    /// Returns whether a segment came, and was taken or is held.
     pub(crate) fn has_come(&self) -> bool
         ensures yes { result ≡ true → HasCome self.now }
         ensures no { result ≡ false → HasCome self.now → ⊥ }
@@ -71,7 +72,7 @@ impl Port {
         self.link.received_count() > 0 || self.link.held_count() > 0
     }
 
-    /// How many bytes wait at the link.
+    /// Returns how many bytes wait at the link.
     pub(crate) fn waiting_bytes(&self) -> u64
         ensures value { result ≡ waiting_bytes self.now.link }
         ensures valid { IsLink self.now.link }
@@ -79,25 +80,26 @@ impl Port {
         self.link.waiting_bytes()
     }
 
-    /// The next DAP message of the oldest NSP message was handled; it was the last one where so said.
+    /// Moves the offset past the next DAP message of the oldest NSP message, which leaves the link where that was its
+    /// last.
     pub(crate) fn advance(&mut self, last: bool, next: usize)
-        ensures going { last ≡ false → self.new ≡ record self.old { place = next } }
+        ensures going { last ≡ false → self.new ≡ record self.old { offset = next } }
         ensures ends { last ≡ true → (bytes : List ℕ) (later : List (List ℕ))
             → self.old.link.coming.inbox ≡ bytes ∷ later
             → self.new ≡ record self.old {
               link = with_inbox self.old.link later;
-              place = 0;
+              offset = 0;
             } }
     {
         if last {
             let _message = self.link.take_message();
-            self.place = 0;
+            self.offset = 0;
         } else {
-            self.place = next;
+            self.offset = next;
         }
     }
 
-    /// The packet of the next segment that was never sent.
+    /// Writes the packet of the next segment that was never sent, if the window allows it.
     pub(crate) fn emit(&mut self) -> Result<Option<Vec<u8>>, LinkFault>
         ensures nothing { result ≡ Ok None
             → (self.new ≡ self.old) × (may_send self.old.link ≡ false) }
@@ -111,7 +113,7 @@ impl Port {
         self.link.next_packet()
     }
 
-    /// The packet of the next segment, of a link that runs and lets it be sent.
+    /// Writes the packet of the next segment, of a link that runs and lets it be sent.
     pub(crate) fn write_next(&mut self) -> Result<Vec<u8>, LinkFault>
         requires works { self.old.link.failed ≡ false }
         requires may { IsTrue (may_send self.old.link) }
@@ -123,12 +125,13 @@ impl Port {
         self.link.write_next()
     }
 
-    /// Whether no segment that was never sent may be written.
+    /// Returns whether no segment that was never sent may be written.
     fn is_full(&self) -> bool
         ensures link { IsLink self.now.link }
         ensures yes { result ≡ true → may_send self.now.link ≡ false }
         ensures no { result ≡ false → IsTrue (may_send self.now.link) }
     {
+        // This line is only for the prover: the contract of `unacked` says what is true of the link.
         let _ = self.link.unacked();
         !self.link.may_send()
     }
@@ -137,7 +140,7 @@ impl Port {
     pub(crate) fn emit_all(&mut self, out: &mut Vec<Vec<u8>>) -> Result<(), LinkFault>
         requires kept { IsPort self.old }
         requires works { self.old.link.failed ≡ false }
-        ensures wrote { Behind (bodies out.old.items) (bodies out.new.items)
+        ensures wrote { Extends (bodies out.old.items) (bodies out.new.items)
             (WroteMore self.old self.new) }
         ensures all { OnOk result (may_send self.new.link ≡ false) }
         ensures err { IfErr result (λ f. (f ≡ NoMemory) × IsTrue (may_send self.new.link)) }
@@ -161,9 +164,9 @@ impl Port {
     pub(crate) fn answer(&mut self, got: Got, out: &mut Vec<Vec<u8>>) -> Result<(), LinkFault>
         requires kept { IsPort self.old }
         requires works { self.old.link.failed ≡ false }
-        ensures ok { OnOk result (Behind (bodies out.old.items) (bodies out.new.items)
+        ensures ok { OnOk result (Extends (bodies out.old.items) (bodies out.new.items)
             (WroteAnswer self.old self.new got)) }
-        ensures err { IfErr result (λ f. (f ≡ NoMemory) × Behind (bodies out.old.items)
+        ensures err { IfErr result (λ f. (f ≡ NoMemory) × Extends (bodies out.old.items)
             (bodies out.new.items) (WrotePart self.old self.new got)) }
         ensures kept { IsPort self.new }
     {
@@ -234,15 +237,15 @@ impl Port {
     }
 }
 
-/// Whether a place in an NSP message is its end.
-pub(crate) fn is_end(message: &[u8], place: usize) -> bool
-    ensures end { result ≡ (place == length message.now) }
+/// Returns whether an offset in an NSP message is its end.
+pub(crate) fn is_end(message: &[u8], offset: usize) -> bool
+    ensures end { result ≡ (offset == length message.now) }
     ensures bytes { AreBytes message.now }
 {
-    place == message.len()
+    offset == message.len()
 }
 
-/// Whether one acknowledgement is written.
+/// Returns whether one acknowledgement is written.
 fn wants_ack(got: Got, written: usize) -> bool
     ensures { result ≡ wants_ack got written }
 {

@@ -45,7 +45,7 @@ impl Role for Accessed {
 
     ghost still_fits = { λ v link moves history h. record {
       serving = h.serving;
-      gone = moves.gone history.given v.port.place history.items h.gone;
+      gone = moves.gone history.given v.port.offset history.items h.gone;
       sends = moves.sends history.handed h.sends;
       answers = h.answers;
       fit = h.fit;
@@ -65,7 +65,7 @@ impl Role for Accessing {
 
     ghost still_fits = { λ v link moves history h. record {
       asking = h.asking;
-      gone = moves.gone history.given v.port.place history.answers h.gone;
+      gone = moves.gone history.given v.port.offset history.answers h.gone;
       sends = moves.sends history.handed h.sends;
       messages = h.messages;
       waiting = h.waiting;

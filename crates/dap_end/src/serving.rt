@@ -1,4 +1,4 @@
-//! The end that serves.
+//! The server.
 
 ghost use Rattle.std.specs.Prelude.{◌≡◌, ◌≢◌, ◌≤◌, ◌<◌, ◌+◌, ◌-◌, ◌++◌, ◌∷◌, [], Ok, Err, false, IfOk, IfErr, OnOk, OnErr, IsTrue, MatchOption};
 ghost use Rattle.std.specs.Result.{result_map_both};
@@ -25,17 +25,17 @@ use nsp_link::{Got, LinkFault, LinkSetup};
 use rec_file::{Rights, Shape};
 use std::alloc::Global;
 
-/// The end that is accessed, with its link.
+/// A server with its link.
 pub type ServingEnd = End<Accessed>;
 
 /// The one link of an end.
 const LINK: usize = 0;
 
 impl End<Accessed> {
-    /// An end with no files that waits for a packet of its peer, with a buffer of this many bytes, at least 64. A
-    /// setup with `max_message` 65,535 takes all that an end may send; with less, a peer that names a larger buffer
-    /// can be answered by a message that `post` refuses from then on. Refused: `BadSetup` where a limit of the
-    /// setup isn't in its range; `NoMemory`.
+    /// Creates an end with no files that waits for a packet of its peer, with a buffer of this many bytes, at least 64.
+    /// A setup with `max_message` 65,535 takes all that an end may send; with less, a peer that names a larger buffer
+    /// can be answered by a message that `post` refuses from then on. Refused: `BadSetup` where a limit of the setup
+    /// isn't in its range; `NoMemory`.
     pub fn new(alloc: Global, bufsiz: u16, setup: LinkSetup) -> Result<ServingEnd, LinkFault>
         requires { min_buffer ≤ bufsiz }
         ensures ok { IfOk result (λ end. IsAfter (nothing_yet []) end
@@ -51,7 +51,8 @@ impl End<Accessed> {
         })
     }
 
-    /// An end with this setup of a server and of a link, which has no files and has served nothing. Refused as `new` is.
+    /// Creates an end with this setup of a server and of a link, which has no files and has served nothing. Refused as
+    /// `new` is.
     pub fn with_setup(
         alloc: Global,
         own: ServerSetup,
@@ -70,7 +71,7 @@ impl End<Accessed> {
         })
     }
 
-    /// The files, in the order in which they were made: what all groups of messages so far have made of them.
+    /// Returns the files, in the order in which they were made: what all groups of messages so far have made of them.
     pub fn files(&self) -> &FileTable
         ensures held { result.now ≡ self.now.present.files }
         ensures after { (history : ServerHistory) → IsAfter history self.now
@@ -116,7 +117,7 @@ impl End<Accessed> {
         Ok(())
     }
 
-    /// A file without records after the others, before a segment came on this link. Its shape is one that
+    /// Adds a file without records after the others, before a segment came on this link. Its shape is one that
     /// [`Shape::check`] gives.
     ///
     /// Refusals in order: Busy, FileExists, NoMemory; each leaves the end unchanged.
@@ -140,8 +141,8 @@ impl End<Accessed> {
         self.role.add(name, shape)
     }
 
-    /// A record more in the newest file, under its number, before a segment came on this link. In a sequential file
-    /// the number is the next one.
+    /// Adds a record to the newest file, under its number, before a segment came on this link. In a sequential file the
+    /// number is the next one.
     ///
     /// Refusals in order: Busy, NoFile; as of a PUT with this number BadLength, NumberOutOfRange, RecordExists;
     /// NoMemory. Each leaves the end unchanged.
@@ -177,10 +178,10 @@ impl End<Accessed> {
         turns::serve_next(&mut self.port, &mut self.role, LINK)
     }
 
-    /// Serves what came, message by message, while fewer than `most_waiting` bytes wait, and hands each group of
-    /// answers to the link. The bytes that wait are those of the NSP messages that were not passed on and of
-    /// those that the link has, the whole message until its last segment is acknowledged. Refused as `post` and
-    /// `serve` are. What was served and passed on before that stays so, and the same call goes on.
+    /// Serves what came, message by message, while fewer than `most_waiting` bytes wait, and passes each group of
+    /// answers to the link. The bytes that wait are those of the NSP messages that were not passed on and of those that
+    /// the link has, the whole message until its last segment is acknowledged. Refused as `post` and `serve` are. What
+    /// was served and passed on before that stays so, and the same call goes on.
     pub fn serve_all(&mut self, most_waiting: u64) -> Result<(), LinkFault>
         ensures ok { OnOk result (DidAll (serves most_waiting) self.old self.new (Ok tt)) }
         // What follows from it, for callers.
@@ -193,9 +194,9 @@ impl End<Accessed> {
         turns::serve_all(&mut self.port, &mut self.role, LINK, most_waiting)
     }
 
-    /// Serves what came while fewer than `most_waiting` bytes wait, hands each group of answers to the link, and
-    /// writes all segments that were never sent, as far as the window allows, after the packets in `out`. Refused
-    /// as `post` is, or out of memory. What was done before that stays done, and the same call goes on.
+    /// Serves what came while fewer than `most_waiting` bytes wait, passes each group of answers to the link, and
+    /// writes all segments that were never sent, as far as the window allows, after the packets in `out`. Refused as
+    /// `post` is, or out of memory. What was done before that stays done, and the same call goes on.
     pub fn go_on(&mut self, most_waiting: u64, out: &mut Vec<Vec<u8>>) -> Result<(), LinkFault>
         ensures went { WentOn (serves most_waiting) self.old self.new (bodies out.old.items)
             (bodies out.new.items) (result_map_both (λ done. done) end_fault.Link result) }
@@ -206,13 +207,12 @@ impl End<Accessed> {
         turns::go_on(&mut self.port, &mut self.role, LINK, most_waiting, out)
     }
 
-    /// Takes a packet in, and returns what became of it; serves what came while fewer than `most_waiting` bytes
-    /// wait, hands each group of answers to the link, and writes all segments that were never sent, as far as the
-    /// window allows; or where a segment came and none is written, one acknowledgement. The packets follow those in
-    /// `out`.
+    /// Receives a packet, and returns what became of it; serves what came while fewer than `most_waiting` bytes wait,
+    /// passes each group of answers to the link, and writes all segments that were never sent, as far as the window
+    /// allows; or where a segment came and none is written, one acknowledgement. The packets follow those in `out`.
     ///
-    /// Refusals: `Refused` as `receive` is, and nothing of the packet was taken; `Unfinished`, once it was taken
-    /// in: `go_on` does what is left, and the same packet is answered again.
+    /// Refusals: `Refused` as `receive` is, and nothing of the packet was taken; `Unfinished`, once it was received:
+    /// `go_on` does what is left, and the same packet is answered again.
     pub fn take(
         &mut self,
         packet: &[u8],

@@ -37,12 +37,12 @@ pub(crate) fn serve_next<S: Serving>(
     if !port.outbox.is_empty() {
         return Ok(None);
     }
-    let place = port.place;
+    let offset = port.offset;
     let message = match port.link.peek_message() {
         None => return Ok(None),
         Some(message) => message,
     };
-    let (item, next) = item_at(message, place);
+    let (item, next) = item_at(message, offset);
     let at_end = is_end(message, next);
     let Ok(served) = server.serve(link, item, next) else {
         return Err(NoMemory);
@@ -53,8 +53,8 @@ pub(crate) fn serve_next<S: Serving>(
     Ok(Some(answered))
 }
 
-/// Passes on what waits, and serves the next item that came, unless as many bytes wait as this; whether it served
-/// one.
+/// Passes on what waits, and serves the next item that came, unless as many bytes wait as this. Returns whether it
+/// served one.
 fn turn<S: Serving>(
     port: &mut Port,
     server: &mut S,
@@ -78,7 +78,7 @@ fn turn<S: Serving>(
     }
 }
 
-/// Serves what came while fewer bytes wait than this, and hands each group of answers to the link.
+/// Serves what came while fewer bytes wait than this, and passes each group of answers to the link.
 pub(crate) fn serve_all<S: Serving>(
     port: &mut Port,
     server: &mut S,
@@ -121,7 +121,7 @@ pub(crate) fn go_on<S: Serving>(
     port.emit_all(out)
 }
 
-/// Serves and writes as `go_on` does, and then writes what answers a packet that was taken in.
+/// Serves and writes as `go_on` does, and then writes what answers a packet that was received.
 pub(crate) fn answer<S: Serving>(
     port: &mut Port,
     server: &mut S,
@@ -142,7 +142,7 @@ pub(crate) fn answer<S: Serving>(
     port.answer(got, out)
 }
 
-/// Takes a packet in, does what it allows, and writes what answers it.
+/// Receives a packet, does what it allows, and writes what answers it.
 pub(crate) fn take<S: Serving>(
     port: &mut Port,
     server: &mut S,

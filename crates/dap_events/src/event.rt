@@ -19,7 +19,7 @@ pub enum End {
 pub enum Event {
     /// The client A asks a request; its messages wait.
     Ask(Request),
-    /// The messages that wait at an end are handed to its link.
+    /// The messages that wait at an end are passed to its link.
     Post(End),
     /// An end writes its next segment.
     Emit(End),
@@ -57,7 +57,7 @@ pub enum Step {
 /// Why an event has no step, or a call none. A refused event leaves the world unchanged.
 #[derive(Clone, Copy, Drop, Debug, PartialEq, Eq, Error)]
 pub enum WorldFault {
-    /// The other end wrote no packet of this place.
+    /// The other end wrote no packet at this index.
     #[error("the other end wrote no packet of this place")]
     NoSuchPacket,
     /// The segment or the acknowledgement is more than 2,047 numbers old.

@@ -3,9 +3,9 @@
 /// The sizes of a world.
 #[derive(Clone, Copy, PartialEq, Eq)]
 pub struct WorldSetup {
-    /// The bytes of a segment, 1 to 1,400.
+    /// The maximum number of bytes of a segment, 1 to 1,400.
     pub seg_size: usize,
-    /// The segments sent and not acknowledged at most, 1 to 2,047.
+    /// The maximum number of segments that are sent and not acknowledged, 1 to 2,047.
     pub window: usize,
     /// The buffer of A in bytes, 64 to 65,535.
     pub bufsiz_a: u16,

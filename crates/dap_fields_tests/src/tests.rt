@@ -5,7 +5,7 @@ use dap_fields::{
     write_u8, write_u16,
 };
 
-/// The greatest number of 84 bits, in groups of seven.
+/// The maximum number of 84 bits, in groups of seven.
 const GREATEST: &[u8] = &[
     0xff, 0xff, 0xff, 0xff, 0xff, 0xff, 0xff, 0xff, 0xff, 0xff, 0xff, 0x7f,
 ];
@@ -51,7 +51,7 @@ const FITTING: &[(u128, usize, bool)] = &[
     (u128::MAX, usize::MAX, true),
 ];
 
-/// Whether just these bytes are written of the number.
+/// Returns whether just these bytes are written of the number.
 fn is_written(rt: &impl AllocGlobal, value: u128, bytes: &[u8]) -> bool {
     let mut out = Vec::new(rt.alloc());
     value < 1 << 84 && write_ex(value, &mut out) == Ok(()) && out.as_slice() == bytes

@@ -11,24 +11,24 @@ use Rattle.std.proofs.lemmas.List.{append-nil, append_assoc, map-append, take-ap
 use Rattle.dap_text.specs.Adding.{Adds, AddsSome}
 use Rattle.dap_listing.specs.Captured.{Spell, digit_bytes}
 use Rattle.dap_listing.proofs.ForCallers.{bytes-append, count_of, spell-append}
-use Rattle.dap_follow.specs.Streams.{Placed}
+use Rattle.dap_follow.specs.Streams.{Sequenced}
 use Rattle.dap_listing.specs.Messages.{IsMessagesText}
 use Rattle.dap_follow.specs.Following.{IsMessageText, gap_line, part_line, range_text, stream_text}
 use Rattle.dap_follow.specs.Joined.{Message, Fragment, is_message, joins, payload, fragments_of, tail, with_segment}
-use Rattle.dap_follow.specs.Inner.Listing.{AreSpelled, IsCutOff, IsPiece, ListsPiece, UnderAll, payload_digits, piece_message, values, message_heading, part_text, AreMessageLines, no_more, one_more, segments}
-use Rattle.dap_follow.specs.Inner.Placing.{counted_value}
-use Rattle.dap_follow.specs.declared.places.Counted.{Counted}
+use Rattle.dap_follow.specs.Inner.Listing.{AreSpelled, IsCutOff, IsPiece, ListsPiece, UnderAll, payload_digits, piece_message, values, message_heading, part_text, AreMessageLines, no_message_more, one_message_more, segments}
+use Rattle.dap_follow.specs.Inner.InOrder.{counted_value}
+use Rattle.dap_follow.specs.declared.segments.Counted.{Counted}
 use Rattle.dap_follow.specs.declared.streams.Stream.{Stream}
 
 -- ---- the segments of a piece
 
-head_is : (a b : Placed) (xs ys : List Placed) → a ∷ xs ≡ b ∷ ys → a ≡ b
+head_is : (a b : Sequenced) (xs ys : List Sequenced) → a ∷ xs ≡ b ∷ ys → a ≡ b
 head_is a b xs ys e = cc
 
-tail_is : (a b : Placed) (xs ys : List Placed) → a ∷ xs ≡ b ∷ ys → xs ≡ ys
+tail_is : (a b : Sequenced) (xs ys : List Sequenced) → a ∷ xs ≡ b ∷ ys → xs ≡ ys
 tail_is a b xs ys e = cc
 
-abbrev pub end_of : Placed → List Placed → Placed
+abbrev pub end_of : Sequenced → List Sequenced → Sequenced
 end_of s others = fold (λ one next. next) s others
 
 last_is : (c : Counted) (cs : List Counted) (d : Counted) → counted_value (get_or (c ∷ cs) (length cs) d) ≡ end_of (counted_value c) (values cs)
@@ -41,33 +41,33 @@ last_of (c ∷ cs) d p some is =
     let at : length (c ∷ cs) - 1 ≡ length cs = omega arith in
     let first : counted_value c ≡ p.head = sym (head_is p.head (counted_value c) p.others (values cs) is) in
     let others : values cs ≡ p.others = sym (tail_is p.head (counted_value c) p.others (values cs) is) in
-    ap (λ (i : ℕ). counted_value (get_or (c ∷ cs) i d)) at ∙ last_is c cs d ∙ ap (λ (s : Placed). end_of s (values cs)) first ∙ ap (end_of p.head) others
+    ap (λ (i : ℕ). counted_value (get_or (c ∷ cs) i d)) at ∙ last_is c cs d ∙ ap (λ (s : Sequenced). end_of s (values cs)) first ∙ ap (end_of p.head) others
 
 -- ---- the first piece
 
 -- each of these joins the next
-unfoldable pub Chain : Placed → List Placed → Type 0
+unfoldable pub Chain : Sequenced → List Sequenced → Type 0
 Chain s [] = Unit {0}
 Chain s (t ∷ others) = (joins s t ≡ true) × Chain t others
 
 -- the last doesn't join what follows
-unfoldable pub Ends : Placed → List Placed → Type 0
+unfoldable pub Ends : Sequenced → List Sequenced → Type 0
 Ends s [] = Unit {0}
 Ends s (t ∷ others) = joins s t ≡ false
 
-pieces_begin : (b : Placed) (bs : List Fragment) → (p : Fragment) × (rest : List Fragment) × (with_segment b bs ≡ p ∷ rest) × (p.head ≡ b)
+pieces_begin : (b : Sequenced) (bs : List Fragment) → (p : Fragment) × (rest : List Fragment) × (with_segment b bs ≡ p ∷ rest) × (p.head ≡ b)
 pieces_begin b [] = (record { head = b; others = [] }, [], refl, refl)
 pieces_begin b (p ∷ ps) = ⊎_elim
     (λ (yes : joins b p.head ≡ true). (record { head = b; others = segments p }, ps, rw yes refl, refl))
     (λ (other : joins b p.head ≡ false). (record { head = b; others = [] }, p ∷ ps, rw other refl, refl))
     (cases_Bool (joins b p.head))
 
-alone : (s b : Placed) (ps : List Fragment) (p : Fragment) (rest : List Fragment) → ps ≡ p ∷ rest → p.head ≡ b → joins s b ≡ false → with_segment s ps ≡ record { head = s; others = [] } ∷ ps
+alone : (s b : Sequenced) (ps : List Fragment) (p : Fragment) (rest : List Fragment) → ps ≡ p ∷ rest → p.head ≡ b → joins s b ≡ false → with_segment s ps ≡ record { head = s; others = [] } ∷ ps
 alone s b ps p rest is head other =
     let test : joins s p.head ≡ false = rw head other in
     rw is (rw test refl)
 
-pub chain_cut : (s : Placed) (front back : List Placed) → Chain s front → Ends (end_of s front) back → fragments_of (s ∷ front ++ back) ≡ record { head = s; others = front } ∷ fragments_of back
+pub chain_cut : (s : Sequenced) (front back : List Sequenced) → Chain s front → Ends (end_of s front) back → fragments_of (s ∷ front ++ back) ≡ record { head = s; others = front } ∷ fragments_of back
 unfolding Chain Ends
 chain_cut s [] [] chain end = refl
 chain_cut s [] (b ∷ back) chain end =
@@ -101,7 +101,7 @@ cut_off c cs n d within all other =
       first = record { head = counted_value c; others = values (take n cs) };
       is = refl;
       joined = ap (λ (l : List Counted). c ∷ l) split;
-      cut = ap (λ (l : List Placed). fragments_of (counted_value c ∷ l)) both ∙ chain_cut (counted_value c) (values (take n cs)) (values (drop n cs)) (chain_of c cs n within all) (ends_of c cs n d within other);
+      cut = ap (λ (l : List Sequenced). fragments_of (counted_value c ∷ l)) both ∙ chain_cut (counted_value c) (values (take n cs)) (values (drop n cs)) (chain_of c cs n within all) (ends_of c cs n d within other);
     }
 
 pub cut_at : (cs : List Counted) (end : ℕ) (d : Counted) → 1 ≤ end → end ≤ length cs
@@ -123,7 +123,7 @@ empty_of (x ∷ xs) none = absurd (omega arith)
 no_digits : Spell [] 0
 no_digits = ((λ k d below. absurd (omega arith)), refl)
 
-pub spelled_all : (cs : List Counted) → AreSpelled cs → (n : ℕ) × Spell (payload_digits cs) n × (digit_bytes (payload_digits cs) ≡ flat_map (λ (s : Placed). s.payload) (values cs))
+pub spelled_all : (cs : List Counted) → AreSpelled cs → (n : ℕ) × Spell (payload_digits cs) n × (digit_bytes (payload_digits cs) ≡ flat_map (λ (s : Sequenced). s.payload) (values cs))
 spelled_all [] spelled = (0, no_digits, empty_of (digit_bytes []) (count_of [] 0 no_digits))
 spelled_all (c ∷ cs) spelled =
     let rest = spelled_all cs spelled.1 in
@@ -144,7 +144,7 @@ pub payload_is : (cs : List Counted) (p : Fragment) → AreSpelled cs → IsPiec
 payload_is cs p spelled is =
     let all = spelled_all cs spelled in
     let half : all.0 ≡ length (payload_digits cs) / 2 = omega (arith, all.1.1) in
-    let bytes : digit_bytes (payload_digits cs) ≡ payload p = all.2 ∙ ap (flat_map (λ (s : Placed). s.payload)) (sym is) in
+    let bytes : digit_bytes (payload_digits cs) ≡ payload p = all.2 ∙ ap (flat_map (λ (s : Sequenced). s.payload)) (sym is) in
     (bytes, subst (Spell (payload_digits cs)) half all.1, ap length (sym bytes) ∙ count_of (payload_digits cs) all.0 all.1 ∙ half)
 
 -- ---- text that is appended piece by piece
@@ -155,15 +155,15 @@ appended_twice start middle end p q one two = two ∙ ap (λ (l : List ℕ). l +
 -- ---- a message under its packet
 
 pub lines_append : (in_words : Bool) → (ms ns : List Message) (a b : List ℕ) → AreMessageLines in_words ms a → AreMessageLines in_words ns b → AreMessageLines in_words (ms ++ ns) (a ++ b)
-lines_append in_words [] ns a b no_more more = more
-lines_append in_words (m ∷ ms) ns a b (one_more first rest of_first others) more =
+lines_append in_words [] ns a b no_message_more more = more
+lines_append in_words (m ∷ ms) ns a b (one_message_more first rest of_first others) more =
     subst (AreMessageLines in_words ((m ∷ ms) ++ ns)) (sym (append_assoc (message_heading m.piece ++ first) rest b))
-    (one_more first (rest ++ b) of_first (lines_append in_words ms ns rest b others more))
+    (one_message_more first (rest ++ b) of_first (lines_append in_words ms ns rest b others more))
 
 -- nothing is under any packet
 pub under_none : (in_words : Bool) → (n : ℕ) (vs : List (Vec ℕ)) → UnderAll in_words [] n vs vs
 under_none in_words n [] = tt
-under_none in_words n (v ∷ vs) = (([], no_more, sym (append-nil v.items)), under_none in_words (n + 1) vs)
+under_none in_words n (v ∷ vs) = (([], no_message_more, sym (append-nil v.items)), under_none in_words (n + 1) vs)
 
 -- one list of messages, and then another
 pub under_both : (in_words : Bool) → (ms ns : List Message) (n : ℕ) (olds mids news : List (Vec ℕ)) → UnderAll in_words ms n olds mids → UnderAll in_words ns n mids news → UnderAll in_words (ms ++ ns) n olds news
@@ -189,7 +189,7 @@ under_later : (in_words : Bool) → (m : Message) (n : ℕ) (vs : List (Vec ℕ)
 under_later in_words m n [] below = tt
 under_later in_words m n (v ∷ vs) below =
     let none : filter (λ (k : Message). k.packet == n) (m ∷ []) ≡ [] = rw (apart_number m.packet n (λ e. omega (arith, e, below))) refl in
-    (([], subst (λ (l : List Message). AreMessageLines in_words l []) (sym none) no_more, sym (append-nil v.items)), under_later in_words m (n + 1) vs (omega (arith, below)))
+    (([], subst (λ (l : List Message). AreMessageLines in_words l []) (sym none) no_message_more, sym (append-nil v.items)), under_later in_words m (n + 1) vs (omega (arith, below)))
 
 -- one message, under its packet
 pub under_one : (in_words : Bool) → (m : Message) (n i : ℕ) (vs : List (Vec ℕ)) (new : Vec ℕ) (d : Vec ℕ) (lines : List ℕ) → m.packet ≡ n + i → i < length vs → IsMessagesText in_words (payload m.piece) lines
@@ -197,13 +197,13 @@ pub under_one : (in_words : Bool) → (m : Message) (n i : ℕ) (vs : List (Vec 
 under_one in_words m n i [] new d lines at within is added = absurd (omega arith)
 under_one in_words m n zero (v ∷ vs) new d lines at within is added =
     let here : filter (λ (k : Message). k.packet == n) (m ∷ []) ≡ m ∷ [] = rw (same_number m.packet n (omega (arith, at))) refl in
-    let lines_are = subst (AreMessageLines in_words (m ∷ [])) (append-nil (message_heading m.piece ++ lines)) (one_more lines [] is no_more) in (
+    let lines_are = subst (AreMessageLines in_words (m ∷ [])) (append-nil (message_heading m.piece ++ lines)) (one_message_more lines [] is no_message_more) in (
       (message_heading m.piece ++ lines, subst (λ (l : List Message). AreMessageLines in_words l (message_heading m.piece ++ lines)) (sym here) lines_are, added),
       under_later in_words m (n + 1) vs (omega (arith, at)),
     )
 under_one in_words m n (suc i) (v ∷ vs) new d lines at within is added =
     let none : filter (λ (k : Message). k.packet == n) (m ∷ []) ≡ [] = rw (apart_number m.packet n (λ e. omega (arith, e, at))) refl in (
-      ([], subst (λ (l : List Message). AreMessageLines in_words l []) (sym none) no_more, sym (append-nil v.items)),
+      ([], subst (λ (l : List Message). AreMessageLines in_words l []) (sym none) no_message_more, sym (append-nil v.items)),
       under_one in_words m (n + 1) i vs new d lines (omega (arith, at)) (omega (arith, within)) is added,
     )
 
@@ -254,15 +254,15 @@ some_one a b e = cc
 no_one : (a : Counted) → Some a ≡ None → ⊥
 no_one a e = cc
 
-gap_behind : (stream : Stream) (p : Fragment) (b : Placed) (bs : List Fragment) → gap_line stream p (with_segment b bs) ≡ gap_text stream (tail p).place b.place
+gap_behind : (stream : Stream) (p : Fragment) (b : Sequenced) (bs : List Fragment) → gap_line stream p (with_segment b bs) ≡ gap_text stream (tail p).sequence b.sequence
 unfolding gap_text
 gap_behind stream p b bs =
     let begin = pieces_begin b bs in
-    ap (gap_line stream p) begin.2 ∙ ap (λ (q : Placed). gap_text stream (tail p).place q.place) begin.3
+    ap (gap_line stream p) begin.2 ∙ ap (λ (q : Sequenced). gap_text stream (tail p).sequence q.sequence) begin.3
 
-gap_is : (stream : Stream) (p : Fragment) (others : List Counted) (next : Counted) → Some next ≡ slice_get others 0 → gap_line stream p (fragments_of (values others)) ≡ gap_text stream (tail p).place next.place
+gap_is : (stream : Stream) (p : Fragment) (others : List Counted) (next : Counted) → Some next ≡ slice_get others 0 → gap_line stream p (fragments_of (values others)) ≡ gap_text stream (tail p).sequence next.sequence
 gap_is stream p [] next is = absurd (no_one next is)
-gap_is stream p (o ∷ others) next is = gap_behind stream p (counted_value o) (fragments_of (values others)) ∙ ap (λ (c : Counted). gap_text stream (tail p).place c.place) (sym (some_one next o is))
+gap_is stream p (o ∷ others) next is = gap_behind stream p (counted_value o) (fragments_of (values others)) ∙ ap (λ (c : Counted). gap_text stream (tail p).sequence c.sequence) (sym (some_one next o is))
 
 not_beyond : (a b : ℕ) → b ≤ a + 1 → nat_lt (a + 1) b ≡ false
 not_beyond a b near = grind (arith, nat_tests)
@@ -270,12 +270,12 @@ not_beyond a b near = grind (arith, nat_tests)
 is_beyond : (a b : ℕ) → a + 1 < b → nat_lt (a + 1) b ≡ true
 is_beyond a b far = grind (arith, nat_tests)
 
-pub no_gap : (stream : Stream) (p : Fragment) (others : List Counted) (next : Counted) → Some next ≡ slice_get others 0 → next.place ≤ (tail p).place + 1
+pub no_gap : (stream : Stream) (p : Fragment) (others : List Counted) (next : Counted) → Some next ≡ slice_get others 0 → next.sequence ≤ (tail p).sequence + 1
     → gap_line stream p (fragments_of (values others)) ≡ []
 unfolding gap_text
-no_gap stream p others next is near = gap_is stream p others next is ∙ rw (not_beyond (tail p).place next.place near) refl
+no_gap stream p others next is near = gap_is stream p others next is ∙ rw (not_beyond (tail p).sequence next.sequence near) refl
 
-pub a_gap : (stream : Stream) (p : Fragment) (others : List Counted) (next : Counted) → Some next ≡ slice_get others 0 → (tail p).place + 1 < next.place
-    → gap_line stream p (fragments_of (values others)) ≡ codes "gap" ++ (stream_text stream ++ (range_text ((tail p).place + 1) (next.place - 1) ++ line_feed))
+pub a_gap : (stream : Stream) (p : Fragment) (others : List Counted) (next : Counted) → Some next ≡ slice_get others 0 → (tail p).sequence + 1 < next.sequence
+    → gap_line stream p (fragments_of (values others)) ≡ codes "gap" ++ (stream_text stream ++ (range_text ((tail p).sequence + 1) (next.sequence - 1) ++ line_feed))
 unfolding gap_text
-a_gap stream p others next is far = gap_is stream p others next is ∙ rw (is_beyond (tail p).place next.place far) refl
+a_gap stream p others next is far = gap_is stream p others next is ∙ rw (is_beyond (tail p).sequence next.sequence far) refl

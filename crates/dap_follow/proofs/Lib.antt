@@ -1,5 +1,5 @@
 pub mod ForCallers
-pub mod PlacingLemmas
+pub mod InOrderLemmas
 pub mod NameLemmas
 pub mod KeepingLemmas
 pub mod ReadingLemmas

@@ -76,7 +76,7 @@ pub if_err_and : {A : Type 0} (r : Result A CaptureFault) (P Q : CaptureFault �
 if_err_and (Ok a) P Q h g = tt
 if_err_and (Err f) P Q h g = g f h
 
--- what is at the place after some of a list
+-- what is at the index after some of a list
 pub frame_here : (told before rest : List (List (List ℕ))) (frame : List (List ℕ)) (n : ℕ) → told ≡ before ++ frame ∷ rest → length before ≡ n → frame_of told (n + 1) ≡ frame
 frame_here told before rest frame n is count =
     let at : n + 1 - 1 ≡ length before = omega (arith, count) in

@@ -10,7 +10,7 @@ use Rattle.dap_follow.specs.Joined.{Message, Fragment, is_message, latest, fragm
 use Rattle.dap_follow.specs.Following.{gap_line, part_line, rest_lines}
 use Rattle.dap_follow.specs.Inner.Keeping.{IsCounted}
 use Rattle.dap_follow.specs.Inner.Listing.{AreSpelled, IsCutOff, IsPiece, ListsPiece, UnderAll, piece_message, values}
-use Rattle.dap_follow.specs.declared.places.Counted.{Counted}
+use Rattle.dap_follow.specs.declared.segments.Counted.{Counted}
 use Rattle.dap_follow.specs.declared.streams.Stream.{Stream}
 use Rattle.dap_follow.proofs.JoiningLemmas.{under_both}
 
@@ -36,9 +36,9 @@ latest_low : (n : ℕ) (cs : List Counted) → AllByRecursion (IsCounted n) cs �
 latest_low n [] good some = absurd (omega arith)
 latest_low n (c ∷ cs) good some = omega (arith, good.0.0)
 
--- ---- the pieces before a place, the next one, and the others
+-- ---- the pieces before an index, the next one, and the others
 
--- the segments are those before a place, those of a piece and the others
+-- the segments are those before an index, those of a piece and the others
 split_at : (o : List Counted) (a n : ℕ) → o ≡ take a o ++ (take n (drop a o) ++ drop n (drop a o))
 split_at o a n = sym (take-append-drop a o) ∙ ap (λ (l : List Counted). take a o ++ l) (sym (take-append-drop n (drop a o)))
 

@@ -12,17 +12,17 @@ use Rattle.std.proofs.lemmas.Bool.Decides.{nat_tests}
 use Rattle.std.proofs.lemmas.Grind.{flat_map-append}
 use Rattle.std.proofs.lemmas.List.{append_assoc, append-nil, map-append, take_all}
 use Rattle.std.proofs.lemmas.Map.Keys.{IsStrictlyIncreasing-from_sorted}
-use Rattle.dap_follow.specs.Streams.{ArePlaced, IsOrdered, Captured, came_in, first_place}
+use Rattle.dap_follow.specs.Streams.{AreSequenced, IsOrdered, Captured, came_in, first_sequence}
 use Rattle.dap_follow.specs.Joined.{Message, messages, fragments_of}
 use Rattle.dap_follow.specs.Following.{IsMessageText, IsFollowedPacketText, frame_of, packet_line, rest_lines}
 use Rattle.dap_follow.specs.Inner.Keeping.{KeepsEach, KeepsStream}
 use Rattle.dap_follow.specs.Segments.{NumberedSegment}
-use Rattle.dap_follow.specs.Inner.Listing.{AreMessageLines, UnderAll, all_rest_lines, message_heading, no_more, one_more, values}
-use Rattle.dap_follow.specs.Inner.Placing.{RisesCounted}
+use Rattle.dap_follow.specs.Inner.Listing.{AreMessageLines, UnderAll, all_rest_lines, message_heading, no_message_more, one_message_more, values}
+use Rattle.dap_follow.specs.Inner.InOrder.{RisesCounted}
 use Rattle.dap_follow.specs.Inner.Reading.{line_texts}
 use Rattle.dap_follow.specs.Inner.Whole.{ordered_of, joined_texts}
-use Rattle.dap_follow.specs.declared.places.Counted.{Counted}
-use Rattle.dap_follow.specs.declared.places.Places.{Places}
+use Rattle.dap_follow.specs.declared.segments.Counted.{Counted}
+use Rattle.dap_follow.specs.declared.segments.StreamSegments.{StreamSegments}
 use Rattle.dap_follow.specs.declared.streams.Stream.{Stream}
 use Rattle.dap_follow.proofs.JoiningLemmas.{under_both}
 
@@ -31,13 +31,13 @@ use Rattle.dap_follow.proofs.JoiningLemmas.{under_both}
 none_some : {X : Type 0} (x : X) → None ≡ Some x → ⊥
 none_some x e = cc
 
-pub kept_one : (packets : List Captured) (i : ℕ) (keys : List Stream) (places : List Places) (d : Places) → KeepsEach packets keys places → i < length places
-    → (s : Stream) × (slice_get keys i ≡ Some s) × KeepsStream packets s (get_or places i d)
+pub kept_one : (packets : List Captured) (i : ℕ) (keys : List Stream) (by_stream : List StreamSegments) (d : StreamSegments) → KeepsEach packets keys by_stream → i < length by_stream
+    → (s : Stream) × (slice_get keys i ≡ Some s) × KeepsStream packets s (get_or by_stream i d)
 kept_one packets i [] [] d each below = absurd (omega arith)
-kept_one packets i [] (p ∷ places) d each below = absurd each
+kept_one packets i [] (p ∷ by_stream) d each below = absurd each
 kept_one packets i (s ∷ keys) [] d each below = absurd each
-kept_one packets zero (s ∷ keys) (p ∷ places) d each below = (s, refl, each.0)
-kept_one packets (suc i) (s ∷ keys) (p ∷ places) d each below = kept_one packets i keys places d each.1 (omega arith)
+kept_one packets zero (s ∷ keys) (p ∷ by_stream) d each below = (s, refl, each.0)
+kept_one packets (suc i) (s ∷ keys) (p ∷ by_stream) d each below = kept_one packets i keys by_stream d each.1 (omega arith)
 
 drop_key : (keys : List Stream) (i : ℕ) (s : Stream) → slice_get keys i ≡ Some s → drop i keys ≡ s ∷ drop (i + 1) keys
 drop_key [] i s is = absurd (none_some s is)
@@ -46,28 +46,28 @@ drop_key (k ∷ keys) (suc i) s is = rw add-one (rw add-one at (drop_key keys i 
 
 -- ---- one stream more
 
-pub under_more : (in_words : Bool) → (places : List Places) (i : ℕ) (d : Places) (olds mids news : List (Vec ℕ)) → i < length places → UnderAll in_words (flat_map messages (ordered_of (take i places))) 1 olds mids
-    → UnderAll in_words (messages (values (get_or places i d).ordered.items)) 1 mids news → UnderAll in_words (flat_map messages (ordered_of (take (i + 1) places))) 1 olds news
-under_more in_words places i d olds mids news below before one =
-    let p = get_or places i d in
-    let more : take (i + 1) places ≡ take i places ++ p ∷ [] = rw add-one (take-suc places i d below) in
-    let all : flat_map messages (ordered_of (take (i + 1) places)) ≡ flat_map messages (ordered_of (take i places)) ++ messages (values p.ordered.items) =
-    ap (λ (l : List Places). flat_map messages (ordered_of l)) more
-    ∙ ap (flat_map messages) (map-append (λ (q : Places). values q.ordered.items) (take i places) (p ∷ []))
-    ∙ flat_map-append messages (ordered_of (take i places)) (values p.ordered.items ∷ [])
-    ∙ ap (λ (l : List Message). flat_map messages (ordered_of (take i places)) ++ l) (append-nil (messages (values p.ordered.items))) in
+pub under_more : (in_words : Bool) → (by_stream : List StreamSegments) (i : ℕ) (d : StreamSegments) (olds mids news : List (Vec ℕ)) → i < length by_stream → UnderAll in_words (flat_map messages (ordered_of (take i by_stream))) 1 olds mids
+    → UnderAll in_words (messages (values (get_or by_stream i d).ordered.items)) 1 mids news → UnderAll in_words (flat_map messages (ordered_of (take (i + 1) by_stream))) 1 olds news
+under_more in_words by_stream i d olds mids news below before one =
+    let p = get_or by_stream i d in
+    let more : take (i + 1) by_stream ≡ take i by_stream ++ p ∷ [] = rw add-one (take-suc by_stream i d below) in
+    let all : flat_map messages (ordered_of (take (i + 1) by_stream)) ≡ flat_map messages (ordered_of (take i by_stream)) ++ messages (values p.ordered.items) =
+    ap (λ (l : List StreamSegments). flat_map messages (ordered_of l)) more
+    ∙ ap (flat_map messages) (map-append (λ (q : StreamSegments). values q.ordered.items) (take i by_stream) (p ∷ []))
+    ∙ flat_map-append messages (ordered_of (take i by_stream)) (values p.ordered.items ∷ [])
+    ∙ ap (λ (l : List Message). flat_map messages (ordered_of (take i by_stream)) ++ l) (append-nil (messages (values p.ordered.items))) in
     subst (λ (ms : List Message). UnderAll in_words ms 1 olds news) (sym all) (under_both in_words _ _ 1 olds mids news before one)
 
-pub left_more : (keys : List Stream) (places : List Places) (i : ℕ) (d : Places) (s : Stream) (old new whole : List ℕ) → i < length places → slice_get keys i ≡ Some s
-    → new ≡ old ++ rest_lines s (fragments_of (values (get_or places i d).ordered.items))
-    → old ++ all_rest_lines (drop i keys) (ordered_of (drop i places)) ≡ whole → new ++ all_rest_lines (drop (i + 1) keys) (ordered_of (drop (i + 1) places)) ≡ whole
-left_more keys places i d s old new whole below is added before =
-    let p = get_or places i d in
+pub left_more : (keys : List Stream) (by_stream : List StreamSegments) (i : ℕ) (d : StreamSegments) (s : Stream) (old new whole : List ℕ) → i < length by_stream → slice_get keys i ≡ Some s
+    → new ≡ old ++ rest_lines s (fragments_of (values (get_or by_stream i d).ordered.items))
+    → old ++ all_rest_lines (drop i keys) (ordered_of (drop i by_stream)) ≡ whole → new ++ all_rest_lines (drop (i + 1) keys) (ordered_of (drop (i + 1) by_stream)) ≡ whole
+left_more keys by_stream i d s old new whole below is added before =
+    let p = get_or by_stream i d in
     let line = rest_lines s (fragments_of (values p.ordered.items)) in
-    let others = all_rest_lines (drop (i + 1) keys) (ordered_of (drop (i + 1) places)) in
-    let place : drop i places ≡ p ∷ drop (i + 1) places = rw add-one (drop-cons places i d below) in
-    let both : all_rest_lines (drop i keys) (ordered_of (drop i places)) ≡ line ++ others =
-    ap (λ (l : List Stream). all_rest_lines l (ordered_of (drop i places))) (drop_key keys i s is) ∙ ap (λ (l : List Places). all_rest_lines (s ∷ drop (i + 1) keys) (ordered_of l)) place in
+    let others = all_rest_lines (drop (i + 1) keys) (ordered_of (drop (i + 1) by_stream)) in
+    let sequence : drop i by_stream ≡ p ∷ drop (i + 1) by_stream = rw add-one (drop-cons by_stream i d below) in
+    let both : all_rest_lines (drop i keys) (ordered_of (drop i by_stream)) ≡ line ++ others =
+    ap (λ (l : List Stream). all_rest_lines l (ordered_of (drop i by_stream))) (drop_key keys i s is) ∙ ap (λ (l : List StreamSegments). all_rest_lines (s ∷ drop (i + 1) keys) (ordered_of l)) sequence in
     ap (λ (l : List ℕ). l ++ others) added ∙ append_assoc old line others ∙ ap (λ (l : List ℕ). old ++ l) (sym both) ∙ before
 
 -- ---- the segments that are kept are those in order
@@ -75,28 +75,28 @@ left_more keys places i d s old new whole below is added before =
 less_is : (a b : ℕ) → a < b → nat_cmp a b ≡ Less
 less_is a b below = grind (arith, nat_tests)
 
-sorted_each : (n : ℕ) (cs : List Counted) → AllByRecursion (λ c. n < c.place) cs → AllByRecursion (λ y. nat_cmp n y ≡ Less) (map (λ s. s.place) (values cs))
+sorted_each : (n : ℕ) (cs : List Counted) → AllByRecursion (λ c. n < c.sequence) cs → AllByRecursion (λ y. nat_cmp n y ≡ Less) (map (λ s. s.sequence) (values cs))
 sorted_each n [] above = tt
-sorted_each n (c ∷ cs) above = (less_is n c.place above.0, sorted_each n cs above.1)
+sorted_each n (c ∷ cs) above = (less_is n c.sequence above.0, sorted_each n cs above.1)
 
-sorted_places : (cs : List Counted) → RisesCounted cs → IsStrictlySortedBy nat_cmp (map (λ s. s.place) (values cs))
+sorted_sequences : (cs : List Counted) → RisesCounted cs → IsStrictlySortedBy nat_cmp (map (λ s. s.sequence) (values cs))
 unfolding IsStrictlySortedBy
-sorted_places [] rises = tt
-sorted_places (c ∷ cs) rises = (sorted_each c.place cs rises.0, sorted_places cs rises.1)
+sorted_sequences [] rises = tt
+sorted_sequences (c ∷ cs) rises = (sorted_each c.sequence cs rises.0, sorted_sequences cs rises.1)
 
-is_ordered : (packets : List Captured) (s : Stream) (p : Places) → KeepsStream packets s p → IsOrdered (came_in s packets) (values p.ordered.items)
+is_ordered : (packets : List Captured) (s : Stream) (p : StreamSegments) → KeepsStream packets s p → IsOrdered (came_in s packets) (values p.ordered.items)
 is_ordered packets s p k = record {
-  placed = k.keeps.placed;
-  are_placed = subst (λ (l : List NumberedSegment). ArePlaced (first_place l) l k.keeps.placed) (sym k.are) k.keeps.are_placed;
-  ascending = IsStrictlyIncreasing-from_sorted (map (λ s. s.place) (values p.ordered.items)) (sorted_places p.ordered.items k.keeps.rises);
+  sequenced = k.keeps.sequenced;
+  are_sequenced = subst (λ (l : List NumberedSegment). AreSequenced (first_sequence l) l k.keeps.sequenced) (sym k.are) k.keeps.are_sequenced;
+  ascending = IsStrictlyIncreasing-from_sorted (map (λ s. s.sequence) (values p.ordered.items)) (sorted_sequences p.ordered.items k.keeps.rises);
   same = k.keeps.same;
 }
 
-pub are_ordered : (packets : List Captured) (keys : List Stream) (places : List Places) → KeepsEach packets keys places → AllZip (λ stream. IsOrdered (came_in stream packets)) keys (ordered_of places)
+pub are_ordered : (packets : List Captured) (keys : List Stream) (by_stream : List StreamSegments) → KeepsEach packets keys by_stream → AllZip (λ stream. IsOrdered (came_in stream packets)) keys (ordered_of by_stream)
 are_ordered packets [] [] each = tt
-are_ordered packets [] (p ∷ places) each = absurd each
+are_ordered packets [] (p ∷ by_stream) each = absurd each
 are_ordered packets (s ∷ keys) [] each = absurd each
-are_ordered packets (s ∷ keys) (p ∷ places) each = (is_ordered packets s p each.0, are_ordered packets keys places each.1)
+are_ordered packets (s ∷ keys) (p ∷ by_stream) each = (is_ordered packets s p each.0, are_ordered packets keys by_stream each.1)
 
 -- ---- the lines of all packets
 
@@ -111,8 +111,8 @@ same_parts a b xs ys e = ((let first : a ≡ b = cc in first), (let rest : xs �
 
 -- each message has its text
 message_texts : (in_words : Bool) → (ms : List Message) (lines : List ℕ) → AreMessageLines in_words ms lines → (texts : List (List ℕ)) × AllZip (λ m. IsMessageText in_words m.piece) ms texts × (lines ≡ concat texts)
-message_texts in_words [] _ no_more = ([], tt, refl)
-message_texts in_words (m ∷ ms) _ (one_more lines rest is others) =
+message_texts in_words [] _ no_message_more = ([], tt, refl)
+message_texts in_words (m ∷ ms) _ (one_message_more lines rest is others) =
     let each = message_texts in_words ms rest others in
     let head = message_heading m.piece in
     ((head ++ lines) ∷ each.0, ((lines, is, refl), each.1), ap (λ (l : List ℕ). (head ++ lines) ++ l) each.2)
@@ -137,23 +137,23 @@ pub texts_joined : (vs : List (Vec ℕ)) → joined_texts vs ≡ concat (map (λ
 texts_joined [] = refl
 texts_joined (v ∷ vs) = ap (λ (l : List ℕ). v.items ++ l) (texts_joined vs)
 
-pub key_there : (packets : List Captured) (i : ℕ) (keys : List Stream) (places : List Places) → KeepsEach packets keys places → i < length places → slice_get keys i ≡ None → ⊥
+pub key_there : (packets : List Captured) (i : ℕ) (keys : List Stream) (by_stream : List StreamSegments) → KeepsEach packets keys by_stream → i < length by_stream → slice_get keys i ≡ None → ⊥
 key_there packets i [] [] each below none = absurd (omega arith)
-key_there packets i [] (p ∷ places) each below none = each
+key_there packets i [] (p ∷ by_stream) each below none = each
 key_there packets i (s ∷ keys) [] each below none = each
-key_there packets zero (s ∷ keys) (p ∷ places) each below none = none_some s (sym none)
-key_there packets (suc i) (s ∷ keys) (p ∷ places) each below none = key_there packets i keys places each.1 (omega arith) none
+key_there packets zero (s ∷ keys) (p ∷ by_stream) each below none = none_some s (sym none)
+key_there packets (suc i) (s ∷ keys) (p ∷ by_stream) each below none = key_there packets i keys by_stream each.1 (omega arith) none
 
 no_rest : (keys : List Stream) → all_rest_lines keys [] ≡ []
 no_rest [] = refl
 no_rest (s ∷ keys) = refl
 
 -- all streams were listed
-pub left_all : (keys : List Stream) (places : List Places) (i : ℕ) (rest whole : List ℕ) → length places ≤ i → rest ++ all_rest_lines (drop i keys) (ordered_of (drop i places)) ≡ whole → rest ≡ whole
-left_all keys places i rest whole end is =
-    let none : drop i places ≡ [] = drop_of_length-le places end in
-    sym (append-nil rest) ∙ ap (λ (l : List ℕ). rest ++ l) (sym (ap (λ (l : List Places). all_rest_lines (drop i keys) (ordered_of l)) none ∙ no_rest (drop i keys))) ∙ is
+pub left_all : (keys : List Stream) (by_stream : List StreamSegments) (i : ℕ) (rest whole : List ℕ) → length by_stream ≤ i → rest ++ all_rest_lines (drop i keys) (ordered_of (drop i by_stream)) ≡ whole → rest ≡ whole
+left_all keys by_stream i rest whole end is =
+    let none : drop i by_stream ≡ [] = drop_of_length-le by_stream end in
+    sym (append-nil rest) ∙ ap (λ (l : List ℕ). rest ++ l) (sym (ap (λ (l : List StreamSegments). all_rest_lines (drop i keys) (ordered_of l)) none ∙ no_rest (drop i keys))) ∙ is
 
-pub under_whole : (in_words : Bool) → (places : List Places) (i : ℕ) (olds news : List (Vec ℕ)) → length places ≤ i → UnderAll in_words (flat_map messages (ordered_of (take i places))) 1 olds news
-    → UnderAll in_words (flat_map messages (ordered_of places)) 1 olds news
-under_whole in_words places i olds news end under = subst (λ (l : List Places). UnderAll in_words (flat_map messages (ordered_of l)) 1 olds news) (take_all i places end) under
+pub under_whole : (in_words : Bool) → (by_stream : List StreamSegments) (i : ℕ) (olds news : List (Vec ℕ)) → length by_stream ≤ i → UnderAll in_words (flat_map messages (ordered_of (take i by_stream))) 1 olds news
+    → UnderAll in_words (flat_map messages (ordered_of by_stream)) 1 olds news
+under_whole in_words by_stream i olds news end under = subst (λ (l : List StreamSegments). UnderAll in_words (flat_map messages (ordered_of l)) 1 olds news) (take_all i by_stream end) under

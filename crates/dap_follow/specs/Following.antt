@@ -5,7 +5,7 @@ use Rattle.std.specs.Fmt.{decimal}
 use Rattle.hex.specs.Hex.{decode_of}
 use Rattle.dap_text.specs.Text.{line_feed, word_text}
 use Rattle.dap_meanings.specs.Meanings.{packet_words, with_words}
-use Rattle.linewise.specs.Gives.{Gives}
+use Rattle.linewise.specs.Gives.{GivesText}
 use Rattle.dap_listing.specs.Listing.{arrow_text, captures, frames, heading, packet_limit, faults_from}
 use Rattle.dap_listing.specs.Lines.{Capture}
 use Rattle.dap_listing.specs.Messages.{IsMessagesText}
@@ -13,7 +13,7 @@ use Rattle.dap_listing.specs.Packets.{IsSeen, seen_line}
 use Rattle.linewise.specs.declared.fault.CaptureFault.{CaptureFault}
 use Rattle.linewise.specs.declared.fault.Outcome.{Outcome}
 use Rattle.linewise.specs.declared.fault.Outcome.TheVariants.{Good}
-use Rattle.dap_follow.specs.Streams.{IsOrdered, Captured, Placed, came_in, streams}
+use Rattle.dap_follow.specs.Streams.{IsOrdered, Captured, Sequenced, came_in, streams}
 use Rattle.dap_follow.specs.Joined.{Message, Fragment, is_message, messages, payload, fragments_of, tail}
 use Rattle.dap_follow.specs.declared.streams.Stream.{Stream}
 
@@ -32,7 +32,7 @@ length_text bytes = concat (codes " len=" ∷ decimal (length bytes) ∷ line_fe
 
 -- after a word, the numbers of the first and last segment, and how many bytes they have
 abbrev pub piece_text : List ℕ → Fragment → List ℕ
-piece_text word p = word ++ (range_text p.head.place (tail p).place ++ length_text (payload p))
+piece_text word p = word ++ (range_text p.head.sequence (tail p).sequence ++ length_text (payload p))
 
 -- the lines of a message: its heading, and those of the DAP messages in it
 abbrev pub IsMessageText : (in_words : Bool) → Fragment → List ℕ → Type 0
@@ -51,7 +51,7 @@ packet_line in_words frame number packet =
 abbrev pub frame_of : List (List (List ℕ)) → ℕ → List (List ℕ)
 frame_of frames number = get_or frames (number - 1) []
 
--- the lines of a packet: its own, and those of the messages that it completes
+-- the lines of a packet: the line of the packet itself, and those of the messages that it completes
 abbrev pub IsFollowedPacketText : (in_words : Bool) → (frames : List (List (List ℕ))) → (all : List Message) → ℕ × Captured → List ℕ → Type 0
 IsFollowedPacketText in_words frames all (number, packet) text =
     (texts : List (List ℕ)) × AllZip (λ m. IsMessageText in_words m.piece) (filter (λ m. m.packet == number) all) texts
@@ -69,8 +69,8 @@ part_line stream p = if is_message p then [] else codes "part" ++ piece_text (st
 abbrev pub gap_line : Stream → Fragment → List Fragment → List ℕ
 gap_line stream p [] = []
 gap_line stream p (next ∷ others) =
-    if nat_lt ((tail p).place + 1) next.head.place
-    then codes "gap" ++ (stream_text stream ++ (range_text ((tail p).place + 1) (next.head.place - 1) ++ line_feed)) else []
+    if nat_lt ((tail p).sequence + 1) next.head.sequence
+    then codes "gap" ++ (stream_text stream ++ (range_text ((tail p).sequence + 1) (next.head.sequence - 1) ++ line_feed)) else []
 
 -- the parts and gaps of a stream, in order
 abbrev pub rest_lines : Stream → List Fragment → List ℕ
@@ -80,7 +80,7 @@ rest_lines stream (p ∷ others) = part_line stream p ++ gap_line stream p other
 -- the lines of the packets, and after them the parts and gaps of each stream
 pub record IsFollowed (in_words : Bool) (captured : List Capture) (frames : List (List (List ℕ))) (text : List ℕ) : Type 0 where
   pub packets : List Captured
-  pub ordered : List (List Placed)
+  pub ordered : List (List Sequenced)
   pub texts : List (List ℕ)
   pub are_seen : AllZip IsCaptured captured packets
   pub are_ordered : AllZip (λ stream. IsOrdered (came_in stream packets)) (streams packets) ordered
@@ -90,4 +90,4 @@ pub record IsFollowed (in_words : Bool) (captured : List Capture) (frames : List
 -- what `follow` does with an input
 abbrev pub FollowGives : (in_words : Bool) → List ℕ → Option (List ℕ) → Option (List ℕ) → Result Outcome CaptureFault → Type 0
 FollowGives in_words input =
-    Gives (faults_from packet_limit 1 input) (λ outcome text. (outcome ≡ Good) × IsFollowed in_words (captures packet_limit input) (frames packet_limit input) text) input
+    GivesText (faults_from packet_limit 1 input) (λ outcome text. (outcome ≡ Good) × IsFollowed in_words (captures packet_limit input) (frames packet_limit input) text) input

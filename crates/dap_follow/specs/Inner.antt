@@ -1,5 +1,5 @@
 -- What only the contracts of private functions cite, and proofs: nobody has to believe it.
-pub mod Placing
+pub mod InOrder
 pub mod Keeping
 pub mod Reading
 pub mod Listing

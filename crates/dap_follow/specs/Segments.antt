@@ -5,7 +5,7 @@ use Rattle.nsp_seg.specs.declared.packet.SegmentFields.{SegmentFields}
 use Rattle.dap_listing.specs.Captured.{segment_fields}
 use Rattle.dap_listing.specs.declared.captured.CapturedSegment.{CapturedSegment}
 use Rattle.dap_listing.specs.declared.lines.Direction.{Direction}
-use Rattle.dap_follow.specs.Streams.{Captured, Placed, is_same}
+use Rattle.dap_follow.specs.Streams.{Captured, Sequenced, is_same}
 use Rattle.dap_follow.specs.declared.streams.Stream.{Stream}
 
 -- a segment, and the number of its packet
@@ -13,8 +13,8 @@ abbrev pub NumberedSegment : Type 0
 NumberedSegment = ℕ × SegmentFields
 
 -- it with its sequence number without modulus
-abbrev pub placed_at : ℕ → NumberedSegment → Placed
-placed_at place c = record { place = place; packet = c.0; first = c.1.first; last = c.1.last; payload = c.1.payload }
+abbrev pub sequenced_at : ℕ → NumberedSegment → Sequenced
+sequenced_at sequence c = record { sequence = sequence; packet = c.0; first = c.1.first; last = c.1.last; payload = c.1.payload }
 
 -- a captured one
 abbrev pub numbered_segment : ℕ → CapturedSegment → NumberedSegment
@@ -25,9 +25,9 @@ abbrev pub captured_segment : Direction → CapturedSegment → Captured
 captured_segment way c = (way, Ok (Segment (segment_fields c)))
 
 -- the highest of their sequence numbers, and of one before them
-abbrev pub highest_in : ℕ → List Placed → ℕ
+abbrev pub highest_in : ℕ → List Sequenced → ℕ
 highest_in highest [] = highest
-highest_in highest (s ∷ others) = highest_in (max highest s.place) others
+highest_in highest (s ∷ others) = highest_in (max highest s.sequence) others
 
 -- this stream is at this index
 abbrev pub HasStreamAt : Stream → ℕ → List Stream → Type 0

@@ -39,11 +39,11 @@ came_as stream number packet =
 abbrev pub came_in : Stream → List Captured → List (ℕ × SegmentFields)
 came_in stream packets = filter_map (λ (number, packet). came_as stream number packet) (enumerate_from 1 packets)
 
--- ---- places
+-- ---- sequence numbers
 
--- a segment with its sequence number without modulus (`place`), and the number of its packet
-pub record Placed : Type 0 where
-  pub place : ℕ
+-- a segment with its sequence number without modulus (`sequence`), and the number of its packet
+pub record Sequenced : Type 0 where
+  pub sequence : ℕ
   pub packet : ℕ
   pub first : Bool
   pub last : Bool
@@ -51,25 +51,25 @@ pub record Placed : Type 0 where
 
 -- Each number without modulus is the segment's number modulo 4,096, and is from 2,047 below to 2,048 above the
 -- highest one before it.
-pub data ArePlaced : ℕ → List (ℕ × SegmentFields) → List Placed → Type 0 where
-  no_more : {highest : ℕ} → ArePlaced highest [] []
-  one_more : {highest : ℕ} {c : ℕ × SegmentFields} {others : List (ℕ × SegmentFields)} {rest : List Placed} (place : ℕ)
-      → highest ≤ place + 2047 → place ≤ highest + 2048 → place % 4096 ≡ c.1.number
-      → ArePlaced (max highest place) others rest
-      → ArePlaced highest (c ∷ others) (record { place = place; packet = c.0; first = c.1.first; last = c.1.last; payload = c.1.payload } ∷ rest)
+pub data AreSequenced : ℕ → List (ℕ × SegmentFields) → List Sequenced → Type 0 where
+  no_more : {highest : ℕ} → AreSequenced highest [] []
+  one_more : {highest : ℕ} {c : ℕ × SegmentFields} {others : List (ℕ × SegmentFields)} {rest : List Sequenced} (sequence : ℕ)
+      → highest ≤ sequence + 2047 → sequence ≤ highest + 2048 → sequence % 4096 ≡ c.1.number
+      → AreSequenced (max highest sequence) others rest
+      → AreSequenced highest (c ∷ others) (record { sequence = sequence; packet = c.0; first = c.1.first; last = c.1.last; payload = c.1.payload } ∷ rest)
 
 -- The first one has its number plus 4,096.
-abbrev pub first_place : List (ℕ × SegmentFields) → ℕ
-first_place [] = 0
-first_place (c ∷ others) = c.1.number + 4096
+abbrev pub first_sequence : List (ℕ × SegmentFields) → ℕ
+first_sequence [] = 0
+first_sequence (c ∷ others) = c.1.number + 4096
 
 -- the segment with a sequence number: if there are several, the first that came
-abbrev pub at : ℕ → List Placed → Option Placed
-at place = find (λ s. s.place == place)
+abbrev pub at : ℕ → List Sequenced → Option Sequenced
+at sequence = find (λ s. s.sequence == sequence)
 
 -- The segments that count, in the order of their numbers: one for each number that came.
-pub record IsOrdered (came : List (ℕ × SegmentFields)) (ordered : List Placed) : Type 0 where
-  pub placed : List Placed
-  pub are_placed : ArePlaced (first_place came) came placed
-  pub ascending : IsStrictlyIncreasing (map (λ s. s.place) ordered)
-  pub same : (place : ℕ) → at place ordered ≡ at place placed
+pub record IsOrdered (came : List (ℕ × SegmentFields)) (ordered : List Sequenced) : Type 0 where
+  pub sequenced : List Sequenced
+  pub are_sequenced : AreSequenced (first_sequence came) came sequenced
+  pub ascending : IsStrictlyIncreasing (map (λ s. s.sequence) ordered)
+  pub same : (sequence : ℕ) → at sequence ordered ≡ at sequence sequenced

@@ -1,4 +1,4 @@
-//! The listing of a capture with its messages joined.
+//! The listing of a capture in which messages are reassembled.
 
 ghost use Rattle.std.specs.Prelude.{◌≡◌, ◌≤◌, ◌++◌, [], IfErr, IfOk, IfSome, OnOk, length, IsErrOf};
 ghost use Rattle.linewise.specs.declared.fault.CaptureFault.TheVariants.{TooLarge};
@@ -30,13 +30,13 @@ fn list_streams(
     let mut rest = Vec::new(alloc);
     let mut room = Room::new(alloc);
     let mut at = 0;
-    while at < streams.places.len() {
+    while at < streams.by_stream.len() {
         let Some(stream) = streams.names.get_index(at) else {
             unreachable!()
         };
         list_stream(
             stream,
-            &streams.places[at].ordered,
+            &streams.by_stream[at].ordered,
             lines,
             &mut rest,
             &mut room,
@@ -47,7 +47,7 @@ fn list_streams(
     Ok(rest)
 }
 
-/// All lines, and the text after them.
+/// Returns all lines, and the text after them.
 fn join(alloc: Global, lines: &[Vec<u8>], rest: &[u8]) -> Result<Vec<u8>, AllocError>
     ensures { IfOk result (λ text. text.items ≡ joined_texts lines.now ++ rest.now) }
 {
@@ -59,7 +59,7 @@ fn join(alloc: Global, lines: &[Vec<u8>], rest: &[u8]) -> Result<Vec<u8>, AllocE
     Ok(text)
 }
 
-/// The listing of an input up to its first line at fault.
+/// Returns the listing of an input up to its first line at fault.
 fn follow_lines(alloc: Global, input: &[u8], in_words: bool) -> Result<Vec<u8>, CaptureFault>
     requires { length input.now ≤ MAX_INPUT }
     ensures whole { IfOk result (λ text. IsFollowed in_words (captures packet_limit input.now)
@@ -72,7 +72,7 @@ fn follow_lines(alloc: Global, input: &[u8], in_words: bool) -> Result<Vec<u8>, 
     Ok(join(alloc, &lines, &rest)?)
 }
 
-/// Whether no line of an input is at fault, or else the first fault.
+/// Checks that no line of an input is at fault, and returns the first fault otherwise.
 fn check_lines(input: &[u8]) -> Result<(), CaptureFault>
     requires { length input.now ≤ MAX_INPUT }
     ensures good { OnOk result (faults_from packet_limit 1 input.now ≡ []) }
@@ -87,7 +87,7 @@ fn check_lines(input: &[u8]) -> Result<(), CaptureFault>
     Ok(())
 }
 
-/// The listing of an input. A line at fault is reported also where memory was refused before it.
+/// Returns the listing of an input. A line at fault is reported also where memory was refused before it.
 fn follow_input(alloc: Global, input: &[u8], in_words: bool) -> Result<Vec<u8>, CaptureFault>
     requires { length input.now ≤ MAX_INPUT }
     ensures whole { IfOk result (λ text. IsFollowed in_words (captures packet_limit input.now)
@@ -105,8 +105,8 @@ fn follow_input(alloc: Global, input: &[u8], in_words: bool) -> Result<Vec<u8>, 
 }
 
 /// Reads a capture of NSP packets, of at most 4,096 bytes each, to its end and writes its listing, in which the DAP
-/// messages are under the packet with which their NSP message is whole; and with what the lines say in words, if these are
-/// wanted.
+/// messages are under the packet with which their NSP message is whole; and with what the lines say in words, if these
+/// are wanted.
 ///
 /// The whole input is read, and all lines are checked, before anything is written. `TooLarge`: the input has more
 /// than 16,777,216 bytes, of which no more than one is read, or the first line at fault a packet that is too long.

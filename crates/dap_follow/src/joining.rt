@@ -7,22 +7,22 @@ ghost use Rattle.dap_follow.specs.Joined.{Fragment, joins as do_join, latest, fr
 ghost use Rattle.dap_follow.specs.Following.{IsMessageText, gap_line, length_text, range_text, stream_text};
 ghost use Rattle.dap_follow.specs.Inner.Keeping.{IsCounted};
 ghost use Rattle.dap_follow.specs.Inner.Listing.{AreSpelled, IsCutOff, IsPiece, ListsPiece, ListsStream, payload_digits, part_text, values};
-ghost use Rattle.dap_follow.specs.Inner.Placing.{counted_value};
+ghost use Rattle.dap_follow.specs.Inner.InOrder.{counted_value};
 
-use crate::places::{Counted, ROUND};
+use crate::segments::{Counted, ROUND};
 use crate::streams::Stream;
 use dap_listing::{arrow, push_messages};
 use dap_text::{push_number, push_str, push_word};
 use std::alloc::{AllocError, Global};
 
-/// Whether two neighbours have neither a hole nor a mark between them.
+/// Returns whether two neighbours have neither a hole nor a mark between them.
 fn joins(one: &Counted<'_>, other: &Counted<'_>) -> bool
     ensures { result ≡ do_join (counted_value one.now) (counted_value other.now) }
 {
-    other.place > one.place && other.place - one.place == 1 && !one.last && !other.first
+    other.sequence > one.sequence && other.sequence - one.sequence == 1 && !one.last && !other.first
 }
 
-/// How many segments the first piece of segments in order has.
+/// Returns how many segments the first piece of segments in order has.
 fn piece_len(segments: &[Counted<'_>]) -> usize
     requires { 0 < length segments.now }
     ensures some { 0 < result }
@@ -36,7 +36,7 @@ fn piece_len(segments: &[Counted<'_>]) -> usize
     end
 }
 
-/// The first and the last segment of a piece.
+/// Returns the first and the last segment of a piece.
 fn ends<'a, 'b>(piece: &'b [Counted<'a>]) -> (&'b Counted<'a>, &'b Counted<'a>)
     requires { 0 < length piece.now }
     ensures first { (p : Fragment) → IsPiece p piece.now → counted_value result.0.now ≡ p.head }
@@ -45,7 +45,7 @@ fn ends<'a, 'b>(piece: &'b [Counted<'a>]) -> (&'b Counted<'a>, &'b Counted<'a>)
     (&piece[0], &piece[piece.len() - 1])
 }
 
-/// The latest packet of a piece.
+/// Returns the latest packet of a piece.
 fn latest_packet(piece: &[Counted<'_>]) -> usize
     ensures { result ≡ latest (values piece.now) }
 {
@@ -64,7 +64,7 @@ pub(crate) struct Room {
 }
 
 impl Room {
-    /// Room for no bytes yet. It takes no memory.
+    /// Returns room for no bytes yet. It takes no memory.
     pub(crate) fn new(alloc: Global) -> Self {
         Room {
             digits: Vec::new(alloc),
@@ -73,7 +73,7 @@ impl Room {
     }
 }
 
-/// The digits of a piece, one segment after the other.
+/// Puts the digits of a piece into a cleared vector, one segment after the other.
 fn gather(piece: &[Counted<'_>], digits: &mut Vec<u8>) -> Result<(), AllocError>
     ensures { OnOk result (digits.new.items ≡ payload_digits piece.now) }
 {
@@ -84,7 +84,7 @@ fn gather(piece: &[Counted<'_>], digits: &mut Vec<u8>) -> Result<(), AllocError>
     Ok(())
 }
 
-/// Appends the numbers of two places.
+/// Appends two sequence numbers.
 pub fn push_range(text: &mut Vec<u8>, from: u64, to: u64) -> Result<(), AllocError>
     ensures { OnOk result (Adds text.old text.new (range_text from to)) }
 {
@@ -127,7 +127,7 @@ fn push_message(
     let count = room.digits.len() / 2;
     let (first, last) = ends(piece);
     push_str(text, "  message")?;
-    push_range(text, first.place, last.place)?;
+    push_range(text, first.sequence, last.sequence)?;
     push_length(text, count)?;
     room.bytes.resize(count, 0)?;
     push_messages(text, &room.digits, &mut room.bytes, 0, in_words)
@@ -150,7 +150,7 @@ fn push_part(
     let (first, last) = ends(piece);
     push_str(text, "part")?;
     push_stream(text, stream)?;
-    push_range(text, first.place, last.place)?;
+    push_range(text, first.sequence, last.sequence)?;
     push_length(text, count)
 }
 
@@ -179,7 +179,7 @@ fn list_piece(
     }
 }
 
-/// Appends the places that are missing between a piece and the next.
+/// Appends the sequence numbers that are missing between a piece and the next.
 fn push_gap(
     text: &mut Vec<u8>,
     stream: &Stream,
@@ -194,12 +194,12 @@ fn push_gap(
         return Ok(());
     };
     let (_, last) = ends(piece);
-    if next.place <= last.place || next.place - last.place == 1 {
+    if next.sequence <= last.sequence || next.sequence - last.sequence == 1 {
         return Ok(());
     }
     push_str(text, "gap")?;
     push_stream(text, stream)?;
-    push_range(text, last.place + 1, next.place - 1)?;
+    push_range(text, last.sequence + 1, next.sequence - 1)?;
     push_str(text, "\n")
 }
 

@@ -4,8 +4,8 @@
 mod following;
 mod joining;
 mod laws;
-mod places;
 mod reading;
+mod segments;
 mod streams;
 
 pub use following::follow;

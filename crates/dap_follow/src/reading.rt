@@ -23,7 +23,7 @@ pub(crate) struct Reading<'a> {
     pub(crate) streams: Streams<'a>,
 }
 
-/// Why bytes are no packet, if they are none.
+/// Returns why bytes are no packet, if they are none.
 fn fault_of(seen: &Result<CapturedPacket<'_>, SegFault>) -> Option<SegFault>
     ensures { if_there fault_words result ≡ packet_words (seen_value seen.now) }
 {
@@ -33,8 +33,8 @@ fn fault_of(seen: &Result<CapturedPacket<'_>, SegFault>) -> Option<SegFault>
     }
 }
 
-/// Appends the line of the packet that has the number, to a text that is empty; with its words, if these are wanted: those of
-/// the line directly before it, and of what is no segment. Fails only if memory is refused.
+/// Appends the line of the packet that has the number, to a text that is empty; with its words, if these are wanted:
+/// those of the line directly before it, and of what is no segment. Fails only if memory is refused.
 pub fn push_packet_line(
     text: &mut Vec<u8>,
     number: usize,
@@ -57,7 +57,7 @@ pub fn push_packet_line(
 }
 
 impl<'a> Reading<'a> {
-    /// Nothing was read yet. It takes no memory.
+    /// Returns a reading of which nothing was read yet. It takes no memory.
     fn new(alloc: Global) -> Self
         ensures { (in_words : Bool) (told : List (List (List ℕ)))
             → ReadsPackets in_words told [] result }

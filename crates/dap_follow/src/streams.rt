@@ -6,7 +6,7 @@ ghost use Rattle.dap_follow.specs.Streams.{Captured};
 ghost use Rattle.dap_follow.specs.Inner.Keeping.{IsIndexed, KeepsAll, KeepsSome};
 ghost use Rattle.dap_follow.specs.Segments.{captured_segment};
 
-use crate::places::Places;
+use crate::segments::StreamSegments;
 use dap_listing::{CapturedSegment, Direction};
 use indexmap::IndexSet;
 use nsp_seg::Seq12;
@@ -25,30 +25,32 @@ pub struct Stream {
 pub(crate) struct Streams<'a> {
     pub(crate) alloc: Global,
     pub(crate) names: IndexSet<Stream>,
-    pub(crate) places: Vec<Places<'a>>,
+    pub(crate) by_stream: Vec<StreamSegments<'a>>,
 }
 
 impl<'a> Streams<'a> {
-    /// No streams. It takes no memory.
+    /// Returns no streams. It takes no memory.
     pub(crate) fn new(alloc: Global) -> Self
         ensures { KeepsAll [] result }
     {
         Streams {
             alloc,
             names: IndexSet::new(alloc),
-            places: Vec::new(alloc),
+            by_stream: Vec::new(alloc),
         }
     }
 
-    /// Where the segments of a stream are kept, which begins with the number where it is new.
-    fn place_of(&mut self, stream: Stream, number: Seq12) -> Result<usize, AllocError>
+    /// Returns the index at which the segments of a stream are kept. Where the stream is new, it begins with the
+    /// number.
+    fn stream_index(&mut self, stream: Stream, number: Seq12) -> Result<usize, AllocError>
         ensures { IfOk result (IsIndexed stream number self.old self.new) }
     {
         let (index, is_new) = self.names.insert_full(stream)?;
         if !is_new {
             return Ok(index);
         }
-        self.places.push(Places::new(self.alloc, number))?;
+        self.by_stream
+            .push(StreamSegments::new(self.alloc, number))?;
         Ok(index)
     }
 
@@ -70,7 +72,7 @@ impl<'a> Streams<'a> {
             dst: segment.dst,
             src: segment.src,
         };
-        let index = self.place_of(stream, segment.number)?;
-        self.places[index].add(packet, segment)
+        let index = self.stream_index(stream, segment.number)?;
+        self.by_stream[index].add(packet, segment)
     }
 }

@@ -12,7 +12,7 @@ use Rattle.dap_listing.specs.Captured.{AreDecoded, Spell, digit_bytes}
 use Rattle.dap_listing.specs.Inner.Decoding.{item_with_record, message_record_size, record_size, with_other_record}
 use Rattle.dap_listing.proofs.DigitLemmas.{count_of, part}
 
--- bytes that are the same from a place on
+-- bytes that are the same from an offset on
 pub same_part : (a b : List ℕ) (from size : ℕ) → length a ≡ length b → ((i : ℕ) → from ≤ i → i < from + size → get_or a i 0 ≡ get_or b i 0)
     → take size (drop from a) ≡ take size (drop from b)
 same_part a b from size long same =
@@ -74,9 +74,9 @@ size_within (Malformed fault) bytes at next h = omega arith
 same_record : (bytes : List ℕ) (at n z next : ℕ) → z ≤ n → next ≡ at + n → drop (n - z) (take n (drop at bytes)) ≡ take z (drop (next - z) bytes)
 same_record bytes at n z next within end =
     let all : n ≡ (n - z) + z = omega (arith, within) in
-    let place : at + (n - z) ≡ next - z = omega (arith, within, end) in
+    let index : at + (n - z) ≡ next - z = omega (arith, within, end) in
     ap (λ (k : ℕ). drop (n - z) (take k (drop at bytes))) all ∙ drop-take (n - z) z (drop at bytes)
-    ∙ ap (take z) (drop-drop (n - z) at bytes ∙ ap (λ (k : ℕ). drop k bytes) place)
+    ∙ ap (take z) (drop-drop (n - z) at bytes ∙ ap (λ (k : ℕ). drop k bytes) index)
 
 seen_item_is : (item : Item) (digits room : List ℕ) (at next known : ℕ) → Spell digits (length room) → next ≤ length room
     → ItemAt room at item next → next - record_size item ≤ known → AreDecoded digits at known room

@@ -1,4 +1,4 @@
--- The lines of an NSP message, from a place on.
+-- The lines of an NSP message, from an offset on.
 use Rattle.std.proofs.Common.{◌≡◌, ◌<◌, ◌+◌, ◌-◌, ◌++◌, ℕ, Bool, true, List, [], ◌∷◌, length, take, length-append, ap, ◌∙◌, sym, subst, arith}
 use Rattle.std.specs.List.{flat_map}
 use Rattle.std.proofs.lemmas.List.{append_assoc, append-nil}
@@ -11,7 +11,7 @@ use Rattle.dap_meanings.specs.Meanings.{item_words, words_text, with_words}
 use Rattle.dap_msg.specs.declared.items.Item.TheVariants.{Whole, Malformed}
 use Rattle.dap_msg.specs.declared.message.Message.TheVariants.{Config, Attrib, Access, Control, Contran, Ack, Accomp, Filedata, Status, Other}
 
--- `done` is what stands before the lines of the items from the place on
+-- `done` is what stands before the lines of the items from the offset on
 abbrev pub GoesOn : (in_words : Bool) → List ℕ → ℕ → List ℕ → Type 0
 GoesOn in_words bytes at done =
     (later : List Item) → ItemsFrom bytes at later

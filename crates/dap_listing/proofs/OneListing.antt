@@ -12,7 +12,7 @@ use Rattle.nsp_seg.proofs.ForCallers.{spells-one, spells-apart, fault-one}
 use Rattle.dap_listing.specs.Messages.{IsMessagesText, item_line_in}
 use Rattle.dap_listing.specs.Packets.{IsPacketText, IsSeen, Seen, SeenMessages, seen_line}
 use Rattle.dap_listing.specs.Inner.Messages.{SegmentMessages}
-use Rattle.dap_listing.specs.Listing.{CaptureLines, IsCapturedText, no_more, one_more as one_capture_more, captures, heading, line_limit}
+use Rattle.dap_listing.specs.Listing.{CaptureLines, IsCapturedText, no_capture_more, one_capture_more, captures, heading, line_limit}
 use Rattle.dap_listing.specs.Lines.{Capture}
 use Rattle.dap_listing.specs.declared.listing.Listed.{Listed}
 use Rattle.dap_listing.specs.declared.listing.Listed.TheVariants.{Packets, Messages}
@@ -69,7 +69,7 @@ one_captured Packets bytes a b are text text' = one_packet bytes a b are text te
 one_captured Messages bytes a b are text text' = one_message bytes a b are text text'
 
 one_list : (listed : Listed) (number : ℕ) (captured : List Capture) (a b : List ℕ) → CaptureLines listed number captured a → CaptureLines listed number captured b → a ≡ b
-one_list listed number captured a b no_more no_more = refl
+one_list listed number captured a b no_capture_more no_capture_more = refl
 one_list listed number captured a b (one_capture_more {direction = direction} {digits = digits} {others = others} bytes first rest decoded text lines) (one_capture_more bytes' first' rest' decoded' text' lines') =
     let same : bytes' ≡ bytes = decode_of-same digits bytes' bytes decoded' decoded in
     let firsts = one_captured listed bytes first first' (decode_of-ok digits bytes decoded).3 text (subst (λ x. IsCapturedText listed x first') same text') in

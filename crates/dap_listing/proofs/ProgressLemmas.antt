@@ -5,7 +5,7 @@ use Rattle.std.specs.Io.KnownBytes.{Consumes, IsAtEnd}
 use Rattle.std.proofs.lemmas.Bool.{eqb-true}
 use Rattle.std.proofs.lemmas.Grind.{common_steps}
 use Rattle.std.proofs.lemmas.List.{append-nil}
-use Rattle.dap_listing.specs.Listing.{captures, line_limit, no_more}
+use Rattle.dap_listing.specs.Listing.{captures, line_limit, no_capture_more}
 use Rattle.linewise.specs.Firsts.{IsOfLine}
 use Rattle.dap_listing.specs.Inner.Progress.{IsInputFault, IsUnderWay, IsAllListed, StandsAt}
 use Rattle.dap_listing.specs.Inner.Cutting.{FaultsGoOn, IsFirstFault, ListingGoesOn}
@@ -67,7 +67,7 @@ stands_whole listed count (Some input) (Some rest) bytes progress stands end non
     let left : bytes ++ rest ≡ [] = ap (λ l. bytes ++ l) end ∙ append-nil bytes ∙ none in (
       omega (arith, stands.0, ap length end, small),
       stands.1.faults ∙ rw left refl,
-      λ wants. rw (append-nil progress.text.items) at (stands.1.listing wants [] (rw left no_more)),
+      λ wants. rw (append-nil progress.text.items) at (stands.1.listing wants [] (rw left no_capture_more)),
     )
 
 pub at_end : (came : ℕ) (unread : Option (List ℕ)) → (came ≡ 0 → IsAtEnd unread) → (came == 0) ≡ true → IsAtEnd unread

@@ -12,7 +12,7 @@ use Rattle.dap_listing.specs.Lines.{Capture, line_of}
 use Rattle.dap_listing.specs.Packets.{IsPacketText}
 use Rattle.dap_text.specs.Text.{line_feed}
 use Rattle.dap_listing.specs.Messages.{IsMessagesText}
-use Rattle.linewise.specs.Gives.{Gives}
+use Rattle.linewise.specs.Gives.{GivesText}
 use Rattle.dap_listing.specs.declared.listing.Listed.{Listed}
 use Rattle.dap_listing.specs.declared.listing.Listed.TheVariants.{Packets, Messages}
 use Rattle.dap_listing.specs.declared.lines.Direction.{Direction}
@@ -24,13 +24,13 @@ use Rattle.linewise.specs.declared.fault.CaptureFault.{CaptureFault}
 -- the faults of the lines, in order; the first line has this number
 abbrev pub faults_from : ℕ → ℕ → List ℕ → List CaptureFault
 faults_from limit number bytes =
-    filter_map (λ (place, line). option_map (λ fault. fault place) (result_err (line_of limit line))) (enumerate_from number (lines bytes))
+    filter_map (λ (index, line). option_map (λ fault. fault index) (result_err (line_of limit line))) (enumerate_from number (lines bytes))
 
 -- what was captured, in order
 abbrev pub captures : ℕ → List ℕ → List Capture
 captures limit input = filter_map (λ line. result_unwrap_or (line_of limit line) None) (lines input)
 
--- Of each packet in these lines, the words of the line directly before it; this line stood before the first one.
+-- Of each packet in these lines, the words of the line directly before it; this line was before the first one.
 abbrev pub frames_after : ℕ → (before : List ℕ) → List (List ℕ) → List (List (List ℕ))
 frames_after limit before [] = []
 frames_after limit before (line ∷ others) =
@@ -56,19 +56,19 @@ IsCapturedText Packets bytes text = IsPacketText bytes text
 IsCapturedText Messages bytes text = (messages : List ℕ) × IsMessagesText false bytes messages
     × (text ≡ concat (codes "message len=" ∷ decimal (length bytes) ∷ line_feed ∷ []) ++ messages)
 
--- how many bytes a packet has at most
+-- the maximum of a packet in bytes
 abbrev pub packet_limit : ℕ
 packet_limit = 4096
 
--- how many bytes a line may have in hex
+-- the maximum of the bytes that a line has in hex
 abbrev pub line_limit : Listed → ℕ
 line_limit Packets = packet_limit
 line_limit Messages = max_nsp_message
 
 -- the lines of all that was captured, numbered from this number; by the law `listings_are_one` there is one listing
 pub data CaptureLines (listed : Listed) : ℕ → List Capture → List ℕ → Type 0 where
-  no_more : {number : ℕ} → CaptureLines listed number [] []
-  one_more : {number : ℕ} {direction : Direction} {digits : List ℕ} {others : List Capture} (bytes first rest : List ℕ)
+  no_capture_more : {number : ℕ} → CaptureLines listed number [] []
+  one_capture_more : {number : ℕ} {direction : Direction} {digits : List ℕ} {others : List Capture} (bytes first rest : List ℕ)
       → decode_of digits ≡ Ok bytes → IsCapturedText listed bytes first → CaptureLines listed (number + 1) others rest
       → CaptureLines listed number ((direction, digits) ∷ others) ((heading number direction ++ first) ++ rest)
 
@@ -76,5 +76,5 @@ pub data CaptureLines (listed : Listed) : ℕ → List Capture → List ℕ → 
 abbrev pub ListingGives : Listed → List ℕ → Option (List ℕ) → Option (List ℕ)
     → Result Outcome CaptureFault → Type 0
 ListingGives listed input =
-    Gives (faults_from (line_limit listed) 1 input)
+    GivesText (faults_from (line_limit listed) 1 input)
     (λ outcome text. (outcome ≡ Good) × CaptureLines listed 1 (captures (line_limit listed) input) text) input

@@ -2,8 +2,8 @@
 
 use nsp_seg::{AckField, AckFields, Seq12};
 
-/// A captured data segment (NSP 4.0.0, data segment message). Its fields are those of a packet's segment, but of its
-/// payload the hex digits stand here, two for each byte: most payloads are listed or joined without being decoded.
+/// A captured data segment (NSP 4.0.0, data segment message). Its fields are those of a packet's segment, but its
+/// payload is its hex digits, two for each byte: most payloads are listed or joined without being decoded.
 #[derive(Clone, Copy, PartialEq, Eq)]
 pub struct CapturedSegment<'a> {
     pub first: bool,

@@ -15,11 +15,11 @@ use dap_text::{push_decimal, push_str};
 use linewise::{CaptureFault, next_line};
 use std::alloc::AllocError;
 
-/// The most bytes of a packet in a capture.
+/// The maximum of a packet in a capture, in bytes.
 pub const MAX_PACKET: usize = 4096;
 
-/// A captured packet among lines: the way that it went and the hex digits of its bytes; the line directly before it, which
-/// is empty where the packet is the first line; and the number of the line after it, and what is there.
+/// A captured packet among lines: the way that it went and the hex digits of its bytes; the line directly before it,
+/// which is empty where the packet is the first line; and the number of the line after it, and what is there.
 #[derive(Clone, Copy, PartialEq)]
 pub struct Found<'a> {
     pub way: Direction,
@@ -29,7 +29,7 @@ pub struct Found<'a> {
     pub rest: &'a [u8],
 }
 
-/// The first captured packet among lines, of which the first has the number. Takes no memory.
+/// Returns the first captured packet among lines, of which the first has the number. Takes no memory.
 ///
 /// `BadLine` and `TooLarge`: the first line at fault, where it is before a packet.
 pub fn next_packet<'a>(at: usize, bytes: &'a [u8]) -> Result<Option<Found<'a>>, CaptureFault>
@@ -80,10 +80,11 @@ pub fn next_packet<'a>(at: usize, bytes: &'a [u8]) -> Result<Option<Found<'a>>, 
     Ok(None)
 }
 
-/// The captured packet of a line, which comes without its line feed: its direction and the hex digits of its bytes; none
-/// where the line is skipped. Takes no memory.
+/// Returns the captured packet of a line, which comes without its line feed: its direction and the hex digits of its
+/// bytes; None where the line is skipped. Takes no memory.
 ///
-/// Refused: `BadLine`, with this number, where the line isn't one of a capture; `TooLarge`, where its packet is too long.
+/// Refused: `BadLine`, with this number, where the line isn't one of a capture; `TooLarge`, where its packet is too
+/// long.
 pub fn line_packet(number: usize, line: &[u8]) -> Result<Option<(Direction, &[u8])>, CaptureFault>
     ensures says { IfOk result (λ read.
         line_of packet_limit line.now ≡ Ok (option_map (λ has. (has.0, has.1.now)) read)) }
@@ -98,7 +99,7 @@ pub fn line_packet(number: usize, line: &[u8]) -> Result<Option<(Direction, &[u8
     read_line(number, line, Listed::Packets.limit())
 }
 
-/// The sign of a direction.
+/// Returns the sign of a direction.
 pub fn arrow(direction: Direction) -> &'static str
     ensures { result.now ≡ arrow_text direction }
 {

@@ -7,8 +7,8 @@ ghost use Rattle.dap_listing.specs.Captured.{AreDecoded, Spell};
 /// take.
 pub(crate) const FRONT: usize = 32;
 
-/// Decodes the bytes of digits up to an end, or to their own where that is sooner. This many in front need no decoding;
-/// it answers how many need none afterwards.
+/// Decodes the bytes of digits up to the offset `end`, or up to their last one where that is less. The first `known`
+/// bytes are decoded already. Returns how many are decoded afterwards.
 pub(crate) fn decode_to(digits: &[u8], bytes: &mut [u8], known: usize, end: usize) -> usize
     requires spelled { Spell digits.now (length bytes.old) }
     requires within { known ≤ length bytes.old }

@@ -22,7 +22,7 @@ pub(crate) enum Field<'a> {
     Image(&'static str, Option<&'a [u8]>),
 }
 
-/// The bytes of an image, where it is there.
+/// Returns the bytes of an image, where it is there.
 fn image<'a>(value: &Option<Bytes<'a>>) -> Option<&'a [u8]>
     ensures { option_copied result ≡ value.now }
 {
@@ -32,7 +32,7 @@ fn image<'a>(value: &Option<Bytes<'a>>) -> Option<&'a [u8]>
     }
 }
 
-/// The fields of Attributes in the order of their menu bits.
+/// Returns the fields of Attributes in the order of their menu bits.
 pub(crate) fn attributes_fields<'a>(a: &Attributes<'a>) -> [Field<'a>; 21]
     ensures { flat_map field_text result ≡ attributes_text a.now }
 {
@@ -61,7 +61,7 @@ pub(crate) fn attributes_fields<'a>(a: &Attributes<'a>) -> [Field<'a>; 21]
     ]
 }
 
-/// The fields of Control after its function, likewise.
+/// Returns the fields of Control after its function, in the order of their menu bits.
 pub(crate) fn control_fields<'a>(c: &ControlFields<'a>) -> [Field<'a>; 6]
     ensures { flat_map field_text result ≡ control_text c.now }
 {

@@ -20,13 +20,13 @@ pub enum Direction {
 pub(crate) enum Head<'a> {
     /// The line says nothing: it is empty or a comment.
     Skipped,
-    /// What follows are to be the hex digits of captured bytes.
+    /// What follows has to be the hex digits of captured bytes.
     Digits(Direction, &'a [u8]),
     /// The line has no meaning.
     Malformed,
 }
 
-/// What the first bytes of a line say.
+/// Returns what the first bytes of a line say.
 pub(crate) fn parse_head(line: &[u8]) -> Head<'_>
     ensures { (limit : ℕ) → line_of_head limit result ≡ line_of limit line.now }
 {

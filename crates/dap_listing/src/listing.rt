@@ -34,7 +34,7 @@ pub enum Listed {
 }
 
 impl Listed {
-    /// The most bytes of a line.
+    /// Returns the maximum of the bytes that a line has in hex.
     pub(crate) fn limit(self) -> usize
         ensures { result ≡ line_limit self }
     {
@@ -45,7 +45,8 @@ impl Listed {
     }
 }
 
-/// Refuses what are no hex digits of bytes, of which there may be this many, in the line of a number.
+/// Checks the digits of the line with this number: refuses what are no hex digits of bytes, and more than `limit`
+/// bytes.
 fn check_digits(number: usize, digits: &[u8], limit: usize) -> Result<(), CaptureFault>
     requires { limit < 2 ^ 32 }
     ensures good { OnOk result ((direction : Direction)
@@ -64,7 +65,7 @@ fn check_digits(number: usize, digits: &[u8], limit: usize) -> Result<(), Captur
     Ok(())
 }
 
-/// What the line of a number captured: the direction, and the hex digits of at most this many bytes.
+/// Returns what the line with this number captured: the direction, and the hex digits of at most this many bytes.
 pub(crate) fn read_line(
     number: usize,
     line: &[u8],
@@ -142,7 +143,7 @@ fn push_capture(
     push_captured(listed, text, digits, &mut room[..digits.len() / 2])
 }
 
-/// A listing as far as it came.
+/// A listing under way: what is listed so far.
 #[derive(Drop)]
 struct Progress {
     text: Vec<u8>,
@@ -150,12 +151,12 @@ struct Progress {
     number: usize,
     /// The number of the next line.
     at: usize,
-    /// Memory ran out for the text, so lines are only checked.
+    /// The text is out of memory, so lines are only checked.
     wants: bool,
 }
 
-/// Lists the first lines of the bytes, up to the first line at fault, and answers what is left: a line
-/// without its end, unless the bytes are the last. The room is for the bytes of a line.
+/// Lists the first lines of the bytes, up to the first line at fault, and returns what is left: a line without its
+/// end, unless the bytes are the last. The room is for the bytes of a line.
 fn list_cut<'a>(
     listed: Listed,
     progress: &mut Progress,
@@ -205,8 +206,8 @@ fn list_cut<'a>(
     Ok(rest)
 }
 
-/// Checks the first lines of the bytes, of which the first has the number, up to the first line at fault, and
-/// answers what is left, as [`list_cut`] does.
+/// Checks the first lines of the bytes, of which the first has the number, up to the first line at fault, and returns
+/// what is left, as [`list_cut`] does.
 fn check_cut<'a>(
     listed: Listed,
     at: &mut usize,
@@ -232,8 +233,8 @@ fn check_cut<'a>(
     Ok(rest)
 }
 
-/// Lists the first lines of the bytes, or only checks them where memory is refused for the text, and answers how
-/// many bytes are left.
+/// Lists the first lines of the bytes, or only checks them where memory is refused for the text, and returns how many
+/// bytes are left.
 fn take_lines(
     listed: Listed,
     progress: &mut Progress,
@@ -332,8 +333,8 @@ fn list_as_read<R: Read>(
     }
 }
 
-/// The listing of what was captured in an input, which is read to its end. Out of memory for the text is reported
-/// where no line is at fault.
+/// Returns the listing of what was captured in an input, which is read to its end. Out of memory for the text is
+/// reported where no line is at fault.
 pub(crate) fn list_input<R: Read>(
     listed: Listed,
     alloc: Global,

@@ -182,7 +182,7 @@ fn push_other(text: &mut Vec<u8>, number: u8, body: &[u8]) -> Result<(), AllocEr
     push_str(text, "\n")
 }
 
-/// The word of a listing for what is wrong with a message.
+/// Returns the word of a listing for what is wrong with a message.
 fn kind_word(kind: FaultKind) -> &'static str
     ensures { result.now ≡ kind_text kind }
 {
@@ -208,7 +208,7 @@ fn push_fault(text: &mut Vec<u8>, fault: MsgFault) -> Result<(), AllocError>
     push_str(text, "\n")
 }
 
-/// How many bytes of a record end an item: only a Data message has some.
+/// Returns how many bytes of a record end an item: only a Data message has some.
 fn record_size(item: &Item<'_>) -> usize
     ensures { result ≡ size_of_record item.now }
 {
@@ -253,7 +253,7 @@ fn push_item_line(
     Ok(())
 }
 
-/// Decodes all bytes where words are wanted; how many are decoded then.
+/// Decodes all bytes where words are wanted, and returns how many are decoded then.
 fn decode_wanted(digits: &[u8], bytes: &mut [u8], known: usize, in_words: bool) -> usize
     requires spelled { Spell digits.now (length bytes.old) }
     requires within { known ≤ length bytes.old }
@@ -271,9 +271,9 @@ fn decode_wanted(digits: &[u8], bytes: &mut [u8], known: usize, in_words: bool) 
     }
 }
 
-/// Appends the lines of the NSP message that the digits spell, with their words if these are wanted. This many bytes in
-/// front are decoded. More are decoded as they are needed, but a record's are not where no words are wanted: its line
-/// repeats its digits. Fails only if memory is refused.
+/// Appends the lines of the NSP message that the digits spell, with their words if these are wanted. The first bytes,
+/// this many, are decoded already. More are decoded as they are needed, but a record's are not where no words are
+/// wanted: its line repeats its digits. Fails only if memory is refused.
 pub fn push_messages(
     text: &mut Vec<u8>,
     digits: &[u8],

@@ -5,7 +5,7 @@ ghost use Rattle.std.specs.List.{concat};
 ghost use Rattle.dap_text.specs.Text.{word_text};
 ghost use Rattle.dap_text.specs.Adding.{Adds, AddsSome};
 ghost use Rattle.dap_listing.specs.Captured.{AreDecoded, HasDigits, Spell, digit_bytes, seen_value, segment_fields};
-ghost use Rattle.dap_listing.specs.Inner.Decoding.{IsBehind, front_of};
+ghost use Rattle.dap_listing.specs.Inner.Decoding.{IsPayloadSuffix, front_of};
 ghost use Rattle.dap_listing.specs.Packets.{IsPacketText, IsSeen, ack_text, acks_text, mark_text, seen_line};
 ghost use Rattle.dap_listing.specs.Inner.Messages.{SegmentMessages};
 ghost use Rattle.nsp_seg.specs.declared.packet.Packet.TheVariants.{DataAck, Segment};
@@ -71,7 +71,7 @@ fn push_segment(
     push_str(text, "\n")
 }
 
-/// The word for the marks of a segment.
+/// Returns the word for the marks of a segment.
 fn mark_word(first: bool, last: bool) -> &'static str
     ensures { result.now ≡ mark_text first last }
 {
@@ -83,8 +83,8 @@ fn mark_word(first: bool, last: bool) -> &'static str
     }
 }
 
-/// Appends the lines of a segment's messages, where it holds a whole NSP message. This many bytes before the
-/// payload are decoded.
+/// Appends the lines of a segment's messages, where it holds a whole NSP message. The bytes before the payload, this
+/// many, are decoded already.
 fn push_whole(
     text: &mut Vec<u8>,
     first: bool,
@@ -115,14 +115,14 @@ fn push_ack(text: &mut Vec<u8>, ack: AckFields) -> Result<(), AllocError>
     push_str(text, "\n")
 }
 
-/// What the bytes of the digits are, which those in front tell: these are decoded, all up to a payload.
+/// Returns what the bytes of the digits are. The first ones say so, and they are decoded: all up to a payload.
 fn see<'a>(digits: &'a [u8], bytes: &mut [u8]) -> Result<CapturedPacket<'a>, SegFault>
     requires { Spell digits.now (length bytes.old) }
     ensures size { length bytes.new ≡ length bytes.old }
     ensures decoded { AreDecoded digits.now 0 (front_of (length bytes.new)) bytes.new }
     ensures seen { IsSeen (seen_value result) (digit_bytes digits.now) }
     ensures payload { HasDigits result }
-    ensures behind { IsBehind digits.now (front_of (length bytes.new)) result }
+    ensures suffix { IsPayloadSuffix digits.now (front_of (length bytes.new)) result }
 {
     let _known = decode_to(digits, bytes, 0, FRONT);
     match decode_value(bytes) {
@@ -144,8 +144,8 @@ fn see<'a>(digits: &'a [u8], bytes: &mut [u8]) -> Result<CapturedPacket<'a>, Seg
     }
 }
 
-/// What the bytes are that the hex digits spell (NSP 4.0.0, data segment and data acknowledgement messages); of a
-/// segment's payload its digits are returned. The room is for the bytes. Takes no memory.
+/// Returns what the bytes are that the hex digits spell (NSP 4.0.0, data segment and data acknowledgement messages);
+/// of a segment's payload its digits are returned. The room is for the bytes. Takes no memory.
 pub fn read_packet<'a>(digits: &'a [u8], room: &mut [u8]) -> Result<CapturedPacket<'a>, SegFault>
     requires { Spell digits.now (length room.old) }
     ensures size { length room.new ≡ length room.old }

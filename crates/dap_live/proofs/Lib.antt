@@ -5,7 +5,7 @@ pub mod OneAsking
 mod ReachLemmas
 mod ResultLemmas
 pub mod ForCallers
-pub mod Places
+pub mod Indices
 pub mod NodeRows
 pub mod NodeLemmas
 pub mod Forms

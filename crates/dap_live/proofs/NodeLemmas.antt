@@ -20,8 +20,8 @@ use Rattle.dap_live.specs.Orders.{setup_beside}
 use Rattle.dap_live.specs.Sending.{AllAgain, UnlessFailed}
 use Rattle.dap_live.specs.Texts.{link_refusal, packets_text}
 use Rattle.dap_live.specs.declared.node_orders.NodeOrder.TheVariants as order
-use Rattle.dap_live.specs.Inner.NodeReaching.{Done, NodeReaches}
-use Rattle.dap_live.specs.Node.{GivesRecordTo, GoesOnWith, ResendsOn, TakesOn, TakesPacketBy, about, about_any, is_behind_at, meant, one_link}
+use Rattle.dap_live.specs.Inner.NodeReaching.{IsDoneWithText, NodeReaches}
+use Rattle.dap_live.specs.Node.{GivesRecordTo, GoesOnWith, ResendsOn, TakesOn, TakesPacketBy, about, about_any, is_work_left_at, meant, one_link}
 use Rattle.dap_live.proofs.ReachLemmas.{unless_failed, unless_runs, where_left, where_none}
 
 module _ (link : ℕ) (old : Node) (l : LinkValue) (at : AtPort link old.node (λ p. l ≡ p.link)) where
@@ -29,13 +29,13 @@ module _ (link : ℕ) (old : Node) (l : LinkValue) (at : AtPort link old.node (�
   again-there packets all = subst (λ (k : LinkValue). AllAgain k packets) at.2 all
 
   -- segments were sent again, and then it went on
-  pub resends-on : (front : List ℕ) (packets : List (List ℕ)) → AllAgain l packets → front ≡ packets_text packets → is_behind_at old.most_waiting at.0 ≡ true
+  pub resends-on : (front : List ℕ) (packets : List (List ℕ)) → AllAgain l packets → front ≡ packets_text packets → is_work_left_at old.most_waiting at.0 ≡ true
       → (new : Node) (text : List ℕ) (became : Became) → GoesOnWith link old front new text became → AtPort link old.node (λ p. ResendsOn link p old new text became)
   resends-on front packets all is left new text became goes =
       (at.0, at.1, (packets, again-there packets all, where_left _ left _ _ (subst (λ (f : List ℕ). GoesOnWith link old f new text became) is goes)))
 
   -- or nothing was left to do
-  pub resends-alone : (text : List ℕ) (packets : List (List ℕ)) → AllAgain l packets → text ≡ packets_text packets → is_behind_at old.most_waiting at.0 ≡ false
+  pub resends-alone : (text : List ℕ) (packets : List (List ℕ)) → AllAgain l packets → text ≡ packets_text packets → is_work_left_at old.most_waiting at.0 ≡ false
       → AtPort link old.node (λ p. ResendsOn link p old (about link old) text became_of.Done)
   resends-alone text packets all is none = (at.0, at.1, (packets, again-there packets all, where_none _ none _ _ (refl, is, refl)))
 
@@ -78,17 +78,17 @@ about-none (Some l) old new e is = absurd (let none : ⊥ = cc in none)
 
 -- how far `resend` was done
 pub reaches-resend : (local : Option ℕ) (link : ℕ) (old new : Node) → Some link ≡ meant local old.node.ports
-    → ((new ≡ about link old) ⊎ Done (λ said became. AtPort link old.node (λ p. UnlessFailed p.link said (LeavesEnd became_of.Done (about link old) new became) (ResendsOn link p old new said became))))
+    → ((new ≡ about link old) ⊎ IsDoneWithText (λ said became. AtPort link old.node (λ p. UnlessFailed p.link said (LeavesEnd became_of.Done (about link old) new became) (ResendsOn link p old new said became))))
     → NodeReaches old (order.Resend local) new
 reaches-resend local link old new found (inl same) = inl (about-some _ link old new found same)
 reaches-resend local link old new found (inr done) = inr (done.0, done.1, on-some _ link found _ _ done.2)
 
 -- and a packet of the only link
-pub reaches-one : (link : ℕ) (old new : Node) (bytes : List ℕ) → Some link ≡ one_link old.node.ports → Done (TakesOn link old bytes new) → NodeReaches old (order.Packet bytes) new
+pub reaches-one : (link : ℕ) (old new : Node) (bytes : List ℕ) → Some link ≡ one_link old.node.ports → IsDoneWithText (TakesOn link old bytes new) → NodeReaches old (order.Packet bytes) new
 reaches-one link old new bytes one done = inr (done.0, done.1, on-some _ link one _ _ done.2)
 
 -- and one by its addresses
-pub reaches-by : (old new : Node) (bytes : List ℕ) → None ≡ one_link old.node.ports → (new ≡ old) ⊎ Done (TakesPacketBy old bytes new) → NodeReaches old (order.Packet bytes) new
+pub reaches-by : (old new : Node) (bytes : List ℕ) → None ≡ one_link old.node.ports → (new ≡ old) ⊎ IsDoneWithText (TakesPacketBy old bytes new) → NodeReaches old (order.Packet bytes) new
 reaches-by old new bytes none (inl same) = inl same
 reaches-by old new bytes none (inr done) = inr (done.0, done.1, on-none _ none _ _ done.2)
 
@@ -121,8 +121,8 @@ no-link o j e f = let same : Some j ≡ None = sym f ∙ e in (let none : ⊥ = 
 
 -- ---- A record is given to the file of a name.
 
-place-one : (o : Option ℕ) (i j : ℕ) → o ≡ Some i → o ≡ Some j → i ≡ j
-place-one o i j e f = (let both : Some i ≡ Some j = sym e ∙ f in cc)
+index-one : (o : Option ℕ) (i j : ℕ) → o ≡ Some i → o ≡ Some j → i ≡ j
+index-one o i j e f = (let both : Some i ≡ Some j = sym e ∙ f in cc)
 
 pub gives-record : (name : List ℕ) (number : ℕ) (body : List ℕ) (old new : NodeValue) → NoneHasCome old.ports
     → AtFile name old.noted.shared (λ at. MayStore (file_at at old.noted.shared.files) number body)
@@ -130,15 +130,15 @@ pub gives-record : (name : List ℕ) (number : ℕ) (body : List ℕ) (old new :
     → AtFile name old.noted.shared (λ at. new.noted.shared.files ≡ with_record_at at number body old.noted.shared.files)
     → new.ports ≡ old.ports → new.noted ≡ record old.noted { shared = new.noted.shared } → GivesRecordTo name number body old new
 gives-record name number body old new idle (i, here, may) (j, there, given) (k, then, files) ports notes =
-    let place = index_by old.noted.shared.setup.names name old.noted.shared.files in (
+    let index = index_by old.noted.shared.setup.names name old.noted.shared.files in (
       i,
       here,
       (
         may,
         record {
-          files = subst (λ (n : ℕ). new.noted.shared.files ≡ with_record_at n number body old.noted.shared.files) (place-one place k i then here) files;
+          files = subst (λ (n : ℕ). new.noted.shared.files ≡ with_record_at n number body old.noted.shared.files) (index-one index k i then here) files;
           idle = idle;
-          given = subst (λ (n : ℕ). SharedGiven (GivesRecord n number body) old.noted.shared new.noted.shared) (place-one place j i there here) given;
+          given = subst (λ (n : ℕ). SharedGiven (GivesRecord n number body) old.noted.shared new.noted.shared) (index-one index j i there here) given;
           notes = notes;
           ports = ports;
         },

@@ -43,7 +43,7 @@ use Rattle.dap_live.specs.Orders.{setup_anew}
 use Rattle.dap_live.specs.Sending.{AllAgain, SaysAck, waits_of}
 use Rattle.dap_live.specs.Texts.{ask_refusal, done_said, link_refusal, packets_text, reports_text, taken_said}
 use Rattle.dap_live.specs.Each.{each_after, each_text, records_text, told_after, told_text, waits_told}
-use Rattle.dap_live.specs.Asking.{GoesOn, Resends, AsksNot, AnswersAsk, IsNewAsking, OnEnd, AskingDoes, DoesAll, DoesAskOrder, Ends, HearsPacket, TellsAlone, answered, begun, waiting, came_by, has_more}
+use Rattle.dap_live.specs.Asking.{ClientGoesOn, Resends, AsksNot, AnswersAsk, IsNewAsking, OnEnd, AskingDoes, DoesAll, DoesAskOrder, Ends, HearsPacket, TellsAlone, answered, begun, waiting, came_by, has_more}
 use Rattle.dap_live.specs.Both.{DoneOr, LeavesEnd}
 use Rattle.dap_live.specs.Inner.Saying.{front_text}
 use Rattle.dap_live.specs.Inner.OneText.{AreSameAsking}
@@ -111,7 +111,7 @@ packet_one old other one two bytes said more m n fits same nm nn x y =
 -- ---- Going on.
 
 going_same : (old other : Asking) (front said more : List ℕ) (one two : Asking) (m n : Came) → AreSameAsking old other → outcome m ≢ NoMemory → outcome n ≢ NoMemory
-    → GoesOn old front one said m → GoesOn other front two more n → Two one two said more m n
+    → ClientGoesOn old front one said m → ClientGoesOn other front two more n → Two one two said more m n
 going_same old other front said more one two m n same nm nn x y =
     let wx = gone_wants x.gone (told_text one) x.packets (λ e. nm (ap outcome x.ended ∙ e)) in
     let wy = gone_wants y.gone (told_text two) y.packets (λ e. nn (ap outcome y.ended ∙ e)) in
@@ -128,7 +128,7 @@ going_same old other front said more one two m n same nm nn x y =
     )
 
 abbrev GoesOnIf : Bool → Asking → List ℕ → Asking → List ℕ → Came → Type 0
-GoesOnIf left old front new text came = MatchBool left (GoesOn old front new text came) (TellsAlone old front new text came)
+GoesOnIf left old front new text came = MatchBool left (ClientGoesOn old front new text came) (TellsAlone old front new text came)
 
 going_if : (left : Bool) (old other : Asking) (front said more : List ℕ) (one two : Asking) (m n : Came) → AreSameAsking old other → outcome m ≢ NoMemory → outcome n ≢ NoMemory
     → GoesOnIf left old front one said m → GoesOnIf left other front two more n → Two one two said more m n
@@ -220,7 +220,7 @@ not_one old other one two said more m n ask.NoMemory same nm nn x y = said_why o
 -- it was asked, and its messages are on their way
 abbrev AsksIt : (each : Bool) → Asking → Request → Asking → List ℕ → Came → Type 0
 AsksIt each old request new text came =
-    (count : ℕ) × (mid : AskingValue) × AskedOne request old.end mid count × GoesOn (begun each request (record old { end = mid })) (front_text (front.Asked count)) new text came
+    (count : ℕ) × (mid : AskingValue) × AskedOne request old.end mid count × ClientGoesOn (begun each request (record old { end = mid })) (front_text (front.Asked count)) new text came
 
 -- it was asked of both
 it_one : (each : Bool) (old other one two : Asking) (request : Request) (said more : List ℕ) (m n : Came) (past : ClientHistory) → HasAsked past old.end → AreSameAsking old other → outcome m ≢ NoMemory → outcome n ≢ NoMemory
@@ -228,8 +228,8 @@ it_one : (each : Bool) (old other one two : Asking) (request : Request) (said mo
 it_one each old other one two request said more m n past h same nm nn x y =
     let asked : AskedOne request old.end y.1 y.0 = subst (λ (v : AskingValue). AskedOne request v y.1 y.0) (sym same.0) y.2 in
     let t = asking_one past request old.end x.1 y.1 x.0 y.0 h x.2 asked in
-    let there : GoesOn (begun each request (record other { end = y.1 })) (front_text (front.Asked x.0)) two more n =
-    subst (λ (k : ℕ). GoesOn (begun each request (record other { end = y.1 })) (front_text (front.Asked k)) two more n) (sym t.1) y.3 in
+    let there : ClientGoesOn (begun each request (record other { end = y.1 })) (front_text (front.Asked x.0)) two more n =
+    subst (λ (k : ℕ). ClientGoesOn (begun each request (record other { end = y.1 })) (front_text (front.Asked k)) two more n) (sym t.1) y.3 in
     let now : AreSameAsking (begun each request (record old { end = x.1 })) (begun each request (record other { end = y.1 })) =
     (t.0, same.1, same.2, refl, ap (λ (b : Bool). each_after each request b) same.4, inl (_, asked_past request old.end x.1 x.0 x.2 past h)) in
     going_same (begun each request (record old { end = x.1 })) (begun each request (record other { end = y.1 })) (front_text (front.Asked x.0)) said more one two m n now nm nn x.3 there

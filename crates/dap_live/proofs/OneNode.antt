@@ -50,7 +50,7 @@ use Rattle.dap_live.specs.NodeOrders.{address_alone, filing_forms, links_order_o
 use Rattle.dap_live.specs.Orders.{anew_of, between_of, hex_alone, most_anew, most_beside, setup_anew, setup_beside}
 use Rattle.dap_live.specs.Texts.{LineAnswer, add_refusal, done_said, link_refusal, locked_text, packets_text, remove_refusal, taken_said}
 use Rattle.dap_live.specs.Both.{DoneOr, LeavesEnd}
-use Rattle.dap_live.specs.Node.{AddsLink, AddsRecordTo, BeginsOn, NodeDoes, DoesNodeOrder, DropsFile, Dropped, EndsOn, FileNotGiven, FindsLink, GivenTo, GivesFile, GivesNext, GivesRecordTo, GoesOnWith, HasRun, HasSent, IsNewNode, NoLink, RecordNotGiven, RefusesLink, RenewsOn, ResendsOn, Says, TakesOn, TakesPacketBy, about, answered, before_line, first_events, is_alone, is_behind_at, is_used, meant, one_link, receiver_of, sender_of, ungiven, used_by, waiting, waits_on}
+use Rattle.dap_live.specs.Node.{AddsLink, AddsRecordTo, BeginsOn, NodeDoes, DoesNodeOrder, DropsFile, Dropped, EndsOn, FileNotGiven, FindsLink, GivenTo, GivesFile, GivesNext, GivesRecordTo, GoesOnWith, HasRun, HasSent, IsNewNode, NoLink, RecordNotGiven, RefusesLink, RenewsOn, ResendsOn, Says, TakesOn, TakesPacketBy, about, answered, before_line, first_events, is_alone, is_work_left_at, is_used, meant, one_link, receiver_of, sender_of, ungiven, used_by, waiting, waits_on}
 use Rattle.dap_live.specs.Inner.OneText.{AreSameNodes, HasCarried}
 use Rattle.dap_live.proofs.OneLine.{HexFits, ack_one, all_again, gone_wants, hex_fits, setup_apart, setup_one, taken_wants}
 use Rattle.dap_live.proofs.OneLine.{one_answer}
@@ -63,7 +63,7 @@ Same one two said more b c = (one ≡ two) × (said ≡ more) × (b ≡ c) × Ha
 
 -- ---- The links of a node.
 
--- what is at a place of a list in which one was set
+-- what is at an index of a list in which one was set
 set-get : (xs : List (Option PortValue)) (i j : ℕ) (a : Option PortValue) (p : PortValue) (P : PortValue → Type 0) → ((q : PortValue) → a ≡ Some q → P q) → (slice_get xs j ≡ Some (Some p) → P p) → slice_get (set xs i a) j ≡ Some (Some p) → P p
 set-get [] i j a p P n h e = h e
 set-get (x ∷ xs) zero zero a p P n h e = n p (let same : a ≡ Some p = cc in same)
@@ -210,7 +210,7 @@ gone-if false link old one two packets said more b c h nb nc x y = says-one (pac
 
 abbrev GoesOnIf : (link : ℕ) → PortValue → List (List ℕ) → (old new : Node) → List ℕ → Became → Type 0
 GoesOnIf link port packets old new text became =
-    MatchBool (is_behind_at old.most_waiting port) (GoesOnWith link old (packets_text packets) new text became) (Says (packets_text packets, Done) (about link old) new text became)
+    MatchBool (is_work_left_at old.most_waiting port) (GoesOnWith link old (packets_text packets) new text became) (Says (packets_text packets, Done) (about link old) new text became)
 
 resend-by : (failed : Bool) (link : ℕ) (port : PortValue) (old one two : Node) (said more : List ℕ) (b c : Became) → HasSent port.link → HasRun old.node → b ≢ NoMemory → c ≢ NoMemory
     → MatchBool failed (LeavesEnd Done (about link old) one b × (said ≡ (link_refusal Failed).0)) (ResendsOn link port old one said b)
@@ -219,7 +219,7 @@ resend-by true link port old one two said more b c sent h nb nc x y =
     (x.0.0 ∙ sym y.0.0, x.1 ∙ sym y.1, x.0.1 ∙ sym y.0.1, subst (λ (n : Node). HasRun n.node) (sym x.0.0) h)
 resend-by false link port old one two said more b c sent h nb nc x y =
     let same = all_again port.link sent.0 x.0 y.0 sent.1 x.1 y.1 in
-    gone-if (is_behind_at old.most_waiting port) link old one two x.0 said more b c h nb nc x.2
+    gone-if (is_work_left_at old.most_waiting port) link old one two x.0 said more b c h nb nc x.2
     (subst (λ (l : List (List ℕ)). GoesOnIf link port l old two more c) (sym same) y.2)
 
 -- ---- On the link that is meant.
@@ -437,28 +437,28 @@ two-why o v w e f = (let both = sym e ∙ f in cc)
 none-why : (o : Option Refusal) (v : Refusal) → o ≡ None → o ≡ Some v → ⊥
 none-why o v e f = (let both = sym e ∙ f in cc)
 
--- one place of a name
-one-place : (o : Option ℕ) (i j : ℕ) → o ≡ Some i → o ≡ Some j → i ≡ j
-one-place o i j e f = (let both : Some i ≡ Some j = sym e ∙ f in cc)
+-- one index of a name
+one-index : (o : Option ℕ) (i j : ℕ) → o ≡ Some i → o ≡ Some j → i ≡ j
+one-index o i j e f = (let both : Some i ≡ Some j = sym e ∙ f in cc)
 
-no-place : (o : Option ℕ) (i : ℕ) → o ≡ Some i → o ≡ None → ⊥
-no-place o i e f = (let both : Some i ≡ None = sym e ∙ f in cc)
+no-index : (o : Option ℕ) (i : ℕ) → o ≡ Some i → o ≡ None → ⊥
+no-index o i e f = (let both : Some i ≡ None = sym e ∙ f in cc)
 
 -- one name
 one-name : (o : Option (List ℕ)) (x y : List ℕ) → o ≡ Some x → o ≡ Some y → x ≡ y
 one-name o x y e f = (let both : Some x ≡ Some y = sym e ∙ f in cc)
 
 module _ (v : SharedValue) (name : List ℕ) (n : ℕ) (body : List ℕ) where
-  abbrev place : Option ℕ
-  place = index_by v.setup.names name v.files
+  abbrev index : Option ℕ
+  index = index_by v.setup.names name v.files
 
   abbrev May : Type 0
-  May = (at : ℕ) × (place ≡ Some at) × MayStore (file_at at v.files) n body
+  May = (at : ℕ) × (index ≡ Some at) × MayStore (file_at at v.files) n body
 
   record-apart : (f : AddFault) → f ≢ add.NoMemory → May → RecordNotAdded v name n body f → ⊥
-  record-apart add.NoFile want may h = no-place place may.0 may.1 h
+  record-apart add.NoFile want may h = no-index index may.0 may.1 h
   record-apart (add.Record why) want may h =
-      let same : may.0 ≡ h.0 = one-place place may.0 h.0 may.1 h.1 in
+      let same : may.0 ≡ h.0 = one-index index may.0 h.0 may.1 h.1 in
       none-why _ why (subst (λ (i : ℕ). MayStore (file_at i v.files) n body) same may.2) h.2
   record-apart add.NoMemory want may h = want refl
   record-apart add.Busy want may h = absurd h
@@ -466,10 +466,10 @@ module _ (v : SharedValue) (name : List ℕ) (n : ℕ) (body : List ℕ) where
 
   record-why : (f g : AddFault) → f ≢ add.NoMemory → g ≢ add.NoMemory → RecordNotAdded v name n body f → RecordNotAdded v name n body g → f ≡ g
   record-why add.NoFile add.NoFile nf ng x y = refl
-  record-why add.NoFile (add.Record w) nf ng x y = absurd (no-place place y.0 y.1 x)
-  record-why (add.Record u) add.NoFile nf ng x y = absurd (no-place place x.0 x.1 y)
+  record-why add.NoFile (add.Record w) nf ng x y = absurd (no-index index y.0 y.1 x)
+  record-why (add.Record u) add.NoFile nf ng x y = absurd (no-index index x.0 x.1 y)
   record-why (add.Record u) (add.Record w) nf ng x y =
-      let same : y.0 ≡ x.0 = one-place place y.0 x.0 y.1 x.1 in
+      let same : y.0 ≡ x.0 = one-index index y.0 x.0 y.1 x.1 in
       ap (λ (r : Refusal). add.Record r) (two-why _ u w x.2 (subst (λ (i : ℕ). StoreRefused (file_at i v.files) n body (add.Record w)) same y.2))
   record-why add.Busy g nf ng x y = absurd x
   record-why add.FileExists g nf ng x y = absurd x
@@ -509,7 +509,7 @@ module _ (old : Node) (r : RecordLine) where
       let v = old.node.noted.shared in
       let name : y.0.name ≡ x.0.name = one-name old.given y.0.name x.0.name y.0.named x.0.named in
       let there : GivesRecordTo x.0.name r.number r.body old.node two.node = subst (λ (l : List ℕ). GivesRecordTo l r.number r.body old.node two.node) name y.0.given in
-      let at : there.0 ≡ x.0.given.0 = one-place (index_by v.setup.names x.0.name v.files) there.0 x.0.given.0 there.1 x.0.given.1 in
+      let at : there.0 ≡ x.0.given.0 = one-index (index_by v.setup.names x.0.name v.files) there.0 x.0.given.0 there.1 x.0.given.1 in
       let made : GivenTo (with_record_at x.0.given.0 r.number r.body v.files) (GivesRecord x.0.given.0 r.number r.body) old.node two.node =
       subst (λ (i : ℕ). GivenTo (with_record_at i r.number r.body v.files) (GivesRecord i r.number r.body) old.node two.node) at there.2.1 in
       let t = given-one (with_record_at x.0.given.0 r.number r.body v.files) (GivesRecord x.0.given.0 r.number r.body) old.node one.node two.node h x.0.given.2.1 made in
@@ -530,20 +530,20 @@ module _ (old : Node) (name : List ℕ) where
   at-name = index_by shared.setup.names name shared.files
 
   drop-not : (one : Node) (f : RemoveFault) → Dropped name old one → NotRemoved shared name f → ⊥
-  drop-not one removing.NoFile x h = no-place at-name x.drops.0 x.drops.1 h
+  drop-not one removing.NoFile x h = no-index at-name x.drops.0 x.drops.1 h
   drop-not one removing.Busy x h =
-      let same : h.0 ≡ x.drops.0 = one-place at-name h.0 x.drops.0 h.1 x.drops.1 in
+      let same : h.0 ≡ x.drops.0 = one-index at-name h.0 x.drops.0 h.1 x.drops.1 in
       true≢false (sym (subst (λ (i : ℕ). is_held i shared.sessions ≡ true) same h.2) ∙ x.drops.2.closed)
 
   drop-why : (f g : RemoveFault) → NotRemoved shared name f → NotRemoved shared name g → f ≡ g
   drop-why removing.NoFile removing.NoFile x y = refl
-  drop-why removing.NoFile removing.Busy x y = absurd (no-place at-name y.0 y.1 x)
-  drop-why removing.Busy removing.NoFile x y = absurd (no-place at-name x.0 x.1 y)
+  drop-why removing.NoFile removing.Busy x y = absurd (no-index at-name y.0 y.1 x)
+  drop-why removing.Busy removing.NoFile x y = absurd (no-index at-name x.0 x.1 y)
   drop-why removing.Busy removing.Busy x y = refl
 
   drop-one : (one two : Node) (said more : List ℕ) (b c : Became) → HasRun old.node → DropsFile old name one said b → DropsFile old name two more c → Same one two said more b c
   drop-one one two said more b c h (inl x) (inl y) =
-      let same : y.0.drops.0 ≡ x.0.drops.0 = one-place at-name y.0.drops.0 x.0.drops.0 y.0.drops.1 x.0.drops.1 in
+      let same : y.0.drops.0 ≡ x.0.drops.0 = one-index at-name y.0.drops.0 x.0.drops.0 y.0.drops.1 x.0.drops.1 in
       let d : SharedDrops x.0.drops.0 shared two.node.noted.shared = subst (λ (i : ℕ). SharedDrops i shared two.node.noted.shared) same y.0.drops.2 in
       let after = x.0.drops.2.stands h.0 h.1 h.2 in
       let one-shared = shared_one h.0 (h.1 ++ Drops x.0.drops.0 ∷ []) one.node.noted.shared two.node.noted.shared (x.0.drops.2.same_setup ∙ sym d.same_setup)

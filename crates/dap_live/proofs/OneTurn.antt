@@ -24,7 +24,7 @@ use Rattle.dap_end.specs.declared.fault.EndFault.TheVariants as end_fault
 use Rattle.dap_end.specs.declared.fault.TakeFault.{TakeFault}
 use Rattle.dap_end.specs.Ports.{HandsOver, PortValue, gone_on}
 use Rattle.dap_end.specs.Moved.{with_outbox_sent}
-use Rattle.dap_end.specs.By.{PortRests, ServedBy, TurnsBy, begins, goes}
+use Rattle.dap_end.specs.By.{PortRests, ServedBy, TurnsBy, no_turn, one_turn}
 use Rattle.dap_end.specs.Node.{NodeLinkValue, serves_on}
 use Rattle.dap_end.specs.Taking.{HasRoom}
 use Rattle.dap_end.specs.Turns.{DidAll, WentOn, TakesPacket}
@@ -79,7 +79,7 @@ item_one : (link : ℕ) (old one two : NodeLinkValue) (n m : ℕ) → HasCarried
 item_one link old one two n m k a b =
     let bytes : b.one.bytes ≡ a.one.bytes = (let both = sym b.one.came ∙ a.one.came in cc) in
     let later : b.one.later ≡ a.one.later = (let both = sym b.one.came ∙ a.one.came in cc) in
-    let same = one_item a.one.bytes old.port.place a.by.item b.by.item a.served.next b.served.next a.one.fits a.by.reads (subst (λ (l : List ℕ). ItemAt l old.port.place b.by.item b.served.next) bytes b.by.reads) in
+    let same = one_item a.one.bytes old.port.offset a.by.item b.by.item a.served.next b.served.next a.one.fits a.by.reads (subst (λ (l : List ℕ). ItemAt l old.port.offset b.by.item b.served.next) bytes b.by.reads) in
     let other : NotedServes link a.by.item old.present two.present b.served.answers = subst (λ (i : Item). NotedServes link i old.present two.present b.served.answers) same.0 b.by.serves in
     let both = noted_one link a.by.item old.present one.present two.present a.served.answers b.served.answers k.0 k.1 k.2 a.by.serves other in
     let next : a.one.next ≡ b.one.next = sym a.next ∙ sym same.1 ∙ b.next in
@@ -109,8 +109,8 @@ served_carried link old new n s k = (
 )
 
 turns_carried : (link most : ℕ) (old new : NodeLinkValue) → TurnsBy (NotedServed link) most old new → HasCarried old → HasCarried new
-turns_carried link most old new begins k = k
-turns_carried link most old new (goes p m count n x room y on) k = turns_carried link most m new on (served_carried link p m n y (posted_carried old p count x k))
+turns_carried link most old new no_turn k = k
+turns_carried link most old new (one_turn p m count n x room y on) k = turns_carried link most m new on (served_carried link p m n y (posted_carried old p count x k))
 
 all_carried : (link most : ℕ) (old new : NodeLinkValue) (r : Result (Unit {0}) EndFault) → DidAll (serves_on link most) old new r → HasCarried old → HasCarried new
 all_carried link most old new (Ok u) d k = posted_carried d.0 new d.1 d.4 (turns_carried link most old d.0 d.2 k)
@@ -125,10 +125,10 @@ abbrev Stops : (link most : ℕ) → NodeLinkValue → Type 0
 Stops link most v = (mid new : NodeLinkValue) (count n : ℕ) → HandsOver v mid count → HasRoom most v.port → ServedBy (NotedServed link) mid new n → ⊥
 
 turns_one : (link most : ℕ) (old one two : NodeLinkValue) → HasCarried old → TurnsBy (NotedServed link) most old one → TurnsBy (NotedServed link) most old two → Stops link most one → Stops link most two → one ≡ two
-turns_one link most old one two k begins begins a b = refl
-turns_one link most old one two k begins (goes p m c n x has y on) a b = absurd (a p m c n x has y)
-turns_one link most old one two k (goes p m c n x has y on) begins a b = absurd (b p m c n x has y)
-turns_one link most old one two k (goes p m c n x has y on) (goes q l j i z room w other) a b =
+turns_one link most old one two k no_turn no_turn a b = refl
+turns_one link most old one two k no_turn (one_turn p m c n x has y on) a b = absurd (a p m c n x has y)
+turns_one link most old one two k (one_turn p m c n x has y on) no_turn a b = absurd (b p m c n x has y)
+turns_one link most old one two k (one_turn p m c n x has y on) (one_turn q l j i z room w other) a b =
     let same_posted : q ≡ p = posted_is old q j z ∙ sym (posted_is old p c x) in
     let after = posted_carried old p c x k in
     let same = item_one link p m l n i after y (subst (λ (v : NodeLinkValue). ServedBy (NotedServed link) v l i) same_posted w) in

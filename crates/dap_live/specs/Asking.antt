@@ -40,7 +40,7 @@ OnEnd old new = new ≡ record old { end = new.end; reports = new.reports }
 
 -- ---- A packet.
 
--- the answer has what waits to be told, unless the link refused the packet
+-- the answer has what waits to be reported, unless the link refused the packet
 abbrev pub came_by : Result Got TakeFault → Became → Came
 came_by (Err (take.Refused f)) became = Untold became
 came_by _ became = Told became
@@ -58,7 +58,7 @@ pub record HearsPacket (old : Asking) (bytes : List ℕ) (new : Asking) (text : 
 -- ---- Going on.
 
 -- what the client answers by going on, after this text
-pub record GoesOn (old : Asking) (front : List ℕ) (new : Asking) (text : List ℕ) (came : Came) : Type 0 where
+pub record ClientGoesOn (old : Asking) (front : List ℕ) (new : Asking) (text : List ℕ) (came : Came) : Type 0 where
   pub gone : Result (Unit {0}) EndFault
   pub packets : List (List ℕ)
   pub went : WentOn (hears old.reports.items new.reports.items) old.end new.end [] packets gone
@@ -66,7 +66,7 @@ pub record GoesOn (old : Asking) (front : List ℕ) (new : Asking) (text : List 
   pub says : text ≡ front ++ (done_said (told_text new) packets gone).0
   pub ended : came ≡ Told (done_said (told_text new) packets gone).1
 
--- it answers what waits to be told, after this text
+-- it answers what waits to be reported, after this text
 abbrev pub TellsAlone : (old : Asking) → (front : List ℕ) → (new : Asking) → List ℕ → Came → Type 0
 TellsAlone old front new text came = (new ≡ old) × (text ≡ front ++ told_text old) × (came ≡ Told Done)
 
@@ -75,28 +75,28 @@ TellsAlone old front new text came = (new ≡ old) × (text ≡ front ++ told_te
 abbrev pub has_more : AskingValue → Bool
 has_more end = not end.present.failed && (has_message end.port.link || is_left end.port.link end.port.outbox false)
 
--- the packets of all segments that aren't acknowledged, then what going on does, or else what waits to be told
+-- the packets of all segments that aren't acknowledged, then what going on does, or else what waits to be reported
 abbrev pub Resends : Asking → Asking → List ℕ → Came → Type 0
 Resends old new text came = (packets : List (List ℕ)) × AllAgain old.end.port.link packets
-    × MatchBool (has_more old.end) (GoesOn old (packets_text packets) new text came) (TellsAlone old (packets_text packets) new text came)
+    × MatchBool (has_more old.end) (ClientGoesOn old (packets_text packets) new text came) (TellsAlone old (packets_text packets) new text came)
 
 -- ---- A request.
 
--- a client of which this was asked: none of its records was told
+-- a client of which this was asked: none of its records was reported
 abbrev pub begun : (each : Bool) → Request → Asking → Asking
 begun each request asking = record asking { is_each = each_after each request asking.is_each; told = 0 }
 
 -- The request isn't asked, and the reason is answered. Where a report is still due, the client goes on.
 abbrev pub AsksNot : Asking → Asking → List ℕ → Came → AskFault → Type 0
-AsksNot old new text came Busy = GoesOn old (ask_refusal Busy).0 new text came
+AsksNot old new text came Busy = ClientGoesOn old (ask_refusal Busy).0 new text came
 AsksNot old new text came f = (new ≡ old) × (text ≡ (ask_refusal f).0) × (came ≡ Untold (ask_refusal f).1)
 
--- The request is asked, the number of its messages is answered, and the client goes on; or it isn't asked. It says that each
--- record is told by itself, or doesn't.
+-- The request is asked, the number of its messages is answered, and the client goes on; or it isn't asked. It says that
+-- each record is reported by itself, or doesn't.
 abbrev pub AnswersAsk : (each : Bool) → Asking → Request → Asking → List ℕ → Came → Type 0
 AnswersAsk each old request new text came =
     ((count : ℕ) × (mid : AskingValue) × AskedOne request old.end mid count
-    × GoesOn (begun each request (record old { end = mid })) (concat (codes "asked " ∷ decimal count ∷ line_feed ∷ [])) new text came)
+    × ClientGoesOn (begun each request (record old { end = mid })) (concat (codes "asked " ∷ decimal count ∷ line_feed ∷ [])) new text came)
     ⊎ ((f : AskFault) × AskRefused request old.end.present f × AsksNot old new text came f)
 
 -- ---- A new link.
@@ -126,11 +126,11 @@ AskingDoes old (order.Ask request) new text came =
     UnlessFailed old.end.port.link text (LeavesEnd (Untold Done) old new came) (AnswersAsk false old request new text came)
 AskingDoes old order.FetchEach new text came = UnlessFailed old.end.port.link text (LeavesEnd (Untold Done) old new came) (AnswersAsk true old Fetch new text came)
 
--- All was told that waited: no report waits, nor a record of a batch under way where each is told by itself.
+-- All was reported that waited: no report waits, nor a record of a batch under way where each is reported by itself.
 abbrev pub WasTold : Asking → Asking → Type 0
 WasTold old new = (new ≡ record old { reports = new.reports; told = told_after old }) × (new.reports.items ≡ [])
 
--- If the answer has what waits to be told, it doesn't wait afterwards; otherwise it waits as before.
+-- If the answer has what waits to be reported, it doesn't wait afterwards; otherwise it waits as before.
 abbrev pub Ends : Came → Asking → Asking → Became → Type 0
 Ends (Told was) old new became = WasTold old new × (became ≡ was)
 Ends (Untold was) old new became = (new ≡ old) × (became ≡ was)
@@ -140,7 +140,7 @@ abbrev pub DoesAll : Asking → AskOrder → Asking → List ℕ → Became → 
 DoesAll old o new text became = (mid : Asking) × (came : Came) × AskingDoes old o mid text came × Ends came mid new became
 
 -- A line that is no order changes nothing and is a bad line. Otherwise the order is done; or memory is refused to its
--- answer, and nothing else is answered, whether it was done or not: what waits to be told still waits.
+-- answer, and nothing else is answered, whether it was done or not: what waits to be reported still waits.
 abbrev pub DoesAskOrder : Asking → Option AskOrder → Asking → List ℕ → Became → Type 0
 DoesAskOrder old None new text became = (new ≡ old) × (text ≡ []) × (became ≡ BadLine)
 DoesAskOrder old (Some o) new text became =
@@ -152,6 +152,7 @@ abbrev pub answered : Asking → Option (List ℕ) → Asking → List ℕ → B
 answered old None new text became = new ≡ old
 answered old (Some line) new text became = DoesAskOrder old (ask_order_of line) new text became
 
--- the packets that aren't acknowledged, and one more where going on would do something, or something waits to be told
+-- the packets that aren't acknowledged, and one more where going on would do something, or something waits to be
+-- reported
 abbrev pub waiting : Asking → Option ℕ
 waiting asking = Some (waits_of asking.end.port.link (has_more asking.end || waits_told asking))

@@ -1,5 +1,5 @@
--- What a server does by a line, and what it answers. A line concerns one link, or none; where there is room for one link
--- alone, that link.
+-- What a server does by a line, and what it answers. A line concerns one link, or none; where there is room for one
+-- link alone, that link.
 use Rattle.std.specs.Prelude.{◌≡◌, ◌⊎◌, ◌++◌, ◌==◌, Bool, false, true, ℕ, length, MatchBool, MatchOption, MatchResult, List, [], ◌∷◌, codes, replicate, set, slice_get, if◌then◌else◌, Option, Some, None, Result, Ok, Err}
 use Rattle.std.specs.List.{list_any, position}
 use Rattle.rec_file.specs.Shapes.{checked_shape}
@@ -32,7 +32,7 @@ use Rattle.dap_end.specs.Node.{AtPort, BeganOn, EndedOn, HasPort, NodeNotGiven, 
 use Rattle.dap_end.specs.Turns.{TakesPacket, WentOn}
 use Rattle.dap_text.specs.declared.filed.FileLine.{FileLine}
 use Rattle.dap_text.specs.declared.filed.RecordLine.{RecordLine}
-use Rattle.dap_text.specs.declared.tables.FilesPlace.{FilesPlace}
+use Rattle.dap_text.specs.declared.tables.FilesCursor.{FilesCursor}
 use Rattle.dap_text.specs.Tables.{files_lines, lines_from}
 use Rattle.linewise.specs.Talks.{ComesIn}
 use Rattle.linewise.specs.declared.talking.Became.{Became}
@@ -57,7 +57,8 @@ first_events links = if links == 1 then Begins 0 all_rights ∷ [] else []
 abbrev pub first_ports : (links : ℕ) → LinkSetup → List (Option PortValue)
 first_ports links usual = if links == 1 then Some (new_port usual) ∷ [] else replicate links None
 
--- A node without files that is set up so, with room for this many links. Where that is one, it is there, with every right.
+-- A node without files that is set up so, with room for this many links. Where that is one, it is there, with every
+-- right.
 pub record IsNewNode (own : ServerSetup) (links : ℕ) (usual : LinkSetup) (most : ℕ) (node : Node) : Type 0 where
   pub stands : SharedAfter [] (first_events links) node.node.noted.shared
   pub setup : node.node.noted.shared.setup ≡ own
@@ -111,7 +112,7 @@ abbrev pub one_link : List (Option PortValue) → Option ℕ
 one_link (Some p ∷ []) = Some 0
 one_link ports = None
 
--- the link that a line means: the one that has this own address; or the only one, where the line names none
+-- the link that a line means: the one that has this local address; or the only one, where the line names none
 abbrev pub meant : (local : Option ℕ) → List (Option PortValue) → Option ℕ
 meant None ports = one_link ports
 meant (Some local) ports = position (has_local local) ports
@@ -171,8 +172,8 @@ TakesPacketOf old bytes new text became =
 -- ---- Going on.
 
 -- apart from memory, the node would do something by going on with this link
-abbrev pub is_behind_at : (most : ℕ) → PortValue → Bool
-is_behind_at most p = is_left p.link p.outbox (may_serve_next most p.link)
+abbrev pub is_work_left_at : (most : ℕ) → PortValue → Bool
+is_work_left_at most p = is_left p.link p.outbox (may_serve_next most p.link)
 
 -- what the node answers by going on with a link, after this text
 pub record GoesOnWith (link : ℕ) (old : Node) (front : List ℕ) (new : Node) (text : List ℕ) (became : Became) : Type 0 where
@@ -186,7 +187,7 @@ pub record GoesOnWith (link : ℕ) (old : Node) (front : List ℕ) (new : Node) 
 -- the packets of all segments of a link that aren't acknowledged, then what going on does, if something is left
 abbrev pub ResendsOn : (link : ℕ) → PortValue → Node → Node → List ℕ → Became → Type 0
 ResendsOn link port old new text became = (packets : List (List ℕ)) × AllAgain port.link packets
-    × MatchBool (is_behind_at old.most_waiting port)
+    × MatchBool (is_work_left_at old.most_waiting port)
     (GoesOnWith link old (packets_text packets) new text became)
     (Says (packets_text packets, Done) (about link old) new text became)
 
@@ -221,7 +222,8 @@ abbrev pub RenewsOn : (link : ℕ) → Option Between → Node → Node → List
 RenewsOn link anew old new text became = AtPort link old.node (λ p.
     BeginsOn link (setup_anew p.link.setup anew) (most_anew (rights_on link old.node.noted.shared) anew) (about link old) new text became)
 
--- the link that has this own address is renewed; or one is added, with the usual setup and every right where nothing else is named
+-- the link that has this local address is renewed; or one is added, with the usual setup and every right where nothing
+-- else is named
 abbrev pub Renews : Between → Node → Node → List ℕ → Became → Type 0
 Renews b old new text became = MatchOption (position (has_local b.local) old.node.ports)
     (AddsLink (setup_beside old.usual b) (most_beside all_rights b) old new text became)
@@ -312,7 +314,8 @@ DropsFile old name new text became =
 
 -- ---- A line.
 
--- What the node does by each order, and its answer. It comes with the only link, or none, and then the line concerns that.
+-- What the node does by each order, and its answer. It comes with the only link, or none, and then the line concerns
+-- that.
 abbrev pub NodeDoes : Node → NodeOrder → Node → List ℕ → Became → Type 0
 NodeDoes old (order.Packet bytes) new text became = TakesPacketOf old bytes new text became
 NodeDoes old (order.Resend local) new text became = OnMeant (meant local old.node.ports) (λ link. AtPort link old.node (λ p.
@@ -337,7 +340,8 @@ named_by node (order.Renew anew) = one_link node.node.ports
 named_by node (order.New between) = position (has_local between.local) node.node.ports
 named_by node o = None
 
--- the node where an order isn't done: the line concerns the link that it means, and a file that isn't added takes no records
+-- the node where an order isn't done: the line concerns the link that it means, and a file that isn't added takes no
+-- records
 abbrev pub undone : Node → NodeOrder → Node
 undone old (order.File file) = ungiven old
 undone old o = about_any (named_by old o) old
@@ -363,13 +367,13 @@ abbrev pub answered : Node → Option (List ℕ) → Node → List ℕ → Becam
 answered old None new text became = new ≡ before_line old
 answered old (Some line) new text became = DoesNodeOrder (before_line old) (node_order_of (is_alone old.node) line) new text became
 
--- the lines of the files from a place on
-abbrev pub pieces : Node → FilesPlace → List (List ℕ)
-pieces node place = lines_from node.node.noted.shared.files place
+-- the lines of what is left to list of the files
+abbrev pub pieces : Node → FilesCursor → List (List ℕ)
+pieces node cursor = lines_from node.node.noted.shared.files cursor
 
 -- the packets of a link that aren't acknowledged, and one more where something is left
 abbrev pub port_waits : (most : ℕ) → Option (Option PortValue) → ℕ
-port_waits most (Some (Some p)) = waits_of p.link (is_behind_at most p)
+port_waits most (Some (Some p)) = waits_of p.link (is_work_left_at most p)
 port_waits most _ = 0
 
 -- those of the link that the last line concerns
@@ -377,6 +381,6 @@ abbrev pub waits_on : (most : ℕ) → Option ℕ → NodeValue → ℕ
 waits_on most None v = 0
 waits_on most (Some link) v = port_waits most (slice_get v.ports link)
 
--- what `waits` tells after an answer
+-- what `waits` returns after an answer
 abbrev pub waiting : Node → Option ℕ
 waiting node = Some (waits_on node.most_waiting node.last node.node)

@@ -96,11 +96,11 @@ remove_refusal removing.Busy = refused_with (codes "busy")
 
 -- ---- What was done.
 
--- for each Access that was refused, as another link has the file open, the own address of a link that locks it out
+-- for each Access that was refused, as another link has the file open, the local address of a link that locks it out
 abbrev pub locked_text : List ℕ → List ℕ
 locked_text locked = flat_map (λ local. concat (codes "locked " ∷ word_text local ∷ line_feed ∷ [])) locked
 
--- what is told, the packets, and why not all was done
+-- what is reported, the packets, and why not all was done
 abbrev pub done_said : (told : List ℕ) → (packets : List (List ℕ)) → Result (Unit {0}) EndFault → LineAnswer
 done_said told packets (Ok done) = (told ++ packets_text packets, Done)
 done_said told packets (Err f) = (told ++ (packets_text packets ++ (end_refusal f).0), (end_refusal f).1)

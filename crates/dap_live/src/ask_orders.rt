@@ -17,11 +17,11 @@ pub(crate) enum AskOrder<'a> {
     /// A new link between the addresses of the last one, or between these.
     New(Option<Between>),
     Ask(RequestText<'a>),
-    /// A fetch of which each record is told by itself.
+    /// A fetch of which each record is reported by itself.
     FetchEach,
 }
 
-/// A line with one word.
+/// Reads the end of a line with one word.
 fn read_plain<'a>(words: Words<'a>, order: AskOrder<'a>) -> Option<AskOrder<'a>>
     ensures { result ≡ ends order.entry words.entry }
 {
@@ -29,7 +29,7 @@ fn read_plain<'a>(words: Words<'a>, order: AskOrder<'a>) -> Option<AskOrder<'a>>
     Some(order)
 }
 
-/// Whether rights are named.
+/// Returns whether rights are named.
 fn names_rights(anew: Option<Between>) -> bool
     ensures { result ≡ names_fac anew }
 {
@@ -39,7 +39,7 @@ fn names_rights(anew: Option<Between>) -> bool
     }
 }
 
-/// A new link: a client gives nobody rights.
+/// Reads a new link: a client gives nobody rights.
 fn read_new<'a>(words: Words<'a>) -> Option<AskOrder<'a>>
     ensures { result ≡ option_and_then new_link_order (anew_of words.entry) }
 {
@@ -74,7 +74,7 @@ fn read_asked<'a>(words: Words<'a>) -> Option<AskOrder<'a>>
     }
 }
 
-/// What a line says.
+/// Reads what a line says.
 pub(crate) fn read_ask_order(line: &[u8]) -> Option<AskOrder<'_>>
     ensures { result ≡ ask_order_of line.now }
 {

@@ -1,4 +1,4 @@
-//! The end that asks, over lines.
+//! The client, over lines.
 
 ghost use Rattle.std.specs.Prelude.{◌≡◌, ◌≤◌, ◌⊎◌, [], ℕ, List, Some, OnOk, OnErr, IfOk, IfErr, MatchBool, ◌||◌, ◌&&◌, false, length, nat_lt};
 ghost use Rattle.dap_msg.specs.BothEnds.{min_buffer};
@@ -15,7 +15,7 @@ ghost use Rattle.dap_text.specs.Adding.{Adds};
 ghost use Rattle.dap_live.specs.declared.asking.Came.{Came as TheCame};
 ghost use Rattle.dap_live.specs.Inner.Reaching.{Reaches};
 ghost use Rattle.dap_live.specs.Each.{each_after, waits_told};
-ghost use Rattle.dap_live.specs.Asking.{AnswersAsk, AskingDoes, DoesAskOrder, Ends, GoesOn, Resends, TellsAlone, WasTold, begun, came_by, has_more as has_more_of};
+ghost use Rattle.dap_live.specs.Asking.{AnswersAsk, AskingDoes, ClientGoesOn, DoesAskOrder, Ends, Resends, TellsAlone, WasTold, begun, came_by, has_more as has_more_of};
 ghost use Rattle.dap_live.specs.Inner.Saying.{front_text};
 
 use crate::ask_orders::{AskOrder, read_ask_order};
@@ -32,7 +32,7 @@ use linewise::{Answer, Answers, Became};
 use nsp_link::{Got, LinkFault, LinkSetup};
 use std::alloc::{AllocError, Global};
 
-/// The end that asks, as an answerer of lines.
+/// The client, as an answerer of lines.
 #[derive(Drop)]
 pub struct Asking {
     alloc: Global,
@@ -42,14 +42,14 @@ pub struct Asking {
     pub setup: LinkSetup,
     /// The reports that wait to be printed: more than those of one line only where memory was refused.
     pub reports: Vec<Report>,
-    /// Each record of a fetch is told by itself.
+    /// Each record of a fetch is reported by itself.
     pub is_each: bool,
-    /// How many records of the batch under way were told by themselves.
+    /// How many records of the batch under way were reported by themselves.
     pub told: usize,
 }
 
 impl Asking {
-    /// An end of which nothing was asked, which says this of itself, with a BUFSIZ of at least 64. Refused as
+    /// Creates an end of which nothing was asked, which says this of itself, with a BUFSIZ of at least 64. Refused as
     /// [`AskingEnd::with_identity`] is.
     pub fn new(
         alloc: Global,
@@ -91,7 +91,7 @@ pub(crate) enum Came {
     Untold(Became),
 }
 
-/// Takes a packet, and goes on.
+/// Receives a packet, and goes on.
 fn take(
     end: &mut AskingEnd,
     bytes: &[u8],
@@ -105,7 +105,7 @@ fn take(
     end.take(bytes, packets, reports)
 }
 
-/// The answer to a packet has the reports where the link took it.
+/// Returns what became of a packet: the answer has the reports where the link took it.
 fn came_of(taken: Result<Got, TakeFault>, became: Became) -> Came
     ensures { result ≡ came_by taken became }
 {
@@ -115,7 +115,7 @@ fn came_of(taken: Result<Got, TakeFault>, became: Became) -> Came
     }
 }
 
-/// The answer to a packet.
+/// Writes the answer to a packet.
 fn take_packet(
     asking: &mut Asking,
     digits: &Text<'_>,
@@ -169,11 +169,12 @@ fn push_front(text: &mut Vec<u8>, front: Front) -> Result<(), AllocError>
 }
 
 /// Goes on, and says what comes of it after this.
-fn go_on_behind(asking: &mut Asking, front: Front, text: &mut Vec<u8>) -> Result<Came, AllocError>
+fn go_on_after(asking: &mut Asking, front: Front, text: &mut Vec<u8>) -> Result<Came, AllocError>
     requires { text.old.items ≡ [] }
-    ensures ok { IfOk result (GoesOn asking.old (front_text front) asking.new text.new.items) }
+    ensures ok { IfOk result
+        (ClientGoesOn asking.old (front_text front) asking.new text.new.items) }
     ensures err { OnErr result ((said : List ℕ) × (came : TheCame)
-        × GoesOn asking.old (front_text front) asking.new said came) }
+        × ClientGoesOn asking.old (front_text front) asking.new said came) }
 {
     let mut packets = Vec::new(asking.alloc);
     let gone = go_on(&mut asking.end, &mut packets, &mut asking.reports);
@@ -181,7 +182,7 @@ fn go_on_behind(asking: &mut Asking, front: Front, text: &mut Vec<u8>) -> Result
     Ok(Came::Told(push_done(text, asking, &packets, gone)?))
 }
 
-/// Whether something is left to do for the client: a message that came isn't read, or something isn't sent.
+/// Returns whether something is left to do for the client: a message that came isn't read, or something isn't sent.
 fn has_more(end: &AskingEnd) -> bool
     ensures { result ≡ has_more_of end.now }
 {
@@ -190,23 +191,23 @@ fn has_more(end: &AskingEnd) -> bool
 
 /// Goes on after segments that are sent again, and says what comes of it after their lines.
 fn go_on_again(asking: &mut Asking, text: &mut Vec<u8>) -> Result<Came, AllocError>
-    ensures ok { IfOk result (GoesOn asking.old text.old.items asking.new text.new.items) }
+    ensures ok { IfOk result (ClientGoesOn asking.old text.old.items asking.new text.new.items) }
     ensures err { OnErr result ((said : List ℕ) × (came : TheCame)
-        × GoesOn asking.old text.old.items asking.new said came) }
+        × ClientGoesOn asking.old text.old.items asking.new said came) }
 {
     let mut packets = Vec::new(asking.alloc);
     let gone = go_on(&mut asking.end, &mut packets, &mut asking.reports);
     Ok(Came::Told(push_done(text, asking, &packets, gone)?))
 }
 
-/// Goes on where something is left, or prints what waits to be told.
+/// Goes on where something is left, or prints what waits to be reported.
 fn go_on_if_left(asking: &mut Asking, text: &mut Vec<u8>) -> Result<Came, AllocError>
     ensures ok { IfOk result (λ came. MatchBool (has_more_of asking.old.end)
-        (GoesOn asking.old text.old.items asking.new text.new.items came)
+        (ClientGoesOn asking.old text.old.items asking.new text.new.items came)
         (TellsAlone asking.old text.old.items asking.new text.new.items came)) }
     ensures err { OnErr result ((said : List ℕ) × (came : TheCame)
         × MatchBool (has_more_of asking.old.end)
-        (GoesOn asking.old text.old.items asking.new said came)
+        (ClientGoesOn asking.old text.old.items asking.new said came)
         (TellsAlone asking.old text.old.items asking.new said came)) }
 {
     if has_more(&asking.end) {
@@ -240,7 +241,7 @@ fn resend(asking: &mut Asking, text: &mut Vec<u8>) -> Result<Came, AllocError>
     resend_running(asking, text)
 }
 
-/// Whether each record is told by itself after this request, which says so or doesn't.
+/// Returns whether each record is reported by itself after this request, which says so or doesn't.
 fn is_each_after(each: bool, request: &Request, before: bool) -> bool
     ensures { result ≡ each_after each request.now before }
 {
@@ -250,7 +251,7 @@ fn is_each_after(each: bool, request: &Request, before: bool) -> bool
     }
 }
 
-/// Notes that a request was asked: none of its records was told.
+/// Notes that a request was asked: none of its records was reported.
 fn begin_request(asking: &mut Asking, each: bool, request: &Request)
     ensures { asking.new ≡ begun each request.now asking.old }
 {
@@ -273,14 +274,14 @@ fn ask_request(
     match asking.end.ask(request) {
         Ok(count) => {
             begin_request(asking, each, request);
-            go_on_behind(asking, Front::Asked(count), text)
+            go_on_after(asking, Front::Asked(count), text)
         }
-        Err(AskFault::Busy) => go_on_behind(asking, Front::Busy, text),
+        Err(AskFault::Busy) => go_on_after(asking, Front::Busy, text),
         Err(fault) => Ok(Came::Untold(push_ask_refusal(text, fault)?)),
     }
 }
 
-/// Whether reports wait that would be told in another way after a request that says this.
+/// Returns whether reports wait that would be reported in another way after a request that says this.
 fn has_untold(asking: &Asking, each: bool) -> bool
     ensures { result
         ≡ ((each || asking.now.is_each) && nat_lt 0 (length asking.now.reports.items)) }
@@ -288,8 +289,8 @@ fn has_untold(asking: &Asking, each: bool) -> bool
     (each || asking.is_each) && !asking.reports.is_empty()
 }
 
-/// Asks a request, which says that each record is told by itself or doesn't, on a link that runs. While reports wait to
-/// which memory was refused, none is asked that would have them told in another way.
+/// Asks a request, which says that each record is reported by itself or doesn't, on a link that runs. While reports
+/// wait to which memory was refused, none is asked that would have them reported in another way.
 fn ask_running(
     asking: &mut Asking,
     each: bool,
@@ -321,7 +322,7 @@ fn ask(asking: &mut Asking, asked: &RequestText<'_>, text: &mut Vec<u8>) -> Resu
     ask_running(asking, false, &request, text)
 }
 
-/// Asks for all records, each of which is told by itself.
+/// Asks for all records, each of which is reported by itself.
 fn fetch_each(asking: &mut Asking, text: &mut Vec<u8>) -> Result<Came, AllocError>
     requires { text.old.items ≡ [] }
     ensures ok { IfOk result (AskingDoes asking.old AskOrder.FetchEach asking.new text.new.items) }
@@ -368,7 +369,8 @@ fn act(asking: &mut Asking, order: AskOrder<'_>, text: &mut Vec<u8>) -> Result<C
     }
 }
 
-/// Notes that all was told that waited: the reports, and where each record is told by itself those of a batch under way.
+/// Notes that all was reported that waited: the reports, and where each record is reported by itself those of a batch
+/// under way.
 fn note_told(asking: &mut Asking)
     ensures { WasTold asking.old asking.new }
 {
@@ -378,7 +380,7 @@ fn note_told(asking: &mut Asking)
     }
 }
 
-/// Where the answer has the reports, none waits.
+/// Returns what became of an order. Where its answer has the reports, none waits any more.
 fn end_answer(asking: &mut Asking, came: Came) -> Became
     ensures { Ends came asking.old asking.new result }
 {
@@ -416,15 +418,15 @@ fn answer_order(asking: &mut Asking, order: Option<AskOrder<'_>>, text: &mut Vec
     }
 }
 
-/// Whether something waits to be told.
+/// Returns whether something waits to be reported.
 fn has_told(asking: &Asking) -> bool
     ensures { result ≡ waits_told asking.now }
 {
     !asking.reports.is_empty() || (asking.is_each && asking.told < asking.end.records().len())
 }
 
-/// Whether something is left to do for the client, or to be reported.
-fn is_behind(asking: &Asking) -> bool
+/// Returns whether something is left to do for the client, or to be reported.
+fn is_work_left(asking: &Asking) -> bool
     ensures { result ≡ (has_more_of asking.now.end || waits_told asking.now) }
 {
     has_more(&asking.end) || has_told(asking)
@@ -434,13 +436,13 @@ impl Answers for Asking {
     ghost use Rattle.dap_live.specs.Asking.{answered, waiting};
 
     // Each answer is said as a whole.
-    type Place = ();
+    type Cursor = ();
 
     ghost answered = { answered };
 
     ghost waiting = { waiting };
 
-    ghost pieces = { λ asking place. [] };
+    ghost pieces = { λ asking cursor. [] };
 
     fn answer(&mut self, line: &[u8], text: &mut Vec<u8>) -> Answer<()> {
         Answer::Whole(answer_order(self, read_ask_order(line), text))
@@ -448,11 +450,11 @@ impl Answers for Asking {
 
     fn miss(&mut self) {}
 
-    fn more(&self, _place: (), _text: &mut Vec<u8>) -> Result<Option<()>, AllocError> {
+    fn more(&self, _cursor: (), _text: &mut Vec<u8>) -> Result<Option<()>, AllocError> {
         Ok(None)
     }
 
     fn waits(&self) -> Option<usize> {
-        Some(waits(self.end.link(), is_behind(self)))
+        Some(waits(self.end.link(), is_work_left(self)))
     }
 }

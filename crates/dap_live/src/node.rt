@@ -10,14 +10,14 @@ ghost use Rattle.nsp_link.specs.declared.fault.LinkFault.TheVariants as link_fau
 ghost use Rattle.dap_end.specs.Ports.{PortValue};
 ghost use Rattle.dap_end.specs.Node.{AtPort, BeganOn, HasPort, NotBegun, OnLink, has_local, serves_on};
 ghost use Rattle.dap_end.specs.Turns.{TakesPacket, WentOn};
-ghost use Rattle.linewise.specs.Talks.{Begins};
+ghost use Rattle.linewise.specs.Talks.{BeginsAnswer};
 ghost use Rattle.dap_live.specs.Both.{LeavesEnd};
 ghost use Rattle.dap_live.specs.Sending.{SaysAck, UnlessFailed};
 ghost use Rattle.dap_live.specs.Texts.{LineAnswer};
-ghost use Rattle.dap_live.specs.Inner.NodeReaching.{Done, NodeReaches};
+ghost use Rattle.dap_live.specs.Inner.NodeReaching.{IsDoneWithText, NodeReaches};
 ghost use Rattle.dap_live.specs.Inner.Filing.{AddsShapedTo, GivesRecordBy, HasNoBytes, RecordNotBy};
 ghost use Rattle.dap_live.specs.Orders.{most_anew, most_beside, setup_anew};
-ghost use Rattle.dap_live.specs.Node.{AddsFileTo, AddsLink, AddsRecordTo, BeginsOn, NodeDoes, DoesNodeOrder, DropsFile, FindsLink, GoesOnWith, IsNewNode, IsNotDone, NoLink, ResendsOn, TakesOn, TakesPacketBy, RenewsOn, about, before_line, given_beside, is_alone, is_behind_at, is_used, meant, one_link, pieces, receiver_of, sender_of, ungiven, used_by, waits_on as waits_by};
+ghost use Rattle.dap_live.specs.Node.{AddsFileTo, AddsLink, AddsRecordTo, BeginsOn, NodeDoes, DoesNodeOrder, DropsFile, FindsLink, GoesOnWith, IsNewNode, IsNotDone, NoLink, ResendsOn, TakesOn, TakesPacketBy, RenewsOn, about, before_line, given_beside, is_alone, is_work_left_at, is_used, meant, one_link, pieces, receiver_of, sender_of, ungiven, used_by, waits_on as waits_by};
 
 use crate::node_orders::{NodeOrder, read_node_order};
 use crate::orders::{Between, set_up_anew, set_up_beside};
@@ -31,7 +31,7 @@ use dap_accessed::{ALL_RIGHTS, AddFault, Names, NoMemory, ServerSetup, rights_of
 use dap_accessing::Octets;
 use dap_end::{EndFault, ServingNode, TakeFault};
 use dap_msg::codes::{ACCESS_REFUSED, REASON_BAD_ATTRIBUTES};
-use dap_text::{FileLine, FilesPlace, RecordLine, Text, push_files_line};
+use dap_text::{FileLine, FilesCursor, RecordLine, Text, push_files_line};
 use file_names::is_alike;
 use linewise::{Answer, Answers, Became};
 use nsp_link::{Got, LinkEnd, LinkFault, LinkSetup, is_setup};
@@ -59,7 +59,7 @@ pub struct Node {
     pub given: Option<Octets>,
 }
 
-/// A node without files and links.
+/// Creates a node without files and links.
 fn no_links(
     alloc: Global,
     own: ServerSetup,
@@ -99,10 +99,10 @@ fn begin_only(node: &mut Node) -> Result<(), LinkFault>
 }
 
 impl Node {
-    /// A node without files that is set up so, with room for this many links. It serves what came on a link while fewer
-    /// than `most_waiting` bytes wait there. Where there is room for one, that link is there from the start, as `usual`
-    /// says, and lines name no link; otherwise none is. Refused: `BadSetup` where there is one link and a limit of its
-    /// setup isn't in its range; `NoMemory`.
+    /// Creates a node without files that is set up so, with room for this many links. It serves what came on a link
+    /// while fewer than `most_waiting` bytes wait there. Where there is room for one, that link is there from the
+    /// start, as `usual` says, and lines name no link; otherwise none is. Refused: `BadSetup` where there is one link
+    /// and a limit of its setup isn't in its range; `NoMemory`.
     #[tactic(auto, using(crate::proofs::NewNode::new_several, crate::proofs::NewNode::new_only))]
     pub fn new(
         alloc: Global,
@@ -126,8 +126,8 @@ impl Node {
     }
 }
 
-/// The only link, of a node that has room for one.
-#[tactic(auto, using(crate::proofs::Places::one_is, crate::proofs::Places::one_none, crate::proofs::Places::one_several, crate::proofs::Places::one_only))]
+/// Finds the only link, of a node that has room for one.
+#[tactic(auto, using(crate::proofs::Indices::one_is, crate::proofs::Indices::one_none, crate::proofs::Indices::one_several, crate::proofs::Indices::one_only))]
 fn find_one(node: &ServingNode) -> Option<usize>
     ensures found { result ≡ one_link node.now.ports }
     ensures there { IfSome result (λ link. (p : PortValue) × HasPort link node.now p) }
@@ -144,7 +144,7 @@ fn find_one(node: &ServingNode) -> Option<usize>
     }
 }
 
-/// The link that has this own address.
+/// Finds the link that has this local address.
 fn find_local(node: &ServingNode, local: u16) -> Option<usize>
     ensures found { result ≡ position (has_local local) node.now.ports }
     ensures there { IfSome result (λ link. (p : PortValue) × HasPort link node.now p) }
@@ -155,7 +155,7 @@ fn find_local(node: &ServingNode, local: u16) -> Option<usize>
     node.find_local(local)
 }
 
-/// The link that a line means: it names its own address, or no link where there is one alone.
+/// Finds the link that a line means: it names its local address, or no link where there is one alone.
 fn find(node: &ServingNode, local: Option<u16>) -> Option<usize>
     ensures found { result ≡ meant local node.now.ports }
     ensures there { IfSome result (λ link. (p : PortValue) × HasPort link node.now p) }
@@ -166,7 +166,7 @@ fn find(node: &ServingNode, local: Option<u16>) -> Option<usize>
     }
 }
 
-/// A link that is there.
+/// Returns the link at this index, which is there.
 fn link_of(node: &ServingNode, link: usize) -> &LinkEnd
     requires { (p : PortValue) × HasPort link node.now p }
     ensures { AtPort link node.now (λ p. result.now ≡ p.link) }
@@ -177,7 +177,7 @@ fn link_of(node: &ServingNode, link: usize) -> &LinkEnd
     }
 }
 
-/// Whom a packet is sent to, and whom it is from.
+/// Returns whom a packet is sent to, and whom it is from.
 fn addresses_of(packet: &PacketValue<'_>) -> (u16, u16)
     ensures receiver { result.0 ≡ receiver_of packet.now }
     ensures sender { result.1 ≡ sender_of packet.now }
@@ -188,7 +188,7 @@ fn addresses_of(packet: &PacketValue<'_>) -> (u16, u16)
     }
 }
 
-/// The link of a packet, by its addresses.
+/// Finds the link of a packet, by its addresses.
 fn find_of(node: &ServingNode, bytes: &[u8]) -> Result<usize, LinkFault>
     ensures finds { FindsLink node.now.ports bytes.now result }
     ensures there { IfOk result (λ link. (p : PortValue) × HasPort link node.now p) }
@@ -204,7 +204,7 @@ fn find_of(node: &ServingNode, bytes: &[u8]) -> Result<usize, LinkFault>
     }
 }
 
-/// Takes a packet on a link, and goes on with it.
+/// Receives a packet on a link, and goes on with it.
 fn take(
     node: &mut ServingNode,
     link: usize,
@@ -230,7 +230,7 @@ fn use_link(used: &mut Used, link: usize, taken: &Result<Got, TakeFault>)
     }
 }
 
-/// Takes a packet on a link, and says what comes of it.
+/// Receives a packet on a link, and says what comes of it.
 fn take_on(
     node: &mut Node,
     link: usize,
@@ -240,7 +240,7 @@ fn take_on(
     requires there { (p : PortValue) × HasPort link node.old.node p }
     requires text { text.old.items ≡ [] }
     ensures ok { IfOk result (TakesOn link node.old bytes.now node.new text.new.items) }
-    ensures err { OnErr result (Done (TakesOn link node.old bytes.now node.new)) }
+    ensures err { OnErr result (IsDoneWithText (TakesOn link node.old bytes.now node.new)) }
 {
     node.last = Some(link);
     let mut packets = Vec::new(node.alloc);
@@ -249,12 +249,12 @@ fn take_on(
     push_node_taken(text, taken, node.node.locked(), &packets)
 }
 
-/// Takes a packet on the link of its addresses.
+/// Receives a packet on the link of its addresses.
 fn take_of(node: &mut Node, bytes: &[u8], text: &mut Vec<u8>) -> Result<Became, AllocError>
     requires { text.old.items ≡ [] }
     ensures ok { IfOk result (TakesPacketBy node.old bytes.now node.new text.new.items) }
     ensures err { OnErr result ((node.new ≡ node.old)
-        ⊎ Done (TakesPacketBy node.old bytes.now node.new)) }
+        ⊎ IsDoneWithText (TakesPacketBy node.old bytes.now node.new)) }
 {
     match find_of(&node.node, bytes) {
         Ok(link) => take_on(node, link, bytes, text),
@@ -262,7 +262,7 @@ fn take_of(node: &mut Node, bytes: &[u8], text: &mut Vec<u8>) -> Result<Became, 
     }
 }
 
-/// The answer to a packet: the only link takes it, or that of its addresses.
+/// Writes the answer to a packet: the only link receives it, or that of its addresses.
 fn take_packet(node: &mut Node, digits: &Text<'_>, text: &mut Vec<u8>) -> Result<Became, AllocError>
     requires { text.old.items ≡ [] }
     ensures ok { IfOk result (NodeDoes node.old (NodeOrder.Packet digits.now)
@@ -295,11 +295,11 @@ fn go_on(
 }
 
 /// Goes on with a link, and says what comes of it after the text.
-fn go_on_behind(node: &mut Node, link: usize, text: &mut Vec<u8>) -> Result<Became, AllocError>
+fn go_on_after(node: &mut Node, link: usize, text: &mut Vec<u8>) -> Result<Became, AllocError>
     requires { (p : PortValue) × HasPort link node.old.node p }
     ensures ok { IfOk result (GoesOnWith link node.old text.old.items
         node.new text.new.items) }
-    ensures err { OnErr result (Done (GoesOnWith link node.old text.old.items node.new)) }
+    ensures err { OnErr result (IsDoneWithText (GoesOnWith link node.old text.old.items node.new)) }
 {
     node.last = Some(link);
     let mut packets = Vec::new(node.alloc);
@@ -307,10 +307,11 @@ fn go_on_behind(node: &mut Node, link: usize, text: &mut Vec<u8>) -> Result<Beca
     push_served(text, node.node.locked(), &packets, gone)
 }
 
-/// Whether something is left of what the node does by itself with a link, while fewer bytes wait there than this.
-fn is_behind(node: &ServingNode, link: usize, most_waiting: u64) -> bool
+/// Returns whether something is left of what the node does by itself with a link, while fewer bytes wait there than
+/// this.
+fn is_work_left(node: &ServingNode, link: usize, most_waiting: u64) -> bool
     requires { (p : PortValue) × HasPort link node.now p }
-    ensures { (p : PortValue) → HasPort link node.now p → result ≡ is_behind_at most_waiting p }
+    ensures { (p : PortValue) → HasPort link node.now p → result ≡ is_work_left_at most_waiting p }
 {
     let end = link_of(node, link);
     let may_serve_next = has_message(end) && end.waiting_bytes() < most_waiting;
@@ -323,13 +324,13 @@ fn resend_running(node: &mut Node, link: usize, text: &mut Vec<u8>) -> Result<Be
     requires text { text.old.items ≡ [] }
     ensures ok { IfOk result (λ became. AtPort link node.old.node (λ p.
         ResendsOn link p node.old node.new text.new.items became)) }
-    ensures err { OnErr result ((node.new ≡ about link node.old) ⊎ Done (λ said became.
+    ensures err { OnErr result ((node.new ≡ about link node.old) ⊎ IsDoneWithText (λ said became.
         AtPort link node.old.node (λ p. ResendsOn link p node.old node.new said became))) }
 {
     node.last = Some(link);
     push_again(link_of(&node.node, link), text)?;
-    if is_behind(&node.node, link, node.most_waiting) {
-        go_on_behind(node, link, text)
+    if is_work_left(&node.node, link, node.most_waiting) {
+        go_on_after(node, link, text)
     } else {
         Ok(Became::Done)
     }
@@ -343,7 +344,7 @@ fn resend_on(node: &mut Node, link: usize, text: &mut Vec<u8>) -> Result<Became,
         UnlessFailed p.link text.new.items
         (LeavesEnd Became.Done (about link node.old) node.new became)
         (ResendsOn link p node.old node.new text.new.items became))) }
-    ensures err { OnErr result ((node.new ≡ about link node.old) ⊎ Done (λ said became.
+    ensures err { OnErr result ((node.new ≡ about link node.old) ⊎ IsDoneWithText (λ said became.
         AtPort link node.old.node (λ p. UnlessFailed p.link said
         (LeavesEnd Became.Done (about link node.old) node.new became)
         (ResendsOn link p node.old node.new said became)))) }
@@ -392,7 +393,7 @@ fn ack(node: &mut Node, local: Option<u16>, text: &mut Vec<u8>) -> Result<Became
     }
 }
 
-/// Ends the link that has this own address.
+/// Ends the link that has this local address.
 fn close(node: &mut Node, local: u16, text: &mut Vec<u8>) -> Result<Became, AllocError>
     requires { text.old.items ≡ [] }
     ensures ok { IfOk result (NodeDoes node.old (NodeOrder.Close local) node.new text.new.items) }
@@ -408,7 +409,7 @@ fn close(node: &mut Node, local: u16, text: &mut Vec<u8>) -> Result<Became, Allo
     }
 }
 
-/// Begins a link whose own address no other link has.
+/// Begins a link whose local address no other link has.
 fn begin(
     node: &mut ServingNode,
     alloc: Global,
@@ -426,7 +427,7 @@ fn begin(
     node.begin(alloc, link, setup, most)
 }
 
-/// Begins a link with this setup and these rights, which the line concerns then. No other link has its own address.
+/// Begins a link with this setup and these rights, which the line concerns then. No other link has its local address.
 fn begin_on(
     node: &mut Node,
     link: usize,
@@ -465,7 +466,7 @@ fn refuse_link(setup: LinkSetup, text: &mut Vec<u8>) -> Result<Became, AllocErro
     }
 }
 
-/// The rights of a link that begins so, where it has these or they are usual.
+/// Returns the rights of a link that begins so, where it has these or they are usual.
 fn rights_beside(most: Rights, between: Between) -> Rights
     ensures { result ≡ most_beside most between }
 {
@@ -475,7 +476,7 @@ fn rights_beside(most: Rights, between: Between) -> Rights
     }
 }
 
-/// The rights of a link that begins anew: those that it had, or those with which it begins so.
+/// Returns the rights of a link that begins anew: those that it had, or those with which it begins so.
 fn rights_anew(most: Rights, anew: Option<Between>) -> Rights
     ensures { result ≡ most_anew most anew }
 {
@@ -485,7 +486,7 @@ fn rights_anew(most: Rights, anew: Option<Between>) -> Rights
     }
 }
 
-/// Adds a link with this setup and these rights, whose own address no link has.
+/// Adds a link with this setup and these rights, whose local address no link has.
 fn add_link(
     node: &mut Node,
     setup: LinkSetup,
@@ -504,7 +505,7 @@ fn add_link(
     }
 }
 
-/// Renews a link: what isn't named is as before. No other link has the own address that it has then.
+/// Renews a link: what isn't named is as before. No other link has the local address that it has then.
 fn renew_on(
     node: &mut Node,
     link: usize,
@@ -542,7 +543,7 @@ fn renew_one(
     }
 }
 
-/// Renews the link that has this own address, or adds one.
+/// Renews the link that has this local address, or adds one.
 fn renew(node: &mut Node, between: Between, text: &mut Vec<u8>) -> Result<Became, AllocError>
     requires { text.old.items ≡ [] }
     ensures ok { IfOk result (NodeDoes node.old (NodeOrder.New between) node.new text.new.items) }
@@ -559,7 +560,7 @@ fn renew(node: &mut Node, between: Between, text: &mut Vec<u8>) -> Result<Became
     }
 }
 
-/// Whether some link is used.
+/// Returns whether some link is used.
 fn is_in_use(node: &Node) -> bool
     ensures { result ≡ is_used node.now }
 {
@@ -648,7 +649,7 @@ fn add_record(
     }
 }
 
-/// Whether two names are one, so compared.
+/// Returns whether two names are one, so compared.
 fn are_same(names: Names, one: &[u8], other: &[u8]) -> bool
     ensures { result ≡ same_name names one.now other.now }
 {
@@ -658,7 +659,7 @@ fn are_same(names: Names, one: &[u8], other: &[u8]) -> bool
     }
 }
 
-/// Where this name was dropped and is the given one, none is given any more.
+/// Forgets the given name where this name was dropped and is that one.
 fn forget_given(given: &mut Option<Octets>, names: Names, name: &[u8])
     ensures { given.new ≡ given_beside names name.now given.old }
 {
@@ -692,9 +693,9 @@ fn act(
     node: &mut Node,
     order: NodeOrder<'_>,
     text: &mut Vec<u8>,
-) -> Result<Answer<FilesPlace>, AllocError>
+) -> Result<Answer<FilesCursor>, AllocError>
     requires { text.old.items ≡ [] }
-    ensures ok { IfOk result (Begins NodeDoes pieces node.old order.entry
+    ensures ok { IfOk result (BeginsAnswer NodeDoes pieces node.old order.entry
         node.new text.new.items) }
     ensures err { OnErr result (NodeReaches node.old order.entry node.new) }
 {
@@ -705,7 +706,7 @@ fn act(
         NodeOrder::Close(local) => Ok(Answer::Whole(close(node, local, text)?)),
         NodeOrder::Renew(anew) => Ok(Answer::Whole(renew_one(node, anew, text)?)),
         NodeOrder::New(between) => Ok(Answer::Whole(renew(node, between, text)?)),
-        NodeOrder::Files => Ok(Answer::Begun(FilesPlace::File(0))),
+        NodeOrder::Files => Ok(Answer::Begun(FilesCursor::File(0))),
         NodeOrder::File(file) => Ok(Answer::Whole(add_file(node, &file, text)?)),
         NodeOrder::Record(record) => Ok(Answer::Whole(add_record(node, &record, text)?)),
         NodeOrder::Drop(name) => Ok(Answer::Whole(drop_file(node, &name, text)?)),
@@ -713,9 +714,9 @@ fn act(
 }
 
 /// Answers an order.
-fn answer_one(node: &mut Node, order: NodeOrder<'_>, text: &mut Vec<u8>) -> Answer<FilesPlace>
+fn answer_one(node: &mut Node, order: NodeOrder<'_>, text: &mut Vec<u8>) -> Answer<FilesCursor>
     requires { text.old.items ≡ [] }
-    ensures { Begins DoesNodeOrder pieces node.old (Some order.entry)
+    ensures { BeginsAnswer DoesNodeOrder pieces node.old (Some order.entry)
         node.new text.new.items result }
 {
     match act(node, order, text) {
@@ -732,9 +733,9 @@ fn answer_order(
     node: &mut Node,
     order: Option<NodeOrder<'_>>,
     text: &mut Vec<u8>,
-) -> Answer<FilesPlace>
+) -> Answer<FilesCursor>
     requires { text.old.items ≡ [] }
-    ensures { Begins DoesNodeOrder pieces (before_line node.old) order.entry
+    ensures { BeginsAnswer DoesNodeOrder pieces (before_line node.old) order.entry
         node.new text.new.items result }
 {
     node.last = find_one(&node.node);
@@ -744,14 +745,14 @@ fn answer_order(
     }
 }
 
-/// Whether there is room for one link alone.
+/// Returns whether there is room for one link alone.
 fn is_for_one(node: &ServingNode) -> bool
     ensures { result ≡ is_alone node.now }
 {
     node.links() == 1
 }
 
-/// What the link waits for that the last line concerns.
+/// Returns what the link waits for that the last line concerns.
 fn waits_on(node: &ServingNode, last: Option<usize>, most_waiting: u64) -> usize
     ensures { result ≡ waits_by most_waiting last node.now }
 {
@@ -759,7 +760,7 @@ fn waits_on(node: &ServingNode, last: Option<usize>, most_waiting: u64) -> usize
         return 0;
     };
     match node.link(link) {
-        Some(end) => waits(end, is_behind(node, link, most_waiting)),
+        Some(end) => waits(end, is_work_left(node, link, most_waiting)),
         None => 0,
     }
 }
@@ -767,7 +768,7 @@ fn waits_on(node: &ServingNode, last: Option<usize>, most_waiting: u64) -> usize
 impl Answers for Node {
     ghost use Rattle.dap_live.specs.Node.{answered, pieces, waiting};
 
-    type Place = FilesPlace;
+    type Cursor = FilesCursor;
 
     ghost answered = { answered };
 
@@ -775,7 +776,7 @@ impl Answers for Node {
 
     ghost pieces = { pieces };
 
-    fn answer(&mut self, line: &[u8], text: &mut Vec<u8>) -> Answer<FilesPlace> {
+    fn answer(&mut self, line: &[u8], text: &mut Vec<u8>) -> Answer<FilesCursor> {
         let order = read_node_order(is_for_one(&self.node), line);
         answer_order(self, order, text)
     }
@@ -786,10 +787,10 @@ impl Answers for Node {
 
     fn more(
         &self,
-        place: FilesPlace,
+        cursor: FilesCursor,
         text: &mut Vec<u8>,
-    ) -> Result<Option<FilesPlace>, AllocError> {
-        push_files_line(text, self.node.files(), place)
+    ) -> Result<Option<FilesCursor>, AllocError> {
+        push_files_line(text, self.node.files(), cursor)
     }
 
     fn waits(&self) -> Option<usize> {

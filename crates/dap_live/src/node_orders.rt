@@ -9,8 +9,8 @@ use dap_text::{
     FileLine, RecordLine, Text, Words, is, read_file_line, read_record_line, read_text,
 };
 
-/// What a line says. The bytes of a packet and of a name are still digits. A line names a link by its own address; where
-/// there is one link alone, it names none.
+/// What a line says. The bytes of a packet and of a name are still digits. A line names a link by its local address;
+/// where there is one link alone, it names none.
 #[derive(Drop)]
 pub(crate) enum NodeOrder<'a> {
     Packet(Text<'a>),
@@ -28,7 +28,7 @@ pub(crate) enum NodeOrder<'a> {
     Drop(Text<'a>),
 }
 
-/// `LOCAL`
+/// Reads `LOCAL`.
 fn read_address_alone(mut words: Words<'_>) -> Option<u16>
     ensures { result ≡ address_alone words.entry }
 {
@@ -37,7 +37,7 @@ fn read_address_alone(mut words: Words<'_>) -> Option<u16>
     Some(local)
 }
 
-/// `NAME`
+/// Reads `NAME`.
 fn read_text_alone<'a>(mut words: Words<'a>) -> Option<Text<'a>>
     ensures { result ≡ text_alone words.entry }
 {
@@ -46,7 +46,7 @@ fn read_text_alone<'a>(mut words: Words<'a>) -> Option<Text<'a>>
     Some(name)
 }
 
-/// A line with one word.
+/// Reads the end of a line with one word.
 fn read_plain<'a>(words: Words<'a>, order: NodeOrder<'a>) -> Option<NodeOrder<'a>>
     ensures { result ≡ ends order.entry words.entry }
 {
@@ -54,7 +54,7 @@ fn read_plain<'a>(words: Words<'a>, order: NodeOrder<'a>) -> Option<NodeOrder<'a
     Some(order)
 }
 
-/// What a line says of files, with this word first.
+/// Reads what a line says of files, with this word first.
 fn read_filing<'a>(word: &'a [u8], words: Words<'a>, line: &'a [u8]) -> Option<NodeOrder<'a>>
     ensures { result ≡ one_of (filing_forms line.now) (word.now ∷ words.entry) }
 {
@@ -67,7 +67,7 @@ fn read_filing<'a>(word: &'a [u8], words: Words<'a>, line: &'a [u8]) -> Option<N
     }
 }
 
-/// What a line says where there is one link.
+/// Reads what a line says where there is one link.
 fn read_one_order(line: &[u8]) -> Option<NodeOrder<'_>>
     ensures { result ≡ one_order_of line.now }
 {
@@ -81,7 +81,7 @@ fn read_one_order(line: &[u8]) -> Option<NodeOrder<'_>>
     }
 }
 
-/// What a line says where there is room for several links.
+/// Reads what a line says where there is room for several links.
 fn read_links_order(line: &[u8]) -> Option<NodeOrder<'_>>
     ensures { result ≡ links_order_of line.now }
 {
@@ -96,7 +96,7 @@ fn read_links_order(line: &[u8]) -> Option<NodeOrder<'_>>
     }
 }
 
-/// What a line says, where there is one link alone or room for several.
+/// Reads what a line says, where there is one link alone or room for several.
 pub(crate) fn read_node_order(alone: bool, line: &[u8]) -> Option<NodeOrder<'_>>
     ensures { result ≡ node_order_of alone line.now }
 {

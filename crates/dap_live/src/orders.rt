@@ -6,18 +6,18 @@ ghost use Rattle.dap_live.specs.Orders.{address_of, anew_of, between_of, fac_fro
 use dap_text::{MAX_FAC, Text, Words, read_hex, read_number};
 use nsp_link::LinkSetup;
 
-/// How a link begins: between these addresses, the own one first. What isn't named is as before.
+/// How a link begins: between these addresses, the local one first. What isn't named is as before.
 #[derive(Clone, Copy)]
 pub(crate) struct Between {
     pub(crate) local: u16,
     pub(crate) remote: u16,
-    /// How many bytes a segment has at most.
+    /// The maximum number of bytes of a segment.
     pub(crate) segment: Option<u32>,
-    /// What an Access on it may ask for at most, by the bits of a FAC.
+    /// The rights that an Access on it may ask for, by the bits of a FAC.
     pub(crate) fac: Option<u32>,
 }
 
-/// `HEX`
+/// Reads `HEX`.
 pub(crate) fn read_hex_alone<'a>(mut words: Words<'a>) -> Option<Text<'a>>
     ensures { result ≡ hex_alone words.entry }
 {
@@ -26,7 +26,7 @@ pub(crate) fn read_hex_alone<'a>(mut words: Words<'a>) -> Option<Text<'a>>
     Some(bytes)
 }
 
-/// A link address, by four hex digits of either case; or None.
+/// Reads a link address: four hex digits of either case; or None.
 pub fn read_address(word: &[u8]) -> Option<u16>
     ensures { result ≡ address_of word.now }
 {
@@ -37,7 +37,7 @@ pub fn read_address(word: &[u8]) -> Option<u16>
     }
 }
 
-/// Nothing, or `FAC`
+/// Reads nothing, or `FAC`.
 fn read_fac<'a>(local: u16, remote: u16, segment: u32, mut words: Words<'a>) -> Option<Between>
     ensures { result ≡ fac_from local remote segment words.entry }
 {
@@ -60,7 +60,7 @@ fn read_fac<'a>(local: u16, remote: u16, segment: u32, mut words: Words<'a>) -> 
     })
 }
 
-/// Nothing, or `SEGMENT`, or `SEGMENT FAC`
+/// Reads nothing, or `SEGMENT`, or `SEGMENT FAC`.
 fn read_limits<'a>(local: u16, remote: u16, mut words: Words<'a>) -> Option<Between>
     ensures { result ≡ limits_from local remote words.entry }
 {
@@ -76,7 +76,7 @@ fn read_limits<'a>(local: u16, remote: u16, mut words: Words<'a>) -> Option<Betw
     read_fac(local, remote, segment, words)
 }
 
-/// `LOCAL REMOTE`, and what follows
+/// Reads `LOCAL REMOTE`, and what follows.
 pub(crate) fn read_between<'a>(mut words: Words<'a>) -> Option<Between>
     ensures { result ≡ between_of words.entry }
 {
@@ -85,7 +85,7 @@ pub(crate) fn read_between<'a>(mut words: Words<'a>) -> Option<Between>
     read_limits(local, remote, words)
 }
 
-/// Nothing, or `LOCAL REMOTE` and what follows
+/// Reads nothing, or `LOCAL REMOTE` and what follows.
 pub(crate) fn read_anew<'a>(words: Words<'a>) -> Option<Option<Between>>
     ensures { result ≡ anew_of words.entry }
 {
@@ -95,7 +95,7 @@ pub(crate) fn read_anew<'a>(words: Words<'a>) -> Option<Option<Between>>
     Some(Some(read_between(words)?))
 }
 
-/// How a link is set up that begins so, where one is set up so.
+/// Returns how a link is set up that begins so, where one is set up so.
 pub(crate) fn set_up_beside(setup: LinkSetup, between: Between) -> LinkSetup
     ensures { result ≡ setup_beside setup between }
 {
@@ -111,7 +111,7 @@ pub(crate) fn set_up_beside(setup: LinkSetup, between: Between) -> LinkSetup
     }
 }
 
-/// How a link is set up that begins anew: as it was, or so.
+/// Returns how a link is set up that begins anew: as it was, or so.
 pub(crate) fn set_up_anew(setup: LinkSetup, anew: Option<Between>) -> LinkSetup
     ensures { result ≡ setup_anew setup anew }
 {

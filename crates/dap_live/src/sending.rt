@@ -11,14 +11,14 @@ use linewise::Became;
 use nsp_link::{LinkEnd, LinkFault};
 use std::alloc::AllocError;
 
-/// Whether an NSP message that came is left.
+/// Returns whether an NSP message that came is left.
 pub(crate) fn has_message(link: &LinkEnd) -> bool
     ensures { result ≡ has_message_on link.now }
 {
     link.peek_message().is_some()
 }
 
-/// Whether the link takes these NSP messages, memory aside.
+/// Returns whether the link takes these NSP messages, memory aside.
 fn may_queue(link: &LinkEnd, messages: &[Vec<u8>]) -> bool
     ensures { result ≡ may_queue_on link.now (bodies messages.now) }
 {
@@ -28,14 +28,14 @@ fn may_queue(link: &LinkEnd, messages: &[Vec<u8>]) -> bool
     }
 }
 
-/// Whether something is left that an end would do by itself, with these NSP messages that wait.
+/// Returns whether something is left that an end would do by itself, with these NSP messages that wait.
 pub(crate) fn is_left(link: &LinkEnd, outbox: &[Vec<u8>], more: bool) -> bool
     ensures { result ≡ is_left_of link.now (bodies outbox.now) more }
 {
     may_queue(link, outbox) && (!outbox.is_empty() || more || link.may_send())
 }
 
-/// How many packets would be sent again, and one more where something is left.
+/// Returns how many packets would be sent again, and one more where something is left.
 pub(crate) fn waits(link: &LinkEnd, left: bool) -> usize
     ensures { result ≡ waits_of link.now left }
 {
@@ -45,22 +45,22 @@ pub(crate) fn waits(link: &LinkEnd, left: bool) -> usize
     link.unacked() + usize::from(left)
 }
 
-/// The line of a segment that isn't acknowledged.
-fn push_one_again(link: &LinkEnd, place: usize, text: &mut Vec<u8>) -> Result<(), AllocError>
-    ensures { OnOk result (AddsOneAgain link.now place text.old text.new) }
+/// Appends the line of a segment that isn't acknowledged.
+fn push_one_again(link: &LinkEnd, index: usize, text: &mut Vec<u8>) -> Result<(), AllocError>
+    ensures { OnOk result (AddsOneAgain link.now index text.old text.new) }
 {
-    match link.resend(place) {
+    match link.resend(index) {
         Ok(packet) => push_packet(text, &packet),
         Err(_) => Err(AllocError),
     }
 }
 
-/// The lines of all segments that aren't acknowledged, of a link that runs.
+/// Appends the lines of all segments that aren't acknowledged, of a link that runs.
 pub(crate) fn push_again(link: &LinkEnd, text: &mut Vec<u8>) -> Result<(), AllocError>
     ensures { OnOk result (AddsAgain link.now text.old text.new) }
 {
-    for place in 0..link.unacked() {
-        push_one_again(link, place, text)?;
+    for index in 0..link.unacked() {
+        push_one_again(link, index, text)?;
     }
     Ok(())
 }

@@ -29,7 +29,7 @@ use nsp_link::{Got, LinkFault};
 use nsp_seg::SegFault;
 use std::alloc::AllocError;
 
-/// The line of a packet to send.
+/// Appends the line of a packet to send.
 pub(crate) fn push_packet(text: &mut Vec<u8>, packet: &[u8]) -> Result<(), AllocError>
     ensures { OnOk result (Adds text.old text.new (packet_text packet.now)) }
 {
@@ -38,7 +38,7 @@ pub(crate) fn push_packet(text: &mut Vec<u8>, packet: &[u8]) -> Result<(), Alloc
     push_str(text, "\n")
 }
 
-/// The lines of packets to send.
+/// Appends the lines of packets to send.
 fn push_packets(text: &mut Vec<u8>, packets: &Vec<Vec<u8>>) -> Result<(), AllocError>
     ensures { OnOk result (Adds text.old text.new (packets_text (bodies packets.now.items))) }
 {
@@ -48,7 +48,7 @@ fn push_packets(text: &mut Vec<u8>, packets: &Vec<Vec<u8>>) -> Result<(), AllocE
     Ok(())
 }
 
-/// The line of a report.
+/// Appends the line of a report.
 fn push_report_line(text: &mut Vec<u8>, report: &Report) -> Result<(), AllocError>
     ensures { OnOk result (Adds text.old text.new (report_line report.now)) }
 {
@@ -57,7 +57,7 @@ fn push_report_line(text: &mut Vec<u8>, report: &Report) -> Result<(), AllocErro
     push_str(text, "\n")
 }
 
-/// The lines of reports.
+/// Appends the lines of reports.
 fn push_reports(text: &mut Vec<u8>, reports: &Vec<Report>) -> Result<(), AllocError>
     ensures { OnOk result (Adds text.old text.new (reports_text reports.now.items)) }
 {
@@ -67,7 +67,7 @@ fn push_reports(text: &mut Vec<u8>, reports: &Vec<Report>) -> Result<(), AllocEr
     Ok(())
 }
 
-/// The lines of records that are told one by one.
+/// Appends the lines of records that are reported one by one.
 fn push_records(text: &mut Vec<u8>, records: &[(u64, Octets)]) -> Result<(), AllocError>
     ensures { OnOk result (Adds text.old text.new (records_text records.now)) }
 {
@@ -79,7 +79,7 @@ fn push_records(text: &mut Vec<u8>, records: &[(u64, Octets)]) -> Result<(), All
     Ok(())
 }
 
-/// How a batch ended, and the end of its line.
+/// Appends how a batch ended, and the end of its line.
 fn push_ending(text: &mut Vec<u8>, ending: Ending) -> Result<(), AllocError>
     ensures { OnOk result (Adds text.old text.new (ending_text ending ++ line_feed)) }
 {
@@ -90,7 +90,7 @@ fn push_ending(text: &mut Vec<u8>, ending: Ending) -> Result<(), AllocError>
     }
 }
 
-/// The records that are left after this many.
+/// Returns the records that are left after this many.
 fn untold(records: &[(u64, Octets)], told: usize) -> &[(u64, Octets)]
     ensures { result.now ≡ drop told records.now }
 {
@@ -101,7 +101,7 @@ fn untold(records: &[(u64, Octets)], told: usize) -> &[(u64, Octets)]
     }
 }
 
-/// The line of a batch of this many records, each of which was told by itself.
+/// Appends the line of a batch of this many records, each of which was reported by itself.
 fn push_batch_line(text: &mut Vec<u8>, count: usize, ending: Ending) -> Result<(), AllocError>
     ensures { OnOk result (Adds text.old text.new (batch_line count ending)) }
 {
@@ -110,7 +110,7 @@ fn push_batch_line(text: &mut Vec<u8>, count: usize, ending: Ending) -> Result<(
     push_ending(text, ending)
 }
 
-/// The lines of a report where each record is told by itself, and this many of a batch were.
+/// Appends the lines of a report where each record is reported by itself, and this many of a batch were.
 fn push_each(text: &mut Vec<u8>, told: usize, report: &Report) -> Result<(), AllocError>
     ensures { OnOk result (Adds text.old text.new (each_text told report.now)) }
 {
@@ -123,7 +123,7 @@ fn push_each(text: &mut Vec<u8>, told: usize, report: &Report) -> Result<(), All
     }
 }
 
-/// The lines of reports where each record is told by itself.
+/// Appends the lines of reports where each record is reported by itself.
 fn push_eaches(text: &mut Vec<u8>, told: usize, reports: &Vec<Report>) -> Result<(), AllocError>
     ensures { OnOk result (Adds text.old text.new (flat_map (each_text told) reports.now.items)) }
 {
@@ -133,7 +133,8 @@ fn push_eaches(text: &mut Vec<u8>, told: usize, reports: &Vec<Report>) -> Result
     Ok(())
 }
 
-/// The lines of what waits to be told: the reports, and records of a batch under way where each is told by itself.
+/// Appends the lines of what waits to be reported: the reports, and records of a batch under way where each is reported
+/// by itself.
 pub(crate) fn push_told(text: &mut Vec<u8>, asking: &Asking) -> Result<(), AllocError>
     ensures { OnOk result (Adds text.old text.new (told_text asking.now)) }
 {
@@ -145,7 +146,7 @@ pub(crate) fn push_told(text: &mut Vec<u8>, asking: &Asking) -> Result<(), Alloc
     }
 }
 
-/// The line of what became of a packet.
+/// Appends the line of what became of a packet.
 fn push_got(text: &mut Vec<u8>, got: Got) -> Result<(), AllocError>
     ensures { OnOk result (Adds text.old text.new (got_text got ++ line_feed)) }
 {
@@ -153,7 +154,7 @@ fn push_got(text: &mut Vec<u8>, got: Got) -> Result<(), AllocError>
     push_str(text, "\n")
 }
 
-/// The line of a refusal by its word.
+/// Appends the line of a refusal by its word.
 pub(crate) fn push_refused(text: &mut Vec<u8>, word: &str) -> Result<(), AllocError>
     ensures { OnOk result (Adds text.old text.new (refused_with word.now).0) }
 {
@@ -217,7 +218,7 @@ fn push_end_refusal(text: &mut Vec<u8>, fault: EndFault) -> Result<Became, Alloc
     }
 }
 
-/// Says what was done: what waits to be told, the packets, and why not all was done.
+/// Says what was done: what waits to be reported, the packets, and why not all was done.
 pub(crate) fn push_done(
     text: &mut Vec<u8>,
     asking: &Asking,
@@ -245,7 +246,7 @@ pub(crate) fn push_ask_refusal(text: &mut Vec<u8>, fault: AskFault) -> Result<Be
     }
 }
 
-/// The line of a refusal by a code and a reason.
+/// Appends the line of a refusal by a code and a reason.
 pub(crate) fn push_status(text: &mut Vec<u8>, code: u16, reason: u8) -> Result<(), AllocError>
     ensures { OnOk result (Adds text.old text.new (status_line code reason)) }
 {
@@ -288,7 +289,7 @@ pub(crate) fn push_remove_refusal(
     }
 }
 
-/// The answer to a packet.
+/// Writes the answer to a packet.
 pub(crate) fn push_taken(
     text: &mut Vec<u8>,
     taken: Result<Got, TakeFault>,
@@ -311,7 +312,7 @@ pub(crate) fn push_taken(
     }
 }
 
-/// The line of a link that locks an Access out.
+/// Appends the line of a link that locks an Access out.
 fn push_locked_line(text: &mut Vec<u8>, local: u16) -> Result<(), AllocError>
     ensures { OnOk result (Adds text.old text.new
         (concat (codes "locked " ∷ word_text local ∷ line_feed ∷ []))) }
@@ -320,7 +321,7 @@ fn push_locked_line(text: &mut Vec<u8>, local: u16) -> Result<(), AllocError>
     push_str(text, "\n")
 }
 
-/// The lines of the links that lock Accesses out.
+/// Appends the lines of the links that lock Accesses out.
 fn push_locked(text: &mut Vec<u8>, locked: &[u16]) -> Result<(), AllocError>
     ensures { OnOk result (Adds text.old text.new (locked_text locked.now)) }
 {
@@ -348,7 +349,7 @@ pub(crate) fn push_served(
     }
 }
 
-/// The answer to a packet on a link of several.
+/// Writes the answer to a packet on a link of several.
 pub(crate) fn push_node_taken(
     text: &mut Vec<u8>,
     taken: Result<Got, TakeFault>,

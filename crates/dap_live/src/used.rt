@@ -19,7 +19,7 @@ impl Model for Used {
     ghost view = { λ a. a.0.items };
 }
 
-/// This many that aren't.
+/// Returns a list of this many links, none of which is used.
 fn none_used(alloc: Global, links: usize) -> Result<Vec<bool>, NoMemory>
     ensures { IfOk result (λ used. used.items ≡ replicate links false) }
 {
@@ -30,23 +30,23 @@ fn none_used(alloc: Global, links: usize) -> Result<Vec<bool>, NoMemory>
     Ok(used)
 }
 
-/// Notes whether one is.
+/// Notes whether a link is used, where there is one at this index.
 fn set_one(used: &mut Vec<bool>, link: usize, is_used: bool)
     ensures { used.new.items ≡ set used.old.items link is_used }
 {
-    if let Some(place) = used.get_mut(link) {
-        *place = is_used;
+    if let Some(slot) = used.get_mut(link) {
+        *slot = is_used;
     }
 }
 
-/// Whether one is.
+/// Returns whether a link is used.
 fn is_one(used: &bool) -> bool
     ensures { result ≡ used.now }
 {
     *used
 }
 
-/// Whether some one is.
+/// Returns whether some link of a list is used.
 fn is_any(used: &[bool]) -> bool
     ensures { result ≡ list_any (λ used. used) used.now }
 {
@@ -54,7 +54,7 @@ fn is_any(used: &[bool]) -> bool
 }
 
 impl Used {
-    /// This many links that aren't used.
+    /// Returns this many links that aren't used.
     pub(crate) fn none(alloc: Global, links: usize) -> Result<Used, NoMemory>
         ensures { IfOk result (λ used. used ≡ replicate links false) }
     {
@@ -68,7 +68,7 @@ impl Used {
         set_one(&mut self.0, link, is_used);
     }
 
-    /// Whether some link is used.
+    /// Returns whether some link is used.
     pub(crate) fn any(&self) -> bool
         ensures { result ≡ list_any (λ used. used) self.now }
     {

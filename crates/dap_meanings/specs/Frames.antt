@@ -39,7 +39,7 @@ abbrev pub is_at_end : Option (List ℕ) → Bool
 is_at_end (Some []) = true
 is_at_end _ = false
 
--- the text of a comment that tells a frame; other lines have no words
+-- the text of a comment that describes a frame; other lines have no words
 abbrev pub frame_words : List ℕ → List (List ℕ)
 frame_words line =
     option_map_or (λ text. if is_at_end (after_frame text) then text ∷ [] else []) (after (codes "# ") line) []

@@ -10,7 +10,7 @@ is_printable byte = nat_le 0x20 byte && nat_le byte 0x7E
 abbrev pub escaped : ℕ → List ℕ
 escaped byte = if byte == 34 || byte == 92 then 92 ∷ byte ∷ [] else byte ∷ []
 
--- how many bytes are quoted at most
+-- the maximum number of bytes that are quoted
 abbrev pub max_quoted : ℕ
 max_quoted = 60
 

@@ -4,14 +4,14 @@ ghost use Rattle.std.specs.Prelude.{◌≡◌, [], ◌∷◌, length, option_cop
 ghost use Rattle.std.specs.Option.{option_map_or};
 ghost use Rattle.dap_meanings.specs.Frames.{after as the_after, after_frame as the_frame, after_number as the_number, after_pair as the_pair, after_time as the_time, digits, frame_words};
 
-/// What is after some bytes, if a text begins with them.
+/// Returns what is after some bytes, if a text begins with them.
 fn after<'a>(front: &[u8], text: &'a [u8]) -> Option<&'a [u8]>
     ensures { option_map (λ rest. rest.now) result ≡ the_after front.now text.now }
 {
     text.strip_prefix(front)
 }
 
-/// How many digits a text begins with.
+/// Returns how many digits a text begins with.
 fn count_digits(text: &[u8]) -> usize
     ensures { result ≡ digits text.now }
 {
@@ -22,7 +22,7 @@ fn count_digits(text: &[u8]) -> usize
     count
 }
 
-/// What is after a number of at least one digit.
+/// Returns what is after a number of at least one digit.
 fn after_number(text: &[u8]) -> Option<&[u8]>
     ensures { option_map (λ rest. rest.now) result ≡ the_number text.now }
 {
@@ -33,7 +33,7 @@ fn after_number(text: &[u8]) -> Option<&[u8]>
     Some(&text[count..])
 }
 
-/// What is after two numbers with a point between them.
+/// Returns what is after two numbers with a point between them.
 fn after_pair(text: &[u8]) -> Option<&[u8]>
     ensures { option_map (λ rest. rest.now) result ≡ the_pair text.now }
 {
@@ -42,7 +42,7 @@ fn after_pair(text: &[u8]) -> Option<&[u8]>
     after_number(second)
 }
 
-/// What is after a time in seconds, or `-` for none.
+/// Returns what is after a time in seconds, or `-` for none.
 fn after_time(text: &[u8]) -> Option<&[u8]>
     ensures { option_map (λ rest. rest.now) result ≡ the_time text.now }
 {
@@ -52,7 +52,7 @@ fn after_time(text: &[u8]) -> Option<&[u8]>
     }
 }
 
-/// What is after `frame N SECONDS.PARTS A.N -> A.N`.
+/// Returns what is after `frame N SECONDS.PARTS A.N -> A.N`.
 fn after_frame(text: &[u8]) -> Option<&[u8]>
     ensures { option_map (λ rest. rest.now) result ≡ the_frame text.now }
 {
@@ -66,8 +66,8 @@ fn after_frame(text: &[u8]) -> Option<&[u8]>
     after_pair(receiver)
 }
 
-/// The text of a comment that `frames` writes before a packet, `frame N SECONDS.PARTS A.N -> A.N`, without its mark; None of
-/// other lines.
+/// Returns the text of a comment that `frames` writes before a packet, `frame N SECONDS.PARTS A.N -> A.N`, without its
+/// mark; None of other lines.
 pub fn frame_text(line: &[u8]) -> Option<&[u8]>
     ensures { option_map_or (λ text. text.now ∷ []) result [] ≡ frame_words line.now }
 {

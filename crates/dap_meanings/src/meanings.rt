@@ -21,10 +21,10 @@ use dap_msg::{
 use nsp_seg::SegFault;
 use std::alloc::AllocError;
 
-/// The most bytes of a number's image.
+/// The maximum of a number's image in bytes.
 const NUMBER: usize = 8;
 
-/// What the number of a record says.
+/// Returns what the number of a record says.
 fn record_word(image: &[u8]) -> Word<'static>
     ensures { word_list result ≡ record_words image.now }
 {
@@ -34,7 +34,7 @@ fn record_word(image: &[u8]) -> Word<'static>
     Word::Record(number_of(image))
 }
 
-/// What a KEY says.
+/// Returns what a KEY says.
 fn key_word(key: &Option<Bytes<'_>>) -> Word<'static>
     ensures { word_list result ≡ if_there record_words key.now }
 {
@@ -44,7 +44,7 @@ fn key_word(key: &Option<Bytes<'_>>) -> Word<'static>
     }
 }
 
-/// What ORG says.
+/// Returns what ORG says.
 fn organization_word(org: Option<u8>) -> Word<'static>
     ensures { word_list result ≡ if_there (word_in organizations) org }
 {
@@ -54,7 +54,7 @@ fn organization_word(org: Option<u8>) -> Word<'static>
     }
 }
 
-/// What RFM says.
+/// Returns what RFM says.
 fn format_word(rfm: Option<u8>) -> Word<'static>
     ensures { word_list result ≡ if_there (word_in formats) rfm }
 {
@@ -64,7 +64,7 @@ fn format_word(rfm: Option<u8>) -> Word<'static>
     }
 }
 
-/// What RAC says.
+/// Returns what RAC says.
 fn access_word(rac: Option<u8>) -> Word<'static>
     ensures { word_list result ≡ if_there (word_in record_accesses) rac }
 {
@@ -74,7 +74,7 @@ fn access_word(rac: Option<u8>) -> Word<'static>
     }
 }
 
-/// What a reason says, which is one byte.
+/// Returns what a reason says, which is one byte.
 fn reason_word(stv: &[u8]) -> Word<'static>
     ensures { word_list result ≡ reason_words stv.now }
 {
@@ -84,7 +84,7 @@ fn reason_word(stv: &[u8]) -> Word<'static>
     }
 }
 
-/// What the first says, or else the other.
+/// Returns what the first says, or else the other.
 fn first_of(first: Word<'static>, other: Word<'static>) -> Word<'static>
     ensures { word_list result ≡ first_words (word_list first.entry) (word_list other.entry) }
 {
@@ -94,7 +94,7 @@ fn first_of(first: Word<'static>, other: Word<'static>) -> Word<'static>
     }
 }
 
-/// What the reason of a status says, if it is that of a refusal.
+/// Returns what the reason of a status says, if it is that of a refusal.
 fn refusal_word(code: u16, stv: &[u8]) -> Word<'static>
     ensures { word_list result ≡ refusal_words code stv.now }
 {
@@ -105,7 +105,7 @@ fn refusal_word(code: u16, stv: &[u8]) -> Word<'static>
     }
 }
 
-/// What a status says: its code, or the reason of a refusal, or else MACCODE.
+/// Returns what a status says: its code, or the reason of a refusal, or else MACCODE.
 fn status_word(code: u16, stv: &[u8]) -> Word<'static>
     ensures { word_list result ≡ status_words code stv.now }
 {
@@ -115,7 +115,7 @@ fn status_word(code: u16, stv: &[u8]) -> Word<'static>
     first_of(whole, first_of(refusal, kind))
 }
 
-/// The words of Attributes.
+/// Returns the words of Attributes.
 fn attributes_words(attributes: &Attributes<'_>) -> [Word<'static>; 2]
     ensures { flat_map word_list result ≡ message_words (Attrib attributes.now) }
 {
@@ -124,7 +124,7 @@ fn attributes_words(attributes: &Attributes<'_>) -> [Word<'static>; 2]
     [org, rfm]
 }
 
-/// The words of an Access.
+/// Returns the words of an Access.
 fn access_words<'a>(access: &AccessFields<'a>) -> [Word<'a>; 3]
     ensures { flat_map word_list result ≡ message_words (Access access.now) }
 {
@@ -134,7 +134,7 @@ fn access_words<'a>(access: &AccessFields<'a>) -> [Word<'a>; 3]
     [func, name, rights]
 }
 
-/// The words of a Control.
+/// Returns the words of a Control.
 fn control_words(control: &ControlFields<'_>) -> [Word<'static>; 3]
     ensures { flat_map word_list result ≡ message_words (Control control.now) }
 {
@@ -144,7 +144,7 @@ fn control_words(control: &ControlFields<'_>) -> [Word<'static>; 3]
     [func, rac, key]
 }
 
-/// The words of a Data message.
+/// Returns the words of a Data message.
 fn data_words<'a>(recnum: &[u8], payload: &'a [u8]) -> [Word<'a>; 2]
     ensures { flat_map word_list result ≡ message_words (Filedata recnum.now payload.now) }
 {
@@ -153,7 +153,7 @@ fn data_words<'a>(recnum: &[u8], payload: &'a [u8]) -> [Word<'a>; 2]
     [number, record]
 }
 
-/// The words of a Status.
+/// Returns the words of a Status.
 fn status_words_of(status: &StatusFields<'_>) -> [Word<'static>; 2]
     ensures { flat_map word_list result ≡ message_words (Status status.now) }
 {
@@ -197,7 +197,7 @@ pub fn add_item_words(text: &mut Vec<u8>, item: &Item<'_>) -> Result<(), AllocEr
     }
 }
 
-/// What bytes that are no packet say.
+/// Returns what bytes that are no packet say.
 fn fault_word(fault: Option<SegFault>) -> Word<'static>
     ensures { word_list result ≡ if_there fault_words fault }
 {
@@ -207,7 +207,7 @@ fn fault_word(fault: Option<SegFault>) -> Word<'static>
     }
 }
 
-/// What a line that may be a comment says.
+/// Returns what a line that may be a comment says.
 fn comment_word(line: &[u8]) -> Word<'_>
     ensures { word_list result ≡ frame_words line.now }
 {
@@ -217,8 +217,8 @@ fn comment_word(line: &[u8]) -> Word<'_>
     }
 }
 
-/// Puts the words of a packet's line before its end, which is that of the text: those of the line directly before the packet in
-/// its capture, and those of what it is where it can't be read. Fails only if memory is refused.
+/// Puts the words of a packet's line before its end, which is that of the text: those of the line directly before the
+/// packet in its capture, and those of what it is where it can't be read. Fails only if memory is refused.
 pub fn add_packet_words(
     text: &mut Vec<u8>,
     before: &[u8],

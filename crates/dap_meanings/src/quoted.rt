@@ -10,17 +10,17 @@ use crate::words::Word;
 use dap_text::push_str;
 use std::alloc::AllocError;
 
-/// How many bytes are quoted at most.
+/// The maximum number of bytes that are quoted.
 const MAX_QUOTED: usize = 60;
 
-/// Whether a byte is a space or a visible character of ASCII.
+/// Returns whether a byte is a space or a visible character of ASCII.
 fn is_printable(byte: u8) -> bool
     ensures { result ≡ printable byte }
 {
     b' ' <= byte && byte <= b'~'
 }
 
-/// Whether all bytes are.
+/// Returns whether all bytes are printable.
 fn are_printable(bytes: &[u8]) -> bool
     ensures { result ≡ list_all printable bytes.now }
 {
@@ -32,7 +32,7 @@ fn are_printable(bytes: &[u8]) -> bool
     true
 }
 
-/// What bytes say as text, if all are printable.
+/// Returns what bytes say as text, if all are printable.
 pub(crate) fn quoted(bytes: &[u8]) -> Word<'_>
     ensures { word_list result ≡ quoted_words bytes.now }
 {
@@ -56,7 +56,7 @@ fn push_escaped(text: &mut Vec<u8>, bytes: &[u8]) -> Result<(), AllocError>
     Ok(())
 }
 
-/// The first bytes, as many as are quoted.
+/// Returns the first bytes, as many as are quoted.
 fn first_bytes(bytes: &[u8]) -> &[u8]
     ensures { result.now ≡ take max_quoted bytes.now }
 {

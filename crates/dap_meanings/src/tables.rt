@@ -377,7 +377,7 @@ const STATUS_KINDS: [Entry; 10] = [
     },
 ];
 
-/// The word of a number, if the table has one.
+/// Returns the word of a number, if the table has one.
 fn word_of(table: &[Entry], number: u16) -> Word<'static>
     ensures { word_list result ≡ word_in (map entry_of table.now) number }
 {
@@ -389,91 +389,91 @@ fn word_of(table: &[Entry], number: u16) -> Word<'static>
     Word::Nothing
 }
 
-/// The word of a packet's first byte.
+/// Returns the word of a packet's first byte.
 pub(crate) fn control_packet(flag: u8) -> Word<'static>
     ensures { word_list result ≡ word_in tables.control_packets flag }
 {
     word_of(&CONTROL_PACKETS, u16::from(flag))
 }
 
-/// The word of OSTYPE.
+/// Returns the word of OSTYPE.
 pub(crate) fn system(ostype: u8) -> Word<'static>
     ensures { word_list result ≡ word_in tables.systems ostype }
 {
     word_of(&SYSTEMS, u16::from(ostype))
 }
 
-/// The word of ORG.
+/// Returns the word of ORG.
 pub(crate) fn organization(org: u8) -> Word<'static>
     ensures { word_list result ≡ word_in tables.organizations org }
 {
     word_of(&ORGANIZATIONS, u16::from(org))
 }
 
-/// The word of RFM.
+/// Returns the word of RFM.
 pub(crate) fn format(rfm: u8) -> Word<'static>
     ensures { word_list result ≡ word_in tables.formats rfm }
 {
     word_of(&FORMATS, u16::from(rfm))
 }
 
-/// The word of ACCFUNC.
+/// Returns the word of ACCFUNC.
 pub(crate) fn access_function(func: u8) -> Word<'static>
     ensures { word_list result ≡ word_in tables.access_functions func }
 {
     word_of(&ACCESS_FUNCTIONS, u16::from(func))
 }
 
-/// The word of CTLFUNC.
+/// Returns the word of CTLFUNC.
 pub(crate) fn control_function(func: u8) -> Word<'static>
     ensures { word_list result ≡ word_in tables.control_functions func }
 {
     word_of(&CONTROL_FUNCTIONS, u16::from(func))
 }
 
-/// The word of RAC.
+/// Returns the word of RAC.
 pub(crate) fn record_access(rac: u8) -> Word<'static>
     ensures { word_list result ≡ word_in tables.record_accesses rac }
 {
     word_of(&RECORD_ACCESSES, u16::from(rac))
 }
 
-/// The word of CONFUNC.
+/// Returns the word of CONFUNC.
 pub(crate) fn continue_function(func: u8) -> Word<'static>
     ensures { word_list result ≡ word_in tables.continue_functions func }
 {
     word_of(&CONTINUE_FUNCTIONS, u16::from(func))
 }
 
-/// The word of CMPFUNC.
+/// Returns the word of CMPFUNC.
 pub(crate) fn complete_function(func: u8) -> Word<'static>
     ensures { word_list result ≡ word_in tables.complete_functions func }
 {
     word_of(&COMPLETE_FUNCTIONS, u16::from(func))
 }
 
-/// The word of a message's type.
+/// Returns the word of a message's type.
 pub(crate) fn other_type(number: u8) -> Word<'static>
     ensures { word_list result ≡ word_in tables.other_types number }
 {
     word_of(&OTHER_TYPES, u16::from(number))
 }
 
-/// The word of a reason.
+/// Returns the word of a reason.
 pub(crate) fn reason(stv: u8) -> Word<'static>
     ensures { word_list result ≡ word_in tables.reason_table stv }
 {
     word_of(&REASONS, u16::from(stv))
 }
 
-/// The word of STSCODE as a whole.
+/// Returns the word of STSCODE as a whole.
 pub(crate) fn status_code(code: u16) -> Word<'static>
     ensures { word_list result ≡ word_in tables.status_codes code }
 {
     word_of(&STATUS_CODES, code)
 }
 
-/// The word of MACCODE.
+/// Returns the word of MACCODE.
 pub(crate) fn status_kind(maccode: u16) -> Word<'static>
     ensures { word_list result ≡ word_in tables.status_kinds maccode }
 {

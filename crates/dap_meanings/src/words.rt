@@ -29,7 +29,7 @@ pub(crate) enum Word<'a> {
     Frame(&'a [u8]),
 }
 
-/// What FAC says: the operations for which a file is opened, if there are any.
+/// Returns what FAC says: the operations for which a file is opened, if there are any.
 pub(crate) fn rights_word(fac: u32) -> Word<'static>
     ensures { word_list result ≡ rights_words fac }
 {

@@ -1,15 +1,15 @@
 -- What the crates above may cite of this one's proofs. No other file here is for them.
 
--- at a place stands one item, and it ends at one place
+-- at an offset stands one item, and it ends at one offset
 pub use Rattle.dap_msg.proofs.Listing.{one_item}
 -- a message has at least its type and its flags
 pub use Rattle.dap_msg.proofs.Listing.{stands_some}
 -- all bytes have items
-pub use Rattle.dap_msg.proofs.Places.{have_items}
+pub use Rattle.dap_msg.proofs.Offsets.{have_items}
 -- joined messages that fit are the items that stand there
-pub use Rattle.dap_msg.proofs.Places.{are_items}
+pub use Rattle.dap_msg.proofs.Offsets.{are_items}
 -- what is written is read back in place, whatever stands before and after it
-pub use Rattle.dap_msg.proofs.Places.{read_in_place}
+pub use Rattle.dap_msg.proofs.Offsets.{read_in_place}
 -- the answers of both ends have spellings, and all but records have short ones
 pub use Rattle.dap_msg.proofs.Extents.{answers_fit}
 -- a Filedata has a spelling

@@ -1,14 +1,14 @@
 -- The items of an NSP message: DAP messages, one after another.
 use Rattle.std.specs.Prelude.{◌≡◌, ℕ, ◌+◌, ◌<◌, ◌⊎◌, List, [], ◌∷◌, length, drop, slice_index}
--- A message; or the rest of the NSP message, of which no message can be read, with its first fault. The fault's
--- offset is counted from the start of the NSP message.
+-- A message; or the remaining bytes of the NSP message, of which no message can be read, with their first fault. The
+-- fault's offset is counted from the start of the NSP message.
 pub use Rattle.dap_msg.specs.declared.items.Item.{Item}
 pub use Rattle.dap_msg.specs.declared.items.Item.TheVariants.{Whole, Malformed}
 use Rattle.dap_msg.specs.Decoding.{StandsInFront, IsFault, IsSpelled}
 
 -- an offset at which an item begins; an NSP message without bytes has one too
-abbrev pub IsPlace : ℕ → List ℕ → Type 0
-IsPlace at bytes = (at < length bytes) ⊎ ((at ≡ 0) × (length bytes ≡ 0))
+abbrev pub IsOffset : ℕ → List ℕ → Type 0
+IsOffset at bytes = (at < length bytes) ⊎ ((at ≡ 0) × (length bytes ≡ 0))
 
 -- the item that begins at an offset, and the offset after it; a malformed item goes to the end
 abbrev pub ItemAt : List ℕ → ℕ → Item → ℕ → Type 0

@@ -1,4 +1,5 @@
-//! The numbers of the protocol, named once for both ends (DAP 5.6.0; which of them have a meaning here is own).
+//! The numbers of the protocol, named once for both ends (DAP 5.6.0; which of them have a meaning here is a choice of
+//! this implementation).
 
 ghost use Rattle.std.specs.Prelude.{◌≡◌};
 ghost use Rattle.dap_msg.specs.Codes as codes;
@@ -70,13 +71,13 @@ pub const CONFUNC_RESUME: u8 = 4;
 
 /// CMPFUNC (DAP 5.6.0, Access Complete message): to close the file.
 pub const CMPFUNC_CLOSE: u8 = 1;
-/// The answer to an Access Complete.
+/// The response to an Access Complete.
 pub const CMPFUNC_RESPONSE: u8 = 2;
 /// To close the file, and to remove it where this Access made it.
 pub const CMPFUNC_PURGE: u8 = 3;
 /// To end the stream.
 pub const CMPFUNC_END_OF_STREAM: u8 = 4;
-/// To leave the rest out.
+/// To leave out the records that are left.
 pub const CMPFUNC_SKIP: u8 = 5;
 
 /// ORG (DAP 5.6.0, Attributes message): records in the order in which they came.
@@ -134,32 +135,36 @@ const MALFORMED: u16 = 0x8000;
 
 const INVALID: u16 = 0x9000;
 
-const OUT_OF_PLACE: u16 = 0xa000;
-/// What a message's type counts in MICCODE, the field below it being 0 (DAP 5.6.0, Status message; field 0 is own).
+const OUT_OF_SEQUENCE: u16 = 0xa000;
+/// What a message's type counts in MICCODE, the field below it being 0 (DAP 5.6.0, Status message; that the field is 0
+/// is a choice of this implementation).
 const TYPE_UNIT: u16 = 64;
 
-/// The STSCODE where a message of this type asks for what is not supported: MACCODE 2 (DAP 5.6.0, Status message).
+/// Returns the STSCODE where a message of this type asks for what is not supported: MACCODE 2 (DAP 5.6.0, Status
+/// message).
 pub fn unsupported(message_type: u8) -> u16
     ensures { result ≡ codes.unsupported message_type }
 {
     UNSUPPORTED + TYPE_UNIT * u16::from(message_type)
 }
 
-/// The STSCODE where a message of this type has a value that is not allowed: MACCODE 9 (DAP 5.6.0, Status message).
+/// Returns the STSCODE where a message of this type has a value that is not allowed: MACCODE 9 (DAP 5.6.0, Status
+/// message).
 pub fn invalid(message_type: u8) -> u16
     ensures { result ≡ codes.invalid message_type }
 {
     INVALID + TYPE_UNIT * u16::from(message_type)
 }
 
-/// The STSCODE where a message of this type is out of sequence in the exchange: MACCODE 10, with the type as MICCODE.
-pub fn out_of_place(message_type: u8) -> u16
-    ensures { result ≡ codes.out_of_place message_type }
+/// Returns the STSCODE where a message of this type is out of sequence in the exchange: MACCODE 10, with the type as
+/// MICCODE.
+pub fn out_of_sequence(message_type: u8) -> u16
+    ensures { result ≡ codes.out_of_sequence message_type }
 {
-    OUT_OF_PLACE + u16::from(message_type)
+    OUT_OF_SEQUENCE + u16::from(message_type)
 }
 
-/// The STSCODE where no message of this type can be read: MACCODE 8 (DAP 5.6.0, Status message).
+/// Returns the STSCODE where no message of this type can be read: MACCODE 8 (DAP 5.6.0, Status message).
 pub(crate) fn malformed(message_type: u8) -> u16
     ensures { result ≡ codes.status_code_for message_type }
 {
@@ -170,7 +175,7 @@ pub(crate) fn malformed(message_type: u8) -> u16
     }
 }
 
-/// A law: the constants are the numbers that the definitions name.
+/// States that the constants are the numbers that the definitions name.
 pub fn names_the_numbers()
     ensures config { TYPE_CONFIGURATION ≡ codes.types.config }
     ensures attributes { TYPE_ATTRIBUTES ≡ codes.types.attrib }

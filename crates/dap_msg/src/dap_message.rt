@@ -19,8 +19,8 @@ use crate::message::{
     StatusFields,
 };
 
-/// A DAP message (DAP 5.6.0, message formats), for programs that read or write messages: its fields have that document's
-/// names, and its images and bytes are slices of the input. It is copied freely.
+/// A DAP message (DAP 5.6.0, message formats), for programs that read or write messages: its fields have that
+/// document's names, and its images and bytes are slices of the input. It is copied freely.
 ///
 /// Contracts say its value, the [`MessageValue`] with the same fields, in which bytes are lists of numbers.
 #[derive(Clone, Copy, PartialEq, Eq)]
@@ -43,7 +43,7 @@ pub enum Message<'a> {
         syscap: u128,
     },
     /// Type 2, Attributes. Each field is there exactly where its bit of ATTMENU is set. Images that stand for a number
-    /// have the least byte first.
+    /// have the lowest byte first.
     Attrib {
         /// DATATYPE: bit 0 ASCII, bit 1 image. An extensible field of at most 2 bytes, so below 2^14.
         datatype: Option<u16>,
@@ -55,7 +55,7 @@ pub enum Message<'a> {
         rat: Option<u32>,
         /// BLS, the block size in bytes.
         bls: Option<u16>,
-        /// MRS, the greatest record size in bytes.
+        /// MRS, the maximum record size in bytes.
         mrs: Option<u16>,
         /// ALQ, the allocation in blocks; at most 5 bytes.
         alq: Option<&'a [u8]>,
@@ -63,7 +63,7 @@ pub enum Message<'a> {
         bks: Option<u8>,
         /// FSZ, the size of the fixed control in bytes.
         fsz: Option<u8>,
-        /// MRN, the greatest record number; at most 5 bytes.
+        /// MRN, the maximum record number; at most 5 bytes.
         mrn: Option<&'a [u8]>,
         /// RUNSYS, the run-time system's name; at most 40 bytes.
         runsys: Option<&'a [u8]>,
@@ -140,7 +140,7 @@ pub enum Message<'a> {
     },
     /// Type 8, Data: a record.
     Filedata {
-        /// The record's number, at most 8 bytes, the least first.
+        /// The record's number, at most 8 bytes, the lowest first.
         recnum: &'a [u8],
         /// The record's bytes.
         payload: &'a [u8],
@@ -149,11 +149,11 @@ pub enum Message<'a> {
     Status {
         /// MACCODE and MICCODE, as [`crate::StatusCode`] separates them.
         code: u16,
-        /// The record file address, at most 8 bytes, the least first.
+        /// The record file address, at most 8 bytes, the lowest first.
         rfa: &'a [u8],
-        /// The record's number, at most 8 bytes, the least first.
+        /// The record's number, at most 8 bytes, the lowest first.
         recnum: &'a [u8],
-        /// The secondary status, at most 8 bytes, the least first.
+        /// The secondary status, at most 8 bytes, the lowest first.
         stv: &'a [u8],
     },
     /// A type that this crate reads no further.
@@ -165,14 +165,14 @@ pub enum Message<'a> {
     },
 }
 
-/// The bytes of an image as a value, where the image is there.
+/// Returns the bytes of an image as a value, where the image is there.
 fn image_value<'a>(image: Option<&'a [u8]>) -> Option<Bytes<'a>>
     ensures { result ≡ option_copied image.entry }
 {
     image.map(|image| Bytes(image))
 }
 
-/// The image that has this value, where it is there.
+/// Returns the image that has this value, where it is there.
 fn image_of<'a>(value: Option<Bytes<'a>>) -> Option<&'a [u8]>
     ensures { option_copied result ≡ value.entry }
 {
@@ -243,14 +243,14 @@ macro_rules! message_by_names {
 }
 
 impl<'a> Message<'a> {
-    /// The value of the message. Made into a message again it has the same fields.
+    /// Returns the value of the message. Made into a message again it has the same fields.
     pub fn to_value(&self) -> MessageValue<'a>
         ensures { result ≡ message_value self.now }
     {
         by_names!(value_by_names, *self)
     }
 
-    /// The message that has this value.
+    /// Returns the message that has this value.
     pub fn from_value(value: MessageValue<'a>) -> Message<'a>
         ensures { message_value result ≡ value.entry }
     {
@@ -258,7 +258,7 @@ impl<'a> Message<'a> {
     }
 }
 
-/// The message at the start of the input, and the number of its bytes (DAP 5.6.0, message format).
+/// Returns the message that the input begins with, and the number of its bytes (DAP 5.6.0, message format).
 ///
 /// A message with LENGTH ends where that says, and further bytes may follow it; one without takes all the bytes.
 /// The refusal names the first field in reading order that is at fault, with its offset in bytes from the input's
@@ -282,8 +282,8 @@ pub fn decode(input: &[u8]) -> Result<(Message<'_>, usize), MsgFault>
     }
 }
 
-/// Whether the message has a spelling, the condition of [`encode`]: every value fits its field, the number of an
-/// `Other` is 10 to 16, and the operand has at most 65,535 bytes (the fields are those of DAP 5.6.0, message
+/// Returns whether the message has a spelling, the condition of [`encode`]: every value fits its field, the number of
+/// an `Other` is 10 to 16, and the operand has at most 65,535 bytes (the fields are those of DAP 5.6.0, message
 /// formats).
 pub fn fits(message: &Message<'_>) -> bool
     ensures { IsTrue result ↔ Fits (message_value message.now) }

@@ -26,7 +26,7 @@ pub(crate) enum Field<'a> {
     Word(u16),
     Extensible(u128),
     Image(&'a [u8]),
-    /// The rest of an operand.
+    /// The bytes of an operand after its other fields.
     Rest(&'a [u8]),
 }
 
@@ -63,7 +63,7 @@ fn put_all(fields: &[Field], out: &mut Vec<u8>)
     }
 }
 
-/// The bytes of the shortest spelling of an extensible number.
+/// Returns how many bytes the shortest spelling of an extensible number has.
 fn extensible_len(value: u128) -> usize
     requires { value < 2 ^ 84 }
     ensures exact { result ≡ length (shortest value) }
@@ -78,7 +78,7 @@ fn extensible_len(value: u128) -> usize
     len
 }
 
-/// The bytes of a field, 0 where it is absent.
+/// Returns how many bytes a field has, 0 where it is absent.
 fn field_len(field: Field) -> usize
     requires { CanWrite field }
     ensures { result ≡ length (bytes_of_field field.entry) }
@@ -93,7 +93,7 @@ fn field_len(field: Field) -> usize
     }
 }
 
-/// The bytes of all the fields.
+/// Returns how many bytes all the fields have.
 fn fields_len(fields: &[Field]) -> usize
     requires fit { CanWriteAll fields.now }
     requires small { length (fields_bytes fields.now) < 2 ^ 16 }
@@ -134,7 +134,7 @@ fn put_rest(bytes: &[u8], out: &mut Vec<u8>)
     let _ = out.extend_from_slice(bytes);
 }
 
-/// The bytes of a message whose operand has `len`.
+/// Returns how many bytes a message has whose operand has `len`.
 fn message_len(len: usize) -> usize
     requires { len < 2 ^ 16 }
     ensures { (number : ℕ) → result ≡ length (header_bytes number len) + len }
@@ -142,7 +142,7 @@ fn message_len(len: usize) -> usize
     if len < 256 { len + 3 } else { len + 4 }
 }
 
-/// The bytes of the operand of a message that has `len`.
+/// Returns how many bytes the operand of a message has that has `len`.
 fn operand_of(len: usize) -> usize
     requires { 3 ≤ len }
     ensures { (number operand : ℕ) → len ≡ length (header_bytes number operand) + operand
@@ -170,7 +170,7 @@ fn write_message(
     Ok(())
 }
 
-/// The field of a menu.
+/// Returns the field of a menu.
 #[inline(always)]
 fn option_field<'a, T, K: Kind<'a, T>>(field: Optional<K>, value: &Option<T>) -> Field<'a>
     requires known { K.is_known field.1 }
@@ -186,14 +186,14 @@ fn option_field<'a, T, K: Kind<'a, T>>(field: Optional<K>, value: &Option<T>) ->
     }
 }
 
-/// Whether the field is there.
+/// Returns whether the field is there.
 fn is_there(field: Field) -> bool
     ensures { result ≡ is_there field.entry }
 {
     !matches!(field, Field::Absent)
 }
 
-/// The menu of fields of which these are there, the first at bit 0.
+/// Returns the menu of fields of which these are there, the first at bit 0.
 #[inline(always)]
 fn menu_bits(fields: &[Field]) -> u64
     requires { length fields.now ≤ 63 }
@@ -209,7 +209,7 @@ fn menu_bits(fields: &[Field]) -> u64
     bits
 }
 
-/// The field of their menu.
+/// Returns the field of their menu.
 #[inline(always)]
 fn menu_field<'a>(fields: &[Field]) -> Field<'a>
     requires { length fields.now ≤ 63 }
@@ -219,7 +219,7 @@ fn menu_field<'a>(fields: &[Field]) -> Field<'a>
     Field::Extensible(u128::from(menu_bits(fields)))
 }
 
-/// The fields of an Access Complete, in order.
+/// Returns the fields of an Access Complete, in order.
 fn completion_fields<'a>(here: Completion) -> [Field<'a>; 3]
     requires { FieldsFit (Accomp here) }
     ensures bytes { fields_bytes result ≡ operand_bytes (Accomp here) }
@@ -235,7 +235,7 @@ fn completion_fields<'a>(here: Completion) -> [Field<'a>; 3]
     ]
 }
 
-/// The fields of a Control, in order, with their menu.
+/// Returns the fields of a Control, in order, with their menu.
 #[inline(always)]
 fn control_fields<'a>(here: &ControlFields<'a>) -> [Field<'a>; 8]
     requires { FieldsFit (Control here.now) }
@@ -256,7 +256,7 @@ fn control_fields<'a>(here: &ControlFields<'a>) -> [Field<'a>; 8]
     fields
 }
 
-/// The fields of an Attributes message, in order, after their menu.
+/// Returns the fields of an Attributes message, in order, after their menu.
 fn attributes_fields<'a>(here: &Attributes<'a>) -> [Field<'a>; 22]
     requires { FieldsFit (Attrib here.now) }
     ensures bytes { fields_bytes result ≡ operand_bytes (Attrib here.now) }
@@ -290,7 +290,7 @@ fn attributes_fields<'a>(here: &Attributes<'a>) -> [Field<'a>; 22]
     fields
 }
 
-/// What is made of the fields of the message's operand, which are in order.
+/// Makes something of the fields of the message's operand, which are in order.
 macro_rules! with_fields {
     ($message:expr, $make:ident $(, $more:expr)*) => {
         match $message {
@@ -353,8 +353,8 @@ fn encode_here(message: &Message<'_>, len: usize, out: &mut Vec<u8>) -> Result<(
     with_fields!(message, write_message, message.number(), len, out)
 }
 
-/// [`encode_here`] as a call of its own. A call clears the room for the fields of all messages that it may meet: so those
-/// with the most fields are written apart.
+/// Appends a message as [`encode_here`] does, in a separate call. A call clears the room for the fields of all
+/// messages that it may meet: so those with the most fields are written apart.
 #[inline(never)]
 fn encode_apart(message: &Message<'_>, len: usize, out: &mut Vec<u8>) -> Result<(), MsgFault>
     requires fits { KeepsLimits message.now }
@@ -391,7 +391,7 @@ pub fn encode_value(message: &Message<'_>, out: &mut Vec<u8>) -> Result<(), MsgF
     encode_counted(message, encoded_len(message), out)
 }
 
-/// The bytes of the operand.
+/// Returns how many bytes the operand has.
 fn operand_len(message: &Message<'_>) -> usize
     requires { KeepsLimits message.now }
     ensures { result ≡ length (operand_bytes message.now) }
@@ -399,7 +399,7 @@ fn operand_len(message: &Message<'_>) -> usize
     with_fields!(message, fields_len)
 }
 
-/// The number of bytes that [`encode_value`] appends for a message that fits (DAP 5.6.0, message formats).
+/// Returns the number of bytes that [`encode_value`] appends for a message that fits (DAP 5.6.0, message formats).
 pub fn encoded_len(message: &Message<'_>) -> usize
     requires { Fits message.now }
     ensures { result ≡ length (canon message.now) }

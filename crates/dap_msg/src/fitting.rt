@@ -12,7 +12,7 @@ use crate::kind::{Byte, Kind, Word};
 use crate::menu::{self, Optional};
 use crate::message::{Attributes, Completion, Configuration, ControlFields, Message};
 
-/// Whether a field of a menu fits, where it is there.
+/// Returns whether a field of a menu fits, where it is there.
 fn option_fits<'a, T, K: Kind<'a, T>>(field: Optional<K>, value: &Option<T>) -> bool
     ensures { IsTrue result ↔ FitsOption (K.kind field.1) (K.seen_option field.1 value.now) }
 {
@@ -22,21 +22,21 @@ fn option_fits<'a, T, K: Kind<'a, T>>(field: Optional<K>, value: &Option<T>) -> 
     }
 }
 
-/// Whether each value of a Configuration fits its field.
+/// Returns whether each value of a Configuration fits its field.
 fn configuration_fits(here: Configuration) -> bool
     ensures { IsTrue result ↔ FieldsFit (Config here) }
 {
     field::SYSCAP.fits(&here.syscap)
 }
 
-/// Whether each value of an Access Complete fits its field.
+/// Returns whether each value of an Access Complete fits its field.
 fn completion_fits(here: Completion) -> bool
     ensures { IsTrue result ↔ FieldsFit (Accomp here) }
 {
     field::FOP.fits(&here.fop)
 }
 
-/// Whether each value of an Attributes message fits its field.
+/// Returns whether each value of an Attributes message fits its field.
 fn attributes_fit(here: &Attributes<'_>) -> bool
     ensures { IsTrue result ↔ FieldsFit (Attrib here.now) }
 {
@@ -63,7 +63,7 @@ fn attributes_fit(here: &Attributes<'_>) -> bool
         && option_fits(menu::SBN, &here.sbn)
 }
 
-/// Whether each value of a Control fits its field.
+/// Returns whether each value of a Control fits its field.
 fn control_fits(here: &ControlFields<'_>) -> bool
     ensures { IsTrue result ↔ FieldsFit (Control here.now) }
 {
@@ -76,7 +76,7 @@ fn control_fits(here: &ControlFields<'_>) -> bool
         && option_fits(menu::DISPLAY, &here.display)
 }
 
-/// Whether each value fits its field.
+/// Returns whether each value fits its field.
 fn fields_fit(message: &Message<'_>) -> bool
     ensures { IsTrue result ↔ FieldsFit message.now }
 {
@@ -107,10 +107,10 @@ fn fields_fit(message: &Message<'_>) -> bool
     }
 }
 
-/// What LENGTH and LEN256 can tell, in bytes.
+/// The maximum of an operand in bytes: what LENGTH and LEN256 can express.
 const MAX_OPERAND: usize = 65535;
 
-/// Whether the operand of a message whose values fit has a length that LENGTH and LEN256 can express.
+/// Returns whether the operand of a message whose values fit has a length that LENGTH and LEN256 can express.
 fn operand_fits(message: &Message<'_>) -> bool
     requires { FieldsFit message.now }
     ensures { IsTrue result ↔ (length (operand_bytes message.now) < 2 ^ 16) }
@@ -122,7 +122,7 @@ fn operand_fits(message: &Message<'_>) -> bool
     }
 }
 
-/// Whether the message that has this value has a spelling, for crates that hold messages as values; as
+/// Returns whether the message that has this value has a spelling, for crates that hold messages as values; as
 /// [`crate::fits`] says, which see.
 pub fn fits_value(message: &Message<'_>) -> bool
     ensures { IsTrue result ↔ Fits message.now }

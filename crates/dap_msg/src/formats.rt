@@ -14,7 +14,7 @@ use crate::message::{
 use crate::reading::Cursor;
 use crate::{field, menu};
 
-/// The Acknowledge, whatever its operand is.
+/// Reads the Acknowledge, whatever its operand is.
 #[tactic(auto, unfolding(crate::specs::Formats::acknowledge_format))]
 #[inline(always)]
 pub(crate) fn read_acknowledge(cursor: Cursor<'_>) -> Result<Message<'_>, Fault>
@@ -24,7 +24,7 @@ pub(crate) fn read_acknowledge(cursor: Cursor<'_>) -> Result<Message<'_>, Fault>
     Ok(Message::Ack)
 }
 
-/// The Status that the operand spells; RFA, RECNUM and STV may be absent.
+/// Reads the Status that the operand spells; RFA, RECNUM and STV may be absent.
 #[tactic(auto, unfolding(crate::specs::Formats::status_format))]
 #[inline(always)]
 pub(crate) fn read_status(mut cursor: Cursor<'_>) -> Result<Message<'_>, Fault>
@@ -42,7 +42,7 @@ pub(crate) fn read_status(mut cursor: Cursor<'_>) -> Result<Message<'_>, Fault>
     }))
 }
 
-/// The Control that the operand spells.
+/// Reads the Control that the operand spells.
 #[tactic(auto, unfolding(crate::specs::Formats::control_format))]
 #[inline(always)]
 pub(crate) fn read_control(mut cursor: Cursor<'_>) -> Result<Message<'_>, Fault>
@@ -67,7 +67,7 @@ pub(crate) fn read_control(mut cursor: Cursor<'_>) -> Result<Message<'_>, Fault>
     }))
 }
 
-/// The Attributes that the operand spells.
+/// Reads the Attributes that the operand spells.
 #[tactic(auto, unfolding(crate::specs::Formats::attributes_format, crate::specs::Inner::Attributes::later_attributes))]
 #[inline(always)]
 pub(crate) fn read_attributes(mut cursor: Cursor<'_>) -> Result<Message<'_>, Fault>
@@ -100,7 +100,7 @@ pub(crate) fn read_attributes(mut cursor: Cursor<'_>) -> Result<Message<'_>, Fau
     read_later_attributes(bits, first, cursor)
 }
 
-/// The later attributes, from the runtime system on, after these.
+/// Reads the later attributes, from the runtime system on, after these.
 #[tactic(auto, unfolding(crate::specs::Inner::Attributes::later_attributes))]
 #[inline(always)]
 fn read_later_attributes<'a>(
@@ -137,7 +137,7 @@ fn read_later_attributes<'a>(
     }))
 }
 
-/// The Config that the operand spells.
+/// Reads the Config that the operand spells.
 #[tactic(auto, unfolding(crate::specs::Formats::configuration_format))]
 #[inline(always)]
 pub(crate) fn read_configuration(mut cursor: Cursor<'_>) -> Result<Message<'_>, Fault>
@@ -165,7 +165,7 @@ pub(crate) fn read_configuration(mut cursor: Cursor<'_>) -> Result<Message<'_>, 
     }))
 }
 
-/// The Access that the operand spells; the fields after FILESPEC may be absent.
+/// Reads the Access that the operand spells; the fields after FILESPEC may be absent.
 #[tactic(auto, unfolding(crate::specs::Formats::access_format))]
 #[inline(always)]
 pub(crate) fn read_access(mut cursor: Cursor<'_>) -> Result<Message<'_>, Fault>
@@ -189,7 +189,7 @@ pub(crate) fn read_access(mut cursor: Cursor<'_>) -> Result<Message<'_>, Fault>
     }))
 }
 
-/// The Continue Transfer that the operand spells.
+/// Reads the Continue Transfer that the operand spells.
 #[tactic(auto, unfolding(crate::specs::Formats::continuation_format))]
 #[inline(always)]
 pub(crate) fn read_continuation(mut cursor: Cursor<'_>) -> Result<Message<'_>, Fault>
@@ -199,7 +199,7 @@ pub(crate) fn read_continuation(mut cursor: Cursor<'_>) -> Result<Message<'_>, F
     Ok(Message::Contran { func })
 }
 
-/// The Access Complete that the operand spells; FOP and the checksum may be absent.
+/// Reads the Access Complete that the operand spells; FOP and the checksum may be absent.
 #[tactic(auto, unfolding(crate::specs::Formats::completion_format))]
 #[inline(always)]
 pub(crate) fn read_completion(mut cursor: Cursor<'_>) -> Result<Message<'_>, Fault>
@@ -211,7 +211,7 @@ pub(crate) fn read_completion(mut cursor: Cursor<'_>) -> Result<Message<'_>, Fau
     Ok(Message::Accomp(Completion { func, fop, check }))
 }
 
-/// The Filedata that the operand spells: all that is after RECNUM is its payload.
+/// Reads the Filedata that the operand spells: all that is after RECNUM is its payload.
 #[tactic(auto, unfolding(crate::specs::Formats::file_data_format))]
 #[inline(always)]
 pub(crate) fn read_file_data(mut cursor: Cursor<'_>) -> Result<Message<'_>, Fault>
@@ -224,7 +224,7 @@ pub(crate) fn read_file_data(mut cursor: Cursor<'_>) -> Result<Message<'_>, Faul
     })
 }
 
-/// The message of another type, with its operand as it is.
+/// Reads the message of another type, with its operand as it is.
 #[tactic(auto, unfolding(crate::specs::Formats::other_format))]
 #[inline(always)]
 pub(crate) fn read_other(number: u8, cursor: Cursor<'_>) -> Result<Message<'_>, Fault>

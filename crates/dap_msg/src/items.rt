@@ -14,15 +14,15 @@ use crate::message::Message;
 pub enum Item<'a> {
     /// A message.
     Whole(Message<'a>),
-    /// The rest of the NSP message, of which no message can be read, with its first fault. The fault's offset is
-    /// counted in bytes from the start of the NSP message, and [`crate::status_for`] gives the code of the Status
-    /// that answers it.
+    /// The remaining bytes of the NSP message, of which no message can be read, with their first fault. The fault's
+    /// offset is counted in bytes from the start of the NSP message, and [`crate::status_for`] gives the code of the
+    /// Status that answers it.
     Malformed(MsgFault),
 }
 
-/// The item that begins at a place of an NSP message, and the place in bytes where the next one begins, which is
-/// the NSP message's length where none follows. The place is at most the length; before the end the next place is
-/// always further on.
+/// Returns the item that begins at an offset of an NSP message, and the offset where the next one begins, which is the
+/// NSP message's length where none follows. The offset is at most the length; before the end the next offset is always
+/// greater.
 #[inline(always)]
 pub fn item_at(nsp_message: &[u8], at: usize) -> (Item<'_>, usize)
     requires { at ≤ length nsp_message.now }

@@ -22,14 +22,14 @@ pub(crate) trait Kind<'a, T>: Copy {
 
     ghost seen_option: { (k : Self) → Option T → Option (ValueOf (kind k)) };
 
-    /// The field in front, and the number of its bytes.
+    /// Returns the value of the field that the bytes begin with, and the number of its bytes.
     fn read(self, bytes: &'a [u8]) -> Result<(T, usize), FieldFault>
         requires { is_known self }
         ensures exact { ReadsAs (λ x. (seen self x.0, x.1)) result
             (field_at (kind self) bytes.now) }
         ensures there { IfOk result (λ x. x.1 ≤ length bytes.now) };
 
-    /// The field of a value that fits.
+    /// Returns the field of a value that fits.
     fn field(self, value: &T) -> Field<'a>
         requires known { is_known self }
         requires fits { FitsField (kind self) (seen self value.now) }
@@ -37,7 +37,7 @@ pub(crate) trait Kind<'a, T>: Copy {
         ensures can { CanWrite result }
         ensures there { is_there result ≡ true };
 
-    /// Whether a value has a spelling.
+    /// Returns whether a value has a spelling.
     fn fits(self, value: &T) -> bool
         ensures { IsTrue result ↔ FitsField (kind self) (seen self value.now) };
 
@@ -159,12 +159,12 @@ pub(crate) trait Number: Copy {
 
     ghost most: { ℕ };
 
-    /// The integer of this value.
+    /// Returns the integer of this value.
     fn of(value: u128) -> Self
         requires { value < 128 ^ most }
         ensures { number result ≡ value };
 
-    /// The value of the integer.
+    /// Returns the value of the integer.
     fn wide(self) -> u128
         ensures { result ≡ number self };
 

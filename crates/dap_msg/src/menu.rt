@@ -1,4 +1,4 @@
-//! The menus, and the fields that they tell (DAP 5.6.0, Attributes and Control messages).
+//! The menus, and the fields whose presence they say (DAP 5.6.0, Attributes and Control messages).
 
 use crate::field;
 use crate::kind::{Byte, Extensible, Image, Word};

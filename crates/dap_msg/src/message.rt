@@ -91,8 +91,8 @@ pub struct StatusFields<'a> {
 }
 
 /// A DAP message as a value, exported as `MessageValue`, for crates whose contracts speak of messages: definitions and
-/// proofs are of this type, and two messages with the same fields are one value, wherever their bytes lie. A program that
-/// only reads and writes messages uses [`crate::Message`].
+/// proofs are of this type, and two messages with the same fields are one value, wherever their bytes lie. A program
+/// that only reads and writes messages uses [`crate::Message`].
 #[derive(Drop, PartialEq)]
 pub enum Message<'a> {
     Config(Configuration),
@@ -116,7 +116,8 @@ pub enum Message<'a> {
 }
 
 impl<'a> Message<'a> {
-    /// The type of the message as its header says it, 1 to 16 where the message fits (DAP 5.6.0, message format).
+    /// Returns the type of the message as its header says it, 1 to 16 where the message fits (DAP 5.6.0, message
+    /// format).
     pub fn number(&self) -> u8
         ensures { result ≡ type_number self.now }
     {

@@ -1,4 +1,4 @@
-//! Tests of `dap_msg`. They stand in a crate of their own, since a crate with tests is proved twice.
+//! Tests of `dap_msg`. They are a separate crate, since a crate with tests is proved twice.
 #![tactic(auto)]
 
 #[cfg(test)]

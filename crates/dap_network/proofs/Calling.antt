@@ -59,8 +59,8 @@ one_posted : (link : ℕ) (a b : NodeLinkValue) (n : ℕ) → HandsOver a b n �
 one_posted link a b n p = hands_over (plain b) n (plain_posted a b n p) rests
 
 turned : (link most : ℕ) (a b : NodeLinkValue) (c : EndValue SharedValue) → TurnsBy (NotedServed link) most a b → WorkedBy (SharedServed link) (plain b) c → WorkedBy (SharedServed link) (plain a) c
-turned link most a b c by.begins w = w
-turned link most a b c (by.goes posted mid count n p room s on) w =
+turned link most a b c by.no_turn w = w
+turned link most a b c (by.one_turn posted mid count n p room s on) w =
     hands_over (plain posted) count (plain_posted a posted count p) (serves_one (plain mid) n (plain_one link posted mid n s) (turned link most mid b c on w))
 
 pub did : (link most : ℕ) (a b : NodeLinkValue) (r : Result (Unit {0}) EndFault) → DidAll (serves_on link most) a b r → Does link a b

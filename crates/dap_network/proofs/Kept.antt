@@ -90,7 +90,7 @@ module _ (own : ServerSetup) (links : ℕ) (first : Files) where
       let there : link < links = link_there links link history item (subst (λ (k : ℕ). AreOf k now) holds.as_many holds.after.links) in
       let limit = limit_on link own first links history in
       let more = added_on link own first links history item in
-      let reads : ItemAt s.one.bytes old.port.place item s.one.next = subst (ItemAt s.one.bytes old.port.place item) s.next s.by.reads in
+      let reads : ItemAt s.one.bytes old.port.offset item s.one.next = subst (ItemAt s.one.bytes old.port.offset item) s.next s.by.reads in
       let served = stands_served given handed packets (items_on link history) (AnswersOn link own first links history) old.port stands s.one.bytes s.one.later item s.one.next limit more s.served.answers s.one.fits s.one.came reads s.within s.idle
       (answered_here old.present link history item s.served.answers h (serves.answered first history h.after)) in
       let left = processed_after given s.one.bytes s.one.next in

@@ -51,9 +51,9 @@ kept items answers port peer j =
     let c = j.joined in
     let a = peer.client.port in
     let t = first_ones c.asked.asked c.asked.handed a.outbox items c.asking.full c.asking.fit c.asking.waiting
-    (served_front port.link a.link.setup.seg_size c.asked.handed j.given port.place items c.ways.there.positive c.ways.there.stands j.stands.gone) in
+    (served_front port.link a.link.setup.seg_size c.asked.handed j.given port.offset items c.ways.there.positive c.ways.there.stands j.stands.gone) in
     let r = first_ones j.packets j.handed port.outbox c.asked.answers j.stands.full (subst AllFit (sym j.stands.told) j.stands.fit) j.stands.waiting
-    (served_front a.link port.link.setup.seg_size j.handed c.asked.given a.place c.asked.answers c.ways.back.positive c.ways.back.stands c.asking.gone) in
+    (served_front a.link port.link.setup.seg_size j.handed c.asked.given a.offset c.asked.answers c.ways.back.positive c.ways.back.stands c.asking.gone) in
     record {
       taken = t.taken;
       served = t.is;

@@ -18,13 +18,13 @@ use Rattle.dap_end.specs.Going.{GoneThrough, processed_after}
 use Rattle.dap_end.specs.Moved.{with_outbox_sent, sent_more, with_link}
 use Rattle.dap_end.specs.Histories.{AreFull}
 use Rattle.dap_end.specs.Ports.{EndValue, HandsOver, PortValue, gone_on, new_port}
-use Rattle.dap_end.specs.Writing.{Behind}
+use Rattle.dap_end.specs.Writing.{Extends}
 use Rattle.dap_end.proofs.ForCallers.{Grown, fit-both, full-blocked, full-both, gone_nothing, gone_stays, in_append, none_short, port_given, port_gone}
 
 -- The items are those of the NSP messages that left, and of a front of the next one. What was passed on, and what
 -- waits, are these answers, joined to NSP messages.
 pub record PortStands (given handed : List (List ℕ)) (packets : List NspMessage) (items : List Item) (answers : List Message) (port : PortValue) : Type 0 where
-  pub gone : GoneThrough given port.link.coming.inbox port.place items
+  pub gone : GoneThrough given port.link.coming.inbox port.offset items
   pub sends : Sends port.link handed
   pub waiting : handed ++ port.outbox ≡ all_joined packets
   pub full : AreFull packets
@@ -39,7 +39,7 @@ module _ (given handed : List (List ℕ)) (packets : List NspMessage) (items : L
   pub stands_received : (link : LinkValue) → Grown port.link link → SendsStill port.link link → PortStands given handed packets items answers (with_link port link)
   stands_received link g sends =
       record {
-        gone = subst (λ (l : List (List ℕ)). GoneThrough given l port.place items) (sym g.inbox) (gone_stays given port.link.coming.inbox g.more port.place items h.gone);
+        gone = subst (λ (l : List (List ℕ)). GoneThrough given l port.offset items) (sym g.inbox) (gone_stays given port.link.coming.inbox g.more port.offset items h.gone);
         sends = sends handed h.sends;
         waiting = h.waiting;
         full = h.full;
@@ -64,7 +64,7 @@ module _ (given handed : List (List ℕ)) (packets : List NspMessage) (items : L
       }
 
   -- one item more was served, and these are its answers
-  pub stands_served : (bytes : List ℕ) (later : List (List ℕ)) (item : Item) (next limit : ℕ) (more : List Message) (out : Vec (Vec ℕ)) → AreBytes bytes → port.link.coming.inbox ≡ bytes ∷ later → ItemAt bytes port.place item next → next ≤ length bytes
+  pub stands_served : (bytes : List ℕ) (later : List (List ℕ)) (item : Item) (next limit : ℕ) (more : List Message) (out : Vec (Vec ℕ)) → AreBytes bytes → port.link.coming.inbox ≡ bytes ∷ later → ItemAt bytes port.offset item next → next ≤ length bytes
       → port.outbox ≡ [] → Answered limit more out
       → PortStands (processed_after given bytes next) handed (packets ++ Blocked limit more) (items ++ item ∷ []) (answers ++ more) (record (gone_on port bytes later next) { outbox = bodies out.items })
   stands_served bytes later item next limit more out fits came reads within idle a =
@@ -90,7 +90,7 @@ SameCounts old new = new ≡ record (with_inbox old new.coming.inbox) { queue = 
 -- More left, and more was passed on.
 pub record PortGrew (given handed left passed : List (List ℕ)) (old new : PortValue) : Type 0 where
   pub link : SameCounts old.link new.link
-  pub more : Behind handed passed (AreShort old.link)
+  pub more : Extends handed passed (AreShort old.link)
   pub stands : (size : ℕ) (messages : List (List ℕ)) → Stands old.link size messages given → Stands new.link size messages left
 
 pub grew_none : (given handed : List (List ℕ)) (port : PortValue) → PortGrew given handed given handed port port

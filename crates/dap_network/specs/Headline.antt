@@ -12,9 +12,9 @@ use Rattle.dap_end.specs.Node.{HasPort}
 use Rattle.dap_network.specs.Network.{Network, NetworkEvent, Peer}
 use Rattle.dap_network.specs.History.{IsHistory}
 
--- Of a link, since it began. What was served are the first of the messages that the requests of its peer ask, each once and
--- in order. The peer read the first of the answers that the history gives on this link, and its reports are what the
--- definition tells of these.
+-- Of a link, since it began. What was served are the first of the messages that the requests of its peer ask, each once
+-- and in order. The peer read the first of the answers that the history gives on this link, and its reports are what
+-- the definition gives for these.
 pub record LinkHeadline (link : ℕ) (own : ServerSetup) (first : Files) (links : ℕ) (history : List Event) (peer : Peer) : Type 0 where
   pub taken : List Message
   pub served : items_on link history ≡ map Whole taken
@@ -23,8 +23,8 @@ pub record LinkHeadline (link : ℕ) (own : ServerSetup) (first : Files) (links 
   pub read_in_order : (rest : List Message) × (read ++ rest ≡ AnswersOn link own first links history)
   pub reports_told : peer.reports ≡ Told peer.requests (map Whole read)
 
--- There is one history of these events, in their order. The files are those after it, and of each link that is there the
--- headline holds, whatever strangers send on others.
+-- There is one history of these events, in their order. The files are those after it, and of each link that is there
+-- the headline holds, whatever strangers send on others.
 pub record NetworkHeadline (first : Files) (events : List NetworkEvent) (net : Network) : Type 0 where
   pub history : List Event
   pub in_order : IsHistory events history

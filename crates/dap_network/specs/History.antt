@@ -10,7 +10,7 @@ use Rattle.dap_network.specs.Network.{NetworkEvent, AtPeer, AtNode, LinkBegins, 
 abbrev pub AddsToHistory : NetworkEvent → List Event → Type 0
 AddsToHistory (AtNode link GoesOn) told = (items : List Item) × (told ≡ map (Serves link) items)
 AddsToHistory (AtNode link (Came bytes)) told = told ≡ []
-AddsToHistory (AtNode link (Repeats place)) told = told ≡ []
+AddsToHistory (AtNode link (Repeats index)) told = told ≡ []
 AddsToHistory (AtPeer link event) told = told ≡ []
 AddsToHistory (LinkBegins link setup most) told = told ≡ Begins link most ∷ []
 AddsToHistory (LinkEnds link) told = told ≡ Begins link all_rights ∷ []

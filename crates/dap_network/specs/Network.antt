@@ -1,5 +1,6 @@
--- A serving node, the peer of each of its links, and a network that loses, repeats and reorders packets. The headline is
--- the law `many_links_keep_the_headline`. A peer is a client of this implementation, or a stranger, which may send anything.
+-- A serving node, the peer of each of its links, and a network that loses, repeats and reorders packets. The headline
+-- is the law `many_links_keep_the_headline`. A peer is a client of this implementation, or a stranger, which may send
+-- anything.
 use Rattle.std.specs.Prelude.{◌≡◌, ◌⊎◌, ℕ, List, [], ◌∷◌, ◌++◌, set, IfSome, Option, Some, None, slice_get}
 use Rattle.rec_file.specs.declared.shapes.Shape.{Shape}
 use Rattle.rec_file.specs.declared.picks.Rights.{Rights}
@@ -20,8 +21,8 @@ use Rattle.dap_end.specs.Calls.{AskingEvent, AskingStepped, EndEvent, EndStepped
 use Rattle.dap_end.specs.Node.{BeganOn, EndedOn, HasPort, NodeValue}
 use Rattle.dap_end.specs.Runs.{RunsBy}
 
--- The peer of a link, every packet that it and the node wrote on the link, what was asked of the peer, and what it reported:
--- all of it since the link began.
+-- The peer of a link, every packet that it and the node wrote on the link, what was asked of the peer, and what it
+-- reported: all of it since the link began.
 pub record Peer : Type 0 where
   pub client : AskingValue
   pub from_peer : List Written
@@ -36,9 +37,9 @@ pub record Network : Type 0 where
 
 -- ---- Events.
 
--- The peer of a link is called. Or the node is called on a link; it begins a link with a setup, the most that an Access on
--- it may ask for, and another peer, or ends one; it is given a file without records, or a record of the file at an index; or
--- the file at an index is dropped.
+-- The peer of a link is called. Or the node is called on a link; it begins a link with a setup, the rights that an
+-- Access on it may ask for, and another peer, or ends one; it is given a file without records, or a record of the file
+-- at an index; or the file at an index is dropped.
 pub data NetworkEvent : Type 0 where
   AtPeer : (link : ℕ) → AskingEvent → NetworkEvent
   AtNode : (link : ℕ) → EndEvent → NetworkEvent

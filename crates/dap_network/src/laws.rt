@@ -27,17 +27,18 @@ ghost use Rattle.dap_network.specs.Headline.{NetworkHeadline};
 ghost use Rattle.dap_network.specs.Network.{IsNewNetwork, Network, NetworkEvent, NetworkRuns, Peer};
 
 /// A node and the peers of its links keep the headline, over every list of their calls, links that begin and end among
-/// them, and over a network that loses, repeats and reorders packets, but brings none altered or more than 2,047 numbers
-/// old. There is one order in which all was served: that of the calls. The files are those after it. On each link the
-/// messages of its peer were served, each once and in order, and the peer's reports are those of the answers that this
-/// order gives there.
+/// them, and over a network that loses, repeats and reorders packets, but brings none altered or more than 2,047
+/// numbers old. There is one order in which all was served: that of the calls. The files are those after it. On each
+/// link the messages of its peer were served, each once and in order, and the peer's reports are those of the answers
+/// that this order gives there.
 pub fn many_links_keep_the_headline()
     ensures { (first : Files) (events : List NetworkEvent) (old new : Network)
         → IsNewNetwork first old → NetworkRuns old events new → NetworkHeadline first events new }
 {}
 
-/// With one link that began once, the history is what was served on it, and its files and answers are those of a server of one
-/// link with the rights of this one. So the headline is that of two ends (`two_ends_keep_the_headline` of `dap_end`).
+/// With one link that began once, the history is what was served on it, and its files and answers are those of a server
+/// of one link with the rights of this one. So the headline is that of two ends (`two_ends_keep_the_headline` of
+/// `dap_end`).
 pub fn one_link_is_as_before()
     ensures items { (most : Rights) (items : List Item)
         → items_on 0 (Begins 0 most ∷ map (Serves 0) items) ≡ items }
@@ -51,9 +52,9 @@ pub fn one_link_is_as_before()
     dap_shared::one_link_is_as_before();
 }
 
-/// Each call of a node on a link, refused or not, is some events of the network: where the packet that comes is one that the
-/// link's peer wrote, and not more than 2,047 numbers old. The calls by which a link begins or ends, and by which a file or a
-/// record is given or a file is dropped, are events as they are.
+/// Each call of a node on a link, refused or not, is some events of the network: where the packet that comes is one
+/// that the link's peer wrote, and not more than 2,047 numbers old. The calls by which a link begins or ends, and by
+/// which a file or a record is given or a file is dropped, are events as they are.
 pub fn node_calls_are_events()
     ensures take { (link most : ℕ) (old : Network) (node : NodeValue) (peer : Peer)
         (bytes : List ℕ) (out all : List (List ℕ)) (r : Result TheGot TheTakeFault)
@@ -92,8 +93,8 @@ pub fn node_calls_are_events()
     ensures more { (old mid new : Network) → Leads old mid → Leads mid new → Leads old new }
 {}
 
-/// Each call of a node on a link whose peer is a stranger, refused or not, is some events of the network, whatever comes. What
-/// doesn't change the node, `resend` and `ack`, is nothing to a stranger's network.
+/// Each call of a node on a link whose peer is a stranger, refused or not, is some events of the network, whatever
+/// comes. What doesn't change the node, `resend` and `ack`, is nothing to a stranger's network.
 pub fn strangers_are_taken()
     ensures take { (link most : ℕ) (old : Network) (node : NodeValue) (bytes : List ℕ)
         (out all : List (List ℕ)) (r : Result TheGot TheTakeFault)
@@ -110,8 +111,8 @@ pub fn strangers_are_taken()
         → Leads old (record old { node = node }) }
 {}
 
-/// Each run of calls of a link's peer is some events of the network, where the packets that come are those that the node
-/// wrote on the link, and not more than 2,047 numbers old.
+/// Each run of calls of a link's peer is some events of the network, where the packets that come are those that the
+/// node wrote on the link, and not more than 2,047 numbers old.
 pub fn peer_calls_are_events()
     ensures { (link : ℕ) (old : Network) (peer : Peer) (client : AskingValue)
         (came : List Arrival) (requests : List TheRequest) (reports : List TheReport)

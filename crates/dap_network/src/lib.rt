@@ -1,5 +1,5 @@
-//! The laws of a serving node of several links, the peer of each, and the network between them. The exchange follows DAP
-//! 5.6.0, message sequences, over the data segments of NSP 4.0.0.
+//! The laws of a serving node of several links, the peer of each, and the network between them. The exchange follows
+//! DAP 5.6.0, message sequences, over the data segments of NSP 4.0.0.
 #![tactic(auto)]
 
 mod laws;

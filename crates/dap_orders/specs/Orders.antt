@@ -49,6 +49,6 @@ event_of_order (order.Post end) = event.Post end
 event_of_order (order.Emit end) = event.Emit end
 event_of_order (order.Resend end back) = event.Resend end back
 event_of_order (order.Ack end) = event.Ack end
-event_of_order (order.Deliver end place) = event.Deliver end place
+event_of_order (order.Deliver end index) = event.Deliver end index
 event_of_order order.Serve = event.Serve
 event_of_order order.Read = event.Read

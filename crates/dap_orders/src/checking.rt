@@ -9,7 +9,7 @@ use crate::meaningful::MeaningfulLines;
 use crate::orders::{read_order, read_setup};
 use linewise::{CaptureFault, MAX_INPUT};
 
-/// Whether the lines are events, or else the first line that is none (`BadLine`).
+/// Checks that the lines are events; otherwise the first line that is none is at fault (`BadLine`).
 pub fn check_orders<'a>(mut lines: MeaningfulLines<'a>) -> Result<(), CaptureFault>
     ensures faults { GivesFirstFault result (filter_map event_fault lines.entry) }
     ensures of_line { IfErr result IsOfLine }
@@ -22,8 +22,8 @@ pub fn check_orders<'a>(mut lines: MeaningfulLines<'a>) -> Result<(), CaptureFau
     Ok(())
 }
 
-/// Whether the first line that isn't skipped is a setup, and the others are events, or else the first
-/// line at fault (`BadLine`).
+/// Checks that the first line that isn't skipped is a setup, and the others are events; otherwise the first line that
+/// is not is at fault (`BadLine`).
 pub fn check_schedule(input: &[u8]) -> Result<(), CaptureFault>
     requires { length input.now ≤ MAX_INPUT }
     ensures faults { GivesFirstFault result (schedule_faults (numbered_lines input.now)) }

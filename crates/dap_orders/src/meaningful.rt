@@ -6,8 +6,8 @@ ghost use Rattle.dap_orders.specs.Schedules.{said_from};
 use linewise::{MAX_INPUT, is_skipped, next_line};
 use std::marker::Model;
 
-/// The first line that isn't skipped, after its number, and the bytes after it. The first of all
-/// lines has this number.
+/// Returns the first line that isn't skipped, after its number, and the bytes after it. The first of all lines has this
+/// number.
 fn next_meaningful(number: usize, bytes: &[u8]) -> Option<(usize, &[u8], &[u8])>
     requires { number + length bytes.now ≤ MAX_INPUT + 1 }
     ensures said { MatchOption result (said_from number bytes.now ≡ [])
@@ -49,7 +49,7 @@ impl<'a> MeaningfulLines<'a> {
     ghost use Rattle.std.specs.Prelude.{◌≡◌, ◌≤◌, ◌+◌, ◌∷◌, [], length, MatchOption};
     ghost use Rattle.dap_orders.specs.Schedules.{numbered_lines};
 
-    /// Those of a whole input.
+    /// Returns the lines of a whole input that aren't skipped.
     pub fn of(input: &'a [u8]) -> Self
         requires { length input.now ≤ MAX_INPUT }
         ensures said { result ≡ numbered_lines input.now }
@@ -61,7 +61,7 @@ impl<'a> MeaningfulLines<'a> {
         }
     }
 
-    /// The next one.
+    /// Takes the next line that isn't skipped.
     pub fn next(&mut self) -> Option<(usize, &'a [u8])>
         ensures { MatchOption result ((self.old ≡ []) × (self.new ≡ []))
             (λ found. self.old ≡ (found.0, found.1.now) ∷ self.new) }

@@ -21,18 +21,18 @@ use Rattle.rec_file.specs.Acts.{Operation, StreamVal, outcome_of, act, get_recor
 use Rattle.dap_accessed.specs.declared.phase.OpenFile.{OpenFile}
 use Rattle.dap_accessed.specs.declared.verbs.Verb.{Verb}
 use Rattle.dap_accessed.specs.declared.verbs.Verb.TheVariants as verbs
-use Rattle.dap_accessed.specs.Standing.{Files, index_by, file_at, with_file, the_file, new_file, Place, Fresh, Ready, Opened, Connected, Store, Stopped, Group, Standing, Scene, Effect, enters}
+use Rattle.dap_accessed.specs.Standing.{Files, index_by, file_at, with_file, the_file, new_file, ServerState, Fresh, Ready, Opened, Connected, Store, Stopped, Group, Standing, Scene, Effect, enters}
 use Rattle.dap_accessed.specs.Past.{asked_shape, kept_attributes, is_dropping, ordinal_so_far}
 use Rattle.dap_accessed.specs.Accesses.{make_file, open_file, create_file, access_file, end_stream, complete, refuse_access, rights_to_create, rights_to_open}
 use Rattle.dap_accessed.specs.Replies.{opened_with, reason_of, refused_access}
 use Rattle.dap_accessed.specs.Setup.{lacks}
 use Rattle.dap_accessed.specs.Records.{at_number, verb_of, get_pick, got, record_got, settled, Change, Putting, Updating, changed, fits_limit, uncurrent}
 use Rattle.dap_accessed.specs.Transfers.{fetch, fetch_ends, continue_fetch, store_one}
-use Rattle.dap_accessed.specs.Effects.{Begun, Turn, Does, Begins, control_opened, control_connected, turn_in, turn_of, effect_with}
+use Rattle.dap_accessed.specs.Effects.{Begun, Turn, Does, BeginsGroup, control_opened, control_connected, turn_in, turn_of, effect_with}
 use Rattle.dap_accessed.specs.Groups.{Grouped, after_two}
 use Rattle.dap_accessed.specs.Groups.{next_group, more_after, after_item}
 use Rattle.dap_accessed.proofs.ForCallers.{with-same}
-use Rattle.dap_accessed.proofs.ForCallers.{place-within}
+use Rattle.dap_accessed.proofs.ForCallers.{index-within}
 use Rattle.dap_accessed.specs.Sessions.{there_at, there_if, would_open}
 use Rattle.dap_shared.specs.Sharing.{open_in, asks_to_open}
 
@@ -49,11 +49,11 @@ pub data Moved (files : Files) (asks : Option OpenFile) : Option OpenFile → Fi
   removes : (o : OpenFile) → o.is_new ≡ true → Moved files asks (Some o) (remove files o.at) None
 
 -- a stream has the rights of its Access
-abbrev pub HasRights : Place → Type 0
+abbrev pub HasRights : ServerState → Type 0
 HasRights (Connected o s) = s.rights ≡ o.rights
 HasRights (Store o s) = s.rights ≡ o.rights
 HasRights (Stopped o s) = s.rights ≡ o.rights
-HasRights place = Unit {0}
+HasRights state = Unit {0}
 
 -- ---- Operations.
 
@@ -103,15 +103,15 @@ allowed delete_record rights e = ap (λ b. rights.put || (rights.upd || b)) e �
 
 module _ (scene : Scene) (asks : Option OpenFile) where
   pub record Left (held : Option OpenFile) (e : Effect) : Type 0 where
-    pub moved : Moved scene.files asks held e.scene.files (open_in e.place)
-    pub rights : HasRights e.place
+    pub moved : Moved scene.files asks held e.scene.files (open_in e.state)
+    pub rights : HasRights e.state
 
   abbrev pub LeftIn : Option OpenFile → Turn → Type 0
   LeftIn held (Does e) = Left held e
-  LeftIn held (Begins b) = (held ≡ Some b.opened) × (b.stream.rights ≡ b.opened.rights)
+  LeftIn held (BeginsGroup b) = (held ≡ Some b.opened) × (b.stream.rights ≡ b.opened.rights)
 
-  entering : (place : Place) (answers : List Message) → HasRights place → Left (open_in place) (enters scene place answers)
-  entering place answers h = record { moved = keeps (open_in place); rights = h }
+  entering : (state : ServerState) (answers : List Message) → HasRights state → Left (open_in state) (enters scene state answers)
+  entering state answers h = record { moved = keeps (open_in state); rights = h }
 
   leaving : (held : Option OpenFile) (answers : List Message) → Left held (enters scene Ready answers)
   leaving held answers = record { moved = closes held; rights = tt }
@@ -133,7 +133,7 @@ module _ (scene : Scene) (asks : Option OpenFile) where
   opening-if own a at false l w p e =
       let found = index_by own.names a.name scene.files in
       record {
-        moved = opens (there_at a.fac at) (subst (λ (x : Option ℕ). IfSome x (λ n. n < length scene.files)) p (place-within own.names a.name scene.files))
+        moved = opens (there_at a.fac at) (subst (λ (x : Option ℕ). IfSome x (λ n. n < length scene.files)) p (index-within own.names a.name scene.files))
             (w ∙ ap (λ (b : Bool). if b then there_if own a.fac found else None) e
             ∙ ap (λ (b : Bool). if b then None else option_map (there_at a.fac) found) l ∙ ap (option_map (there_at a.fac)) p);
         rights = tt;
@@ -161,7 +161,7 @@ module _ (scene : Scene) (asks : Option OpenFile) where
   purging o true answers e = record { moved = removes o e; rights = tt }
   purging o false answers e = leaving (Some o) answers
 
-  ended : (o : OpenFile) (place : Place) → Left (Some o) (end_stream scene o place)
+  ended : (o : OpenFile) (state : ServerState) → Left (Some o) (end_stream scene o state)
   ended o (Opened p) = entering (Opened o) _ tt
   ended o Fresh = entering (Opened o) _ tt
   ended o Ready = entering (Opened o) _ tt
@@ -169,12 +169,12 @@ module _ (scene : Scene) (asks : Option OpenFile) where
   ended o (Store p s) = entering (Opened o) _ tt
   ended o (Stopped p s) = entering (Opened o) _ tt
 
-  completed : (func : ℕ) (o : OpenFile) (place : Place) → open_in place ≡ Some o → HasRights place → Left (Some o) (complete func scene o place)
-  completed func o place is h =
-      let stays : (answers : List Message) → Left (Some o) (enters scene place answers) = λ answers. subst (λ (held : Option OpenFile). Left held (enters scene place answers)) is (entering place answers h) in
+  completed : (func : ℕ) (o : OpenFile) (state : ServerState) → open_in state ≡ Some o → HasRights state → Left (Some o) (complete func scene o state)
+  completed func o state is h =
+      let stays : (answers : List Message) → Left (Some o) (enters scene state answers) = λ answers. subst (λ (held : Option OpenFile). Left held (enters scene state answers)) is (entering state answers h) in
       either (Some o) (func == codes.cmpfunc.close) _ _ (leaving (Some o) _)
       (either (Some o) (func == codes.cmpfunc.purge) _ _ (purging o o.is_new _ refl)
-      (either (Some o) (func == codes.cmpfunc.end_of_stream) _ _ (ended o place) (either (Some o) (func == codes.cmpfunc.skip) _ _ (stays _) (stays _))))
+      (either (Some o) (func == codes.cmpfunc.end_of_stream) _ _ (ended o state) (either (Some o) (func == codes.cmpfunc.skip) _ _ (stays _) (stays _))))
 
   -- ---- Records.
 
@@ -182,7 +182,7 @@ module _ (scene : Scene) (asks : Option OpenFile) where
     abbrev Stays : Effect → Type 0
     Stays e = Left (Some o) e
 
-    -- an operation that may change the file, and the place after it
+    -- an operation that may change the file, and the state after it
     acted : (op : Operation) (s : StreamVal) (b : Bool) → s.rights ≡ o.rights → right_for op s.rights ≡ b
         → Moved scene.files asks (Some o) (with_file o.at (act op (the_file scene.files o) s).file scene.files) (Some o)
     acted op s true r e = writes o _ (ap may_write (sym r) ∙ allowed op s.rights e)
@@ -229,7 +229,7 @@ module _ (scene : Scene) (asks : Option OpenFile) where
     storing ordinal s body r =
         record { moved = acted (put_record None body) s _ r refl; rights = act-rights (put_record None body) (the_file scene.files o) s ∙ r }
 
-    -- ---- The places.
+    -- ---- The states.
 
     opened-control : (verb : Verb) → Stays (control_opened verb scene o)
     opened-control verbs.Connect = entering (Connected o _) _ refl
@@ -250,7 +250,7 @@ module _ (scene : Scene) (asks : Option OpenFile) where
     with-second change s (Whole (Filedata k body)) r = second change s body r
     with-second change s (Whole message) r = entering (Connected o s) _ r
 
-  of-message : (own : ServerSetup) (past : List Group) (place : Place) → HasRights place → (m : Message) → asks ≡ asks_to_open own scene.files place (Whole m) → LeftIn (open_in place) (turn_in own scene past place m)
+  of-message : (own : ServerSetup) (past : List Group) (state : ServerState) → HasRights state → (m : Message) → asks ≡ asks_to_open own scene.files state (Whole m) → LeftIn (open_in state) (turn_in own scene past state m)
   of-message own past Fresh h (Config c) w = either None (is_too_small c.bufsiz) _ _ (entering Fresh _ tt) (record { moved = keeps None; rights = tt })
   of-message own past Fresh h m w = entering Fresh _ tt
   of-message own past Ready h (Access a) w = accessing own a (asked_shape (kept_attributes past)) w
@@ -269,36 +269,36 @@ module _ (scene : Scene) (asks : Option OpenFile) where
   of-message own past (Stopped o s) h (Accomp c) w = completed c.func o (Stopped o s) refl h
   of-message own past (Stopped o s) h m w = entering (Stopped o s) _ h
 
-  pub of-item : (own : ServerSetup) (past : List Group) (place : Place) → HasRights place → (item : Item) → asks ≡ asks_to_open own scene.files place item
-      → LeftIn (open_in place) (turn_of own (record { scene = scene; place = place; past = past }) item)
-  of-item own past place h (Malformed fault) w = entering place _ h
-  of-item own past place h (Whole m) w = of-message own past place h m w
+  pub of-item : (own : ServerSetup) (past : List Group) (state : ServerState) → HasRights state → (item : Item) → asks ≡ asks_to_open own scene.files state item
+      → LeftIn (open_in state) (turn_of own (record { scene = scene; state = state; past = past }) item)
+  of-item own past state h (Malformed fault) w = entering state _ h
+  of-item own past state h (Whole m) w = of-message own past state h m w
 
 -- ---- One item more.
 
 -- a link's stream has the rights of its Access, also inside a group of two
 pub record IsSteady (c : Grouped) : Type 0 where
-  pub rights : HasRights c.standing.place
-  pub begun : IfSome c.begun (λ b. (open_in c.standing.place ≡ Some b.opened) × (b.stream.rights ≡ b.opened.rights))
+  pub rights : HasRights c.standing.state
+  pub begun : IfSome c.begun (λ b. (open_in c.standing.state ≡ Some b.opened) × (b.stream.rights ≡ b.opened.rights))
 
 pub record Goes (c d : Grouped) (asks : Option OpenFile) : Type 0 where
-  pub moved : Moved c.standing.scene.files asks (open_in c.standing.place) d.standing.scene.files (open_in d.standing.place)
+  pub moved : Moved c.standing.scene.files asks (open_in c.standing.state) d.standing.scene.files (open_in d.standing.state)
   pub steady : IsSteady d
 
-pub next-goes : (asks : Option OpenFile) (s : Standing) (item : Item) (t : Turn) → HasRights s.place → LeftIn s.scene asks (open_in s.place) t → Goes (record { standing = s; begun = None }) (next_group s item t) asks
+pub next-goes : (asks : Option OpenFile) (s : Standing) (item : Item) (t : Turn) → HasRights s.state → LeftIn s.scene asks (open_in s.state) t → Goes (record { standing = s; begun = None }) (next_group s item t) asks
 next-goes asks s item (Does e) h l = record { moved = l.moved; steady = record { rights = l.rights; begun = tt } }
-next-goes asks s item (Begins b) h l = record { moved = keeps (open_in s.place); steady = record { rights = h; begun = l } }
+next-goes asks s item (BeginsGroup b) h l = record { moved = keeps (open_in s.state); steady = record { rights = h; begun = l } }
 
-by-begun : (own : ServerSetup) (s : Standing) (begun : Option Begun) (item : Item) → HasRights s.place → IfSome begun (λ b. (open_in s.place ≡ Some b.opened) × (b.stream.rights ≡ b.opened.rights))
-    → Goes (record { standing = s; begun = begun }) (more_after own s begun item) (asks_to_open own s.scene.files s.place item)
-by-begun own s None item h n = next-goes _ s item (turn_of own s item) h (of-item s.scene _ own s.past s.place h item refl)
+by-begun : (own : ServerSetup) (s : Standing) (begun : Option Begun) (item : Item) → HasRights s.state → IfSome begun (λ b. (open_in s.state ≡ Some b.opened) × (b.stream.rights ≡ b.opened.rights))
+    → Goes (record { standing = s; begun = begun }) (more_after own s begun item) (asks_to_open own s.scene.files s.state item)
+by-begun own s None item h n = next-goes _ s item (turn_of own s item) h (of-item s.scene _ own s.past s.state h item refl)
 by-begun own s (Some b) item h n =
-    let asks = asks_to_open own s.scene.files s.place item in
+    let asks = asks_to_open own s.scene.files s.state item in
     let l = with-second s.scene asks b.opened b.change b.stream item n.1 in
     record {
-      moved = subst (λ (held : Option OpenFile). Moved s.scene.files asks held (after_two s b item).scene.files (open_in (after_two s b item).place)) (sym n.0) l.moved;
+      moved = subst (λ (held : Option OpenFile). Moved s.scene.files asks held (after_two s b item).scene.files (open_in (after_two s b item).state)) (sym n.0) l.moved;
       steady = record { rights = l.rights; begun = tt };
     }
 
-pub one-goes : (own : ServerSetup) (c : Grouped) (item : Item) → IsSteady c → Goes c (after_item own c item) (asks_to_open own c.standing.scene.files c.standing.place item)
+pub one-goes : (own : ServerSetup) (c : Grouped) (item : Item) → IsSteady c → Goes c (after_item own c item) (asks_to_open own c.standing.scene.files c.standing.state item)
 one-goes own c item h = by-begun own c.standing c.begun item h.rights h.begun

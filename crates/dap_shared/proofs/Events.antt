@@ -15,12 +15,12 @@ use Rattle.dap_accessed.specs.Adding.{with_new_file}
 use Rattle.dap_accessed.specs.Sessions.{moved_up}
 use Rattle.dap_accessed.proofs.ForCallers.{length-with}
 use Rattle.dap_accessed.specs.Setup.{all_rights}
-use Rattle.dap_accessed.specs.Standing.{file_at, new_file, Files, Place, Fresh, Ready, Opened, Connected, Store, Stopped}
+use Rattle.dap_accessed.specs.Standing.{file_at, new_file, Files, ServerState, Fresh, Ready, Opened, Connected, Store, Stopped}
 use Rattle.dap_accessed.specs.Accesses.{refuse_access}
 use Rattle.dap_accessed.specs.Effects.{Begun, Does}
 use Rattle.dap_accessed.specs.Groups.{Grouped}
 use Rattle.dap_accessed.specs.Groups.{after_item, next_group}
-use Rattle.dap_shared.specs.Sharing.{open_in, has_alone, are_apart, bars, is_file, is_locked, asks_to_open, file_locked, place_moved_up}
+use Rattle.dap_shared.specs.Sharing.{open_in, has_alone, are_apart, bars, is_file, is_locked, asks_to_open, file_locked, state_moved_up}
 use Rattle.dap_shared.specs.Nodes.{Exchange, Node, new_exchange, no_exchange, new_node, exchange_at, exchange_of, end_at, before_files, open_on, open_beside, more_beside, begun_moved_up, exchange_moved_up, exchange_without, removed_by, is_open, without_file, with_record_at, setup_on, after_event, after_all, node_after, Event, Serves, Begins, Gives, GivesRecord, Drops}
 use Rattle.dap_shared.proofs.Changes.{closes, HasRights, IsSteady, Goes, one-goes}
 use Rattle.dap_shared.specs.Keeping.{AreOf, AreApart, HoldsStill}
@@ -45,7 +45,7 @@ same-map : (o : Option OpenFile) → o ≡ option_map (shifted None) o
 same-map None = refl
 same-map (Some o) = refl
 
-open-moved : (removed : OpenFile) (place : Place) → open_in (place_moved_up removed.at place) ≡ option_map (shifted (Some removed)) (open_in place)
+open-moved : (removed : OpenFile) (state : ServerState) → open_in (state_moved_up removed.at state) ≡ option_map (shifted (Some removed)) (open_in state)
 open-moved removed Fresh = refl
 open-moved removed Ready = refl
 open-moved removed (Opened o) = refl
@@ -55,9 +55,9 @@ open-moved removed (Stopped o s) = refl
 
 open-shifted : (r : Option OpenFile) (exchange : Exchange) → open_on (exchange_moved_up r exchange) ≡ option_map (shifted r) (open_on exchange)
 open-shifted None exchange = same-map (open_on exchange)
-open-shifted (Some removed) exchange = open-moved removed exchange.place
+open-shifted (Some removed) exchange = open-moved removed exchange.state
 
-rights-moved : (removed : ℕ) (place : Place) → HasRights place → HasRights (place_moved_up removed place)
+rights-moved : (removed : ℕ) (state : ServerState) → HasRights state → HasRights (state_moved_up removed state)
 rights-moved removed Fresh h = tt
 rights-moved removed Ready h = tt
 rights-moved removed (Opened o) h = tt
@@ -65,14 +65,14 @@ rights-moved removed (Connected o s) h = h
 rights-moved removed (Store o s) h = h
 rights-moved removed (Stopped o s) h = h
 
-begun-moved : (removed : OpenFile) (place : Place) (begun : Option Begun) → IfSome begun (λ b. (open_in place ≡ Some b.opened) × (b.stream.rights ≡ b.opened.rights))
-    → IfSome (option_map (begun_moved_up removed.at) begun) (λ b. (open_in (place_moved_up removed.at place) ≡ Some b.opened) × (b.stream.rights ≡ b.opened.rights))
-begun-moved removed place None h = tt
-begun-moved removed place (Some b) h = (open-moved removed place ∙ ap (option_map (shifted (Some removed))) h.0, h.1)
+begun-moved : (removed : OpenFile) (state : ServerState) (begun : Option Begun) → IfSome begun (λ b. (open_in state ≡ Some b.opened) × (b.stream.rights ≡ b.opened.rights))
+    → IfSome (option_map (begun_moved_up removed.at) begun) (λ b. (open_in (state_moved_up removed.at state) ≡ Some b.opened) × (b.stream.rights ≡ b.opened.rights))
+begun-moved removed state None h = tt
+begun-moved removed state (Some b) h = (open-moved removed state ∙ ap (option_map (shifted (Some removed))) h.0, h.1)
 
 steady-moved : (r : Option OpenFile) (exchange : Exchange) → IsSteadyExchange exchange → IsSteadyExchange (exchange_moved_up r exchange)
 steady-moved None exchange h = h
-steady-moved (Some removed) exchange h = record { rights = rights-moved removed.at exchange.place h.rights; begun = begun-moved removed exchange.place exchange.begun h.begun }
+steady-moved (Some removed) exchange h = record { rights = rights-moved removed.at exchange.state h.rights; begun = begun-moved removed exchange.state exchange.begun h.begun }
 
 neither : (a b : Bool) → (a || b) ≡ false → (a ≡ false) × (b ≡ false)
 neither true b e = cc
@@ -132,13 +132,13 @@ module _ (own : ServerSetup) (node : Node) (link : ℕ) (item : Item) (there : l
   removed = removed_by old new
 
   abbrev asked : Option OpenFile
-  asked = asks_to_open its node.files old.standing.place item
+  asked = asks_to_open its node.files old.standing.state item
 
   abbrev asks : Bool → Option OpenFile
   asks locked = if locked then None else asked
 
   by-lock : (locked : Bool) → Goes old (if locked then next_group old.standing item (Does (refuse_access old.standing.scene (bare_status file_locked))) else after_item its old item) (asks locked)
-  by-lock true = record { moved = closes (open_in old.standing.place); steady = record { rights = tt; begun = tt } }
+  by-lock true = record { moved = closes (open_in old.standing.state); steady = record { rights = tt; begun = tt } }
   by-lock false = one-goes its old item (record { rights = (h.steady link).rights; begun = (h.steady link).begun })
 
   went : Goes old new (asks (is_locked others asked))
@@ -163,12 +163,12 @@ module _ (own : ServerSetup) (node : Node) (link : ℕ) (item : Item) (there : l
       sym (ap (bars o) (beside j d ∙ is)) ∙ any-false o others j none
 
   -- what another link has open
-  stays : (j : ℕ) → j ≢ link → (p : OpenFile) → open_on (exchange_at j node) ≡ Some p → Aside node.files after.files (open_in new.standing.place) removed p
+  stays : (j : ℕ) → j ≢ link → (p : OpenFile) → open_on (exchange_at j node) ≡ Some p → Aside node.files after.files (open_in new.standing.state) removed p
   stays j d p is =
       aside node.files (asks (is_locked others asked)) p
       (subst (λ (x : Option OpenFile). IfSome x (λ o. o.at < length node.files)) is (h.within j))
       (λ o a. free-by (is_locked others asked) refl j d p o is a)
-      (open_in old.standing.place) after.files (open_in new.standing.place) went.moved (h.within link)
+      (open_in old.standing.state) after.files (open_in new.standing.state) went.moved (h.within link)
       (subst (AreApart (open_on (exchange_at link node))) is (h.apart link j (λ e. d (sym e))))
 
   open-other : (j : ℕ) → j ≢ link → open_on (exchange_at j after) ≡ option_map (shifted removed) (open_on (exchange_at j node))
@@ -180,8 +180,8 @@ module _ (own : ServerSetup) (node : Node) (link : ℕ) (item : Item) (there : l
   some-within None f = tt
   some-within (Some p) f = f p refl
 
-  some-apart : (o : Option OpenFile) → ((p : OpenFile) → o ≡ Some p → AreApart (open_in new.standing.place) (Some (shifted removed p))) → AreApart (open_in new.standing.place) (option_map (shifted removed) o)
-  some-apart None f = nothing (open_in new.standing.place)
+  some-apart : (o : Option OpenFile) → ((p : OpenFile) → o ≡ Some p → AreApart (open_in new.standing.state) (Some (shifted removed p))) → AreApart (open_in new.standing.state) (option_map (shifted removed) o)
+  some-apart None f = nothing (open_in new.standing.state)
   some-apart (Some p) f = f p refl
 
   steady-then : (j : ℕ) → IsSteadyExchange (exchange_at j after)
@@ -191,7 +191,7 @@ module _ (own : ServerSetup) (node : Node) (link : ℕ) (item : Item) (there : l
         | inr d ↦ subst IsSteadyExchange (sym (exchange-other j d)) (steady-moved removed (exchange_at j node) (h.steady j))
       ]
 
-  within-then : (own-within : IfSome (open_in new.standing.place) (λ o. o.at < length after.files)) (j : ℕ) → IfSome (open_on (exchange_at j after)) (λ o. o.at < length after.files)
+  within-then : (own-within : IfSome (open_in new.standing.state) (λ o. o.at < length after.files)) (j : ℕ) → IfSome (open_on (exchange_at j after)) (λ o. o.at < length after.files)
   within-then w j =
       elim (cases_eq j link) [
         | inl same ↦ subst (λ k. IfSome (open_on (exchange_at k after)) (λ o. o.at < length after.files)) (sym same) (subst (λ (exchange : Exchange). IfSome (open_on exchange) (λ o. o.at < length after.files)) (sym exchange-own) w)
@@ -201,7 +201,7 @@ module _ (own : ServerSetup) (node : Node) (link : ℕ) (item : Item) (there : l
   with-own : (j : ℕ) → j ≢ link → AreApart (open_on (exchange_at link after)) (open_on (exchange_at j after))
   with-own j d =
       subst (λ (exchange : Exchange). AreApart (open_on exchange) (open_on (exchange_at j after))) (sym exchange-own)
-      (subst (AreApart (open_in new.standing.place)) (sym (open-other j d)) (some-apart (open_on (exchange_at j node)) (λ p is. (stays j d p is).apart)))
+      (subst (AreApart (open_in new.standing.state)) (sym (open-other j d)) (some-apart (open_on (exchange_at j node)) (λ p is. (stays j d p is).apart)))
 
   both-others : (i j : ℕ) → i ≢ link → j ≢ link → i ≢ j → AreApart (open_on (exchange_at i after)) (open_on (exchange_at j after))
   both-others i j di dj d =
@@ -223,7 +223,7 @@ module _ (own : ServerSetup) (node : Node) (link : ℕ) (item : Item) (there : l
   item-shares =
       record {
         steady = steady-then;
-        within = within-then (own-within node.files (asks (is_locked others asked)) (open_in old.standing.place) after.files (open_in new.standing.place) went.moved (h.within link));
+        within = within-then (own-within node.files (asks (is_locked others asked)) (open_in old.standing.state) after.files (open_in new.standing.state) went.moved (h.within link));
         apart = apart-then;
       }
 

@@ -54,7 +54,7 @@ module _ (own : ServerSetup) (node : Node) (link : ℕ) (item : Item) where
   pub grows : link < length node.exchanges → answers_in (exchange_at link (after_event own node (Serves link item))).past ≡ answers_in (exchange_at link node).past ++ answers_beside its others before item
   grows there =
       ap (λ (e : Exchange). answers_in e.past) (get_or-set_same (map (exchange_moved_up removed) node.exchanges) link (exchange_of most after) no_exchange (omega (arith, there, length-map node.exchanges (exchange_moved_up removed))))
-      ∙ by-lock its before item (is_locked others (asks_to_open its node.files before.standing.place item))
+      ∙ by-lock its before item (is_locked others (asks_to_open its node.files before.standing.state item))
 
   same-past : (r : Option OpenFile) (e : Exchange) → answers_in (exchange_moved_up r e).past ≡ answers_in e.past
   same-past None e = refl

@@ -9,11 +9,11 @@ use Rattle.std.proofs.Math.ListN.{get_or-map}
 use Rattle.dap_accessed.specs.declared.setup.ServerSetup.{ServerSetup}
 use Rattle.dap_msg.specs.declared.items.Item.{Item}
 use Rattle.dap_accessed.specs.declared.phase.OpenFile.{OpenFile}
-use Rattle.dap_accessed.specs.Standing.{Files, Place, Fresh, Ready, Opened, Connected, Store, Stopped}
+use Rattle.dap_accessed.specs.Standing.{Files, ServerState, Fresh, Ready, Opened, Connected, Store, Stopped}
 use Rattle.dap_shared.specs.Sharing.{asks_to_open, barred_by, bars, is_locked, open_in}
 use Rattle.dap_shared.specs.Nodes.{Exchange, Node, asked_on, exchange_at, is_locked_out, locks_out, no_exchange, open_beside, open_on, setup_on}
 
--- the place of one that passes the test
+-- the index of one that passes the test
 abbrev Passes : (o : OpenFile) → List (Option OpenFile) → Type 0
 Passes o xs = (i : ℕ) × (i < length xs) × (bars o (get_or xs i None) ≡ true)
 
@@ -69,7 +69,7 @@ is-holder own node link other item lt e = locked-by node link other (asked_on ow
 
 -- ---- Beside the link's own: it has nothing open where it asks to open.
 
-ready-or-none : (own : ServerSetup) (files : Files) (place : Place) (item : Item) → (open_in place ≡ None) ⊎ (asks_to_open own files place item ≡ None)
+ready-or-none : (own : ServerSetup) (files : Files) (state : ServerState) (item : Item) → (open_in state ≡ None) ⊎ (asks_to_open own files state item ≡ None)
 ready-or-none own files Fresh item = inl refl
 ready-or-none own files Ready item = inl refl
 ready-or-none own files (Opened opened) item = inr refl
@@ -77,7 +77,7 @@ ready-or-none own files (Connected opened stream) item = inr refl
 ready-or-none own files (Store opened stream) item = inr refl
 ready-or-none own files (Stopped opened stream) item = inr refl
 
--- a place that has this already
+-- an index that has this already
 beside-all : (link : ℕ) (exchanges : List Exchange) → open_on (get_or exchanges link no_exchange) ≡ None → open_beside link exchanges ≡ map open_on exchanges
 beside-all link exchanges none =
     let at : get_or (map open_on exchanges) link None ≡ None = get_or-map open_on exchanges link no_exchange ∙ none in
@@ -88,7 +88,7 @@ beside-all link exchanges none =
 -- so it may be asked of all links
 pub locked-by-all : (own : ServerSetup) (node : Node) (link : ℕ) (item : Item) → is_locked (map open_on node.exchanges) (asked_on own link node item) ≡ is_locked_out own link node item
 locked-by-all own node link item =
-    elim (ready-or-none (setup_on own link node) node.files (exchange_at link node).place item) [
+    elim (ready-or-none (setup_on own link node) node.files (exchange_at link node).state item) [
       | inl none ↦ ap (λ (l : List (Option OpenFile)). is_locked l (asked_on own link node item)) (sym (beside-all link node.exchanges none))
       | inr none ↦ ap (is_locked (map open_on node.exchanges)) none ∙ sym (ap (is_locked (open_beside link node.exchanges)) none)
     ]

@@ -32,7 +32,7 @@ module _ (own : ServerSetup) (most : Rights) where
   alone c item =
       let s = c.standing in
       ap (λ (b : Bool). if b then next_group s item (Does (refuse_access s.scene (bare_status file_locked))) else after_item its c item)
-      (none-locked (asks_to_open its s.scene.files s.place item))
+      (none-locked (asks_to_open its s.scene.files s.state item))
 
   one-served : (c : Grouped) (item : Item) → after_event own (node_of c) (Serves 0 item) ≡ node_of (after_item its c item)
   one-served c item = ap (λ (d : Grouped). after_more most 0 c d (exchange_of most c ∷ [])) (alone c item)

@@ -47,7 +47,7 @@ above-at r o lt = ap (λ b. if b then o.at - 1 else o.at) (lt-ltb r o.at lt)
 below-at : (r : ℕ) (o : OpenFile) → o.at ≤ r → (moved_up r o).at ≡ o.at
 below-at r o le = ap (λ b. if b then o.at - 1 else o.at) (le-ltb r o.at le)
 
--- two places that aren't that of the removed file stay two
+-- two indices that aren't that of the removed file stay two
 pub still-differ : (r : ℕ) (one two : OpenFile) → one.at ≢ r → two.at ≢ r → one.at ≢ two.at → (moved_up r one).at ≢ (moved_up r two).at
 still-differ r one two a b d same =
     elim (cases_lt r one.at) [
@@ -79,8 +79,8 @@ gone before after held = if nat_lt (length after) (length before) then held else
 none-gone : (before after : Files) (held : Option OpenFile) → length before ≤ length after → gone before after held ≡ None
 none-gone before after held le = ap (λ b. if b then held else None) (le-ltb (length after) (length before) le)
 
-place-of : (o r : OpenFile) → Some o ≡ Some r → o.at ≡ r.at
-place-of o r e = let same : o ≡ r = cc in ap (λ (x : OpenFile). x.at) same
+index-of : (o r : OpenFile) → Some o ≡ Some r → o.at ≡ r.at
+index-of o r e = let same : o ≡ r = cc in ap (λ (x : OpenFile). x.at) same
 
 pub record Aside (before after : Files) (held removed : Option OpenFile) (p : OpenFile) : Type 0 where
   pub within : (shifted removed p).at < length after
@@ -130,7 +130,7 @@ module _ (before : Files) (asks : Option OpenFile) (p : OpenFile) (there : p.at 
                   ap (λ k. entry_at k (remove before o.at)) at ∙ get_or-remove_above before o.at ([], new_file plain_shape) (p.at - 1) (omega (arith, up)) w
                   ∙ ap (λ k. entry_at k before) (let back : p.at - 1 + 1 ≡ p.at = omega (arith, up) in back);
               apart = tt;
-              elsewhere = λ r e same. d (place-of o r e ∙ sym same);
+              elsewhere = λ r e same. d (index-of o r e ∙ sym same);
             }
         | inr down ↦
             let at = below-at o.at p down in
@@ -139,7 +139,7 @@ module _ (before : Files) (asks : Option OpenFile) (p : OpenFile) (there : p.at 
               within = omega (arith, n, at, lt, w);
               same = ap (λ k. entry_at k (remove before o.at)) at ∙ get_or-remove_below before o.at ([], new_file plain_shape) p.at lt w;
               apart = tt;
-              elsewhere = λ r e same. d (place-of o r e ∙ sym same);
+              elsewhere = λ r e same. d (index-of o r e ∙ sym same);
             }
       ])
 
@@ -165,7 +165,7 @@ aside-dropped before at p there d =
           let same = remove-beyond before at le in
           let low = below-at at p (omega (arith, there, le)) in
           subst (λ (l : Files). Aside before l None (Some (dropped at)) p) (sym same)
-          (record { within = omega (arith, low, there); same = ap (λ k. entry_at k before) low; apart = tt; elsewhere = λ r e equal. d (place-of (dropped at) r e ∙ sym equal) })
+          (record { within = omega (arith, low, there); same = ap (λ k. entry_at k before) low; apart = tt; elsewhere = λ r e equal. d (index-of (dropped at) r e ∙ sym equal) })
     ]
 
 -- ---- Two other links.

@@ -19,7 +19,7 @@ use Rattle.rec_file.specs.Acts.{StreamVal}
 use Rattle.dap_accessed.specs.declared.phase.OpenFile.{OpenFile}
 use Rattle.dap_accessed.specs.declared.phase.Phase.{Phase}
 use Rattle.dap_accessed.specs.declared.phase.Phase.TheVariants as phases
-use Rattle.dap_accessed.specs.Standing.{Files, Scene, Place, Group, Standing, plain_shape, Fresh, Ready, Opened, Connected, Store, Stopped}
+use Rattle.dap_accessed.specs.Standing.{Files, Scene, ServerState, Group, Standing, plain_shape, Fresh, Ready, Opened, Connected, Store, Stopped}
 use Rattle.dap_accessed.specs.Past.{is_dropping, ordinal_so_far}
 use Rattle.dap_accessed.specs.Records.{Change, Putting, Updating}
 use Rattle.dap_accessed.specs.Replies.{bare_status}
@@ -30,7 +30,7 @@ use Rattle.dap_accessed.specs.Present.{Present, present_of, phase_of, phase_at, 
 use Rattle.dap_accessed.specs.Served.{AllAtMost, Answered}
 use Rattle.dap_accessed.specs.Sessions.{SessionValue, asked_in, with_files, moved_up, session_with, open_at, phase_moved_up, session_of}
 use Rattle.dap_accessed.proofs.ForCallers.{access-keeps}
-use Rattle.dap_shared.specs.Sharing.{barred_by, bars, file_locked, is_file, open_in, place_moved_up, is_locked, asks_to_open}
+use Rattle.dap_shared.specs.Sharing.{barred_by, bars, file_locked, is_file, open_in, state_moved_up, is_locked, asks_to_open}
 use Rattle.dap_shared.specs.Nodes.{Exchange, Node, Event, Serves, Begins, Gives, GivesRecord, Drops, new_exchange, no_exchange, new_node, exchange_at, exchange_of, end_at, before_files, open_on, open_beside, more_beside, answers_beside, begun_moved_up, exchange_moved_up, exchange_without, removed_by, is_open, without_file, setup_on, setup_with, after_event, after_all, asked_on, is_locked_out, locks_out, node_after}
 use Rattle.dap_shared.specs.Shared.{SharedValue, SharedAfter, SharedBegins, SharedDrops, SharedGiven, SharedServes, is_held, session_of_exchange, no_session, session_without, shared_of}
 use Rattle.dap_shared.specs.Keeping.{AreOf}
@@ -53,7 +53,7 @@ within-moved : (r : ℕ) (change : Change) (o : OpenFile) (s : StreamVal) → ph
 within-moved r (Putting key) o s = refl
 within-moved r Updating o s = refl
 
-at-moved : (r : ℕ) (past : List Group) (place : Place) → phase_at (place_moved_up r place) (looked_back (place_moved_up r place) past) ≡ phase_moved_up r (phase_at place (looked_back place past))
+at-moved : (r : ℕ) (past : List Group) (state : ServerState) → phase_at (state_moved_up r state) (looked_back (state_moved_up r state) past) ≡ phase_moved_up r (phase_at state (looked_back state past))
 at-moved r past Fresh = refl
 at-moved r past Ready = refl
 at-moved r past (Opened o) = refl
@@ -62,8 +62,8 @@ at-moved r past (Store o s) = store-moved r (is_dropping past) o s (ordinal_so_f
 at-moved r past (Stopped o s) = refl
 
 phase-moved : (r : ℕ) (files : Files) (exchange : Exchange) (begun : Option Begun) →
-    phase_of (before_files files (record exchange { place = place_moved_up r exchange.place })).standing (option_map (begun_moved_up r) begun) ≡ phase_moved_up r (phase_of (before_files files exchange).standing begun)
-phase-moved r files exchange None = at-moved r exchange.past exchange.place
+    phase_of (before_files files (record exchange { state = state_moved_up r exchange.state })).standing (option_map (begun_moved_up r) begun) ≡ phase_moved_up r (phase_of (before_files files exchange).standing begun)
+phase-moved r files exchange None = at-moved r exchange.past exchange.state
 phase-moved r files exchange (Some b) = within-moved r b.change b.opened b.stream
 
 exchange-moved : (own : ServerSetup) (files after : Files) (r : Option OpenFile) (exchange : Exchange) → session_of_exchange own after (exchange_moved_up r exchange) ≡ session_moved_up r (session_of_exchange own files exchange)
@@ -83,24 +83,24 @@ store-open : (d : Bool) (o : OpenFile) (s : StreamVal) (n : ℕ) → open_at (if
 store-open true o s n = refl
 store-open false o s n = refl
 
-place-open : (past : List Group) (place : Place) → open_at (phase_at place (looked_back place past)) ≡ open_in place
-place-open past Fresh = refl
-place-open past Ready = refl
-place-open past (Opened o) = refl
-place-open past (Connected o s) = refl
-place-open past (Store o s) = store-open (is_dropping past) o s (ordinal_so_far past)
-place-open past (Stopped o s) = refl
+state-open : (past : List Group) (state : ServerState) → open_at (phase_at state (looked_back state past)) ≡ open_in state
+state-open past Fresh = refl
+state-open past Ready = refl
+state-open past (Opened o) = refl
+state-open past (Connected o s) = refl
+state-open past (Store o s) = store-open (is_dropping past) o s (ordinal_so_far past)
+state-open past (Stopped o s) = refl
 
 within-open : (change : Change) (o : OpenFile) (s : StreamVal) → open_at (phase_within change o s) ≡ Some o
 within-open (Putting key) o s = refl
 within-open Updating o s = refl
 
 -- a group of two that is begun has the open file
-abbrev IsBegun : Place → Option Begun → Type 0
-IsBegun place begun = IfSome begun (λ b. (open_in place ≡ Some b.opened) × (b.stream.rights ≡ b.opened.rights))
+abbrev IsBegun : ServerState → Option Begun → Type 0
+IsBegun state begun = IfSome begun (λ b. (open_in state ≡ Some b.opened) × (b.stream.rights ≡ b.opened.rights))
 
-phase-open : (s : Standing) (begun : Option Begun) → IsBegun s.place begun → open_at (phase_of s begun) ≡ open_in s.place
-phase-open s None h = place-open s.past s.place
+phase-open : (s : Standing) (begun : Option Begun) → IsBegun s.state begun → open_at (phase_of s begun) ≡ open_in s.state
+phase-open s None h = state-open s.past s.state
 phase-open s (Some b) h = within-open b.change b.opened b.stream ∙ sym h.0
 
 store-asks : (own : ServerSetup) (files : Files) (item : Item) (d : Bool) (o : OpenFile) (s : StreamVal) (n : ℕ) → asked_in own files (if d then phases.Dropping o s n else phases.Storing o s n) item ≡ None
@@ -112,19 +112,19 @@ ready-asks own files (Malformed fault) = refl
 ready-asks own files (Whole (Access a)) = refl
 ready-asks own files (Whole message) = refl
 
-place-asks : (own : ServerSetup) (files : Files) (past : List Group) (place : Place) (item : Item) → asked_in own files (phase_at place (looked_back place past)) item ≡ asks_to_open own files place item
-place-asks own files past Fresh item = refl
-place-asks own files past Ready item = ready-asks own files item
-place-asks own files past (Opened o) item = refl
-place-asks own files past (Connected o s) item = refl
-place-asks own files past (Store o s) item = store-asks own files item (is_dropping past) o s (ordinal_so_far past)
-place-asks own files past (Stopped o s) item = refl
+state-asks : (own : ServerSetup) (files : Files) (past : List Group) (state : ServerState) (item : Item) → asked_in own files (phase_at state (looked_back state past)) item ≡ asks_to_open own files state item
+state-asks own files past Fresh item = refl
+state-asks own files past Ready item = ready-asks own files item
+state-asks own files past (Opened o) item = refl
+state-asks own files past (Connected o s) item = refl
+state-asks own files past (Store o s) item = store-asks own files item (is_dropping past) o s (ordinal_so_far past)
+state-asks own files past (Stopped o s) item = refl
 
 within-asks : (own : ServerSetup) (files : Files) (change : Change) (o : OpenFile) (s : StreamVal) (item : Item) → asked_in own files (phase_within change o s) item ≡ None
 within-asks own files (Putting key) o s item = refl
 within-asks own files Updating o s item = refl
 
-none-asked : (own : ServerSetup) (files : Files) (place : Place) (o : OpenFile) (item : Item) → open_in place ≡ Some o → asks_to_open own files place item ≡ None
+none-asked : (own : ServerSetup) (files : Files) (state : ServerState) (o : OpenFile) (item : Item) → open_in state ≡ Some o → asks_to_open own files state item ≡ None
 none-asked own files Fresh o item e = cc
 none-asked own files Ready o item e = cc
 none-asked own files (Opened p) o item e = refl
@@ -132,9 +132,9 @@ none-asked own files (Connected p s) o item e = refl
 none-asked own files (Store p s) o item e = refl
 none-asked own files (Stopped p s) o item e = refl
 
-phase-asks : (own : ServerSetup) (files : Files) (s : Standing) (begun : Option Begun) (item : Item) → IsBegun s.place begun → asked_in own files (phase_of s begun) item ≡ asks_to_open own files s.place item
-phase-asks own files s None item h = place-asks own files s.past s.place item
-phase-asks own files s (Some b) item h = within-asks own files b.change b.opened b.stream item ∙ sym (none-asked own files s.place b.opened item h.0)
+phase-asks : (own : ServerSetup) (files : Files) (s : Standing) (begun : Option Begun) (item : Item) → IsBegun s.state begun → asked_in own files (phase_of s begun) item ≡ asks_to_open own files s.state item
+phase-asks own files s None item h = state-asks own files s.past s.state item
+phase-asks own files s (Some b) item h = within-asks own files b.change b.opened b.stream item ∙ sym (none-asked own files s.state b.opened item h.0)
 
 -- ---- What bars it.
 
@@ -142,7 +142,7 @@ pub open-kept : (own : ServerSetup) (files : Files) (exchange : Exchange) → Is
 open-kept own files exchange h = phase-open (before_files files exchange).standing exchange.begun h.begun
 
 -- what is asked for on a link, with its rights
-asks-kept : (own its : ServerSetup) (files : Files) (exchange : Exchange) (item : Item) → IsSteadyExchange exchange → asked_in its files (session_of_exchange own files exchange).phase item ≡ asks_to_open its files exchange.place item
+asks-kept : (own its : ServerSetup) (files : Files) (exchange : Exchange) (item : Item) → IsSteadyExchange exchange → asked_in its files (session_of_exchange own files exchange).phase item ≡ asks_to_open its files exchange.state item
 asks-kept own its files exchange item h = phase-asks its files (before_files files exchange).standing exchange.begun item h.begun
 
 -- what a session asks to open
@@ -215,8 +215,8 @@ locked-kept v link item first events h =
 abbrev pub locked_group : Standing → Item → Grouped
 locked_group s item = next_group s item (Does (refuse_access s.scene (bare_status file_locked)))
 
-refused-by : (own : ServerSetup) (others : List (Option OpenFile)) (scene : Scene) (past : List Group) (place : Place) (item : Item) → is_locked others (asks_to_open own scene.files place item) ≡ true →
-    let s : Standing = record { scene = scene; place = place; past = past } in
+refused-by : (own : ServerSetup) (others : List (Option OpenFile)) (scene : Scene) (past : List Group) (state : ServerState) (item : Item) → is_locked others (asks_to_open own scene.files state item) ≡ true →
+    let s : Standing = record { scene = scene; state = state; past = past } in
     session_of (present_of own (locked_group s item)) ≡ record { own = own.identity.bufsiz; setup = own; limit = scene.limit; kept = Some plain_shape; phase = phases.Ready }
 refused-by own others scene past Ready (Whole (Access a)) e =
     ap (λ (k : Option Shape). let t : SessionValue = record { own = own.identity.bufsiz; setup = own; limit = scene.limit; kept = k; phase = phases.Ready } in t) (access-keeps past a (bare_status file_locked ∷ []))
@@ -255,7 +255,7 @@ module _ (own : ServerSetup) (node : Node) (link : ℕ) (item : Item) (h : IsSha
   kept_beside = set (map kept node.exchanges) link (no_session own)
 
   abbrev asked : Option OpenFile
-  asked = asks_to_open its node.files before.standing.place item
+  asked = asks_to_open its node.files before.standing.state item
 
   abbrev others : List (Option OpenFile)
   others = open_beside link node.exchanges
@@ -281,7 +281,7 @@ module _ (own : ServerSetup) (node : Node) (link : ℕ) (item : Item) (h : IsSha
   by-lock true files s answers e does =
       record {
         same_files = does.0;
-        same_session = does.1 ∙ sym (refused-by its others before.standing.scene before.standing.past before.standing.place item (sym e));
+        same_session = does.1 ∙ sym (refused-by its others before.standing.scene before.standing.past before.standing.state item (sym e));
         answered = does.2;
         within = at-most session.limit max_nsp_message does.3 (bodies answers.items) does.2.within;
       }

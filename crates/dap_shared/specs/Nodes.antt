@@ -1,6 +1,6 @@
--- A node: one table of files, and links of which each has its own exchange. One item of one link is served after
--- another. Each does what it would do at a server of one link that stands where its link stands, before the files as
--- they then are; but an Access to a file that is locked is refused.
+-- A node: one table of files, and links of which each has an exchange. One item of one link is served after another.
+-- Each does what it would do at a server of one link in the state of its link, before the files as they then are; but
+-- an Access to a file that is locked is refused.
 use Rattle.std.specs.Prelude.{ℕ, Bool, not, ◌&&◌, ◌==◌, nat_lt, if◌then◌else◌, List, [], ◌∷◌, ◌++◌, length, map, replicate, get_or, set, Option, Some, None, option_map}
 use Rattle.std.specs.List.{list_any, remove}
 use Rattle.dap_accessed.specs.declared.setup.ServerSetup.{ServerSetup}
@@ -12,21 +12,21 @@ use Rattle.rec_file.specs.declared.picks.Rights.{Rights}
 use Rattle.rec_file.specs.Files.{stored}
 use Rattle.dap_accessed.specs.declared.phase.OpenFile.{OpenFile}
 use Rattle.dap_accessed.specs.Setup.{all_rights}
-use Rattle.dap_accessed.specs.Standing.{Files, Place, Group, Fresh, file_at, with_file}
+use Rattle.dap_accessed.specs.Standing.{Files, ServerState, Group, Fresh, file_at, with_file}
 use Rattle.dap_accessed.specs.Sessions.{moved_up}
 use Rattle.dap_accessed.specs.Replies.{bare_status}
 use Rattle.dap_accessed.specs.Accesses.{refuse_access}
 use Rattle.dap_accessed.specs.Effects.{Begun, Does}
 use Rattle.dap_accessed.specs.Groups.{Grouped, answers_in, answers_of, next_group, after_item}
 use Rattle.dap_accessed.specs.Adding.{with_new_file}
-use Rattle.dap_shared.specs.Sharing.{file_locked, open_in, asks_to_open, barred_by, is_file, is_locked, place_moved_up}
+use Rattle.dap_shared.specs.Sharing.{file_locked, open_in, asks_to_open, barred_by, is_file, is_locked, state_moved_up}
 
--- an exchange: where a server of one link stands, but for the files
+-- an exchange: the state of a server of one link, but for the files
 pub record Exchange : Type 0 where
-  -- the most that an Access on it may ask for
+  -- the rights that an Access on it may ask for
   pub most : Rights
   pub limit : ℕ
-  pub place : Place
+  pub state : ServerState
   pub past : List Group
   pub begun : Option Begun
 
@@ -37,9 +37,9 @@ pub record Node : Type 0 where
 
 -- no Configuration was served on it
 abbrev pub new_exchange : (most : Rights) → Exchange
-new_exchange most = record { most = most; limit = min_buffer; place = Fresh; past = []; begun = None }
+new_exchange most = record { most = most; limit = min_buffer; state = Fresh; past = []; begun = None }
 
--- what stands for a link that there isn't
+-- what there is for a link that isn't there
 abbrev pub no_exchange : Exchange
 no_exchange = new_exchange all_rights
 
@@ -47,14 +47,14 @@ no_exchange = new_exchange all_rights
 abbrev pub new_node : (own : ServerSetup) → Files → (links : ℕ) → Node
 new_node own first links = record { files = first; exchanges = replicate links (new_exchange own.most) }
 
--- a server of one link that stands so
+-- a server of one link in this state
 abbrev pub before_files : Files → Exchange → Grouped
 before_files files exchange =
-    record { standing = record { scene = record { limit = exchange.limit; files = files }; place = exchange.place; past = exchange.past }; begun = exchange.begun }
+    record { standing = record { scene = record { limit = exchange.limit; files = files }; state = exchange.state; past = exchange.past }; begun = exchange.begun }
 
 -- without the files, on a link with these rights
 abbrev pub exchange_of : (most : Rights) → Grouped → Exchange
-exchange_of most c = record { most = most; limit = c.standing.scene.limit; place = c.standing.place; past = c.standing.past; begun = c.begun }
+exchange_of most c = record { most = most; limit = c.standing.scene.limit; state = c.standing.state; past = c.standing.past; begun = c.begun }
 
 -- the exchange of a link
 abbrev pub exchange_at : ℕ → Node → Exchange
@@ -76,24 +76,24 @@ setup_on own link node = setup_with (exchange_at link node).most own
 
 -- the file that is open in the exchange on a link
 abbrev pub open_on : Exchange → Option OpenFile
-open_on exchange = open_in exchange.place
+open_on exchange = open_in exchange.state
 
 -- what all links but one have open
 abbrev pub open_beside : ℕ → List Exchange → List (Option OpenFile)
 open_beside link exchanges = map open_on (set exchanges link no_exchange)
 
--- one item more; an Access to a file that is locked is refused, and is a group as any other
+-- one more item; an Access to a file that is locked is refused, and is a group as any other
 abbrev pub more_beside : (own : ServerSetup) → (others : List (Option OpenFile)) → Grouped → Item → Grouped
 more_beside own others c item =
     let s = c.standing in
-    if is_locked others (asks_to_open own s.scene.files s.place item)
+    if is_locked others (asks_to_open own s.scene.files s.state item)
     then next_group s item (Does (refuse_access s.scene (bare_status file_locked)))
     else after_item own c item
 
 -- its answers
 abbrev pub answers_beside : (own : ServerSetup) → (others : List (Option OpenFile)) → Grouped → Item → List Message
 answers_beside own others c item =
-    if is_locked others (asks_to_open own c.standing.scene.files c.standing.place item)
+    if is_locked others (asks_to_open own c.standing.scene.files c.standing.state item)
     then bare_status file_locked ∷ []
     else answers_of own c item
 
@@ -104,7 +104,7 @@ begun_moved_up removed begun = record begun { opened = moved_up removed begun.op
 -- an exchange, where the file at this index was removed: those after it moved up
 abbrev pub exchange_without : (removed : ℕ) → Exchange → Exchange
 exchange_without removed exchange =
-    record exchange { place = place_moved_up removed exchange.place; begun = option_map (begun_moved_up removed) exchange.begun }
+    record exchange { state = state_moved_up removed exchange.state; begun = option_map (begun_moved_up removed) exchange.begun }
 
 -- another link's exchange, where a file was removed
 abbrev pub exchange_moved_up : Option OpenFile → Exchange → Exchange
@@ -114,13 +114,13 @@ exchange_moved_up (Some removed) exchange = exchange_without removed.at exchange
 -- the file that an item removed: its link had it open
 abbrev pub removed_by : (before after : Grouped) → Option OpenFile
 removed_by before after =
-    if nat_lt (length after.standing.scene.files) (length before.standing.scene.files) then open_in before.standing.place else None
+    if nat_lt (length after.standing.scene.files) (length before.standing.scene.files) then open_in before.standing.state else None
 
 -- ---- Which link locks a file.
 
 -- what an item asks to open on a link
 abbrev pub asked_on : (own : ServerSetup) → (link : ℕ) → Node → Item → Option OpenFile
-asked_on own link node item = asks_to_open (setup_on own link node) node.files (exchange_at link node).place item
+asked_on own link node item = asks_to_open (setup_on own link node) node.files (exchange_at link node).state item
 
 -- the item is an Access on a link, and what another link has open forbids it
 abbrev pub locks_out : (own : ServerSetup) → (other link : ℕ) → Node → Item → Bool
@@ -146,7 +146,7 @@ with_record_at at number body files = with_file at (stored (file_at at files) nu
 
 -- ---- A history.
 
--- An item of a link was served; a link began anew, with the most that an Access on it may ask for, or ended: what it
+-- An item of a link was served; a link began anew, with the rights that an Access on it may ask for, or ended: what it
 -- had open is closed; a file without records was given, or a record of the file at an index; the file at an index was
 -- dropped, unless a link has it open.
 pub data Event : Type 0 where
@@ -156,7 +156,7 @@ pub data Event : Type 0 where
   GivesRecord : (at number : ℕ) → (body : List ℕ) → Event
   Drops : (at : ℕ) → Event
 
--- after an item of this link, with these rights: it stands so, the others as they did
+-- after an item of this link, with these rights: it is in this state, the others in the one that they had
 abbrev pub after_more : (most : Rights) → (link : ℕ) → (before after : Grouped) → List Exchange → Node
 after_more most link before after exchanges =
     record {
@@ -179,7 +179,7 @@ abbrev pub after_all : (own : ServerSetup) → Node → List Event → Node
 after_all own node [] = node
 after_all own node (event ∷ events) = after_all own (after_event own node event) events
 
--- where a node of this many links, with this setup, which had these files at first, stands after these events
+-- the state of a node of this many links, with this setup, which had these files at first, after these events
 abbrev pub node_after : (own : ServerSetup) → Files → (links : ℕ) → List Event → Node
 node_after own first links events = after_all own (new_node own first links) events
 

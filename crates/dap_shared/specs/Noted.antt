@@ -1,5 +1,5 @@
--- Files of several links, which have addresses. Each Access that is refused, as its file is locked, is noted by the lowest
--- address of a link that locks it out.
+-- Files of several links, which have addresses. Each Access that is refused, as its file is locked, is noted by the
+-- lowest address of a link that locks it out.
 use Rattle.std.specs.Prelude.{ℕ, ◌≡◌, ◌<◌, ◌≤◌, ◌++◌, Bool, false, IsTrue, List, length, get_or, Option, Some, None}
 use Rattle.std.specs.Option.{option_to_list}
 use Rattle.std.specs.Global.{Vec}
@@ -19,7 +19,7 @@ pub record NotedValue : Type 0 where
   -- of each Access that was refused so, in their order
   pub locked : List ℕ
 
--- the least number of those that pass a test, of this many; none where none passes
+-- the lowest number of those that pass a test, of this many; none where none passes
 abbrev pub LeastOf : (test : ℕ → Bool) → (number : ℕ → ℕ) → (count : ℕ) → Option ℕ → Type 0
 LeastOf test number count None = (i : ℕ) → i < count → test i ≡ false
 LeastOf test number count (Some n) =

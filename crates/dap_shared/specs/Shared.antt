@@ -71,11 +71,11 @@ pub record SharedServed (link : ℕ) (bytes : List ℕ) (at : ℕ) (old new : Sh
 abbrev pub no_session : (own : ServerSetup) → SessionValue
 no_session own = session_with (setup_with all_rights own)
 
--- the most that an Access on a link may ask for
+-- the rights that an Access on a link may ask for
 abbrev pub rights_on : (link : ℕ) → SharedValue → Rights
 rights_on link v = (get_or v.sessions link (no_session v.setup)).setup.most
 
--- a link began anew, with the most that an Access on it may ask for, or ended
+-- a link began anew, with the rights that an Access on it may ask for, or ended
 pub record SharedBegins (link : ℕ) (most : Rights) (old new : SharedValue) : Type 0 where
   pub stands : (first : Files) (events : List Event) → SharedAfter first events old →
       SharedAfter first (events ++ Begins link most ∷ []) new

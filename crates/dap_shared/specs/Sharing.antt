@@ -7,15 +7,16 @@ use Rattle.dap_msg.specs.declared.items.Item.{Item}
 use Rattle.dap_msg.specs.declared.items.Item.TheVariants.{Whole}
 use Rattle.dap_accessed.specs.declared.setup.ServerSetup.{ServerSetup}
 use Rattle.dap_accessed.specs.declared.phase.OpenFile.{OpenFile}
-use Rattle.dap_accessed.specs.Standing.{Files, Place, Fresh, Ready, Opened, Connected, Store, Stopped}
+use Rattle.dap_accessed.specs.Standing.{Files, ServerState, Fresh, Ready, Opened, Connected, Store, Stopped}
 use Rattle.dap_accessed.specs.Sessions.{moved_up, would_open}
 
--- MACCODE 4, MICCODE octal 60: the file is locked by another user. The number is from memory of DAP 5.6.0, Status message.
+-- MACCODE 4, MICCODE octal 60: the file is locked by another user. The number is from memory of DAP 5.6.0, Status
+-- message.
 abbrev pub file_locked : ℕ
 file_locked = 0x4030
 
--- the file that is open in a place
-abbrev pub open_in : Place → Option OpenFile
+-- the file that is open in a phase
+abbrev pub open_in : ServerState → Option OpenFile
 open_in Fresh = None
 open_in Ready = None
 open_in (Opened opened) = Some opened
@@ -37,9 +38,9 @@ is_file at None = false
 is_file at (Some opened) = opened.at == at
 
 -- what an item asks to open: only an Access in Ready does
-abbrev pub asks_to_open : (own : ServerSetup) → Files → Place → Item → Option OpenFile
+abbrev pub asks_to_open : (own : ServerSetup) → Files → ServerState → Item → Option OpenFile
 asks_to_open own files Ready (Whole (Access access)) = would_open own files access
-asks_to_open own files place item = None
+asks_to_open own files state item = None
 
 -- what is asked for can't be opened beside this
 abbrev pub bars : OpenFile → Option OpenFile → Bool
@@ -58,11 +59,11 @@ barred_by (Some asked) held = bars asked held
 
 -- ---- A file that is removed: those after it move up.
 
--- the place of another link then
-abbrev pub place_moved_up : (removed : ℕ) → Place → Place
-place_moved_up removed Fresh = Fresh
-place_moved_up removed Ready = Ready
-place_moved_up removed (Opened opened) = Opened (moved_up removed opened)
-place_moved_up removed (Connected opened stream) = Connected (moved_up removed opened) stream
-place_moved_up removed (Store opened stream) = Store (moved_up removed opened) stream
-place_moved_up removed (Stopped opened stream) = Stopped (moved_up removed opened) stream
+-- the phase of another link then
+abbrev pub state_moved_up : (removed : ℕ) → ServerState → ServerState
+state_moved_up removed Fresh = Fresh
+state_moved_up removed Ready = Ready
+state_moved_up removed (Opened opened) = Opened (moved_up removed opened)
+state_moved_up removed (Connected opened stream) = Connected (moved_up removed opened) stream
+state_moved_up removed (Store opened stream) = Store (moved_up removed opened) stream
+state_moved_up removed (Stopped opened stream) = Stopped (moved_up removed opened) stream

@@ -10,7 +10,7 @@ ghost use Rattle.dap_accessed.specs.Groups.{After, Answers, stands_after};
 ghost use Rattle.dap_shared.specs.Nodes.{Node, is_locked_out, is_open, locks_out, added_on, AnswersOn, Begins, Drops, Event, FilesAfter, Serves, after_event, end_at, exchange_at, most_on, node_after, open_on, setup_with};
 ghost use Rattle.dap_shared.specs.Keeping.{AreApart, AreOf, HoldsStill};
 
-/// A node of one link is a server of one link: it stands where that stands, its files are those after the items, and
+/// A node of one link is a server of one link: its state is the state of that, its files are those after the items, and
 /// its answers those to them.
 pub fn one_link_is_as_before()
     ensures stands { (own : ServerSetup) (first : Files) (items : List TheItem)
@@ -19,7 +19,7 @@ pub fn one_link_is_as_before()
         → FilesAfter own first 1 (map (Serves 0) items) ≡ After own first items }
     ensures answers { (own : ServerSetup) (first : Files) (items : List TheItem)
         → AnswersOn 0 own first 1 (map (Serves 0) items) ≡ Answers own first items }
-    // Where the link began with rights of its own, the server has these.
+    // Where the link began with other rights than the setup's, the server has these.
     ensures rights { (own : ServerSetup) (most : Rights) (first : Files) (items : List TheItem)
         → end_at 0 (node_after own first 1 (Begins 0 most ∷ map (Serves 0) items))
         ≡ stands_after (setup_with most own) first items }
@@ -54,7 +54,7 @@ pub fn an_open_file_stays()
         (after_event own (node_after own first links events) (Serves link item)) held }
 {}
 
-/// One item more on a link adds its own answers to those before it on this link, and none to those of the others.
+/// One more item on a link adds its answers to those before it on this link, and none to those of the others.
 pub fn answers_grow_on()
     ensures own { (own : ServerSetup) (first : Files) (links : ℕ) (events : List Event) (link : ℕ)
         (item : TheItem) → link < links
@@ -68,7 +68,7 @@ pub fn answers_grow_on()
 {}
 
 /// A file that a link has open isn't dropped. Where a file is dropped, each link's open file stays open, under its name
-/// and with its records, and no link has an answer more.
+/// and with its records, and no link has one more answer.
 pub fn a_drop_leaves_what_is_open()
     ensures busy { (own : ServerSetup) (node : Node) (at : ℕ)
         → IsTrue (is_open at node) → after_event own node (Drops at) ≡ node }

@@ -12,14 +12,14 @@ use dap_accessed::{OpenFile, Session};
 /// (DAP 5.6.0, Status message; from memory).
 pub const FILE_LOCKED: u16 = 0x4030;
 
-/// Whether its link made the file, or may change it.
+/// Returns whether its link made the file, or may change it.
 fn has_alone(opened: OpenFile) -> bool
     ensures { result ≡ has_alone opened }
 {
     opened.is_new || opened.rights.put || opened.rights.upd || opened.rights.del
 }
 
-/// Whether this can't be opened while that is open.
+/// Returns whether this can't be opened while that is open.
 fn bars(asked: OpenFile, held: Option<OpenFile>) -> bool
     ensures { result ≡ bars asked held }
 {
@@ -29,7 +29,7 @@ fn bars(asked: OpenFile, held: Option<OpenFile>) -> bool
     }
 }
 
-/// Whether this bars what is asked for, if anything is.
+/// Returns whether this bars what is asked for, if anything is.
 pub(crate) fn is_barred_by_file(asked: Option<OpenFile>, held: Option<OpenFile>) -> bool
     ensures { result ≡ barred_by asked held }
 {
@@ -39,7 +39,7 @@ pub(crate) fn is_barred_by_file(asked: Option<OpenFile>, held: Option<OpenFile>)
     }
 }
 
-/// Whether one of the others has something open that bars this.
+/// Returns whether one of the others has something open that bars this.
 fn is_barred_by(others: &[Session], asked: OpenFile) -> bool
     ensures { result ≡ list_any (λ s. bars asked (open_at s.phase)) others.now }
 {
@@ -48,7 +48,7 @@ fn is_barred_by(others: &[Session], asked: OpenFile) -> bool
         .any(|session| bars(asked, session.open_file()))
 }
 
-/// Whether one of the others has something open that bars what is asked for, if anything is.
+/// Returns whether one of the others has something open that bars what is asked for, if anything is.
 pub(crate) fn is_barred(others: &[Session], asked: Option<OpenFile>) -> bool
     ensures { result ≡ is_barred others.now asked }
 {
@@ -58,7 +58,7 @@ pub(crate) fn is_barred(others: &[Session], asked: Option<OpenFile>) -> bool
     }
 }
 
-/// Whether it is the file at this place of the table that is open.
+/// Returns whether it is the file at this index of the table that is open.
 fn is_file(held: Option<OpenFile>, at: usize) -> bool
     ensures { result ≡ is_file at held }
 {
@@ -68,7 +68,7 @@ fn is_file(held: Option<OpenFile>, at: usize) -> bool
     }
 }
 
-/// Whether a link has the file at this place of the table open.
+/// Returns whether a link has the file at this index of the table open.
 pub(crate) fn is_held(sessions: &[Session], at: usize) -> bool
     ensures { result ≡ list_any (λ s. is_file at (open_at s.phase)) sessions.now }
 {

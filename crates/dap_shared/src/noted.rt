@@ -45,7 +45,7 @@ impl Model for NotedFiles {
     ghost invariant = { λ a. length a.addresses.items ≡ length a.shared.sessions };
 }
 
-/// The lower of an address and what was lowest so far.
+/// Returns the lower of an address and what was lowest so far.
 fn lower(lowest: Option<u16>, address: u16) -> u16
     ensures own { result ≤ address }
     ensures other { IfSome lowest (λ low. result ≤ low) }
@@ -57,7 +57,7 @@ fn lower(lowest: Option<u16>, address: u16) -> u16
     }
 }
 
-/// The lower of an address and what was lowest so far, where the address counts.
+/// Returns the lower of an address and what was lowest so far, where the address counts.
 fn lower_if(counts: bool, lowest: Option<u16>, address: u16) -> Option<u16>
     ensures still { counts ≡ false → result ≡ lowest }
     ensures lower { counts ≡ true → IsLower lowest address result }
@@ -69,7 +69,7 @@ fn lower_if(counts: bool, lowest: Option<u16>, address: u16) -> Option<u16>
     }
 }
 
-/// The lowest address of a link that locks an item out.
+/// Returns the lowest address of a link that locks an item out.
 fn lowest_of(shared: &SharedFiles, addresses: &[u16], link: usize, item: &Item<'_>) -> Option<u16>
     requires link { link < length shared.now.sessions }
     requires all { length addresses.now ≡ length shared.now.sessions }
@@ -88,7 +88,7 @@ fn lowest_of(shared: &SharedFiles, addresses: &[u16], link: usize, item: &Item<'
     lowest
 }
 
-/// The lowest address of a link that locks an item out, or none where the item isn't locked out.
+/// Returns the lowest address of a link that locks an item out, or none where the item isn't locked out.
 fn locking(shared: &SharedFiles, addresses: &[u16], link: usize, item: &Item<'_>) -> Option<u16>
     requires link { link < length shared.now.sessions }
     requires all { length addresses.now ≡ length shared.now.sessions }
@@ -103,7 +103,7 @@ fn locking(shared: &SharedFiles, addresses: &[u16], link: usize, item: &Item<'_>
     }
 }
 
-/// This many addresses 0.
+/// Returns this many addresses, each 0.
 fn no_addresses(alloc: Global, links: usize) -> Result<Vec<u16>, NoMemory>
     ensures { IfOk result (λ addresses. addresses.items ≡ replicate links 0) }
 {
@@ -115,8 +115,8 @@ fn no_addresses(alloc: Global, links: usize) -> Result<Vec<u16>, NoMemory>
 }
 
 impl NotedFiles {
-    /// No files, and this many links on which no Config was served, with a buffer of this many bytes, at least 64. Their
-    /// addresses are 0.
+    /// Creates a node with no files, this many links on which no Config was served, and a buffer of this many bytes, at
+    /// least 64. Their addresses are 0.
     pub fn new(alloc: Global, bufsiz: u16, links: usize) -> Result<NotedFiles, NoMemory>
         requires { min_buffer ≤ bufsiz }
         ensures stands { IfOk result (λ noted. SharedAfter [] [] noted.shared) }
@@ -129,7 +129,8 @@ impl NotedFiles {
         NotedFiles::with_setup(alloc, ServerSetup::plain(bufsiz), links)
     }
 
-    /// No files, and this many links on which no Config was served, of a node with this setup. Their addresses are 0.
+    /// Creates a node with this setup, no files, and this many links on which no Config was served. Their addresses are
+    /// 0.
     pub fn with_setup(
         alloc: Global,
         setup: ServerSetup,
@@ -152,14 +153,14 @@ impl NotedFiles {
         })
     }
 
-    /// The files, in the order in which they were made.
+    /// Returns the files, in the order in which they were made.
     pub fn files(&self) -> &FileTable
         ensures { result.now ≡ self.now.shared.files }
     {
         self.shared.files()
     }
 
-    /// The addresses that were noted, in the order of the Accesses.
+    /// Returns the addresses that were noted, in the order of the Accesses.
     pub fn locked(&self) -> &[u16]
         ensures { result.now ≡ self.now.locked }
     {
@@ -173,7 +174,7 @@ impl NotedFiles {
         self.locked.clear();
     }
 
-    /// The most that an Access on a link may ask for.
+    /// Returns the rights that an Access on a link may ask for.
     pub fn rights(&self, link: usize) -> Rights
         requires { link < length self.now.shared.sessions }
         ensures held { result ≡ rights_on link self.now.shared }
@@ -185,8 +186,9 @@ impl NotedFiles {
         self.shared.rights(link)
     }
 
-    /// Another link in this one's place, with this address: what was open on it is closed, and a PUT or an UPDATE that
-    /// waits for its record is dropped. An Access on it may ask for so much until it begins again.
+    /// Begins another link in place of this one, with this address: what was open on it is closed, and a PUT or an
+    /// UPDATE that waits for its record is dropped. An Access on it may ask for these rights at most until it begins
+    /// again.
     pub fn begin(&mut self, link: usize, address: u16, most: Rights)
         requires { link < length self.old.shared.sessions }
         ensures begins { SharedBegins link most self.old.shared self.new.shared }
@@ -197,7 +199,7 @@ impl NotedFiles {
         self.addresses[link] = address;
     }
 
-    /// What [`SharedFiles::add`] does.
+    /// Does what [`SharedFiles::add`] does.
     pub fn add(&mut self, name: &[u8], shape: Shape) -> Result<(), AddFault>
         requires { IsTrue (is_shape shape) }
         ensures may { OnOk result
@@ -214,7 +216,7 @@ impl NotedFiles {
         self.shared.add(name, shape)
     }
 
-    /// What [`SharedFiles::add_record`] does.
+    /// Does what [`SharedFiles::add_record`] does.
     pub fn add_record(&mut self, name: &[u8], number: u32, body: &[u8]) -> Result<(), AddFault>
         ensures may { OnOk result (AtFile name.now self.old.shared
             (λ at. MayStore (file_at at self.old.shared.files) number body.now)) }
@@ -231,7 +233,7 @@ impl NotedFiles {
         self.shared.add_record(name, number, body)
     }
 
-    /// What [`SharedFiles::remove`] does.
+    /// Does what [`SharedFiles::remove`] does.
     pub fn remove(&mut self, name: &[u8]) -> Result<(), RemoveFault>
         ensures drops { OnOk result (AtFile name.now self.old.shared
             (λ at. SharedDrops at self.old.shared self.new.shared)) }

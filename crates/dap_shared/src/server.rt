@@ -8,7 +8,7 @@ ghost use Rattle.dap_msg.specs.Items.{ItemAt};
 ghost use Rattle.dap_msg.specs.declared.items.Item.TheVariants.{Whole};
 ghost use Rattle.dap_msg.specs.declared.message.Message.{Message as TheMessage};
 ghost use Rattle.dap_accessed.specs.declared.served.Served.{Served as TheServed};
-ghost use Rattle.dap_accessed.specs.Served.{AllAtMost, Serves};
+ghost use Rattle.dap_accessed.specs.Served.{AllAtMost, ServesItemAt};
 ghost use Rattle.dap_shared.specs.Shared.{SharedServed};
 
 use crate::shared::SharedFiles;
@@ -23,7 +23,7 @@ pub trait Serving {
     /// The item at an offset of an NSP message was served.
     ghost serves: { ℕ → List ℕ → ℕ → Self → Self → TheServed → Type 0 };
 
-    /// Serves what was read already: the message or fault that `item_at` answered, and the place after it. Refused
+    /// Serves what was read already: the message or fault that `item_at` answered, and the offset after it. Refused
     /// only where memory is, with nothing changed.
     fn serve(&mut self, link: usize, item: Item<'_>, next: usize) -> Result<Served, NoMemory>
         requires link { has_link self.old link }
@@ -40,7 +40,7 @@ pub trait Serving {
 impl Serving for Accessed {
     ghost has_link = { λ _ link. link ≡ 0 };
 
-    ghost serves = { λ _ bytes at old new served. Serves bytes at old new served };
+    ghost serves = { λ _ bytes at old new served. ServesItemAt bytes at old new served };
 
     fn serve(&mut self, _link: usize, item: Item<'_>, next: usize) -> Result<Served, NoMemory> {
         self.serve_item(item, next)

@@ -57,7 +57,7 @@ impl Model for SharedFiles {
     }) };
 }
 
-/// This many links on which no Config was served.
+/// Creates this many links on which no Config was served.
 fn new_sessions(alloc: Global, setup: ServerSetup, links: usize) -> Result<Vec<Session>, NoMemory>
     requires { IsServerSetup setup }
     ensures { IfOk result (λ sessions. sessions.items ≡ replicate links (session_with setup)) }
@@ -69,7 +69,7 @@ fn new_sessions(alloc: Global, setup: ServerSetup, links: usize) -> Result<Vec<S
     Ok(sessions)
 }
 
-/// The file at an index of the table was removed: those after it have moved up.
+/// Follows the removal of the file at an index of the table, where those after it have moved up.
 #[tactic(auto, using(std::proofs::lemmas::List::Edits::map_over_more))]
 fn move_up(sessions: &mut [Session], removed: usize)
     ensures { sessions.new ≡ map (session_without removed) sessions.old }
@@ -79,7 +79,7 @@ fn move_up(sessions: &mut [Session], removed: usize)
     }
 }
 
-/// Those after a file have moved up where that was removed, if any was.
+/// Follows the removal of a file, if any was removed: those after it have moved up.
 fn close_up(sessions: &mut [Session], gone: Option<OpenFile>)
     ensures { sessions.new ≡ map (session_moved_up gone) sessions.old }
 {
@@ -88,7 +88,7 @@ fn close_up(sessions: &mut [Session], gone: Option<OpenFile>)
     }
 }
 
-/// The file that was open is gone, if there are fewer files.
+/// Returns the file that was open where it is gone: there are fewer files.
 fn gone(before: usize, after: usize, held: Option<OpenFile>) -> Option<OpenFile>
     ensures { result ≡ (if nat_lt after before then held else None) }
 {
@@ -151,7 +151,8 @@ fn serve_on(
 }
 
 impl SharedFiles {
-    /// No files, and this many links on which no Config was served, with a buffer of this many bytes, at least 64.
+    /// Creates a node with no files, this many links on which no Config was served, and a buffer of this many bytes, at
+    /// least 64.
     pub fn new(alloc: Global, bufsiz: u16, links: usize) -> Result<SharedFiles, NoMemory>
         requires { min_buffer ≤ bufsiz }
         ensures stands { IfOk result (SharedAfter [] []) }
@@ -162,7 +163,7 @@ impl SharedFiles {
         SharedFiles::with_setup(alloc, ServerSetup::plain(bufsiz), links)
     }
 
-    /// No files, and this many links on which no Config was served, of a node with this setup.
+    /// Creates a node with this setup, no files, and this many links on which no Config was served.
     pub fn with_setup(
         alloc: Global,
         setup: ServerSetup,
@@ -183,14 +184,15 @@ impl SharedFiles {
         })
     }
 
-    /// How many links it has.
+    /// Returns how many links it has.
     pub fn links(&self) -> usize
         ensures { result ≡ length self.now.sessions }
     {
         self.sessions.len()
     }
 
-    /// The files, in the order in which they were made: what all messages so far, of all links, have made of them.
+    /// Returns the files, in the order in which they were made: what all messages so far, of all links, have made of
+    /// them.
     pub fn files(&self) -> &FileTable
         ensures held { result.now ≡ self.now.files }
         ensures after { (first : Files) (events : List Event) → SharedAfter first events self.now
@@ -199,7 +201,7 @@ impl SharedFiles {
         &self.files
     }
 
-    /// Whether an item is an Access that is refused on one link because of the file that another has open.
+    /// Returns whether an item is an Access that is refused on one link because of the file that another has open.
     pub fn locks_out(&self, other: usize, link: usize, item: &Item<'_>) -> bool
         requires other { other < length self.now.sessions }
         requires link { link < length self.now.sessions }
@@ -211,7 +213,7 @@ impl SharedFiles {
         other != link && is_barred_by_file(asked, self.sessions[other].open_file())
     }
 
-    /// Whether an item is an Access that is refused on a link because of a file that another one has open.
+    /// Returns whether an item is an Access that is refused on a link because of a file that another one has open.
     pub fn is_locked_out(&self, link: usize, item: &Item<'_>) -> bool
         requires { link < length self.now.sessions }
         ensures { (first : Files) (events : List Event) → SharedAfter first events self.now
@@ -221,9 +223,9 @@ impl SharedFiles {
         is_barred(&self.sessions, self.sessions[link].asked(&self.files, item))
     }
 
-    /// Serves what was read already of a link: the message or fault that `item_at` answered, and the place after it
-    /// (DAP 5.6.0, message sequences). An Access to a file that another link has open is refused as locked, where
-    /// one of the two would change the file or has made it.
+    /// Serves what was read already of a link: the message or fault that `item_at` answered, and the offset after it
+    /// (DAP 5.6.0, message sequences). An Access to a file that another link has open is refused as locked, where one
+    /// of the two would change the file or has made it.
     ///
     /// The only refusal is [`NoMemory`]. Nothing has changed then, and the same call may be made again.
     pub fn serve_item(
@@ -242,7 +244,7 @@ impl SharedFiles {
         serve_on(&mut self.files, &mut self.sessions, link, item, next)
     }
 
-    /// The most that an Access on a link may ask for.
+    /// Returns the rights that an Access on a link may ask for.
     pub fn rights(&self, link: usize) -> Rights
         requires { link < length self.now.sessions }
         ensures held { result ≡ rights_on link self.now }
@@ -253,8 +255,8 @@ impl SharedFiles {
         self.sessions[link].rights()
     }
 
-    /// Another link in this one's place, or none: its open file is closed, and a PUT or an UPDATE that waits for its
-    /// record is dropped. An Access on it may ask for so much until it begins again.
+    /// Begins another link in place of this one, or none: its open file is closed, and a PUT or an UPDATE that waits
+    /// for its record is dropped. An Access on it may ask for these rights at most until it begins again.
     pub fn begin(&mut self, link: usize, most: Rights)
         requires { link < length self.old.sessions }
         ensures { SharedBegins link most self.old self.new }
@@ -263,7 +265,7 @@ impl SharedFiles {
         self.sessions[link] = Session::with_setup(self.alloc, setup);
     }
 
-    /// A file without records after the others. Its shape is one that [`rec_file::Shape::check`] gives.
+    /// Adds a file without records after the others. Its shape is one that [`rec_file::Shape::check`] gives.
     ///
     /// Refusals in order: FileExists, NoMemory; each leaves all unchanged.
     pub fn add(&mut self, name: &[u8], shape: Shape) -> Result<(), AddFault>
@@ -283,7 +285,7 @@ impl SharedFiles {
         Ok(())
     }
 
-    /// A record more in the file of this name, under its number. In a sequential file the number is the next one.
+    /// Adds a record to the file of this name, under its number. In a sequential file the number is the next one.
     ///
     /// Refusals in order: NoFile; as of a PUT with this number BadLength, NumberOutOfRange, RecordExists; NoMemory.
     /// Each leaves all unchanged.
@@ -303,7 +305,8 @@ impl SharedFiles {
         self.files.add_record(at, number, body)
     }
 
-    /// Removes the file of this name: those after it move up, also where a link has one of them open. It takes no memory.
+    /// Removes the file of this name: those after it move up, also where a link has one of them open. It takes no
+    /// memory.
     ///
     /// Refusals in order: NoFile; Busy where a link has the file open. Each leaves all unchanged.
     pub fn remove(&mut self, name: &[u8]) -> Result<(), RemoveFault>

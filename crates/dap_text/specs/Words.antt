@@ -45,7 +45,7 @@ abbrev pub ends : {X : Type 0} → X → Words → Option X
 ends x [] = Some x
 ends x (word ∷ words) = None
 
--- the next word is this one, and the rest is read by what follows
+-- the next word is this one, and the words after it are read by what follows
 abbrev pub word : {X : Type 0} → List ℕ → (Words → Option X) → Words → Option X
 word name next [] = None
 word name next (w ∷ words) = if bytes_eq w name then next words else None
@@ -55,7 +55,7 @@ abbrev pub read_next : {X : Type 0} → (List ℕ → Option X) → Words → Op
 read_next read [] = None
 read_next read (word ∷ words) = option_map (λ x. (x, words)) (read word)
 
--- the next word is read, and the rest is read by what follows
+-- the next word is read, and the words after it are read by what follows
 abbrev pub field : {X Y : Type 0} → (List ℕ → Option X) → (X → Words → Option Y) → Words → Option Y
 field read next words = option_and_then (λ p. next p.0 p.1) (read_next read words)
 
@@ -64,7 +64,7 @@ abbrev pub one_of : {X : Type 0} → List (Words → Option X) → Words → Opt
 one_of [] words = None
 one_of (form ∷ forms) words = option_or (form words) (one_of forms words)
 
--- numbers, by the widest value of their fields
+-- numbers, by the maximum value of their fields
 
 -- a number of at most 2 bytes
 abbrev pub short : List ℕ → Option ℕ

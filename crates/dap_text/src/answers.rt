@@ -13,7 +13,7 @@ use nsp_link::Got;
 use nsp_seg::{FlagKind, SegFault, flag_kind};
 use std::alloc::AllocError;
 
-/// The word for a packet that a link end takes.
+/// Returns the word for a packet that a link end takes.
 pub fn got_word(got: Got) -> &'static str
     ensures { result.now ≡ got_text got }
 {
@@ -25,7 +25,7 @@ pub fn got_word(got: Got) -> &'static str
     }
 }
 
-/// The word for a request that is not asked; out of memory has none.
+/// Returns the word for a request that is not asked; out of memory has none.
 pub fn ask_word(fault: AskFault) -> Option<&'static str>
     ensures { option_copied result ≡ ask_text fault }
 {
@@ -38,7 +38,7 @@ pub fn ask_word(fault: AskFault) -> Option<&'static str>
     }
 }
 
-/// The word for a packet that no link end takes.
+/// Returns the word for a packet that no link end takes.
 fn flag_word(kind: FlagKind) -> &'static str
     ensures { result.now ≡ flag_text kind }
 {
@@ -52,9 +52,9 @@ fn flag_word(kind: FlagKind) -> &'static str
     }
 }
 
-/// Appends a place after a word, and ends the line.
+/// Appends an offset after a word, and ends the line.
 #[tactic(auto, unfolding(crate::specs::Adding::StillBegins))]
-fn push_place(text: &mut Vec<u8>, word: &str, at: usize) -> Result<(), AllocError>
+fn push_offset(text: &mut Vec<u8>, word: &str, at: usize) -> Result<(), AllocError>
     ensures added { OnOk result (Adds text.old text.new
         (concat (word.now ∷ decimal at ∷ line_feed ∷ []))) }
     ensures kept { StillBegins text.old text.new }
@@ -75,9 +75,9 @@ pub fn push_packet_fault(text: &mut Vec<u8>, fault: SegFault) -> Result<(), Allo
             push_str(text, flag_word(flag_kind(flag)))?;
             push_str(text, "\n")
         }
-        SegFault::Truncated(at) => push_place(text, "bad truncated at=", at),
-        SegFault::Trailing(at) => push_place(text, "bad trailing at=", at),
-        SegFault::BadNumber(at) => push_place(text, "bad number at=", at),
+        SegFault::Truncated(at) => push_offset(text, "bad truncated at=", at),
+        SegFault::Trailing(at) => push_offset(text, "bad trailing at=", at),
+        SegFault::BadNumber(at) => push_offset(text, "bad number at=", at),
         SegFault::NoMemory => push_str(text, "bad memory\n"),
     }
 }

@@ -24,7 +24,7 @@ pub struct RecordLine<'a> {
     pub body: Text<'a>,
 }
 
-/// ORG by its word.
+/// Returns ORG by its word.
 fn read_org(word: &[u8]) -> Option<u8>
     ensures { result ≡ org_of word.now }
 {
@@ -37,7 +37,7 @@ fn read_org(word: &[u8]) -> Option<u8>
     }
 }
 
-/// RFM by its word.
+/// Returns RFM by its word.
 fn read_rfm(word: &[u8]) -> Option<u8>
     ensures { result ≡ rfm_of word.now }
 {
@@ -50,8 +50,8 @@ fn read_rfm(word: &[u8]) -> Option<u8>
     }
 }
 
-/// The file that a line says, `file NAME seq|rel fixed|variable MRS MRN`, or None where it says none. Whether files
-/// of such a shape are there is not asked.
+/// Returns the file that a line says, `file NAME seq|rel fixed|variable MRS MRN`, or None where it says none. Whether
+/// there are files of such a shape isn't checked.
 #[tactic(auto, using(crate::proofs::RequestLemmas::ends_none))]
 pub fn read_file_line(line: &[u8]) -> Option<FileLine<'_>>
     ensures { result ≡ file_line_of line.now }
@@ -75,7 +75,7 @@ pub fn read_file_line(line: &[u8]) -> Option<FileLine<'_>>
     })
 }
 
-/// The record that a line says, `  N BODY`, or None where it says none.
+/// Returns the record that a line says, `  N BODY`, or None where it says none.
 pub fn read_record_line(line: &[u8]) -> Option<RecordLine<'_>>
     ensures { result ≡ record_line_of line.now }
 {

@@ -10,7 +10,7 @@ ghost use Rattle.dap_text.specs.Tables.{file_line, record_line};
 ghost use Rattle.dap_text.specs.Text.{line_feed};
 ghost use Rattle.dap_text.specs.declared.filed.FileLine.{FileLine};
 
-/// What is printed of a file is read back: its name, and its shape by its attributes.
+/// States that what is printed of a file is read back: its name, and its shape by its attributes.
 pub fn files_are_read_back()
     ensures { (name line : List ℕ) (shape : Shape) → AreBytes name → is_shape shape ≡ true
         → file_line name shape ≡ line ++ line_feed
@@ -18,7 +18,7 @@ pub fn files_are_read_back()
         × (checked_shape file.org file.rfm file.mrs file.mrn ≡ Some shape) }
 {}
 
-/// What is printed of a record is read back.
+/// States that what is printed of a record is read back.
 pub fn records_are_read_back()
     ensures { (number : ℕ) (body line : List ℕ) → number ≤ max_record_number → AreBytes body
         → record_line (number, body) ≡ line ++ line_feed

@@ -17,6 +17,6 @@ pub use filed::{FileLine, RecordLine, read_file_line, read_record_line};
 pub use laws::{files_are_read_back, records_are_read_back};
 pub use reports::push_report;
 pub use requests::{MAX_FAC, RequestText, read_request};
-pub use tables::{FilesPlace, push_files, push_files_line};
+pub use tables::{FilesCursor, push_files, push_files_line};
 pub use text::{push_decimal, push_hex, push_image, push_number, push_str, push_word};
 pub use words::{Text, Texts, Words, is, read_hex, read_number, read_short, read_text};

@@ -12,10 +12,10 @@ use dap_accessing::{By, How, Octets, OctetsList, RequestOf};
 /// A request whose names and bodies are still the digits of a line. Contracts see the request.
 pub type RequestText<'a> = RequestOf<Octets<Text<'a>>, OctetsList<Texts<'a>>>;
 
-/// The greatest FAC, with every right.
+/// The maximum of FAC, with every right.
 pub const MAX_FAC: u32 = 15;
 
-/// A request without a word of its own.
+/// Returns the request, where no word follows.
 fn read_plain<'a>(words: Words<'a>, request: RequestText<'a>) -> Option<RequestText<'a>>
     ensures { result ≡ ends request.entry words.entry }
 {
@@ -23,7 +23,7 @@ fn read_plain<'a>(words: Words<'a>, request: RequestText<'a>) -> Option<RequestT
     Some(request)
 }
 
-/// `NAME ORG RFM MRS MRN FAC`
+/// Reads `NAME ORG RFM MRS MRN FAC`.
 #[tactic(auto, using(crate::proofs::RequestLemmas::ends_none))]
 fn read_create<'a>(mut words: Words<'a>) -> Option<RequestText<'a>>
     ensures { result ≡ field text_of (λ name. field (decimal_of 255) (λ org.
@@ -48,7 +48,7 @@ fn read_create<'a>(mut words: Words<'a>) -> Option<RequestText<'a>>
     })
 }
 
-/// `NAME FAC`
+/// Reads `NAME FAC`.
 fn read_open<'a>(mut words: Words<'a>) -> Option<RequestText<'a>>
     ensures { result ≡ field text_of
         (λ name. field (decimal_of 15) (λ fac. ends (request.OpenFile name fac))) words.entry }
@@ -59,7 +59,7 @@ fn read_open<'a>(mut words: Words<'a>) -> Option<RequestText<'a>>
     Some(RequestText::OpenFile { name, fac })
 }
 
-/// Nothing, or `key N`, or `rfa N`
+/// Reads nothing, or `key N`, or `rfa N`.
 fn read_get<'a>(mut words: Words<'a>) -> Option<RequestText<'a>>
     ensures { result ≡ get_of words.entry }
 {
@@ -75,7 +75,7 @@ fn read_get<'a>(mut words: Words<'a>) -> Option<RequestText<'a>>
     Some(RequestText::Get(by))
 }
 
-/// `BODY`, or `key N BODY`
+/// Reads `BODY`, or `key N BODY`.
 fn read_put<'a>(mut words: Words<'a>) -> Option<RequestText<'a>>
     ensures { result ≡ put_of words.entry }
 {
@@ -94,7 +94,7 @@ fn read_put<'a>(mut words: Words<'a>) -> Option<RequestText<'a>>
     }
 }
 
-/// `BODY`
+/// Reads `BODY`.
 fn read_update<'a>(mut words: Words<'a>) -> Option<RequestText<'a>>
     ensures { result ≡ field text_of (λ body. ends (request.Update body)) words.entry }
 {
@@ -103,7 +103,7 @@ fn read_update<'a>(mut words: Words<'a>) -> Option<RequestText<'a>>
     Some(RequestText::Update { body })
 }
 
-/// `again`, `skip` or `abort`
+/// Reads `again`, `skip` or `abort`.
 fn read_continue<'a>(mut words: Words<'a>) -> Option<RequestText<'a>>
     ensures { result ≡ continue_of words.entry }
 {
@@ -117,7 +117,7 @@ fn read_continue<'a>(mut words: Words<'a>) -> Option<RequestText<'a>>
     Some(RequestText::Continue(how))
 }
 
-/// The request that words say, as after `ask` in a schedule, or None where they say none.
+/// Returns the request that words say, as after `ask` in a schedule, or None where they say none.
 pub fn read_request<'a>(mut words: Words<'a>) -> Option<RequestText<'a>>
     ensures { result ≡ request_of words.entry }
 {

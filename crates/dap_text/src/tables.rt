@@ -10,7 +10,7 @@ use dap_accessed::FileTable;
 use rec_file::{Format, Org, RecordFile, Shape, first_record};
 use std::alloc::AllocError;
 
-/// The word for an organization.
+/// Returns the word for an organization.
 fn org_word(org: Org) -> &'static str
     ensures { result.now ≡ org_text org }
 {
@@ -20,7 +20,7 @@ fn org_word(org: Org) -> &'static str
     }
 }
 
-/// The word for a record format.
+/// Returns the word for a record format.
 fn format_word(format: Format) -> &'static str
     ensures { result.now ≡ format_text format }
 {
@@ -32,7 +32,7 @@ fn format_word(format: Format) -> &'static str
 
 /// Appends a word after a space.
 #[tactic(auto, unfolding(crate::specs::Adding::StillBegins))]
-fn push_behind(text: &mut Vec<u8>, word: &str) -> Result<(), AllocError>
+fn push_next_word(text: &mut Vec<u8>, word: &str) -> Result<(), AllocError>
     ensures added { OnOk result (Adds text.old text.new (codes " " ++ word.now)) }
     ensures kept { StillBegins text.old text.new }
 {
@@ -56,8 +56,8 @@ fn push_shape(text: &mut Vec<u8>, shape: Shape) -> Result<(), AllocError>
     ensures added { OnOk result (Adds text.old text.new (shape_text shape)) }
     ensures kept { StillBegins text.old text.new }
 {
-    push_behind(text, org_word(shape.org))?;
-    push_behind(text, format_word(shape.format))?;
+    push_next_word(text, org_word(shape.org))?;
+    push_next_word(text, format_word(shape.format))?;
     push_sizes(text, shape.mrs, shape.mrn)
 }
 
@@ -83,43 +83,43 @@ fn push_record(text: &mut Vec<u8>, number: u32, body: &[u8]) -> Result<(), Alloc
     push_str(text, "\n")
 }
 
-/// A place in the listing of the files.
+/// A position in the listing of the files: what is listed next.
 #[derive(Clone, Copy, PartialEq, Eq)]
-pub enum FilesPlace {
-    /// Before the line of the file at this place of the table.
+pub enum FilesCursor {
+    /// Before the line of the file at this index of the table.
     File(usize),
     /// Before the line of that file's first record from this number on.
     Record(usize, u32),
 }
 
-/// Appends the line of the file at a place of the table, where there is one; what is next then.
+/// Appends the line of the file at an index of the table, where there is one, and returns the next position.
 #[tactic(auto, unfolding(crate::specs::Adding::StillBegins))]
 fn push_file_at(
     text: &mut Vec<u8>,
     files: &FileTable,
     at: usize,
-) -> Result<Option<FilesPlace>, AllocError>
-    ensures line { IfOk result (AddsLine files.now (FilesPlace.File at) text.old text.new) }
-    ensures refused { OnErr result (0 < length (lines_from files.now (FilesPlace.File at))) }
+) -> Result<Option<FilesCursor>, AllocError>
+    ensures line { IfOk result (AddsLine files.now (FilesCursor.File at) text.old text.new) }
+    ensures refused { OnErr result (0 < length (lines_from files.now (FilesCursor.File at))) }
     ensures kept { StillBegins text.old text.new }
 {
     if at >= files.count() {
         return Ok(None);
     }
     push_file_line(text, files.name(at), files.file(at).shape())?;
-    Ok(Some(FilesPlace::Record(at, 0)))
+    Ok(Some(FilesCursor::Record(at, 0)))
 }
 
-/// Appends the line of a file's first record from a number on, or of the next file; what is next then.
+/// Appends the line of a file's first record from a number on, or of the next file, and returns the next position.
 #[tactic(auto, unfolding(crate::specs::Adding::StillBegins))]
 fn push_record_from(
     text: &mut Vec<u8>,
     files: &FileTable,
     at: usize,
     from: u32,
-) -> Result<Option<FilesPlace>, AllocError>
-    ensures line { IfOk result (AddsLine files.now (FilesPlace.Record at from) text.old text.new) }
-    ensures refused { OnErr result (0 < length (lines_from files.now (FilesPlace.Record at from))) }
+) -> Result<Option<FilesCursor>, AllocError>
+    ensures line { IfOk result (AddsLine files.now (FilesCursor.Record at from) text.old text.new) }
+    ensures refused { OnErr result (0 < length (lines_from files.now (FilesCursor.Record at from))) }
     ensures kept { StillBegins text.old text.new }
 {
     if at >= files.count() {
@@ -128,27 +128,27 @@ fn push_record_from(
     match first_record(files.file(at), from) {
         Some((number, body)) => {
             push_record(text, number, body)?;
-            Ok(Some(FilesPlace::Record(at, number + 1)))
+            Ok(Some(FilesCursor::Record(at, number + 1)))
         }
         None => push_file_at(text, files, at + 1),
     }
 }
 
-/// Appends the line at a place in the listing of all files; the place of the next one. Where all lines are before
-/// it, nothing.
+/// Appends the line at a position in the listing of all files, and returns the position of the next one. Where all
+/// lines are before it, nothing is appended.
 #[tactic(auto, unfolding(crate::specs::Adding::StillBegins))]
 pub fn push_files_line(
     text: &mut Vec<u8>,
     files: &FileTable,
-    place: FilesPlace,
-) -> Result<Option<FilesPlace>, AllocError>
-    ensures line { IfOk result (AddsLine files.now place text.old text.new) }
-    ensures refused { OnErr result (0 < length (lines_from files.now place)) }
+    cursor: FilesCursor,
+) -> Result<Option<FilesCursor>, AllocError>
+    ensures line { IfOk result (AddsLine files.now cursor text.old text.new) }
+    ensures refused { OnErr result (0 < length (lines_from files.now cursor)) }
     ensures kept { StillBegins text.old text.new }
 {
-    match place {
-        FilesPlace::File(at) => push_file_at(text, files, at),
-        FilesPlace::Record(at, from) => push_record_from(text, files, at, from),
+    match cursor {
+        FilesCursor::File(at) => push_file_at(text, files, at),
+        FilesCursor::Record(at, from) => push_record_from(text, files, at, from),
     }
 }
 
@@ -158,9 +158,9 @@ pub fn push_files(text: &mut Vec<u8>, files: &FileTable) -> Result<(), AllocErro
     ensures added { OnOk result (Adds text.old text.new (files_text files.now)) }
     ensures kept { StillBegins text.old text.new }
 {
-    let mut place = FilesPlace::File(0);
-    while let Some(next) = push_files_line(text, files, place)? {
-        place = next;
+    let mut cursor = FilesCursor::File(0);
+    while let Some(next) = push_files_line(text, files, cursor)? {
+        cursor = next;
     }
     Ok(())
 }

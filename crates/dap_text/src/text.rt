@@ -38,7 +38,7 @@ pub fn push_number<I: Integer>(text: &mut Vec<u8>, word: &str, number: I) -> Res
     push_decimal(text, number)
 }
 
-/// The four lower hex digits of a two-byte number.
+/// Returns the four lower hex digits of a two-byte number.
 #[tactic(auto, using(crate::proofs::TextLemmas::word_written))]
 fn word_digits(number: u16) -> [u8; 4]
     ensures { result ≡ word_text number }
@@ -61,7 +61,7 @@ pub fn push_word(text: &mut Vec<u8>, word: &str, number: u16) -> Result<(), Allo
     text.extend_from_slice(&word_digits(number))
 }
 
-/// The most bytes of a number's image.
+/// The maximum of a number's image in bytes.
 const NUMBER: usize = 8;
 
 /// Appends bytes as lower hex digits. Those of a number are made beside the text, which is faster for a few than to

@@ -28,7 +28,7 @@ impl<'a> Model for Words<'a> {
     ghost view = { λ w. words_left (option_copied w.rest) };
 }
 
-/// The first word of a line, and what is after the space after it.
+/// Returns the first word of a line, and what is after the space after it.
 fn first_word(line: &[u8]) -> (&[u8], Option<&[u8]>)
     ensures { words_of line.now ≡ result.0.now ∷ words_left (option_copied result.1) }
 {
@@ -42,21 +42,21 @@ impl<'a> Words<'a> {
     ghost use Rattle.std.specs.Prelude.{◌≡◌, ◌≢◌, ◌≤◌, ◌∷◌, [], IfSome, MatchOption, None, Some};
     ghost use Rattle.dap_text.specs.Words.{decimal_of, read_next, short as short_of, text_of, words_of};
 
-    /// All words of a line.
+    /// Returns all words of a line.
     pub fn of(line: &'a [u8]) -> Self
         ensures { result ≡ words_of line.now }
     {
         Words { rest: Some(line) }
     }
 
-    /// These words once more.
+    /// Returns these words once more.
     pub fn again(&self) -> Words<'a>
         ensures { result ≡ self.now }
     {
         Words { rest: self.rest }
     }
 
-    /// The next word, or None where none is left.
+    /// Takes the next word, or returns None where none is left.
     pub fn next(&mut self) -> Option<&'a [u8]>
         ensures { MatchOption result ((self.old ≡ []) × (self.new ≡ []))
             (λ word. self.old ≡ word.now ∷ self.new) }
@@ -67,7 +67,8 @@ impl<'a> Words<'a> {
         Some(word)
     }
 
-    /// The next word as a number that isn't above this one (`read_number`); or None, also where no word is left.
+    /// Takes the next word as a number that isn't above this one (`read_number`); or returns None, also where no word
+    /// is left.
     pub fn number(&mut self, most: u32) -> Option<u32>
         ensures value { MatchOption result (read_next (decimal_of most) self.old ≡ None)
             (λ number. read_next (decimal_of most) self.old ≡ Some (number, self.new)) }
@@ -76,7 +77,7 @@ impl<'a> Words<'a> {
         read_number(self.next()?, most)
     }
 
-    /// The next word as a number of 16 bits; or None, also where no word is left.
+    /// Takes the next word as a number of 16 bits; or returns None, also where no word is left.
     pub fn short(&mut self) -> Option<u16>
         ensures { MatchOption result (read_next short_of self.old ≡ None)
             (λ number. read_next short_of self.old ≡ Some (number, self.new)) }
@@ -84,7 +85,7 @@ impl<'a> Words<'a> {
         read_short(self.next()?)
     }
 
-    /// The next word as the bytes of a name or a record; or None, also where no word is left.
+    /// Takes the next word as the bytes of a name or a record; or returns None, also where no word is left.
     pub(crate) fn text(&mut self) -> Option<Text<'a>>
         ensures { MatchOption result (read_next text_of self.old ≡ None)
             (λ bytes. read_next text_of self.old ≡ Some (bytes, self.new)) }
@@ -92,7 +93,7 @@ impl<'a> Words<'a> {
         read_text(self.next()?)
     }
 
-    /// Nothing, where no word is left, and else None.
+    /// Returns `Some(())` where no word is left, and else None.
     pub fn end(&self) -> Option<()>
         ensures { MatchOption result (self.now ≢ []) (λ _. self.now ≡ []) }
     {
@@ -103,21 +104,21 @@ impl<'a> Words<'a> {
     }
 }
 
-/// Whether a word is this one.
+/// Returns whether a word is this one.
 pub fn is(word: &[u8], name: &str) -> bool
     ensures { result ≡ bytes_eq word.now name.now }
 {
     word == name.as_bytes()
 }
 
-/// Whether all are decimal digits.
+/// Returns whether all are decimal digits.
 fn are_digits(word: &[u8]) -> bool
     ensures { result ≡ list_all is_ascii_digit word.now }
 {
     word.iter().all(|digit| digit.is_ascii_digit())
 }
 
-/// A number of 1 to 10 decimal digits, at most so much; or None.
+/// Returns the number that 1 to 10 decimal digits spell, if it is at most `most`; or None.
 pub fn read_number(word: &[u8], most: u32) -> Option<u32>
     ensures value { result ≡ decimal_of most word.now }
     ensures within { IfSome result (λ number. number ≤ most) }
@@ -135,10 +136,10 @@ pub fn read_number(word: &[u8], most: u32) -> Option<u32>
     Some(number as u32)
 }
 
-/// The greatest number of 16 bits.
+/// The maximum of a number of 16 bits.
 const MAX_SHORT: u32 = u16::MAX as u32;
 
-/// A number of 16 bits, by 1 to 10 decimal digits; or None.
+/// Returns a number of 16 bits, by 1 to 10 decimal digits; or None.
 pub fn read_short(word: &[u8]) -> Option<u16>
     ensures { result ≡ short_of word.now }
 {
@@ -163,7 +164,7 @@ impl<'a> Model for Text<'a> {
     ghost invariant = { λ t. IsSome (text_of t.word.now) };
 }
 
-/// The bytes that a word encodes: hex digits of them, or `-` where there are none.
+/// Returns the bytes that a word encodes: hex digits of them, or `-` where there are none.
 pub fn read_text(word: &[u8]) -> Option<Text<'_>>
     ensures { result ≡ text_of word.now }
 {
@@ -174,7 +175,7 @@ pub fn read_text(word: &[u8]) -> Option<Text<'_>>
     }
 }
 
-/// The bytes that hex digits spell, an even number of them and at least two; or None.
+/// Returns the bytes that hex digits spell, an even number of them and at least two; or None.
 pub fn read_hex(digits: &[u8]) -> Option<Text<'_>>
     ensures { result ≡ hex_of digits.now }
 {
@@ -188,7 +189,7 @@ pub fn read_hex(digits: &[u8]) -> Option<Text<'_>>
 impl<'a> Text<'a> {
     ghost use Rattle.std.specs.Prelude.{◌≡◌, IfOk};
 
-    /// The bytes, in memory of their own.
+    /// Returns a copy of the bytes.
     pub fn to_vec(&self, alloc: Global) -> Result<Vec<u8>, AllocError>
         ensures { IfOk result (λ bytes. bytes.items ≡ self.now) }
     {
@@ -224,7 +225,7 @@ impl<'a> Model for Texts<'a> {
     ghost invariant = { λ t. IsSome (texts_of t.words) };
 }
 
-/// The bytes that words stand for, each of them a text.
+/// Returns the bytes that words stand for, each of them a text.
 pub(crate) fn read_texts<'a>(words: Words<'a>) -> Option<Texts<'a>>
     ensures { result ≡ texts_of words.entry }
 {

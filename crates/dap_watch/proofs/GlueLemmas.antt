@@ -3,7 +3,7 @@ use Rattle.std.proofs.Common.{◌≡◌, ◌==◌, ◌&&◌, ℕ, ◌+◌, ◌�
 use Rattle.std.specs.List.{AllByRecursion}
 use Rattle.std.proofs.lemmas.Bool.Decides.{nat_tests}
 use Rattle.std.proofs.lemmas.Grind.{flat_map-append}
-use Rattle.dap_follow.specs.Streams.{Placed}
+use Rattle.dap_follow.specs.Streams.{Sequenced}
 use Rattle.dap_follow.specs.Joined.{Fragment, joins, latest, payload, fragments_of, tail, with_segment}
 use Rattle.dap_watch.specs.Inner.Pieces.{all_segments, glue, merged}
 use Rattle.dap_watch.proofs.StayLemmas.{alone, and_one, apart, by_bool, joined, longer}
@@ -37,7 +37,7 @@ glue_back [] h hs ys = refl
 glue_back (f ∷ []) h hs ys = refl
 glue_back (f ∷ g ∷ front) h hs ys = ap (λ l. f ∷ l) (glue_back (g ∷ front) h hs ys)
 
-with_glue : (a : Placed) (ps ys : List Fragment) → with_segment a (glue ps ys) ≡ glue (with_segment a ps) ys
+with_glue : (a : Sequenced) (ps ys : List Fragment) → with_segment a (glue ps ys) ≡ glue (with_segment a ps) ys
 with_glue a [] [] = refl
 with_glue a [] (y ∷ ys) = refl
 with_glue a (p ∷ []) [] =
@@ -59,7 +59,7 @@ with_glue a (p ∷ q ∷ ps) ys =
     (λ t. joined a p (glue (q ∷ ps) ys) t ∙ ap (λ l. glue l ys) (sym (joined a p (q ∷ ps) t)))
     (λ f. apart a p (glue (q ∷ ps) ys) f ∙ ap (λ l. glue l ys) (sym (apart a p (q ∷ ps) f)))
 
-pub pieces_glue : (xs ys : List Placed) → fragments_of (xs ++ ys) ≡ glue (fragments_of xs) (fragments_of ys)
+pub pieces_glue : (xs ys : List Sequenced) → fragments_of (xs ++ ys) ≡ glue (fragments_of xs) (fragments_of ys)
 pieces_glue [] ys = refl
 pieces_glue (x ∷ xs) ys = ap (λ l. with_segment x l) (pieces_glue xs ys) ∙ with_glue x (fragments_of xs) (fragments_of ys)
 
@@ -68,14 +68,14 @@ pieces_glue (x ∷ xs) ys = ap (λ l. with_segment x l) (pieces_glue xs ys) ∙ 
 pub segments_append : (xs ys : List Fragment) → all_segments (xs ++ ys) ≡ all_segments xs ++ all_segments ys
 segments_append xs ys = flat_map-append (λ p. p.head ∷ p.others) xs ys
 
-segments_with : (s : Placed) (ps : List Fragment) → all_segments (with_segment s ps) ≡ s ∷ all_segments ps
+segments_with : (s : Sequenced) (ps : List Fragment) → all_segments (with_segment s ps) ≡ s ∷ all_segments ps
 segments_with s [] = refl
 segments_with s (p ∷ ps) =
     by_bool (joins s p.head)
     (λ t. ap (λ l. all_segments l) (joined s p ps t))
     (λ f. ap (λ l. all_segments l) (apart s p ps f))
 
-pub segments_pieces : (xs : List Placed) → all_segments (fragments_of xs) ≡ xs
+pub segments_pieces : (xs : List Sequenced) → all_segments (fragments_of xs) ≡ xs
 segments_pieces [] = refl
 segments_pieces (x ∷ xs) = segments_with x (fragments_of xs) ∙ ap (λ l. x ∷ l) (segments_pieces xs)
 
@@ -92,7 +92,7 @@ segments_glue (p ∷ q ∷ ps) ys =
 
 -- ---- pieces of segments
 
-abbrev pub Chain : Placed → List Placed → Type 0
+abbrev pub Chain : Sequenced → List Sequenced → Type 0
 Chain s [] = Unit {0}
 Chain s (t ∷ others) = (joins s t ≡ true) × Chain t others
 
@@ -104,22 +104,22 @@ abbrev pub Proper : List Fragment → Type 0
 Proper [] = Unit {0}
 Proper (p ∷ ps) = Chain p.head p.others × IsEnd p ps × Proper ps
 
-end_longer : (a : Placed) (p : Fragment) (ps : List Fragment) → IsEnd p ps → IsEnd (longer a p) ps
+end_longer : (a : Sequenced) (p : Fragment) (ps : List Fragment) → IsEnd p ps → IsEnd (longer a p) ps
 end_longer a p [] end = tt
 end_longer a p (q ∷ ps) end = end
 
-proper_with : (s : Placed) (ps : List Fragment) → Proper ps → Proper (with_segment s ps)
+proper_with : (s : Sequenced) (ps : List Fragment) → Proper ps → Proper (with_segment s ps)
 proper_with s [] h = (tt, tt, tt)
 proper_with s (p ∷ ps) h =
     by_bool (joins s p.head)
     (λ t. subst (λ (l : List Fragment). Proper l) (sym (joined s p ps t)) ((t, h.0), end_longer s p ps h.1, h.2))
     (λ f. subst (λ (l : List Fragment). Proper l) (sym (apart s p ps f)) (tt, f, h))
 
-pub proper_pieces : (xs : List Placed) → Proper (fragments_of xs)
+pub proper_pieces : (xs : List Sequenced) → Proper (fragments_of xs)
 proper_pieces [] = tt
 proper_pieces (x ∷ xs) = proper_with x (fragments_of xs) (proper_pieces xs)
 
-chain_one : (s : Placed) (others : List Placed) → Chain s others → fragments_of (s ∷ others) ≡ record { head = s; others = others } ∷ []
+chain_one : (s : Sequenced) (others : List Sequenced) → Chain s others → fragments_of (s ∷ others) ≡ record { head = s; others = others } ∷ []
 chain_one s [] chain = refl
 chain_one s (t ∷ others) chain = ap (λ l. with_segment s l) (chain_one t others chain.1) ∙ joined s (record { head = t; others = others }) [] chain.0
 
@@ -144,76 +144,76 @@ pub proper_back : (xs ys : List Fragment) → Proper (xs ++ ys) → Proper ys
 proper_back [] ys h = h
 proper_back (x ∷ xs) ys h = proper_back xs ys h.2
 
--- ---- places in a row
+-- ---- sequence numbers in a row
 
-joined_place : (a b : Placed) → joins a b ≡ true → b.place ≡ a.place + 1
-joined_place a b h = eqb-true _ _ (and_one (b.place == a.place + 1) (not a.last) (and_one ((b.place == a.place + 1) && not a.last) (not b.first) h))
+joined_sequence : (a b : Sequenced) → joins a b ≡ true → b.sequence ≡ a.sequence + 1
+joined_sequence a b h = eqb-true _ _ (and_one (b.sequence == a.sequence + 1) (not a.last) (and_one ((b.sequence == a.sequence + 1) && not a.last) (not b.first) h))
 
--- between two places
-abbrev pub IsWithin : ℕ → ℕ → Placed → Type 0
-IsWithin from to s = (from ≤ s.place) × (s.place ≤ to)
+-- between two sequence numbers
+abbrev pub IsWithin : ℕ → ℕ → Sequenced → Type 0
+IsWithin from to s = (from ≤ s.sequence) × (s.sequence ≤ to)
 
--- some segment has the place
-abbrev pub Has : ℕ → List Placed → Type 0
-Has place xs = (front back : List Placed) × (s : Placed) × (xs ≡ front ++ s ∷ back) × (s.place ≡ place)
+-- some segment has the sequence number
+abbrev pub Has : ℕ → List Sequenced → Type 0
+Has sequence xs = (front back : List Sequenced) × (s : Sequenced) × (xs ≡ front ++ s ∷ back) × (s.sequence ≡ sequence)
 
-pub has_front : (place : ℕ) (xs ys : List Placed) → Has place xs → Has place (xs ++ ys)
-has_front place xs ys (front, back, s, is, at) = (front, back ++ ys, s, ap (λ l. l ++ ys) is ∙ append_assoc front (s ∷ back) ys, at)
+pub has_front : (sequence : ℕ) (xs ys : List Sequenced) → Has sequence xs → Has sequence (xs ++ ys)
+has_front sequence xs ys (front, back, s, is, at) = (front, back ++ ys, s, ap (λ l. l ++ ys) is ∙ append_assoc front (s ∷ back) ys, at)
 
-pub has_back : (place : ℕ) (xs ys : List Placed) → Has place ys → Has place (xs ++ ys)
-has_back place xs ys (front, back, s, is, at) = (xs ++ front, back, s, ap (λ l. xs ++ l) is ∙ sym (append_assoc xs front (s ∷ back)), at)
+pub has_back : (sequence : ℕ) (xs ys : List Sequenced) → Has sequence ys → Has sequence (xs ++ ys)
+has_back sequence xs ys (front, back, s, is, at) = (xs ++ front, back, s, ap (λ l. xs ++ l) is ∙ sym (append_assoc xs front (s ∷ back)), at)
 
-pub all_append : (P : Placed → Type 0) (xs ys : List Placed) → AllByRecursion P xs → AllByRecursion P ys → AllByRecursion P (xs ++ ys)
+pub all_append : (P : Sequenced → Type 0) (xs ys : List Sequenced) → AllByRecursion P xs → AllByRecursion P ys → AllByRecursion P (xs ++ ys)
 all_append P [] ys one two = two
 all_append P (x ∷ xs) ys one two = (one.0, all_append P xs ys one.1 two)
 
-pub all_weaker : (P Q : Placed → Type 0) (xs : List Placed) → ((s : Placed) → P s → Q s) → AllByRecursion P xs → AllByRecursion Q xs
+pub all_weaker : (P Q : Sequenced → Type 0) (xs : List Sequenced) → ((s : Sequenced) → P s → Q s) → AllByRecursion P xs → AllByRecursion Q xs
 all_weaker P Q [] weaker all = tt
 all_weaker P Q (x ∷ xs) weaker all = (weaker x all.0, all_weaker P Q xs weaker all.1)
 
-pub all_front : (P : Placed → Type 0) (xs ys : List Placed) → AllByRecursion P (xs ++ ys) → AllByRecursion P xs
+pub all_front : (P : Sequenced → Type 0) (xs ys : List Sequenced) → AllByRecursion P (xs ++ ys) → AllByRecursion P xs
 all_front P [] ys all = tt
 all_front P (x ∷ xs) ys all = (all.0, all_front P xs ys all.1)
 
-pub all_back : (P : Placed → Type 0) (xs ys : List Placed) → AllByRecursion P (xs ++ ys) → AllByRecursion P ys
+pub all_back : (P : Sequenced → Type 0) (xs ys : List Sequenced) → AllByRecursion P (xs ++ ys) → AllByRecursion P ys
 all_back P [] ys all = all
 all_back P (x ∷ xs) ys all = all_back P xs ys all.1
 
 -- what holds of all holds of one of them
-pub all_has : (P : ℕ → Type 0) (place : ℕ) (xs : List Placed) → AllByRecursion (λ s. P s.place) xs → Has place xs → P place
-all_has P place xs all (front, back, s, is, at) =
-    subst P at (all_back (λ s. P s.place) front (s ∷ back) (subst (λ l. AllByRecursion (λ s. P s.place) l) is all)).0
+pub all_has : (P : ℕ → Type 0) (sequence : ℕ) (xs : List Sequenced) → AllByRecursion (λ s. P s.sequence) xs → Has sequence xs → P sequence
+all_has P sequence xs all (front, back, s, is, at) =
+    subst P at (all_back (λ s. P s.sequence) front (s ∷ back) (subst (λ l. AllByRecursion (λ s. P s.sequence) l) is all)).0
 
-row_within : (s : Placed) (others : List Placed) → Chain s others
-    → (s.place ≤ (tail (record { head = s; others = others })).place) × AllByRecursion (IsWithin s.place (tail (record { head = s; others = others })).place) (s ∷ others)
+row_within : (s : Sequenced) (others : List Sequenced) → Chain s others
+    → (s.sequence ≤ (tail (record { head = s; others = others })).sequence) × AllByRecursion (IsWithin s.sequence (tail (record { head = s; others = others })).sequence) (s ∷ others)
 row_within s [] chain = (omega arith, ((omega arith, omega arith), tt))
 row_within s (t ∷ others) chain =
-    let next : t.place ≡ s.place + 1 = joined_place s t chain.0 in
+    let next : t.sequence ≡ s.sequence + 1 = joined_sequence s t chain.0 in
     let rest = row_within t others chain.1 in
-    let end : ℕ = (tail (record { head = t; others = others })).place in
-    let far : t.place ≤ end = rest.0 in
-    let more = all_weaker (IsWithin t.place end) (IsWithin s.place end) (t ∷ others) (λ u both. (let low : t.place ≤ u.place = both.0 in omega (arith, next, low), both.1)) rest.1 in
+    let end : ℕ = (tail (record { head = t; others = others })).sequence in
+    let far : t.sequence ≤ end = rest.0 in
+    let more = all_weaker (IsWithin t.sequence end) (IsWithin s.sequence end) (t ∷ others) (λ u both. (let low : t.sequence ≤ u.sequence = both.0 in omega (arith, next, low), both.1)) rest.1 in
     (omega (arith, next, far), ((omega arith, omega (arith, next, far)), more))
 
-pub within : (p : Fragment) → Chain p.head p.others → (p.head.place ≤ (tail p).place) × AllByRecursion (IsWithin p.head.place (tail p).place) (p.head ∷ p.others)
+pub within : (p : Fragment) → Chain p.head p.others → (p.head.sequence ≤ (tail p).sequence) × AllByRecursion (IsWithin p.head.sequence (tail p).sequence) (p.head ∷ p.others)
 within p chain = row_within p.head p.others chain
 
-above : (a b place : ℕ) → b ≡ a + 1 → a ≤ place → (a == place) ≡ false → b ≤ place
-above a b place next low other = grind (arith, nat_tests)
+above : (a b sequence : ℕ) → b ≡ a + 1 → a ≤ sequence → (a == sequence) ≡ false → b ≤ sequence
+above a b sequence next low other = grind (arith, nat_tests)
 
-row_full : (place : ℕ) (s : Placed) (others : List Placed) → Chain s others → s.place ≤ place → place ≤ (tail (record { head = s; others = others })).place → Has place (s ∷ others)
-row_full place s [] chain low high = ([], [], s, refl, omega (arith, low, high))
-row_full place s (t ∷ others) chain low high =
-    by_bool (s.place == place)
+row_full : (sequence : ℕ) (s : Sequenced) (others : List Sequenced) → Chain s others → s.sequence ≤ sequence → sequence ≤ (tail (record { head = s; others = others })).sequence → Has sequence (s ∷ others)
+row_full sequence s [] chain low high = ([], [], s, refl, omega (arith, low, high))
+row_full sequence s (t ∷ others) chain low high =
+    by_bool (s.sequence == sequence)
     (λ here. ([], t ∷ others, s, refl, eqb-true _ _ here))
-    (λ other. has_back place (s ∷ []) (t ∷ others) (row_full place t others chain.1 (above s.place t.place place (joined_place s t chain.0) low other) high))
+    (λ other. has_back sequence (s ∷ []) (t ∷ others) (row_full sequence t others chain.1 (above s.sequence t.sequence sequence (joined_sequence s t chain.0) low other) high))
 
-pub full : (place : ℕ) (p : Fragment) → Chain p.head p.others → p.head.place ≤ place → place ≤ (tail p).place → Has place (p.head ∷ p.others)
-full place p chain low high = row_full place p.head p.others chain low high
+pub full : (sequence : ℕ) (p : Fragment) → Chain p.head p.others → p.head.sequence ≤ sequence → sequence ≤ (tail p).sequence → Has sequence (p.head ∷ p.others)
+full sequence p chain low high = row_full sequence p.head p.others chain low high
 
 -- ---- merged pieces
 
-fold_end : (s : Placed) (xs : List Placed) (t : Placed) (ys : List Placed)
+fold_end : (s : Sequenced) (xs : List Sequenced) (t : Sequenced) (ys : List Sequenced)
     → tail (record { head = s; others = xs ++ t ∷ ys }) ≡ tail (record { head = t; others = ys })
 fold_end s [] t ys = refl
 fold_end s (x ∷ xs) t ys = fold_end x xs t ys
@@ -226,14 +226,14 @@ payload_merged p q = flat_map-append (λ s. s.payload) (p.head ∷ p.others) (q.
 
 -- ---- the latest packet
 
-pub latest_front : (xs ys : List Placed) → latest xs ≤ latest (xs ++ ys)
+pub latest_front : (xs ys : List Sequenced) → latest xs ≤ latest (xs ++ ys)
 latest_front [] ys = omega arith
 latest_front (x ∷ xs) ys = let rest = latest_front xs ys in omega (arith, rest)
 
-pub latest_back : (xs ys : List Placed) → latest ys ≤ latest (xs ++ ys)
+pub latest_back : (xs ys : List Sequenced) → latest ys ≤ latest (xs ++ ys)
 latest_back [] ys = omega arith
 latest_back (x ∷ xs) ys = let rest = latest_back xs ys in omega (arith, rest)
 
-pub latest_below : (n : ℕ) (xs : List Placed) → AllByRecursion (λ s. s.packet ≤ n) xs → latest xs ≤ n
+pub latest_below : (n : ℕ) (xs : List Sequenced) → AllByRecursion (λ s. s.packet ≤ n) xs → latest xs ≤ n
 latest_below n [] all = omega arith
 latest_below n (x ∷ xs) all = let rest = latest_below n xs all.1 in let one : x.packet ≤ n = all.0 in omega (arith, rest, one)

@@ -9,27 +9,27 @@ use Rattle.std.proofs.lemmas.Map.Keys.{IsDistinct-head, IsDistinct-tail}
 use Rattle.indexmap.specs.IndexSet.{insert_key}
 use Rattle.dap_listing.specs.declared.lines.Direction.{Direction}
 use Rattle.dap_listing.specs.declared.captured.CapturedSegment.{CapturedSegment}
-use Rattle.dap_follow.specs.Streams.{ArePlaced, Captured, Placed, at, came_as, came_in, is_same, no_more, streams}
+use Rattle.dap_follow.specs.Streams.{AreSequenced, Captured, Sequenced, at, came_as, came_in, is_same, no_more, streams}
 use Rattle.dap_follow.specs.Joined.{Message, Fragment, is_message, fragment_message, messages, fragments_of}
 use Rattle.dap_follow.specs.Inner.Keeping.{stream_of}
-use Rattle.dap_follow.specs.Segments.{NumberedSegment, HasStreamAt, numbered_segment, placed_at, captured_segment, highest_in}
+use Rattle.dap_follow.specs.Segments.{NumberedSegment, HasStreamAt, numbered_segment, sequenced_at, captured_segment, highest_in}
 use Rattle.dap_follow.specs.declared.streams.Stream.{Stream}
 use Rattle.dap_follow.proofs.ForCallers.{at-append, came_in-more, came_in-none, is_same_self, or_else, same_is, same_sym, streams-more, streams-none, unseen}
-use Rattle.dap_watch.specs.Inner.Kept.{Found, KeepsPieces, KeepsPlaces}
+use Rattle.dap_watch.specs.Inner.Kept.{Found, KeepsPieces, KeepsSequenced}
 use Rattle.dap_watch.specs.Inner.Streams.{AreAdded, Grows, IsIndexedStream, KeepsAllOrdered, KeepsEachOrdered, KeepsStreamOrdered}
-use Rattle.dap_watch.specs.declared.places.Kept.{Kept}
-use Rattle.dap_watch.specs.declared.places.Places.{Places}
-use Rattle.dap_watch.specs.declared.places.Whole.{Whole}
+use Rattle.dap_watch.specs.declared.kept.Kept.{Kept}
+use Rattle.dap_watch.specs.declared.kept.KeptSegments.{KeptSegments}
+use Rattle.dap_watch.specs.declared.kept.Whole.{Whole}
 use Rattle.dap_watch.specs.declared.streams.Streams.{Streams}
 use Rattle.dap_watch.proofs.GlueLemmas.{all_weaker}
-use Rattle.dap_watch.proofs.OrderLemmas.{all_put, at_put, placed_more, rises_put, top_more}
+use Rattle.dap_watch.proofs.OrderLemmas.{all_put, at_put, rises_put, sequenced_more, top_more}
 
 -- ---- packets of others
 
 one_longer : (packets : List Captured) (x : Captured) → length (packets ++ x ∷ []) ≡ length packets + 1
 one_longer packets x = length-append packets (x ∷ [])
 
-keeps_stream : (packets : List Captured) (x : Captured) (s : Stream) (o : List Placed) (p : Places) → came_as s (1 + length packets) x ≡ None
+keeps_stream : (packets : List Captured) (x : Captured) (s : Stream) (o : List Sequenced) (p : KeptSegments) → came_as s (1 + length packets) x ≡ None
     → KeepsStreamOrdered packets s o p → KeepsStreamOrdered (packets ++ x ∷ []) s o p
 keeps_stream packets x s o p none k =
     let longer = one_longer packets x in
@@ -38,8 +38,8 @@ keeps_stream packets x s o p none k =
       first = k.first;
       others = k.others;
       are = came_in-none s packets x none ∙ k.are;
-      placed = k.placed;
-      are_placed = k.are_placed;
+      sequenced = k.sequenced;
+      are_sequenced = k.are_sequenced;
       same = k.same;
       highest = k.highest;
       keeps = record {
@@ -51,30 +51,30 @@ keeps_stream packets x s o p none k =
       most = omega (arith, k.most, longer);
     }
 
-keeps_each : (packets : List Captured) (x : Captured) (keys : List Stream) (orders : List (List Placed)) (places : List Places)
-    → ((s : Stream) → came_as s (1 + length packets) x ≡ None) → KeepsEachOrdered packets keys orders places → KeepsEachOrdered (packets ++ x ∷ []) keys orders places
+keeps_each : (packets : List Captured) (x : Captured) (keys : List Stream) (orders : List (List Sequenced)) (by_stream : List KeptSegments)
+    → ((s : Stream) → came_as s (1 + length packets) x ≡ None) → KeepsEachOrdered packets keys orders by_stream → KeepsEachOrdered (packets ++ x ∷ []) keys orders by_stream
 keeps_each packets x [] [] [] none each = tt
-keeps_each packets x [] [] (p ∷ places) none each = absurd each
-keeps_each packets x [] (o ∷ orders) places none each = absurd each
-keeps_each packets x (s ∷ keys) [] places none each = absurd each
+keeps_each packets x [] [] (p ∷ by_stream) none each = absurd each
+keeps_each packets x [] (o ∷ orders) by_stream none each = absurd each
+keeps_each packets x (s ∷ keys) [] by_stream none each = absurd each
 keeps_each packets x (s ∷ keys) (o ∷ orders) [] none each = absurd each
-keeps_each packets x (s ∷ keys) (o ∷ orders) (p ∷ places) none each = (keeps_stream packets x s o p (none s) each.0, keeps_each packets x keys orders places none each.1)
+keeps_each packets x (s ∷ keys) (o ∷ orders) (p ∷ by_stream) none each = (keeps_stream packets x s o p (none s) each.0, keeps_each packets x keys orders by_stream none each.1)
 
 -- a packet that carries no segment
-pub keeps_aside : (packets : List Captured) (x : Captured) (ordered : List (List Placed)) (s : Streams) → stream_of x ≡ None
+pub keeps_aside : (packets : List Captured) (x : Captured) (ordered : List (List Sequenced)) (s : Streams) → stream_of x ≡ None
     → ((stream : Stream) → came_as stream (1 + length packets) x ≡ None) → KeepsAllOrdered packets ordered s → KeepsAllOrdered (packets ++ x ∷ []) ordered s
 keeps_aside packets x ordered s of_none none k = record {
   names = k.names ∙ sym (streams-none packets x of_none);
-  each = keeps_each packets x s.names.keys ordered s.places.items none k.each;
+  each = keeps_each packets x s.names.keys ordered s.by_stream.items none k.each;
 }
 
-pub lengths : (packets : List Captured) (keys : List Stream) (orders : List (List Placed)) (places : List Places) → KeepsEachOrdered packets keys orders places → length keys ≡ length places
+pub lengths : (packets : List Captured) (keys : List Stream) (orders : List (List Sequenced)) (by_stream : List KeptSegments) → KeepsEachOrdered packets keys orders by_stream → length keys ≡ length by_stream
 lengths packets [] [] [] each = refl
-lengths packets [] [] (p ∷ places) each = absurd each
-lengths packets [] (o ∷ orders) places each = absurd each
-lengths packets (s ∷ keys) [] places each = absurd each
+lengths packets [] [] (p ∷ by_stream) each = absurd each
+lengths packets [] (o ∷ orders) by_stream each = absurd each
+lengths packets (s ∷ keys) [] by_stream each = absurd each
 lengths packets (s ∷ keys) (o ∷ orders) [] each = absurd each
-lengths packets (s ∷ keys) (o ∷ orders) (p ∷ places) each = ap suc (lengths packets keys orders places each.1)
+lengths packets (s ∷ keys) (o ∷ orders) (p ∷ by_stream) each = ap suc (lengths packets keys orders by_stream each.1)
 
 -- ---- a packet of a stream
 
@@ -88,35 +88,35 @@ of_it : (s : Stream) (way : Direction) (c : CapturedSegment) (n : ℕ) → is_sa
 of_it s way c n same = rw same refl
 
 -- the segments of the stream before the packet
-pub record Ready (packets : List Captured) (c : CapturedSegment) (s : Stream) (ordered : List Placed) (p : Places) : Type 0 where
+pub record Ready (packets : List Captured) (c : CapturedSegment) (s : Stream) (ordered : List Sequenced) (p : KeptSegments) : Type 0 where
   pub before : List NumberedSegment
   pub are : came_in s packets ≡ before
   pub first : NumberedSegment
   pub others : List NumberedSegment
   pub begins : before ++ numbered_segment (1 + length packets) c ∷ [] ≡ first ∷ others
-  pub placed : List Placed
-  pub are_placed : ArePlaced (first.1.number + 4096) before placed
-  pub same : (place : ℕ) → at place ordered ≡ at place placed
-  pub highest : p.highest ≡ highest_in (first.1.number + 4096) placed
-  pub keeps : KeepsPlaces (1 + length packets) ordered p
+  pub sequenced : List Sequenced
+  pub are_sequenced : AreSequenced (first.1.number + 4096) before sequenced
+  pub same : (sequence : ℕ) → at sequence ordered ≡ at sequence sequenced
+  pub highest : p.highest ≡ highest_in (first.1.number + 4096) sequenced
+  pub keeps : KeepsSequenced (1 + length packets) ordered p
   pub most : p.highest ≤ 8192 + 2048 * length packets
 
-ready_known : (packets : List Captured) (c : CapturedSegment) (s : Stream) (o : List Placed) (p : Places) → KeepsStreamOrdered packets s o p → Ready packets c s o p
+ready_known : (packets : List Captured) (c : CapturedSegment) (s : Stream) (o : List Sequenced) (p : KeptSegments) → KeepsStreamOrdered packets s o p → Ready packets c s o p
 ready_known packets c s o p k = record {
   before = k.first ∷ k.others;
   are = k.are;
   first = k.first;
   others = k.others ++ numbered_segment (1 + length packets) c ∷ [];
   begins = refl;
-  placed = k.placed;
-  are_placed = k.are_placed;
+  sequenced = k.sequenced;
+  are_sequenced = k.are_sequenced;
   same = k.same;
   highest = k.highest;
   keeps = k.keeps;
   most = k.most;
 }
 
-ready_new : (packets : List Captured) (c : CapturedSegment) (s : Stream) (p : Places) → came_in s packets ≡ [] → p.highest ≡ c.number + 4096 → c.number < 4096 → p.kept.items ≡ []
+ready_new : (packets : List Captured) (c : CapturedSegment) (s : Stream) (p : KeptSegments) → came_in s packets ≡ [] → p.highest ≡ c.number + 4096 → c.number < 4096 → p.kept.items ≡ []
     → Ready packets c s [] p
 ready_new packets c s p none highest small empty = record {
   before = [];
@@ -124,15 +124,15 @@ ready_new packets c s p none highest small empty = record {
   first = numbered_segment (1 + length packets) c;
   others = [];
   begins = refl;
-  placed = [];
-  are_placed = no_more;
-  same = λ place. refl;
+  sequenced = [];
+  are_sequenced = no_more;
+  same = λ sequence. refl;
   highest = highest;
   keeps = record { keeps = subst (λ (l : List Kept). KeepsPieces [] l) (sym empty) refl; rises = tt; numbered = tt; low = omega (arith, highest) };
   most = omega (arith, highest, small);
 }
 
-ready_done : (packets : List Captured) (way : Direction) (c : CapturedSegment) (s : Stream) (ordered : List Placed) (old new : Places) (digits : List ℕ) (found : Option Whole)
+ready_done : (packets : List Captured) (way : Direction) (c : CapturedSegment) (s : Stream) (ordered : List Sequenced) (old new : KeptSegments) (digits : List ℕ) (found : Option Whole)
     → is_same s (stream_is way c) ≡ true → Ready packets c s ordered old → (f : Found (1 + length packets) c ordered old new digits found)
     → KeepsStreamOrdered (packets ++ captured_segment way c ∷ []) s f.later new
 ready_done packets way c s ordered old new digits found same r f =
@@ -140,21 +140,21 @@ ready_done packets way c s ordered old new digits found same r f =
     let n : ℕ = 1 + length packets in
     let longer = one_longer packets x in
     let start : ℕ = r.first.1.number + 4096 in
-    let place : ℕ = f.place in
-    let here = placed_at place (numbered_segment n c) in
-    let low : highest_in start r.placed ≤ place + 2047 = rw r.highest at f.near.0 in
-    let high : place ≤ highest_in start r.placed + 2048 = rw r.highest at f.near.1 in
-    let up : place ≤ old.highest + 2048 = f.near.1 in
+    let sequence : ℕ = f.sequence in
+    let here = sequenced_at sequence (numbered_segment n c) in
+    let low : highest_in start r.sequenced ≤ sequence + 2047 = rw r.highest at f.near.0 in
+    let high : sequence ≤ highest_in start r.sequenced + 2048 = rw r.highest at f.near.1 in
+    let up : sequence ≤ old.highest + 2048 = f.near.1 in
     let was = r.keeps in
     let low_was : 4096 ≤ old.highest = was.low in
     record {
       first = r.first;
       others = r.others;
       are = came_in-more s packets x (numbered_segment n c) (of_it s way c n same) ∙ ap (λ (l : List NumberedSegment). l ++ numbered_segment n c ∷ []) r.are ∙ r.begins;
-      placed = r.placed ++ here ∷ [];
-      are_placed = subst (λ (l : List NumberedSegment). ArePlaced start l (r.placed ++ here ∷ [])) r.begins (placed_more (numbered_segment n c) place r.are_placed low high f.near.2);
-      same = λ p. at_put p ordered here f.later f.put ∙ ap (λ (o : Option Placed). or_else o (at p (here ∷ []))) (r.same p) ∙ sym (at-append p r.placed (here ∷ []));
-      highest = f.highest ∙ ap (λ (h : ℕ). max h place) r.highest ∙ sym (top_more start r.placed here);
+      sequenced = r.sequenced ++ here ∷ [];
+      are_sequenced = subst (λ (l : List NumberedSegment). AreSequenced start l (r.sequenced ++ here ∷ [])) r.begins (sequenced_more (numbered_segment n c) sequence r.are_sequenced low high f.near.2);
+      same = λ p. at_put p ordered here f.later f.put ∙ ap (λ (o : Option Sequenced). or_else o (at p (here ∷ []))) (r.same p) ∙ sym (at-append p r.sequenced (here ∷ []));
+      highest = f.highest ∙ ap (λ (h : ℕ). max h sequence) r.highest ∙ sym (top_more start r.sequenced here);
       keeps = record {
         keeps = f.keeps;
         rises = rises_put ordered here f.later f.put was.rises;
@@ -167,39 +167,39 @@ ready_done packets way c s ordered old new digits found same r f =
 
 -- ---- the streams before the packet was put into its own
 
-pub MidEach : List Captured → Direction → CapturedSegment → List Stream → List (List Placed) → List Places → Type 0
+pub MidEach : List Captured → Direction → CapturedSegment → List Stream → List (List Sequenced) → List KeptSegments → Type 0
 MidEach packets way c [] [] [] = Unit {0}
-MidEach packets way c (s ∷ keys) (o ∷ orders) (p ∷ places) =
+MidEach packets way c (s ∷ keys) (o ∷ orders) (p ∷ by_stream) =
     (((is_same s (stream_is way c) ≡ true) × Ready packets c s o p) ⊎ ((is_same s (stream_is way c) ≡ false) × KeepsStreamOrdered (packets ++ captured_segment way c ∷ []) s o p))
-    × MidEach packets way c keys orders places
+    × MidEach packets way c keys orders by_stream
 MidEach packets way c _ _ _ = ⊥
 
-mid_known : (packets : List Captured) (way : Direction) (c : CapturedSegment) (keys : List Stream) (orders : List (List Placed)) (places : List Places)
-    → KeepsEachOrdered packets keys orders places → MidEach packets way c keys orders places
+mid_known : (packets : List Captured) (way : Direction) (c : CapturedSegment) (keys : List Stream) (orders : List (List Sequenced)) (by_stream : List KeptSegments)
+    → KeepsEachOrdered packets keys orders by_stream → MidEach packets way c keys orders by_stream
 unfolding MidEach
 mid_known packets way c [] [] [] each = tt
-mid_known packets way c [] [] (p ∷ places) each = absurd each
-mid_known packets way c [] (o ∷ orders) places each = absurd each
-mid_known packets way c (s ∷ keys) [] places each = absurd each
+mid_known packets way c [] [] (p ∷ by_stream) each = absurd each
+mid_known packets way c [] (o ∷ orders) by_stream each = absurd each
+mid_known packets way c (s ∷ keys) [] by_stream each = absurd each
 mid_known packets way c (s ∷ keys) (o ∷ orders) [] each = absurd each
-mid_known packets way c (s ∷ keys) (o ∷ orders) (p ∷ places) each = (
+mid_known packets way c (s ∷ keys) (o ∷ orders) (p ∷ by_stream) each = (
   ⊎_elim (λ (same : is_same s (stream_is way c) ≡ true). inl (same, ready_known packets c s o p each.0))
       (λ (other : is_same s (stream_is way c) ≡ false). inr (other, keeps_stream packets (captured_segment way c) s o p (apart s way c (1 + length packets) other) each.0))
       (cases_Bool (is_same s (stream_is way c))),
-  mid_known packets way c keys orders places each.1,
+  mid_known packets way c keys orders by_stream each.1,
 )
 
-mid_new : (packets : List Captured) (way : Direction) (c : CapturedSegment) (new : Places) → Ready packets c (stream_is way c) [] new
-    → (keys : List Stream) (orders : List (List Placed)) (places : List Places) → KeepsEachOrdered packets keys orders places
-    → MidEach packets way c (keys ++ stream_is way c ∷ []) (orders ++ [] ∷ []) (places ++ new ∷ [])
+mid_new : (packets : List Captured) (way : Direction) (c : CapturedSegment) (new : KeptSegments) → Ready packets c (stream_is way c) [] new
+    → (keys : List Stream) (orders : List (List Sequenced)) (by_stream : List KeptSegments) → KeepsEachOrdered packets keys orders by_stream
+    → MidEach packets way c (keys ++ stream_is way c ∷ []) (orders ++ [] ∷ []) (by_stream ++ new ∷ [])
 unfolding MidEach
 mid_new packets way c new ready [] [] [] each = (inl (is_same_self (stream_is way c), ready), tt)
-mid_new packets way c new ready [] [] (p ∷ places) each = absurd each
-mid_new packets way c new ready [] (o ∷ orders) places each = absurd each
-mid_new packets way c new ready (s ∷ keys) [] places each = absurd each
+mid_new packets way c new ready [] [] (p ∷ by_stream) each = absurd each
+mid_new packets way c new ready [] (o ∷ orders) by_stream each = absurd each
+mid_new packets way c new ready (s ∷ keys) [] by_stream each = absurd each
 mid_new packets way c new ready (s ∷ keys) (o ∷ orders) [] each = absurd each
-mid_new packets way c new ready (s ∷ keys) (o ∷ orders) (p ∷ places) each =
-    ((mid_known packets way c (s ∷ []) (o ∷ []) (p ∷ []) (each.0, tt)).0, mid_new packets way c new ready keys orders places each.1)
+mid_new packets way c new ready (s ∷ keys) (o ∷ orders) (p ∷ by_stream) each =
+    ((mid_known packets way c (s ∷ []) (o ∷ []) (p ∷ []) (each.0, tt)).0, mid_new packets way c new ready keys orders by_stream each.1)
 
 some_is : (a b : Stream) → Some a ≡ Some b → a ≡ b
 some_is a b e = cc
@@ -212,23 +212,23 @@ other_at s k index [] all at = absurd (no_other at.0 at.1)
 other_at s k zero (y ∷ keys) all at = subst (λ (t : Stream). is_same s t ≡ false) (some_is y at.0 at.1 ∙ sym (same_is k at.0 at.2)) all.0
 other_at s k (suc index) (y ∷ keys) all at = other_at s k index keys all.1 at
 
-mid_rest : (packets : List Captured) (way : Direction) (c : CapturedSegment) (keys : List Stream) (orders : List (List Placed)) (places : List Places)
-    → AllByRecursion (λ y. is_same (stream_is way c) y ≡ false) keys → MidEach packets way c keys orders places → KeepsEachOrdered (packets ++ captured_segment way c ∷ []) keys orders places
+mid_rest : (packets : List Captured) (way : Direction) (c : CapturedSegment) (keys : List Stream) (orders : List (List Sequenced)) (by_stream : List KeptSegments)
+    → AllByRecursion (λ y. is_same (stream_is way c) y ≡ false) keys → MidEach packets way c keys orders by_stream → KeepsEachOrdered (packets ++ captured_segment way c ∷ []) keys orders by_stream
 unfolding MidEach
 mid_rest packets way c [] [] [] all mid = tt
-mid_rest packets way c [] [] (p ∷ places) all mid = absurd mid
-mid_rest packets way c [] (o ∷ orders) places all mid = absurd mid
-mid_rest packets way c (s ∷ keys) [] places all mid = absurd mid
+mid_rest packets way c [] [] (p ∷ by_stream) all mid = absurd mid
+mid_rest packets way c [] (o ∷ orders) by_stream all mid = absurd mid
+mid_rest packets way c (s ∷ keys) [] by_stream all mid = absurd mid
 mid_rest packets way c (s ∷ keys) (o ∷ orders) [] all mid = absurd mid
-mid_rest packets way c (s ∷ keys) (o ∷ orders) (p ∷ places) all mid =
-    (⊎_elim (λ both. absurd (false≢true (sym (same_sym (stream_is way c) s all.0) ∙ both.0))) (λ both. both.1) mid.0, mid_rest packets way c keys orders places all.1 mid.1)
+mid_rest packets way c (s ∷ keys) (o ∷ orders) (p ∷ by_stream) all mid =
+    (⊎_elim (λ both. absurd (false≢true (sym (same_sym (stream_is way c) s all.0) ∙ both.0))) (λ both. both.1) mid.0, mid_rest packets way c keys orders by_stream all.1 mid.1)
 
 -- ---- the messages
 
-messages_of : (o : List Placed) (front back : List Fragment) → filter is_message (fragments_of o) ≡ front ++ back → messages o ≡ map fragment_message front ++ map fragment_message back
+messages_of : (o : List Sequenced) (front back : List Fragment) → filter is_message (fragments_of o) ≡ front ++ back → messages o ≡ map fragment_message front ++ map fragment_message back
 messages_of o front back is = ap (λ (l : List Fragment). map fragment_message l) is ∙ map-append fragment_message front back
 
-added_here : (packet : ℕ) (c : CapturedSegment) (o : List Placed) (orders : List (List Placed)) (old new : Places) (digits : List ℕ) (found : Option Whole)
+added_here : (packet : ℕ) (c : CapturedSegment) (o : List Sequenced) (orders : List (List Sequenced)) (old new : KeptSegments) (digits : List ℕ) (found : Option Whole)
     → (f : Found packet c o old new digits found) → AreAdded packet digits found (flat_map messages (o ∷ orders)) (flat_map messages (f.later ∷ orders))
 added_here packet c o orders old new digits found f =
     let front = f.added.0 in
@@ -245,7 +245,7 @@ added_here packet c o orders old new digits found f =
       told = f.told;
     }
 
-added_behind : (packet : ℕ) (digits : List ℕ) (found : Option Whole) (o : List Placed) (old new : List (List Placed))
+added_behind : (packet : ℕ) (digits : List ℕ) (found : Option Whole) (o : List Sequenced) (old new : List (List Sequenced))
     → AreAdded packet digits found (flat_map messages old) (flat_map messages new) → AreAdded packet digits found (flat_map messages (o ∷ old)) (flat_map messages (o ∷ new))
 added_behind packet digits found o old new a = record {
   front = messages o ++ a.front;
@@ -258,23 +258,23 @@ added_behind packet digits found o old new a = record {
 
 -- ---- where the packet's stream stands
 
-record Done (packets : List Captured) (way : Direction) (c : CapturedSegment) (digits : List ℕ) (found : Option Whole) (keys : List Stream) (orders : List (List Placed)) (places : List Places) : Type 0 where
-  pub laters : List (List Placed)
-  pub each : KeepsEachOrdered (packets ++ captured_segment way c ∷ []) keys laters places
+record Done (packets : List Captured) (way : Direction) (c : CapturedSegment) (digits : List ℕ) (found : Option Whole) (keys : List Stream) (orders : List (List Sequenced)) (by_stream : List KeptSegments) : Type 0 where
+  pub laters : List (List Sequenced)
+  pub each : KeepsEachOrdered (packets ++ captured_segment way c ∷ []) keys laters by_stream
   pub added : AreAdded (1 + length packets) digits found (flat_map messages orders) (flat_map messages laters)
 
-mid_done : (packets : List Captured) (way : Direction) (c : CapturedSegment) (new d : Places) (digits : List ℕ) (found : Option Whole)
-    → (index : ℕ) (keys : List Stream) (orders : List (List Placed)) (places : List Places) → MidEach packets way c keys orders places → IsDistinct is_same keys → HasStreamAt (stream_is way c) index keys
-    → ((o : List Placed) → KeepsPlaces (1 + length packets) o (get_or places index d) → (get_or places index d).highest ≤ 8192 + 2048 * length packets
-    → Found (1 + length packets) c o (get_or places index d) new digits found)
-    → Done packets way c digits found keys orders (slice_set places index new)
+mid_done : (packets : List Captured) (way : Direction) (c : CapturedSegment) (new d : KeptSegments) (digits : List ℕ) (found : Option Whole)
+    → (index : ℕ) (keys : List Stream) (orders : List (List Sequenced)) (by_stream : List KeptSegments) → MidEach packets way c keys orders by_stream → IsDistinct is_same keys → HasStreamAt (stream_is way c) index keys
+    → ((o : List Sequenced) → KeepsSequenced (1 + length packets) o (get_or by_stream index d) → (get_or by_stream index d).highest ≤ 8192 + 2048 * length packets
+    → Found (1 + length packets) c o (get_or by_stream index d) new digits found)
+    → Done packets way c digits found keys orders (slice_set by_stream index new)
 unfolding MidEach
 mid_done packets way c new d digits found index [] [] [] mid distinct at finds = absurd (no_other at.0 at.1)
-mid_done packets way c new d digits found index [] [] (p ∷ places) mid distinct at finds = absurd mid
-mid_done packets way c new d digits found index [] (o ∷ orders) places mid distinct at finds = absurd mid
-mid_done packets way c new d digits found index (s ∷ keys) [] places mid distinct at finds = absurd mid
+mid_done packets way c new d digits found index [] [] (p ∷ by_stream) mid distinct at finds = absurd mid
+mid_done packets way c new d digits found index [] (o ∷ orders) by_stream mid distinct at finds = absurd mid
+mid_done packets way c new d digits found index (s ∷ keys) [] by_stream mid distinct at finds = absurd mid
 mid_done packets way c new d digits found index (s ∷ keys) (o ∷ orders) [] mid distinct at finds = absurd mid
-mid_done packets way c new d digits found zero (s ∷ keys) (o ∷ orders) (p ∷ places) mid distinct at finds =
+mid_done packets way c new d digits found zero (s ∷ keys) (o ∷ orders) (p ∷ by_stream) mid distinct at finds =
     let is : stream_is way c ≡ s = same_is (stream_is way c) at.0 at.2 ∙ sym (some_is s at.0 at.1) in
     let head = subst (λ (t : Stream). AllByRecursion (λ y. is_same t y ≡ false) keys) (sym is) (IsDistinct-head is_same s keys distinct) in
     let self : is_same s (stream_is way c) ≡ true = subst (λ (t : Stream). is_same t (stream_is way c) ≡ true) is (is_same_self (stream_is way c)) in
@@ -282,12 +282,12 @@ mid_done packets way c new d digits found zero (s ∷ keys) (o ∷ orders) (p �
     let f = finds o ready.keeps ready.most in
     record {
       laters = f.later ∷ orders;
-      each = (ready_done packets way c s o p new digits found self ready f, mid_rest packets way c keys orders places head mid.1);
+      each = (ready_done packets way c s o p new digits found self ready f, mid_rest packets way c keys orders by_stream head mid.1);
       added = added_here (1 + length packets) c o orders p new digits found f;
     }
-mid_done packets way c new d digits found (suc index) (s ∷ keys) (o ∷ orders) (p ∷ places) mid distinct at finds =
+mid_done packets way c new d digits found (suc index) (s ∷ keys) (o ∷ orders) (p ∷ by_stream) mid distinct at finds =
     let other = other_at s (stream_is way c) index keys (IsDistinct-head is_same s keys distinct) at in
-    let rest = mid_done packets way c new d digits found index keys orders places mid.1 (IsDistinct-tail is_same s keys distinct) at finds in
+    let rest = mid_done packets way c new d digits found index keys orders by_stream mid.1 (IsDistinct-tail is_same s keys distinct) at finds in
     record {
       laters = o ∷ rest.laters;
       each = (⊎_elim (λ both. absurd (false≢true (sym other ∙ both.0))) (λ both. both.1) mid.0, rest.each);
@@ -296,7 +296,7 @@ mid_done packets way c new d digits found (suc index) (s ∷ keys) (o ∷ orders
 
 -- ---- all streams
 
-no_messages_more : (orders : List (List Placed)) → flat_map messages (orders ++ [] ∷ []) ≡ flat_map messages orders
+no_messages_more : (orders : List (List Sequenced)) → flat_map messages (orders ++ [] ∷ []) ≡ flat_map messages orders
 no_messages_more orders = flat_map-append messages orders ([] ∷ []) ∙ append-nil (flat_map messages orders)
 
 inserted_known : (s : Stream) (keys : List Stream) → list_any (is_same s) keys ≡ true → insert_key is_same keys s ≡ keys
@@ -306,39 +306,39 @@ inserted_new : (s : Stream) (keys : List Stream) → list_any (is_same s) keys �
 inserted_new s keys none = rw none refl
 
 -- a segment was put into its stream
-pub grows : (packets : List Captured) (way : Direction) (c : CapturedSegment) (ordered : List (List Placed)) (old mid new : Streams) (index : ℕ) (one shown : Places) (digits : List ℕ) (found : Option Whole)
-    → KeepsAllOrdered packets ordered old → IsIndexedStream (stream_is way c) c.number old mid index → shown ≡ get_or mid.places.items index shown → new.names.keys ≡ mid.names.keys
-    → new.places.items ≡ slice_set mid.places.items index one
-    → ((o : List Placed) → KeepsPlaces (1 + length packets) o shown → shown.highest ≤ 8192 + 2048 * length packets → Found (1 + length packets) c o shown one digits found)
+pub grows : (packets : List Captured) (way : Direction) (c : CapturedSegment) (ordered : List (List Sequenced)) (old mid new : Streams) (index : ℕ) (one shown : KeptSegments) (digits : List ℕ) (found : Option Whole)
+    → KeepsAllOrdered packets ordered old → IsIndexedStream (stream_is way c) c.number old mid index → shown ≡ get_or mid.by_stream.items index shown → new.names.keys ≡ mid.names.keys
+    → new.by_stream.items ≡ slice_set mid.by_stream.items index one
+    → ((o : List Sequenced) → KeepsSequenced (1 + length packets) o shown → shown.highest ≤ 8192 + 2048 * length packets → Found (1 + length packets) c o shown one digits found)
     → Grows packets (captured_segment way c) ordered new digits found
 grows packets way c ordered old mid new index one shown digits found k i is names items finds =
     ⊎_elim
     (λ known.
-    let each = subst (λ (l : List Places). KeepsEachOrdered packets old.names.keys ordered l) (sym known.2) k.each in
-    let here = subst (λ (l : List Stream). MidEach packets way c l ordered mid.places.items) (sym known.1) (mid_known packets way c old.names.keys ordered mid.places.items each) in
-    let done = mid_done packets way c one shown digits found index mid.names.keys ordered mid.places.items here i.distinct i.has
-    (λ o keeps most. subst (λ (p : Places). Found (1 + length packets) c o p one digits found) is
-    (finds o (subst (λ (p : Places). KeepsPlaces (1 + length packets) o p) (sym is) keeps) (subst (λ (p : Places). p.highest ≤ 8192 + 2048 * length packets) (sym is) most))) in
+    let each = subst (λ (l : List KeptSegments). KeepsEachOrdered packets old.names.keys ordered l) (sym known.2) k.each in
+    let here = subst (λ (l : List Stream). MidEach packets way c l ordered mid.by_stream.items) (sym known.1) (mid_known packets way c old.names.keys ordered mid.by_stream.items each) in
+    let done = mid_done packets way c one shown digits found index mid.names.keys ordered mid.by_stream.items here i.distinct i.has
+    (λ o keeps most. subst (λ (p : KeptSegments). Found (1 + length packets) c o p one digits found) is
+    (finds o (subst (λ (p : KeptSegments). KeepsSequenced (1 + length packets) o p) (sym is) keeps) (subst (λ (p : KeptSegments). p.highest ≤ 8192 + 2048 * length packets) (sym is) most))) in
     let all : mid.names.keys ≡ streams (packets ++ captured_segment way c ∷ []) =
     known.1 ∙ k.names ∙ sym (streams-more packets (captured_segment way c) (stream_is way c) refl ∙ inserted_known (stream_is way c) (streams packets) (subst (λ (l : List Stream). list_any (is_same (stream_is way c)) l ≡ true) k.names known.0)) in
     record {
       later = done.laters;
       keeps = record {
         names = names ∙ all;
-        each = subst (λ (l : List Stream). KeepsEachOrdered (packets ++ captured_segment way c ∷ []) l done.laters new.places.items) (sym names)
-            (subst (λ (l : List Places). KeepsEachOrdered (packets ++ captured_segment way c ∷ []) mid.names.keys done.laters l) (sym items) done.each);
+        each = subst (λ (l : List Stream). KeepsEachOrdered (packets ++ captured_segment way c ∷ []) l done.laters new.by_stream.items) (sym names)
+            (subst (λ (l : List KeptSegments). KeepsEachOrdered (packets ++ captured_segment way c ∷ []) mid.names.keys done.laters l) (sym items) done.each);
       };
       added = done.added;
     })
     (λ fresh.
     let unseen_before : came_in (stream_is way c) packets ≡ [] = unseen (stream_is way c) packets (subst (λ (l : List Stream). list_any (is_same (stream_is way c)) l ≡ false) k.names fresh.0) in
     let ready = ready_new packets c (stream_is way c) fresh.2 unseen_before fresh.4 i.small fresh.5 in
-    let both = mid_new packets way c fresh.2 ready old.names.keys ordered old.places.items k.each in
-    let here = subst (λ (l : List Stream). MidEach packets way c l (ordered ++ [] ∷ []) mid.places.items) (sym fresh.1)
-    (subst (λ (l : List Places). MidEach packets way c (old.names.keys ++ stream_is way c ∷ []) (ordered ++ [] ∷ []) l) (sym fresh.3) both) in
-    let done = mid_done packets way c one shown digits found index mid.names.keys (ordered ++ [] ∷ []) mid.places.items here i.distinct i.has
-    (λ o keeps most. subst (λ (p : Places). Found (1 + length packets) c o p one digits found) is
-    (finds o (subst (λ (p : Places). KeepsPlaces (1 + length packets) o p) (sym is) keeps) (subst (λ (p : Places). p.highest ≤ 8192 + 2048 * length packets) (sym is) most))) in
+    let both = mid_new packets way c fresh.2 ready old.names.keys ordered old.by_stream.items k.each in
+    let here = subst (λ (l : List Stream). MidEach packets way c l (ordered ++ [] ∷ []) mid.by_stream.items) (sym fresh.1)
+    (subst (λ (l : List KeptSegments). MidEach packets way c (old.names.keys ++ stream_is way c ∷ []) (ordered ++ [] ∷ []) l) (sym fresh.3) both) in
+    let done = mid_done packets way c one shown digits found index mid.names.keys (ordered ++ [] ∷ []) mid.by_stream.items here i.distinct i.has
+    (λ o keeps most. subst (λ (p : KeptSegments). Found (1 + length packets) c o p one digits found) is
+    (finds o (subst (λ (p : KeptSegments). KeepsSequenced (1 + length packets) o p) (sym is) keeps) (subst (λ (p : KeptSegments). p.highest ≤ 8192 + 2048 * length packets) (sym is) most))) in
     let all : mid.names.keys ≡ streams (packets ++ captured_segment way c ∷ []) =
     fresh.1 ∙ ap (λ (l : List Stream). l ++ stream_is way c ∷ []) k.names
     ∙ sym (streams-more packets (captured_segment way c) (stream_is way c) refl ∙ inserted_new (stream_is way c) (streams packets) (subst (λ (l : List Stream). list_any (is_same (stream_is way c)) l ≡ false) k.names fresh.0)) in
@@ -346,8 +346,8 @@ grows packets way c ordered old mid new index one shown digits found k i is name
       later = done.laters;
       keeps = record {
         names = names ∙ all;
-        each = subst (λ (l : List Stream). KeepsEachOrdered (packets ++ captured_segment way c ∷ []) l done.laters new.places.items) (sym names)
-            (subst (λ (l : List Places). KeepsEachOrdered (packets ++ captured_segment way c ∷ []) mid.names.keys done.laters l) (sym items) done.each);
+        each = subst (λ (l : List Stream). KeepsEachOrdered (packets ++ captured_segment way c ∷ []) l done.laters new.by_stream.items) (sym names)
+            (subst (λ (l : List KeptSegments). KeepsEachOrdered (packets ++ captured_segment way c ∷ []) mid.names.keys done.laters l) (sym items) done.each);
       };
       added = subst (λ (l : List Message). AreAdded (1 + length packets) digits found l (flat_map messages done.laters)) (no_messages_more ordered) done.added;
     })

@@ -6,9 +6,9 @@ use Rattle.std.proofs.lemmas.List.Elements.{filter-append}
 use Rattle.dap_listing.specs.Captured.{Spell, digit_bytes}
 use Rattle.dap_follow.specs.Joined.{Fragment, is_message, latest, tail}
 use Rattle.dap_watch.specs.Inner.Pieces.{all_segments, glue}
-use Rattle.dap_watch.specs.Inner.Kept.{AbsorbsAfter, AbsorbsBefore, HoldsPieces, IsAbsorbed, IsApart, IsBehindApart, IsOpen, Joins, KeepsPieces, Lists, Regroups, Settles, Stays, do_join}
-use Rattle.dap_watch.specs.declared.places.Kept.{Kept}
-use Rattle.dap_watch.specs.declared.places.Whole.{Whole}
+use Rattle.dap_watch.specs.Inner.Kept.{AbsorbsAfter, AbsorbsBefore, HoldsPieces, IsAbsorbed, IsApart, IsLastApart, IsOpen, Joins, KeepsPieces, Lists, Regroups, Settles, Stays, do_join}
+use Rattle.dap_watch.specs.declared.kept.Kept.{Kept}
+use Rattle.dap_watch.specs.declared.kept.Whole.{Whole}
 use Rattle.dap_watch.proofs.GlueLemmas.{glue_back, glue_front, glue_nil, latest_back, latest_front, segments_glue}
 use Rattle.dap_watch.proofs.KeptLemmas.{apart_held, holds_some, joined_held, keeps_append, keeps_cons, keeps_only, keeps_split, listed_too, message_apart, no_messages, open_too}
 use Rattle.dap_watch.proofs.StayLemmas.{by_bool}
@@ -35,14 +35,14 @@ apart_all piece ys zs (k ∷ ks) holds (held, rest, is, stays, keeps) apart =
 
 record After (index : ℕ) (old : List Kept) (piece : Kept) (mid : List Kept) (middle : Kept) (ys zs : List Fragment) : Type 0 where
   pub these : List Fragment
-  pub behind : List Fragment
+  pub those_after : List Fragment
   pub within : index ≤ length mid
   pub front : take index mid ≡ take index old
   pub holds : HoldsPieces middle these
-  pub keeps : KeepsPieces behind (drop index mid)
-  pub all : glue ys zs ≡ these ++ behind
+  pub keeps : KeepsPieces those_after (drop index mid)
+  pub all : glue ys zs ≡ these ++ those_after
   pub kind : middle.listed ≡ piece.listed
-  pub messages : piece.listed ≡ false → filter is_message behind ≡ filter is_message zs
+  pub messages : piece.listed ≡ false → filter is_message those_after ≡ filter is_message zs
   pub later : latest (all_segments ys) ≤ latest (all_segments these)
 
 take_exact : (index : ℕ) (old others : List Kept) → index ≤ length old → (take index (take index old ++ others) ≡ take index old) × (drop index (take index old ++ others) ≡ others) × (index ≤ length (take index old ++ others))
@@ -67,7 +67,7 @@ after_step : (index : ℕ) (old : List Kept) (piece : Kept) (mid : List Kept) (m
     → AbsorbsAfter index old piece mid middle → HoldsPieces piece ys → KeepsPieces zs (drop index old) → After index old piece mid middle ys zs
 after_step index old piece mid middle ys zs within (inl (same, is, apart)) holds keeps = record {
   these = ys;
-  behind = zs;
+  those_after = zs;
   within = subst (λ (l : List Kept). index ≤ length l) (sym same) within;
   front = ap (λ (l : List Kept). take index l) same;
   holds = subst (λ (k : Kept). HoldsPieces k ys) (sym is) holds;
@@ -87,7 +87,7 @@ after_step index old piece mid middle ys zs within (inr (next, others, is, same,
     let whole : zs ≡ (some.0 ∷ some.1) ++ rest = first.2 ∙ ap (λ (l : List Fragment). l ++ rest) some.2 in
     record {
       these = glue ys held;
-      behind = rest;
+      those_after = rest;
       within = subst (λ (l : List Kept). index ≤ length l) (sym same) cut.2;
       front = ap (λ (l : List Kept). take index l) same ∙ cut.0;
       holds = joined_held piece next middle ys held holds stays.0 join absorbed;
@@ -109,63 +109,63 @@ snoc_cases : (ks : List Kept) → (ks ≡ []) ⊎ ((others : List Kept) × (k : 
 snoc_cases [] = inl refl
 snoc_cases (k ∷ ks) = at_end k (snoc_cases ks)
 
-record Before (index : ℕ) (mid : List Kept) (middle : Kept) (now : ℕ) (new : List Kept) (joined : Kept) (xs these behind : List Fragment) : Type 0 where
+record Before (index : ℕ) (mid : List Kept) (middle : Kept) (now : ℕ) (new : List Kept) (joined : Kept) (xs these those_after : List Fragment) : Type 0 where
   pub before : List Fragment
   pub all_these : List Fragment
   pub within : now ≤ length new
   pub back : drop now new ≡ drop index mid
   pub holds : HoldsPieces joined all_these
   pub keeps : KeepsPieces before (take now new)
-  pub all : glue xs (these ++ behind) ≡ before ++ (all_these ++ behind)
+  pub all : glue xs (these ++ those_after) ≡ before ++ (all_these ++ those_after)
   pub kind : joined.listed ≡ middle.listed
   pub messages : middle.listed ≡ false → filter is_message before ≡ filter is_message xs
   pub later : latest (all_segments these) ≤ latest (all_segments all_these)
 
 -- what is in front, its last and these
-glue_in_front : (front held these behind : List Fragment) (k piece : Kept) → HoldsPieces k held → HoldsPieces piece these
-    → glue (front ++ held) (these ++ behind) ≡ front ++ (glue held these ++ behind)
-glue_in_front front held these behind k piece one two =
+glue_in_front : (front held these those_after : List Fragment) (k piece : Kept) → HoldsPieces k held → HoldsPieces piece these
+    → glue (front ++ held) (these ++ those_after) ≡ front ++ (glue held these ++ those_after)
+glue_in_front front held these those_after k piece one two =
     let some = holds_some k held one in
     let first = holds_some piece these two in
-    ap (λ (l : List Fragment). glue (front ++ l) (these ++ behind)) some.2 ∙ glue_back front some.0 some.1 (these ++ behind)
-    ∙ ap (λ (l : List Fragment). front ++ glue l (these ++ behind)) (sym some.2)
-    ∙ ap (λ (l : List Fragment). front ++ glue held (l ++ behind)) first.2 ∙ ap (λ (l : List Fragment). front ++ l) (glue_front held first.0 first.1 behind)
-    ∙ ap (λ (l : List Fragment). front ++ (glue held l ++ behind)) (sym first.2)
+    ap (λ (l : List Fragment). glue (front ++ l) (these ++ those_after)) some.2 ∙ glue_back front some.0 some.1 (these ++ those_after)
+    ∙ ap (λ (l : List Fragment). front ++ glue l (these ++ those_after)) (sym some.2)
+    ∙ ap (λ (l : List Fragment). front ++ glue held (l ++ those_after)) first.2 ∙ ap (λ (l : List Fragment). front ++ l) (glue_front held first.0 first.1 those_after)
+    ∙ ap (λ (l : List Fragment). front ++ (glue held l ++ those_after)) (sym first.2)
 
-behind_apart : (front : List Kept) (piece : Kept) (xs these behind : List Fragment) → KeepsPieces xs front → HoldsPieces piece these → IsBehindApart front piece
-    → (front ≡ []) ⊎ ((others : List Kept) × (k : Kept) × (front ≡ others ++ k ∷ [])) → glue xs (these ++ behind) ≡ xs ++ (these ++ behind)
-behind_apart front piece xs these behind keeps holds apart (inl none) =
+last_apart : (front : List Kept) (piece : Kept) (xs these those_after : List Fragment) → KeepsPieces xs front → HoldsPieces piece these → IsLastApart front piece
+    → (front ≡ []) ⊎ ((others : List Kept) × (k : Kept) × (front ≡ others ++ k ∷ [])) → glue xs (these ++ those_after) ≡ xs ++ (these ++ those_after)
+last_apart front piece xs these those_after keeps holds apart (inl none) =
     let no_pieces : xs ≡ [] = subst (λ (l : List Kept). KeepsPieces xs l) none keeps in
-    ap (λ (l : List Fragment). glue l (these ++ behind)) no_pieces ∙ ap (λ (l : List Fragment). l ++ (these ++ behind)) (sym no_pieces)
-behind_apart front piece xs these behind keeps holds apart (inr (others, k, is)) =
+    ap (λ (l : List Fragment). glue l (these ++ those_after)) no_pieces ∙ ap (λ (l : List Fragment). l ++ (these ++ those_after)) (sym no_pieces)
+last_apart front piece xs these those_after keeps holds apart (inr (others, k, is)) =
     let parts = keeps_split xs others (k ∷ []) (subst (λ (l : List Kept). KeepsPieces xs l) is keeps) in
     let start = parts.0 in
     let held = parts.1 in
     let stays : Stays k held = keeps_only held k parts.4 in
-    ap (λ (l : List Fragment). glue l (these ++ behind)) parts.2 ∙ glue_in_front start held these behind k piece stays.0 holds
-    ∙ ap (λ (l : List Fragment). start ++ (l ++ behind)) (apart_held k piece held these stays.0 holds (apart others k is))
-    ∙ ap (λ (l : List Fragment). start ++ l) (append_assoc held these behind) ∙ sym (append_assoc start held (these ++ behind))
-    ∙ ap (λ (l : List Fragment). l ++ (these ++ behind)) (sym parts.2)
+    ap (λ (l : List Fragment). glue l (these ++ those_after)) parts.2 ∙ glue_in_front start held these those_after k piece stays.0 holds
+    ∙ ap (λ (l : List Fragment). start ++ (l ++ those_after)) (apart_held k piece held these stays.0 holds (apart others k is))
+    ∙ ap (λ (l : List Fragment). start ++ l) (append_assoc held these those_after) ∙ sym (append_assoc start held (these ++ those_after))
+    ∙ ap (λ (l : List Fragment). l ++ (these ++ those_after)) (sym parts.2)
 
 -- neighbours that are joined are of one kind
 both_kinds : (a b : Kept) → do_join a b ≡ true → a.listed ≡ b.listed
 both_kinds a b h = by_bool a.listed (λ t. t ∙ sym (listed_too a b h t)) (λ f. f ∙ sym (open_too a b h f))
 
-before_step : (index : ℕ) (mid : List Kept) (middle : Kept) (now : ℕ) (new : List Kept) (joined : Kept) (xs these behind : List Fragment) → index ≤ length mid
-    → AbsorbsBefore index mid middle now new joined → KeepsPieces xs (take index mid) → HoldsPieces middle these → Before index mid middle now new joined xs these behind
-before_step index mid middle now new joined xs these behind within (inl (same, at, is, apart)) keeps holds = record {
+before_step : (index : ℕ) (mid : List Kept) (middle : Kept) (now : ℕ) (new : List Kept) (joined : Kept) (xs these those_after : List Fragment) → index ≤ length mid
+    → AbsorbsBefore index mid middle now new joined → KeepsPieces xs (take index mid) → HoldsPieces middle these → Before index mid middle now new joined xs these those_after
+before_step index mid middle now new joined xs these those_after within (inl (same, at, is, apart)) keeps holds = record {
   before = xs;
   all_these = these;
   within = subst (λ n. n ≤ length new) (sym at) (subst (λ (l : List Kept). index ≤ length l) (sym same) within);
   back = ap (λ n. drop n new) at ∙ ap (λ (l : List Kept). drop index l) same;
   holds = subst (λ (k : Kept). HoldsPieces k these) (sym is) holds;
   keeps = subst (λ n. KeepsPieces xs (take n new)) (sym at) (subst (λ (l : List Kept). KeepsPieces xs (take index l)) (sym same) keeps);
-  all = behind_apart (take index mid) middle xs these behind keeps holds apart (snoc_cases (take index mid));
+  all = last_apart (take index mid) middle xs these those_after keeps holds apart (snoc_cases (take index mid));
   kind = ap (λ (k : Kept). k.listed) is;
   messages = λ is_open. refl;
   later = omega arith;
 }
-before_step index mid middle now new joined xs these behind within (inr (last, others, is, same, at, join, absorbed)) keeps holds =
+before_step index mid middle now new joined xs these those_after within (inr (last, others, is, same, at, join, absorbed)) keeps holds =
     let parts = keeps_split xs others (last ∷ []) (subst (λ (l : List Kept). KeepsPieces xs l) is keeps) in
     let start = parts.0 in
     let held = parts.1 in
@@ -177,7 +177,7 @@ before_step index mid middle now new joined xs these behind within (inr (last, o
       back = ap (λ n. drop n new) at ∙ ap (λ (l : List Kept). drop (length others) l) same ∙ drop-append_seam others (drop index mid);
       holds = joined_held last middle joined held these stays.0 holds join absorbed;
       keeps = subst (λ (l : List Kept). KeepsPieces start l) (sym (ap (λ n. take n new) at ∙ ap (λ (l : List Kept). take (length others) l) same ∙ take-append_seam others (drop index mid))) parts.3;
-      all = ap (λ (l : List Fragment). glue l (these ++ behind)) parts.2 ∙ glue_in_front start held these behind last middle stays.0 holds;
+      all = ap (λ (l : List Fragment). glue l (these ++ those_after)) parts.2 ∙ glue_in_front start held these those_after last middle stays.0 holds;
       kind = absorbed.listed ∙ both_kinds last middle join;
       messages = λ is_open. sym (ap (λ (l : List Fragment). filter is_message l) parts.2 ∙ filter-append is_message start held
           ∙ ap (λ (l : List Fragment). filter is_message start ++ l) (no_messages held (stays.1 (both_kinds last middle join ∙ is_open))) ∙ append-nil (filter is_message start));
@@ -188,9 +188,9 @@ before_step index mid middle now new joined xs these behind within (inr (last, o
 
 within_then : (index : ℕ) (old : List Kept) (piece : Kept) (mid : List Kept) (middle : Kept) (now : ℕ) (new : List Kept) (joined : Kept) → index ≤ length old
     → AbsorbsAfter index old piece mid middle → AbsorbsBefore index mid middle now new joined → now ≤ length new
-within_then index old piece mid middle now new joined within (inl (same, is, apart)) (inl (same_as, at, joined_is, behind)) =
+within_then index old piece mid middle now new joined within (inl (same, is, apart)) (inl (same_as, at, joined_is, those_after)) =
     omega (arith, at, ap length same_as, ap length same, within)
-within_then index old piece mid middle now new joined within (inr (next, others, is, same, join, absorbed)) (inl (same_as, at, joined_is, behind)) =
+within_then index old piece mid middle now new joined within (inr (next, others, is, same, join, absorbed)) (inl (same_as, at, joined_is, those_after)) =
     let cut : index ≤ length (take index old ++ others) = (take_exact index old others within).2 in
     omega (arith, at, ap length same_as, ap length same, cut)
 within_then index old piece mid middle now new joined within after (inr (last, others, is, same, at, join, absorbed)) =
@@ -202,16 +202,16 @@ joins_both index old piece mid middle now new joined within after before = recor
   within = within_then index old piece mid middle now new joined within after before;
   regroups = λ xs ys zs in_front holds at_back.
       let a = after_step index old piece mid middle ys zs within after holds at_back in
-      let b = before_step index mid middle now new joined xs a.these a.behind a.within before (subst (λ (l : List Kept). KeepsPieces xs l) (sym a.front) in_front) a.holds in
+      let b = before_step index mid middle now new joined xs a.these a.those_after a.within before (subst (λ (l : List Kept). KeepsPieces xs l) (sym a.front) in_front) a.holds in
       let low : latest (all_segments ys) ≤ latest (all_segments a.these) = a.later in
       let high : latest (all_segments a.these) ≤ latest (all_segments b.all_these) = b.later in
       record {
         before = b.before;
         these = b.all_these;
-        behind = a.behind;
+        those_after = a.those_after;
         front_keeps = b.keeps;
         holds = b.holds;
-        back_keeps = subst (λ (l : List Kept). KeepsPieces a.behind l) (sym b.back) a.keeps;
+        back_keeps = subst (λ (l : List Kept). KeepsPieces a.those_after l) (sym b.back) a.keeps;
         all = ap (λ (l : List Fragment). glue xs l) a.all ∙ b.all;
         kind = b.kind ∙ a.kind;
         messages = λ is_open. (b.messages (a.kind ∙ is_open), a.messages is_open);
@@ -226,12 +226,12 @@ inserted xs ys zs ks index k front stays back = keeps_append xs (ys ++ zs) (take
 
 -- a message between others is kept same_as listed
 pub lists_run : (index : ℕ) (old : List Kept) (run : Kept) (now : ℕ) (new : List Kept) (joined : Kept) → Joins index old run now new joined → run.listed ≡ true
-    → (xs zs : List Fragment) (m : Fragment) → is_message m ≡ true → run.from ≡ m.head.place → run.to ≡ (tail m).place → KeepsPieces xs (take index old) → KeepsPieces zs (drop index old)
+    → (xs zs : List Fragment) (m : Fragment) → is_message m ≡ true → run.from ≡ m.head.sequence → run.to ≡ (tail m).sequence → KeepsPieces xs (take index old) → KeepsPieces zs (drop index old)
     → KeepsPieces (xs ++ m ∷ zs) (insert new now joined)
 lists_run index old run now new joined joins listed xs zs m is from to front back =
     let r = joins.regroups xs (m ∷ []) zs front (inl (listed, (is, sym from, sym to))) back in
     subst (λ (l : List Fragment). KeepsPieces l (insert new now joined)) (sym r.all ∙ message_apart xs zs m is)
-    (inserted r.before r.these r.behind new now joined r.front_keeps (r.holds, λ is_open. absurd (false≢true (sym is_open ∙ (r.kind ∙ listed)))) r.back_keeps)
+    (inserted r.before r.these r.those_after new now joined r.front_keeps (r.holds, λ is_open. absurd (false≢true (sym is_open ∙ (r.kind ∙ listed)))) r.back_keeps)
 
 -- ---- a segment between others
 
@@ -256,9 +256,9 @@ settles_message xs ys zs piece mid now joined new digits whole r kind marks list
     record {
       before = r.before;
       piece = p;
-      behind = r.behind;
-      all = r.all ∙ ap (λ (l : List Fragment). r.before ++ (l ++ r.behind)) one.1;
-      keeps = lists.keeps r.before r.behind p message is_open.from is_open.to r.front_keeps r.back_keeps;
+      those_after = r.those_after;
+      all = r.all ∙ ap (λ (l : List Fragment). r.before ++ (l ++ r.those_after)) one.1;
+      keeps = lists.keeps r.before r.those_after p message is_open.from is_open.to r.front_keeps r.back_keeps;
       told = record {
         message = message;
         from = lists.from ∙ is_open.from;
@@ -281,9 +281,9 @@ settles_open xs ys zs piece mid now joined digits r kind marks =
     record {
       before = r.before;
       piece = p;
-      behind = r.behind;
-      all = r.all ∙ ap (λ (l : List Fragment). r.before ++ (l ++ r.behind)) one.1;
-      keeps = subst (λ (l : List Fragment). KeepsPieces (r.before ++ (l ++ r.behind)) (insert mid now joined)) one.1 (inserted r.before r.these r.behind mid now joined r.front_keeps stays r.back_keeps);
+      those_after = r.those_after;
+      all = r.all ∙ ap (λ (l : List Fragment). r.before ++ (l ++ r.those_after)) one.1;
+      keeps = subst (λ (l : List Fragment). KeepsPieces (r.before ++ (l ++ r.those_after)) (insert mid now joined)) one.1 (inserted r.before r.these r.those_after mid now joined r.front_keeps stays r.back_keeps);
       told = none;
       messages = r.messages kind;
       later = alone_later (latest (all_segments ys)) p r.these one.1 r.later;

@@ -8,7 +8,7 @@ use Rattle.dap_listing.proofs.ForCallers.{bytes-append, spell-append}
 use Rattle.dap_follow.specs.Joined.{Fragment, is_message, joins, payload, tail}
 use Rattle.dap_watch.specs.Inner.Pieces.{all_segments, glue, merged}
 use Rattle.dap_watch.specs.Inner.Kept.{AreListed, HoldsPieces, IsAbsorbed, IsOpen, KeepsPieces, Stays, kept_digits, do_join}
-use Rattle.dap_watch.specs.declared.places.Kept.{Kept}
+use Rattle.dap_watch.specs.declared.kept.Kept.{Kept}
 use Rattle.dap_watch.proofs.StayLemmas.{and_false_one, and_false_two, and_one, and_two, by_bool, not_true}
 use Rattle.dap_watch.proofs.GlueLemmas.{Has, IsWithin, Proper, all_append, all_weaker, full, glued_two, has_back, has_front, payload_merged, tail_merged, unglued, within}
 
@@ -45,20 +45,20 @@ listed_within : (from to : ℕ) (ps : List Fragment) → Proper ps → AreListed
 listed_within from to [] proper run = absurd run
 listed_within from to (m ∷ []) proper (is, begins, ends) =
     let row = within m proper.0 in
-    let low : m.head.place ≤ (tail m).place = row.0 in (
+    let low : m.head.sequence ≤ (tail m).sequence = row.0 in (
       omega (arith, low, begins, ends),
       subst (λ l. AllByRecursion (IsWithin from to) l) (sym (append-nil (m.head ∷ m.others)))
-          (all_weaker (IsWithin m.head.place (tail m).place) (IsWithin from to) (m.head ∷ m.others) (λ s both. (let a : m.head.place ≤ s.place = both.0 in omega (arith, a, begins), let b : s.place ≤ (tail m).place = both.1 in omega (arith, b, ends))) row.1),
+          (all_weaker (IsWithin m.head.sequence (tail m).sequence) (IsWithin from to) (m.head ∷ m.others) (λ s both. (let a : m.head.sequence ≤ s.sequence = both.0 in omega (arith, a, begins), let b : s.sequence ≤ (tail m).sequence = both.1 in omega (arith, b, ends))) row.1),
     )
 listed_within from to (m ∷ n ∷ ms) proper (is, begins, run) =
     let row = within m proper.0 in
-    let low : m.head.place ≤ (tail m).place = row.0 in
-    let rest = listed_within ((tail m).place + 1) to (n ∷ ms) proper.2 run in
-    let up : (tail m).place + 1 ≤ to = rest.0 in (
+    let low : m.head.sequence ≤ (tail m).sequence = row.0 in
+    let rest = listed_within ((tail m).sequence + 1) to (n ∷ ms) proper.2 run in
+    let up : (tail m).sequence + 1 ≤ to = rest.0 in (
       omega (arith, low, begins, up),
       all_append (IsWithin from to) (m.head ∷ m.others) (all_segments (n ∷ ms))
-          (all_weaker (IsWithin m.head.place (tail m).place) (IsWithin from to) (m.head ∷ m.others) (λ s both. (let a : m.head.place ≤ s.place = both.0 in omega (arith, a, begins), let b : s.place ≤ (tail m).place = both.1 in omega (arith, b, up))) row.1)
-          (all_weaker (IsWithin ((tail m).place + 1) to) (IsWithin from to) (all_segments (n ∷ ms)) (λ s both. (let a : (tail m).place + 1 ≤ s.place = both.0 in omega (arith, a, begins, low), both.1)) rest.1),
+          (all_weaker (IsWithin m.head.sequence (tail m).sequence) (IsWithin from to) (m.head ∷ m.others) (λ s both. (let a : m.head.sequence ≤ s.sequence = both.0 in omega (arith, a, begins), let b : s.sequence ≤ (tail m).sequence = both.1 in omega (arith, b, up))) row.1)
+          (all_weaker (IsWithin ((tail m).sequence + 1) to) (IsWithin from to) (all_segments (n ∷ ms)) (λ s both. (let a : (tail m).sequence + 1 ≤ s.sequence = both.0 in omega (arith, a, begins, low), both.1)) rest.1),
     )
 
 beyond_of : (a b : ℕ) → leb a b ≡ false → b + 1 ≤ a
@@ -67,36 +67,36 @@ beyond_of a b f = grind (arith, nat_tests)
 either_side : (a b : ℕ) → (a ≤ b) ⊎ (b + 1 ≤ a)
 either_side a b = by_bool (leb a b) (λ t. inl (leb-true _ _ t)) (λ f. inr (beyond_of a b f))
 
-listed_full : (place from to : ℕ) (ps : List Fragment) → Proper ps → AreListed from to ps → from ≤ place → place ≤ to → Has place (all_segments ps)
-listed_full place from to [] proper run low high = absurd run
-listed_full place from to (m ∷ []) proper (is, begins, ends) low high =
-    has_front place (m.head ∷ m.others) [] (full place m proper.0 (omega (arith, low, begins)) (omega (arith, high, ends)))
-listed_full place from to (m ∷ n ∷ ms) proper (is, begins, run) low high =
+listed_full : (sequence from to : ℕ) (ps : List Fragment) → Proper ps → AreListed from to ps → from ≤ sequence → sequence ≤ to → Has sequence (all_segments ps)
+listed_full sequence from to [] proper run low high = absurd run
+listed_full sequence from to (m ∷ []) proper (is, begins, ends) low high =
+    has_front sequence (m.head ∷ m.others) [] (full sequence m proper.0 (omega (arith, low, begins)) (omega (arith, high, ends)))
+listed_full sequence from to (m ∷ n ∷ ms) proper (is, begins, run) low high =
     ⊎_elim
-    (λ (here : place ≤ (tail m).place). has_front place (m.head ∷ m.others) (all_segments (n ∷ ms)) (full place m proper.0 (omega (arith, low, begins)) here))
-    (λ (beyond : (tail m).place + 1 ≤ place). has_back place (m.head ∷ m.others) (all_segments (n ∷ ms)) (listed_full place ((tail m).place + 1) to (n ∷ ms) proper.2 run beyond high))
-    (either_side place (tail m).place)
+    (λ (here : sequence ≤ (tail m).sequence). has_front sequence (m.head ∷ m.others) (all_segments (n ∷ ms)) (full sequence m proper.0 (omega (arith, low, begins)) here))
+    (λ (beyond : (tail m).sequence + 1 ≤ sequence). has_back sequence (m.head ∷ m.others) (all_segments (n ∷ ms)) (listed_full sequence ((tail m).sequence + 1) to (n ∷ ms) proper.2 run beyond high))
+    (either_side sequence (tail m).sequence)
 
 pub holds_within : (k : Kept) (ps : List Fragment) → Proper ps → HoldsPieces k ps → (k.from ≤ k.to) × AllByRecursion (IsWithin k.from k.to) (all_segments ps)
 holds_within k ps proper (inl (listed, run)) = listed_within k.from k.to ps proper run
 holds_within k ps proper (inr (p, is, is_open)) =
     let one : Proper (p ∷ []) = subst (λ (l : List Fragment). Proper l) is proper in
     let row = within p one.0 in
-    let low : p.head.place ≤ (tail p).place = row.0 in
-    let begins : k.from ≡ p.head.place = is_open.from in
-    let ends : k.to ≡ (tail p).place = is_open.to in (
+    let low : p.head.sequence ≤ (tail p).sequence = row.0 in
+    let begins : k.from ≡ p.head.sequence = is_open.from in
+    let ends : k.to ≡ (tail p).sequence = is_open.to in (
       omega (arith, low, begins, ends),
       subst (λ (l : List Fragment). AllByRecursion (IsWithin k.from k.to) (all_segments l)) (sym is)
           (subst (λ l. AllByRecursion (IsWithin k.from k.to) l) (sym (append-nil (p.head ∷ p.others)))
-          (all_weaker (IsWithin p.head.place (tail p).place) (IsWithin k.from k.to) (p.head ∷ p.others) (λ s both. (let a : p.head.place ≤ s.place = both.0 in omega (arith, a, begins), let b : s.place ≤ (tail p).place = both.1 in omega (arith, b, ends))) row.1)),
+          (all_weaker (IsWithin p.head.sequence (tail p).sequence) (IsWithin k.from k.to) (p.head ∷ p.others) (λ s both. (let a : p.head.sequence ≤ s.sequence = both.0 in omega (arith, a, begins), let b : s.sequence ≤ (tail p).sequence = both.1 in omega (arith, b, ends))) row.1)),
     )
 
-pub holds_full : (place : ℕ) (k : Kept) (ps : List Fragment) → Proper ps → HoldsPieces k ps → k.from ≤ place → place ≤ k.to → Has place (all_segments ps)
-holds_full place k ps proper (inl (listed, run)) low high = listed_full place k.from k.to ps proper run low high
-holds_full place k ps proper (inr (p, is, is_open)) low high =
+pub holds_full : (sequence : ℕ) (k : Kept) (ps : List Fragment) → Proper ps → HoldsPieces k ps → k.from ≤ sequence → sequence ≤ k.to → Has sequence (all_segments ps)
+holds_full sequence k ps proper (inl (listed, run)) low high = listed_full sequence k.from k.to ps proper run low high
+holds_full sequence k ps proper (inr (p, is, is_open)) low high =
     let one : Proper (p ∷ []) = subst (λ (l : List Fragment). Proper l) is proper in
-    subst (λ (l : List Fragment). Has place (all_segments l)) (sym is)
-    (has_front place (p.head ∷ p.others) [] (full place p one.0 (let begins : k.from ≡ p.head.place = is_open.from in omega (arith, low, begins)) (let ends : k.to ≡ (tail p).place = is_open.to in omega (arith, high, ends))))
+    subst (λ (l : List Fragment). Has sequence (all_segments l)) (sym is)
+    (has_front sequence (p.head ∷ p.others) [] (full sequence p one.0 (let begins : k.from ≡ p.head.sequence = is_open.from in omega (arith, low, begins)) (let ends : k.to ≡ (tail p).sequence = is_open.to in omega (arith, high, ends))))
 
 -- ---- two of them
 
@@ -106,7 +106,7 @@ and_three false y z = refl
 
 joins_as : (a b : Kept) (p q : Fragment) → IsOpen a p → IsOpen b q → joins (tail p) q.head ≡ do_join a b
 joins_as a b p q one two =
-    ap (λ n. ((q.head.place == n + 1) && not (tail p).last) && not q.head.first) (sym one.to)
+    ap (λ n. ((q.head.sequence == n + 1) && not (tail p).last) && not q.head.first) (sym one.to)
     ∙ (ap (λ n. ((n == a.to + 1) && not (tail p).last) && not q.head.first) (sym two.from)
     ∙ (ap (λ l. ((b.from == a.to + 1) && not l) && not q.head.first) (sym one.last)
     ∙ (ap (λ f. ((b.from == a.to + 1) && not a.last) && not f) (sym two.first)
@@ -116,19 +116,19 @@ joins_as a b p q one two =
 
 not_behind_last : (p q : Fragment) → is_message p ≡ true → joins (tail p) q.head ≡ false
 not_behind_last p q is =
-    and_false_one ((q.head.place == (tail p).place + 1) && not (tail p).last) (not q.head.first)
-    (and_false_two (q.head.place == (tail p).place + 1) (not (tail p).last) (ap (λ t. not t) (and_two p.head.first (tail p).last is)))
+    and_false_one ((q.head.sequence == (tail p).sequence + 1) && not (tail p).last) (not q.head.first)
+    (and_false_two (q.head.sequence == (tail p).sequence + 1) (not (tail p).last) (ap (λ t. not t) (and_two p.head.first (tail p).last is)))
 
 not_before_first : (p q : Fragment) → is_message q ≡ true → joins (tail p) q.head ≡ false
 not_before_first p q is =
-    and_false_two ((q.head.place == (tail p).place + 1) && not (tail p).last) (not q.head.first) (ap (λ t. not t) (and_one q.head.first (tail q).last is))
+    and_false_two ((q.head.sequence == (tail p).sequence + 1) && not (tail p).last) (not q.head.first) (ap (λ t. not t) (and_one q.head.first (tail q).last is))
 
 -- listed messages join nothing after them
 glue_listed : (from to : ℕ) (ps ys : List Fragment) → AreListed from to ps → glue ps ys ≡ ps ++ ys
 glue_listed from to [] ys run = absurd run
 glue_listed from to (m ∷ []) [] run = refl
 glue_listed from to (m ∷ []) (y ∷ ys) (is, begins, ends) = unglued m y ys (not_behind_last m y is)
-glue_listed from to (m ∷ n ∷ ms) ys (is, begins, run) = ap (λ l. m ∷ l) (glue_listed ((tail m).place + 1) to (n ∷ ms) ys run)
+glue_listed from to (m ∷ n ∷ ms) ys (is, begins, run) = ap (λ l. m ∷ l) (glue_listed ((tail m).sequence + 1) to (n ∷ ms) ys run)
 
 first_listed : (from to : ℕ) (y : Fragment) (ys : List Fragment) → AreListed from to (y ∷ ys) → is_message y ≡ true
 first_listed from to y [] run = run.0
@@ -138,7 +138,7 @@ listed_append : (from middle to : ℕ) (ps ys : List Fragment) → AreListed fro
 listed_append from middle to [] ys one two = absurd one
 listed_append from middle to (m ∷ []) [] one two = absurd two
 listed_append from middle to (m ∷ []) (y ∷ ys) (is, begins, ends) two = (is, begins, subst (λ n. AreListed (n + 1) to (y ∷ ys)) (sym ends) two)
-listed_append from middle to (m ∷ n ∷ ms) ys (is, begins, run) two = (is, begins, listed_append ((tail m).place + 1) middle to (n ∷ ms) ys run two)
+listed_append from middle to (m ∷ n ∷ ms) ys (is, begins, run) two = (is, begins, listed_append ((tail m).sequence + 1) middle to (n ∷ ms) ys run two)
 
 -- in a row, so the second begins after the first
 next_from : (a b : Kept) → do_join a b ≡ true → b.from ≡ a.to + 1
@@ -164,7 +164,7 @@ merged_open a b joined p q one two is =
     let half : m + n ≡ length (kept_digits joined) / 2 = omega (arith, spelled.1) in
     record {
       from = is.from ∙ one.from;
-      to = is.to ∙ two.to ∙ sym (ap (λ s. s.place) (tail_merged p q));
+      to = is.to ∙ two.to ∙ sym (ap (λ s. s.sequence) (tail_merged p q));
       first = is.first ∙ one.first;
       last = is.last ∙ two.last ∙ sym (ap (λ s. s.last) (tail_merged p q));
       listed = is.listed ∙ one.listed;
@@ -203,7 +203,7 @@ before_message (x ∷ y ∷ xs) zs m is = ap (λ l. x ∷ l) (before_message (y 
 
 -- a message stays ks it is
 pub message_apart : (xs zs : List Fragment) (m : Fragment) → is_message m ≡ true → glue xs (glue (m ∷ []) zs) ≡ xs ++ m ∷ zs
-message_apart xs zs m is = ap (λ (l : List Fragment). glue xs l) (glue_listed m.head.place (tail m).place (m ∷ []) zs (is, refl, refl)) ∙ before_message xs zs m is
+message_apart xs zs m is = ap (λ (l : List Fragment). glue xs l) (glue_listed m.head.sequence (tail m).sequence (m ∷ []) zs (is, refl, refl)) ∙ before_message xs zs m is
 
 -- no messages
 pub no_messages : (ps : List Fragment) → AllByRecursion (λ p. is_message p ≡ false) ps → filter is_message ps ≡ []

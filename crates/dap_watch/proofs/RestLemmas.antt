@@ -6,15 +6,15 @@ use Rattle.std.proofs.lemmas.Bool.Decides.{nat_tests}
 use Rattle.std.proofs.lemmas.List.{length-replicate}
 use Rattle.dap_text.specs.Text.{line_feed}
 use Rattle.dap_listing.proofs.ForCallers.{count_of}
-use Rattle.dap_follow.specs.Streams.{Captured, Placed}
+use Rattle.dap_follow.specs.Streams.{Captured, Sequenced}
 use Rattle.dap_follow.specs.Joined.{Fragment, is_message, payload, fragments_of, tail}
 use Rattle.dap_follow.specs.Following.{gap_line, length_text, part_line, range_text, rest_lines, stream_text}
 use Rattle.dap_follow.specs.declared.streams.Stream.{Stream}
 use Rattle.dap_watch.specs.Inner.Kept.{AreListed, HoldsPieces, IsOpen, KeepsPieces, kept_digits}
 use Rattle.dap_watch.specs.Inner.Streams.{KeepsEachOrdered}
 use Rattle.dap_watch.specs.Inner.Rest.{all_kept_rest, count_text, kept_gap, kept_part, kept_rest}
-use Rattle.dap_watch.specs.declared.places.Kept.{Kept}
-use Rattle.dap_watch.specs.declared.places.Places.{Places}
+use Rattle.dap_watch.specs.declared.kept.Kept.{Kept}
+use Rattle.dap_watch.specs.declared.kept.KeptSegments.{KeptSegments}
 
 -- ---- text that is appended piece by piece
 
@@ -34,8 +34,8 @@ part_same : (stream : Stream) (p : Fragment) (k : Kept) → IsOpen k p → is_me
 part_same stream p k one none =
     let size : length (payload p) ≡ length (kept_digits k) / 2 = ap (λ l. length l) (sym one.bytes) ∙ count_of (kept_digits k) (length (kept_digits k) / 2) one.spelled in
     let text : ℕ → ℕ → ℕ → List ℕ = λ from to count. codes "part" ++ (stream_text stream ++ (range_text from to ++ count_text count)) in
-    ap (λ b. if b then [] else text p.head.place (tail p).place (length (payload p))) none
-    ∙ ap (λ a. text a (tail p).place (length (payload p))) (sym one.from)
+    ap (λ b. if b then [] else text p.head.sequence (tail p).sequence (length (payload p))) none
+    ∙ ap (λ a. text a (tail p).sequence (length (payload p))) (sym one.from)
     ∙ ap (λ b. text k.from b (length (payload p))) (sym one.to)
     ∙ ap (λ n. text k.from k.to n) size
     ∙ ap (λ b. if b then [] else text k.from k.to (length (kept_digits k) / 2)) (sym one.listed)
@@ -46,30 +46,30 @@ gap_text : Stream → ℕ → ℕ → List ℕ
 gap_text stream last next =
     if nat_lt (last + 1) next then codes "gap" ++ (stream_text stream ++ (range_text (last + 1) (next - 1) ++ line_feed)) else []
 
-first_from : (k : Kept) (ps : List Fragment) → HoldsPieces k ps → (q : Fragment) × (qs : List Fragment) × (ps ≡ q ∷ qs) × (q.head.place ≡ k.from)
+first_from : (k : Kept) (ps : List Fragment) → HoldsPieces k ps → (q : Fragment) × (qs : List Fragment) × (ps ≡ q ∷ qs) × (q.head.sequence ≡ k.from)
 first_from k [] (inl (listed, run)) = absurd run
 first_from k (m ∷ []) (inl (listed, (is, begins, ends))) = (m, [], refl, begins)
 first_from k (m ∷ n ∷ ms) (inl (listed, (is, begins, run))) = (m, n ∷ ms, refl, begins)
 first_from k ps (inr (p, is, one)) = (p, [], is, sym one.from)
 
-gap_same : (stream : Stream) (p : Fragment) (k : Kept) (rest : List Fragment) (ks : List Kept) → KeepsPieces rest ks → (tail p).place ≡ k.to → gap_line stream p rest ≡ kept_gap stream k ks
+gap_same : (stream : Stream) (p : Fragment) (k : Kept) (rest : List Fragment) (ks : List Kept) → KeepsPieces rest ks → (tail p).sequence ≡ k.to → gap_line stream p rest ≡ kept_gap stream k ks
 unfolding gap_text
 gap_same stream p k rest [] none to = ap (λ (l : List Fragment). gap_line stream p l) none
 gap_same stream p k rest (n ∷ ks) (held, more, is, stays, keeps) to =
     let first = first_from n held stays.0 in
     let whole : rest ≡ first.0 ∷ (first.1 ++ more) = is ∙ ap (λ (l : List Fragment). l ++ more) first.2 in
-    ap (λ (l : List Fragment). gap_line stream p l) whole ∙ ap (λ a. gap_text stream a first.0.head.place) to ∙ ap (λ b. gap_text stream k.to b) first.3
+    ap (λ (l : List Fragment). gap_line stream p l) whole ∙ ap (λ a. gap_text stream a first.0.head.sequence) to ∙ ap (λ b. gap_text stream k.to b) first.3
 
 not_less : (n : ℕ) → nat_lt n n ≡ false
 not_less n = grind (arith, nat_tests)
 
-begins_at : (from to : ℕ) (m : Fragment) (ms : List Fragment) → AreListed from to (m ∷ ms) → m.head.place ≡ from
+begins_at : (from to : ℕ) (m : Fragment) (ms : List Fragment) → AreListed from to (m ∷ ms) → m.head.sequence ≡ from
 begins_at from to m [] run = run.1
 begins_at from to m (n ∷ ms) run = run.1
 
-no_gap : (stream : Stream) (m n : Fragment) (others : List Fragment) → n.head.place ≡ (tail m).place + 1 → gap_line stream m (n ∷ others) ≡ []
+no_gap : (stream : Stream) (m n : Fragment) (others : List Fragment) → n.head.sequence ≡ (tail m).sequence + 1 → gap_line stream m (n ∷ others) ≡ []
 unfolding gap_text
-no_gap stream m n others next = ap (λ b. gap_text stream (tail m).place b) next ∙ ap (λ b. if b then codes "gap" ++ (stream_text stream ++ (range_text ((tail m).place + 1) ((tail m).place + 1 - 1) ++ line_feed)) else []) (not_less ((tail m).place + 1))
+no_gap stream m n others next = ap (λ b. gap_text stream (tail m).sequence b) next ∙ ap (λ b. if b then codes "gap" ++ (stream_text stream ++ (range_text ((tail m).sequence + 1) ((tail m).sequence + 1 - 1) ++ line_feed)) else []) (not_less ((tail m).sequence + 1))
 
 -- ---- a stream
 
@@ -84,8 +84,8 @@ rest_listed stream k from (m ∷ []) rest ks (is, begins, ends) keeps same =
     ∙ ap (λ l. l ++ rest_lines stream rest) (gap_same stream m k rest ks keeps ends) ∙ ap (λ l. kept_gap stream k ks ++ l) same
 rest_listed stream k from (m ∷ n ∷ ms) rest ks (is, begins, run) keeps same =
     ap (λ l. l ++ gap_line stream m (n ∷ (ms ++ rest)) ++ rest_lines stream (n ∷ (ms ++ rest))) (no_part stream m is)
-    ∙ ap (λ l. l ++ rest_lines stream (n ∷ (ms ++ rest))) (no_gap stream m n (ms ++ rest) (begins_at ((tail m).place + 1) k.to n ms run))
-    ∙ rest_listed stream k ((tail m).place + 1) (n ∷ ms) rest ks run keeps same
+    ∙ ap (λ l. l ++ rest_lines stream (n ∷ (ms ++ rest))) (no_gap stream m n (ms ++ rest) (begins_at ((tail m).sequence + 1) k.to n ms run))
+    ∙ rest_listed stream k ((tail m).sequence + 1) (n ∷ ms) rest ks run keeps same
 
 pub rest_same : (stream : Stream) (ps : List Fragment) (ks : List Kept) → KeepsPieces ps ks → rest_lines stream ps ≡ kept_rest stream ks
 rest_same stream ps [] none = ap (λ (l : List Fragment). rest_lines stream l) none
@@ -101,16 +101,16 @@ rest_same stream ps (k ∷ ks) (held, rest, is, (inr (p, one, is_open), left), k
 
 -- ---- all streams
 
-pub all_same : (packets : List Captured) (keys : List Stream) (orders : List (List Placed)) (places : List Places) → KeepsEachOrdered packets keys orders places
-    → flat_map (λ (stream, segments). rest_lines stream (fragments_of segments)) (zip keys orders) ≡ all_kept_rest keys places
+pub all_same : (packets : List Captured) (keys : List Stream) (orders : List (List Sequenced)) (by_stream : List KeptSegments) → KeepsEachOrdered packets keys orders by_stream
+    → flat_map (λ (stream, segments). rest_lines stream (fragments_of segments)) (zip keys orders) ≡ all_kept_rest keys by_stream
 all_same packets [] [] [] each = refl
-all_same packets [] [] (p ∷ places) each = absurd each
-all_same packets [] (o ∷ orders) places each = absurd each
-all_same packets (s ∷ keys) [] places each = absurd each
+all_same packets [] [] (p ∷ by_stream) each = absurd each
+all_same packets [] (o ∷ orders) by_stream each = absurd each
+all_same packets (s ∷ keys) [] by_stream each = absurd each
 all_same packets (s ∷ keys) (o ∷ orders) [] each = absurd each
-all_same packets (s ∷ keys) (o ∷ orders) (p ∷ places) each =
+all_same packets (s ∷ keys) (o ∷ orders) (p ∷ by_stream) each =
     ap (λ l. l ++ flat_map (λ (stream, segments). rest_lines stream (fragments_of segments)) (zip keys orders)) (rest_same s (fragments_of o) p.kept.items each.0.keeps.keeps)
-    ∙ ap (λ l. kept_rest s p.kept.items ++ l) (all_same packets keys orders places each.1)
+    ∙ ap (λ l. kept_rest s p.kept.items ++ l) (all_same packets keys orders by_stream each.1)
 
 -- ---- the program's loops
 
@@ -125,19 +125,19 @@ drop_key [] i s is = absurd (none_some s is)
 drop_key (k ∷ keys) zero s is = let same : k ≡ s = cc in ap (λ (t : Stream). t ∷ keys) same
 drop_key (k ∷ keys) (suc i) s is = rw add-one (rw add-one at (drop_key keys i s is))
 
-drop_place : (places : List Places) (i : ℕ) (d : Places) → i < length places → drop i places ≡ get_or places i d ∷ drop (i + 1) places
-drop_place [] i d below = absurd (omega arith)
-drop_place (p ∷ places) zero d below = refl
-drop_place (p ∷ places) (suc i) d below = rw add-one (rw add-one at (drop_place places i d (omega arith)))
+drop_sequence : (by_stream : List KeptSegments) (i : ℕ) (d : KeptSegments) → i < length by_stream → drop i by_stream ≡ get_or by_stream i d ∷ drop (i + 1) by_stream
+drop_sequence [] i d below = absurd (omega arith)
+drop_sequence (p ∷ by_stream) zero d below = refl
+drop_sequence (p ∷ by_stream) (suc i) d below = rw add-one (rw add-one at (drop_sequence by_stream i d (omega arith)))
 
-pub rest_more : (keys : List Stream) (places : List Places) (i : ℕ) (d : Places) (s : Stream) (old new whole : List ℕ) → i < length places → slice_get keys i ≡ Some s
-    → new ≡ old ++ kept_rest s (get_or places i d).kept.items → old ++ all_kept_rest (drop i keys) (drop i places) ≡ whole
-    → new ++ all_kept_rest (drop (i + 1) keys) (drop (i + 1) places) ≡ whole
-rest_more keys places i d s old new whole below is added before =
-    let line = kept_rest s (get_or places i d).kept.items in
-    let others = all_kept_rest (drop (i + 1) keys) (drop (i + 1) places) in
-    let both : all_kept_rest (drop i keys) (drop i places) ≡ line ++ others =
-    ap (λ (l : List Stream). all_kept_rest l (drop i places)) (drop_key keys i s is) ∙ ap (λ (l : List Places). all_kept_rest (s ∷ drop (i + 1) keys) l) (drop_place places i d below) in
+pub rest_more : (keys : List Stream) (by_stream : List KeptSegments) (i : ℕ) (d : KeptSegments) (s : Stream) (old new whole : List ℕ) → i < length by_stream → slice_get keys i ≡ Some s
+    → new ≡ old ++ kept_rest s (get_or by_stream i d).kept.items → old ++ all_kept_rest (drop i keys) (drop i by_stream) ≡ whole
+    → new ++ all_kept_rest (drop (i + 1) keys) (drop (i + 1) by_stream) ≡ whole
+rest_more keys by_stream i d s old new whole below is added before =
+    let line = kept_rest s (get_or by_stream i d).kept.items in
+    let others = all_kept_rest (drop (i + 1) keys) (drop (i + 1) by_stream) in
+    let both : all_kept_rest (drop i keys) (drop i by_stream) ≡ line ++ others =
+    ap (λ (l : List Stream). all_kept_rest l (drop i by_stream)) (drop_key keys i s is) ∙ ap (λ (l : List KeptSegments). all_kept_rest (s ∷ drop (i + 1) keys) l) (drop_sequence by_stream i d below) in
     ap (λ (l : List ℕ). l ++ others) added ∙ append_assoc old line others ∙ ap (λ (l : List ℕ). old ++ l) (sym both) ∙ before
 
 no_keys : (keys : List Stream) (i : ℕ) → slice_get keys i ≡ None → drop i keys ≡ []
@@ -146,19 +146,19 @@ no_keys [] (suc i) none = refl
 no_keys (k ∷ keys) zero none = absurd (some_none k none)
 no_keys (k ∷ keys) (suc i) none = no_keys keys i none
 
-no_places : (places : List Places) (i : ℕ) → length places ≤ i → drop i places ≡ []
-no_places [] zero end = refl
-no_places [] (suc i) end = refl
-no_places (p ∷ places) zero end = absurd (omega arith)
-no_places (p ∷ places) (suc i) end = no_places places i (omega arith)
+no_more_streams : (by_stream : List KeptSegments) (i : ℕ) → length by_stream ≤ i → drop i by_stream ≡ []
+no_more_streams [] zero end = refl
+no_more_streams [] (suc i) end = refl
+no_more_streams (p ∷ by_stream) zero end = absurd (omega arith)
+no_more_streams (p ∷ by_stream) (suc i) end = no_more_streams by_stream i (omega arith)
 
 no_zip : (keys : List Stream) → all_kept_rest keys [] ≡ []
 no_zip [] = refl
 no_zip (k ∷ keys) = refl
 
-pub rest_ends : (keys : List Stream) (places : List Places) (i : ℕ) (text whole : List ℕ) → (slice_get keys i ≡ None) ⊎ (length places ≤ i)
-    → text ++ all_kept_rest (drop i keys) (drop i places) ≡ whole → text ≡ whole
-rest_ends keys places i text whole (inl none) is =
-    sym (append-nil text) ∙ ap (λ l. text ++ l) (sym (ap (λ (l : List Stream). all_kept_rest l (drop i places)) (no_keys keys i none))) ∙ is
-rest_ends keys places i text whole (inr end) is =
-    sym (append-nil text) ∙ ap (λ l. text ++ l) (sym (ap (λ (l : List Places). all_kept_rest (drop i keys) l) (no_places places i end) ∙ no_zip (drop i keys))) ∙ is
+pub rest_ends : (keys : List Stream) (by_stream : List KeptSegments) (i : ℕ) (text whole : List ℕ) → (slice_get keys i ≡ None) ⊎ (length by_stream ≤ i)
+    → text ++ all_kept_rest (drop i keys) (drop i by_stream) ≡ whole → text ≡ whole
+rest_ends keys by_stream i text whole (inl none) is =
+    sym (append-nil text) ∙ ap (λ l. text ++ l) (sym (ap (λ (l : List Stream). all_kept_rest l (drop i by_stream)) (no_keys keys i none))) ∙ is
+rest_ends keys by_stream i text whole (inr end) is =
+    sym (append-nil text) ∙ ap (λ l. text ++ l) (sym (ap (λ (l : List KeptSegments). all_kept_rest (drop i keys) l) (no_more_streams by_stream i end) ∙ no_zip (drop i keys))) ∙ is

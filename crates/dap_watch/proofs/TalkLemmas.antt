@@ -256,7 +256,7 @@ sates_back (x ∷ xs) ys all = sates_back xs ys all.1
 
 talked_so : (first now : Watching) (input rest said : List ℕ) (were : List (Option Became)) → Talked answered waiting first input now rest said were → Starts first
     → AllByRecursion (λ became. became ≢ Some NoMemory) were → WatchedSo first.in_words input rest said were now
-talked_so first now input rest said were Talked.begins start never = record {
+talked_so first now input rest said were Talked.no_line_more start never = record {
   captured = [];
   watches = start.watches (heard_frames input);
   are = refl;
@@ -265,7 +265,7 @@ talked_so first now input rest said were Talked.begins start never = record {
   many = sym start.packets;
   bad = refl;
 }
-talked_so first new input rest said were (Talked.goes now left before_said more before became talked some says) start never =
+talked_so first new input rest said were (Talked.one_line_more now left before_said more before became talked some says) start never =
     let w = talked_so first now input left before_said before talked start (sates_front before (became ∷ []) never) in
     let one = (sates_back before (became ∷ []) never).0 in
     subst (λ l. WatchedSo first.in_words input (drop_through 10 left) (before_said ++ l) (before ++ became ∷ []) new) (sym says.says)
@@ -282,9 +282,9 @@ front_behind old mid new first second before front = (
 
 -- all lines were read
 all_read : (words : Bool) (input said : List ℕ) (were : List (Option Became)) (now : Watching) → WatchedSo words input [] said were now
-    → IsWatched words (captures packet_limit input) (heard_frames input) said (all_kept_rest now.streams.names.keys now.streams.places.items)
+    → IsWatched words (captures packet_limit input) (heard_frames input) said (all_kept_rest now.streams.names.keys now.streams.by_stream.items)
 all_read words input said were now w =
-    subst (λ (l : List Capture). IsWatched words l (heard_frames input) said (all_kept_rest now.streams.names.keys now.streams.places.items)) (sym (w.are ∙ append-nil w.captured)) (is_watched words (heard_frames input) w.captured said now w.watches)
+    subst (λ (l : List Capture). IsWatched words l (heard_frames input) said (all_kept_rest now.streams.names.keys now.streams.by_stream.items)) (sym (w.are ∙ append-nil w.captured)) (is_watched words (heard_frames input) w.captured said now w.watches)
 
 -- what is known where a talk ended with its input
 abbrev pub HasEnded : Watching → Watching → (unread held mid : Option (List ℕ)) → Bool → Type 0
@@ -296,11 +296,11 @@ so_far : (first now : Watching) (input text : List ℕ) (were : List (Option Bec
 so_far first now input text were start talked unbroken = talked_so first now input [] text were talked start (unbroken (λ e. refl))
 
 pub gives : (first now : Watching) (unread held mid holds : Option (List ℕ)) (bad : Bool) → Starts first → HasEnded first now unread held mid bad
-    → Appends mid holds (all_kept_rest now.streams.names.keys now.streams.places.items) → IfSome unread (λ input. WatchGives first.in_words input held holds)
+    → Appends mid holds (all_kept_rest now.streams.names.keys now.streams.by_stream.items) → IfSome unread (λ input. WatchGives first.in_words input held holds)
 gives first now None held mid holds bad start ended wrote = _
 gives first now (Some input) held mid holds bad start (text, were, talked, held_so, is, unbroken) wrote =
     let w = so_far first now input text were start talked unbroken in
-    let rest = all_kept_rest now.streams.names.keys now.streams.places.items in
+    let rest = all_kept_rest now.streams.names.keys now.streams.by_stream.items in
     (text, rest, all_read first.in_words input text were now w, Appends-trans held mid holds text rest held_so wrote)
 
 pub tells_bad : (first now : Watching) (unread held mid : Option (List ℕ)) (bad : Bool) → Starts first → HasEnded first now unread held mid bad
@@ -312,17 +312,17 @@ tells_bad first now (Some input) held mid bad start (text, were, talked, held_so
 
 -- the rest wasn't written
 pub ends_short : (first now : Watching) (unread held mid holds : Option (List ℕ)) (bad : Bool) (f : CaptureFault) → Starts first → HasEnded first now unread held mid bad
-    → ((f ≡ OutOfMemory) × Keeps mid holds) ⊎ ((f ≡ WriteFailed) × WritesFront mid holds (all_kept_rest now.streams.names.keys now.streams.places.items))
+    → ((f ≡ OutOfMemory) × Keeps mid holds) ⊎ ((f ≡ WriteFailed) × WritesFront mid holds (all_kept_rest now.streams.names.keys now.streams.by_stream.items))
     → IfSome unread (λ input. WatchFails first.in_words input held holds f)
 ends_short first now None held mid holds bad f start ended short = _
 ends_short first now (Some input) held mid holds bad f start (text, were, talked, held_so, is, unbroken) (inl (same, keeps)) =
     let w = so_far first now input text were start talked unbroken in
-    let rest = all_kept_rest now.streams.names.keys now.streams.places.items in
+    let rest = all_kept_rest now.streams.names.keys now.streams.by_stream.items in
     subst (λ (g : CaptureFault). WatchFails first.in_words input held holds g) (sym same)
     ([], text, rest, (captures packet_limit input, sym (append-nil (captures packet_limit input)), all_read first.in_words input text were now w), Appends-kept held mid holds text held_so keeps)
 ends_short first now (Some input) held mid holds bad f start (text, were, talked, held_so, is, unbroken) (inr (same, front)) =
     let w = so_far first now input text were start talked unbroken in
-    let rest = all_kept_rest now.streams.names.keys now.streams.places.items in
+    let rest = all_kept_rest now.streams.names.keys now.streams.by_stream.items in
     subst (λ (g : CaptureFault). WatchFails first.in_words input held holds g) (sym same)
     ([], text, rest, (captures packet_limit input, sym (append-nil (captures packet_limit input)), all_read first.in_words input text were now w), inr (refl, front_behind held mid holds text rest held_so front))
 
@@ -331,7 +331,7 @@ ends_short first now (Some input) held mid holds bad f start (text, were, talked
 -- what was written so far is the text of the packets so far
 some_read : (words : Bool) (input rest said : List ℕ) (were : List (Option Became)) (now : Watching) → WatchedSo words input rest said were now → (left : List Capture) × (after : List ℕ) × IsWatchedTo words input left said after
 some_read words input rest said were now w =
-    (captures packet_limit rest, all_kept_rest now.streams.names.keys now.streams.places.items, (w.captured, w.are, is_watched words (heard_frames input) w.captured said now w.watches))
+    (captures packet_limit rest, all_kept_rest now.streams.names.keys now.streams.by_stream.items, (w.captured, w.are, is_watched words (heard_frames input) w.captured said now w.watches))
 
 -- a line to which memory is refused has no text
 no_text : (now : Watching) (line : List ℕ) (new : Watching) (text : List ℕ) → AnswersLine answered waiting now line new text (Some NoMemory) → text ≡ []
@@ -350,8 +350,8 @@ snoc_is (x ∷ xs) (y ∷ ys) a b e =
 
 memory_last : (first now : Watching) (input rest said : List ℕ) (all were : List (Option Became)) → Talked answered waiting first input now rest said all → all ≡ were ++ Some NoMemory ∷ [] → Starts first
     → AllByRecursion (λ became. became ≢ Some NoMemory) were → (left : List Capture) × (after : List ℕ) × IsWatchedTo first.in_words input left said after
-memory_last first now input rest said all were Talked.begins is start never = absurd (omega (arith, ap length is, length-append were (Some NoMemory ∷ [])))
-memory_last first new input rest said all were (Talked.goes now left before_said more before became talked some says) is start never =
+memory_last first now input rest said all were Talked.no_line_more is start never = absurd (omega (arith, ap length is, length-append were (Some NoMemory ∷ [])))
+memory_last first new input rest said all were (Talked.one_line_more now left before_said more before became talked some says) is start never =
     let same = snoc_is before were became (Some NoMemory) is in
     let w = talked_so first now input left before_said before talked start (subst (λ (l : List (Option Became)). AllByRecursion (λ b. b ≢ Some NoMemory) l) (sym same.0) never) in
     let answers = subst (λ (b : Option Became). AnswersLine answered waiting now (first_line left) new says.text b) same.1 says.answers in

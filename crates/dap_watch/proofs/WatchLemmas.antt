@@ -8,7 +8,7 @@ use Rattle.dap_listing.specs.Lines.{Capture}
 use Rattle.dap_listing.specs.Packets.{IsSeen, Seen}
 use Rattle.dap_listing.specs.declared.lines.Direction.{Direction}
 use Rattle.dap_listing.proofs.ForCallers.{decoded}
-use Rattle.dap_follow.specs.Streams.{Captured, IsOrdered, Placed, came_in, first_place, streams, ArePlaced}
+use Rattle.dap_follow.specs.Streams.{Captured, IsOrdered, Sequenced, came_in, first_sequence, streams, AreSequenced}
 use Rattle.dap_follow.specs.Joined.{Message, Fragment, is_message, latest, fragment_message, messages, fragments_of}
 use Rattle.dap_meanings.specs.Frames.{frame_words}
 use Rattle.dap_follow.specs.Following.{IsMessageText, IsFollowedPacketText, frame_of, packet_line, rest_lines}
@@ -21,8 +21,8 @@ use Rattle.dap_watch.specs.Inner.Kept.{AreTold, IsWholeMessage}
 use Rattle.dap_watch.specs.Inner.Streams.{Grows, KeepsAllOrdered, KeepsEachOrdered, KeepsStreamOrdered}
 use Rattle.dap_watch.specs.Inner.Rest.{all_kept_rest}
 use Rattle.dap_watch.specs.Inner.Watching.{TellsPacket, Watches}
-use Rattle.dap_watch.specs.declared.places.Places.{Places}
-use Rattle.dap_watch.specs.declared.places.Whole.{Whole}
+use Rattle.dap_watch.specs.declared.kept.KeptSegments.{KeptSegments}
+use Rattle.dap_watch.specs.declared.kept.Whole.{Whole}
 use Rattle.dap_watch.specs.declared.streams.Streams.{Streams}
 use Rattle.dap_watch.specs.declared.watching.Watching.{Watching}
 use Rattle.dap_watch.proofs.GlueLemmas.{all_back, all_front, all_weaker, latest_below, segments_pieces}
@@ -47,19 +47,19 @@ messages_append : (n : ℕ) (ms ns : List Message) → AllByRecursion (λ m. m.p
 messages_append n [] ns one two = two
 messages_append n (m ∷ ms) ns one two = (one.0, messages_append n ms ns one.1 two)
 
-upto : (packets : List Captured) (keys : List Stream) (orders : List (List Placed)) (places : List Places) → KeepsEachOrdered packets keys orders places
+upto : (packets : List Captured) (keys : List Stream) (orders : List (List Sequenced)) (by_stream : List KeptSegments) → KeepsEachOrdered packets keys orders by_stream
     → AllByRecursion (λ m. m.packet ≤ length packets) (flat_map messages orders)
 upto packets [] [] [] each = tt
-upto packets [] [] (p ∷ places) each = absurd each
-upto packets [] (o ∷ orders) places each = absurd each
-upto packets (s ∷ keys) [] places each = absurd each
+upto packets [] [] (p ∷ by_stream) each = absurd each
+upto packets [] (o ∷ orders) by_stream each = absurd each
+upto packets (s ∷ keys) [] by_stream each = absurd each
 upto packets (s ∷ keys) (o ∷ orders) [] each = absurd each
-upto packets (s ∷ keys) (o ∷ orders) (p ∷ places) each =
+upto packets (s ∷ keys) (o ∷ orders) (p ∷ by_stream) each =
     let numbered : AllByRecursion (λ t. t.packet < 1 + length packets) o = each.0.keeps.numbered in
     let low : AllByRecursion (λ t. t.packet ≤ length packets) o = all_weaker (λ t. t.packet < 1 + length packets) (λ t. t.packet ≤ length packets) o (λ t less. omega (arith, less)) numbered in
     messages_append (length packets) (messages o) (flat_map messages orders)
     (pieces_upto (length packets) (fragments_of o) (subst (λ l. AllByRecursion (λ t. t.packet ≤ length packets) l) (sym (segments_pieces o)) low))
-    (upto packets keys orders places each.1)
+    (upto packets keys orders by_stream each.1)
 
 -- ---- messages under a packet
 
@@ -153,7 +153,7 @@ message_texts words (m ∷ ms) (t ∷ texts) all = (all.0, message_texts words m
 pub watches_more : (words : Bool) (frames : List (List (List ℕ))) (captured : List Capture) (written : List ℕ) (old new : Watching) (way : Direction) (digits : List ℕ) (seen : Seen) (text first : List ℕ) (start : Streams)
     → frame_of frames (old.packets + 1) ≡ frame_words old.before.items → Watches words frames captured written old → Spell digits (length digits / 2) → IsSeen seen (digit_bytes digits) → new.in_words ≡ old.in_words → new.packets ≡ old.packets + 1 → old.packets + 1 ≤ 2 ^ 50 → start ≡ old.streams
     → first ≡ packet_line old.in_words (frame_words old.before.items) (old.packets + 1) (way, seen)
-    → ((packets : List Captured) (ordered : List (List Placed)) → length packets < 2 ^ 50 → KeepsAllOrdered packets ordered start → TellsPacket old.in_words packets (way, seen) ordered new.streams first text)
+    → ((packets : List Captured) (ordered : List (List Sequenced)) → length packets < 2 ^ 50 → KeepsAllOrdered packets ordered start → TellsPacket old.in_words packets (way, seen) ordered new.streams first text)
     → Watches words frames (captured ++ (way, digits) ∷ []) (written ++ text) new
 watches_more words frames captured written old new way digits seen text first start framed w spelled is wanted count most same line tells =
     let n : ℕ = length w.packets in
@@ -165,7 +165,7 @@ watches_more words frames captured written old new way digits seen text first st
     let all = flat_map messages w.ordered in
     let later = flat_map messages t.later in
     let packets = w.packets ++ x ∷ [] in
-    let low = upto w.packets old.streams.names.keys w.ordered old.streams.places.items w.keeps.each in
+    let low = upto w.packets old.streams.names.keys w.ordered old.streams.by_stream.items w.keeps.each in
     let here : filter (λ m. m.packet == 1 + n) later ≡ map fragment_message t.ms = these_under n all later t.front t.back t.ms t.before t.after t.whole low in
     let own_line : first ≡ packet_line words (frame_of frames (1 + n)) (1 + n) x =
     line ∙ ap (λ (b : Bool). packet_line b (frame_words old.before.items) (old.packets + 1) x) w.words
@@ -193,7 +193,7 @@ watches_more words frames captured written old new way digits seen text first st
 
 -- ---- what a packet tells
 
-pub tells_message : (words : Bool) (packets : List Captured) (x : Captured) (ordered : List (List Placed)) (new : Streams) (digits : List ℕ) (w : Whole) (old_text new_text : List ℕ)
+pub tells_message : (words : Bool) (packets : List Captured) (x : Captured) (ordered : List (List Sequenced)) (new : Streams) (digits : List ℕ) (w : Whole) (old_text new_text : List ℕ)
     → Grows packets x ordered new digits (Some w) → ((m : Fragment) → IsWholeMessage digits w m → (text : List ℕ) × IsMessageText words m text × (new_text ≡ old_text ++ text))
     → TellsPacket words packets x ordered new old_text new_text
 tells_message words packets x ordered new digits w old_text new_text g said =
@@ -215,7 +215,7 @@ tells_message words packets x ordered new digits w old_text new_text g said =
       added = text.2 ∙ ap (λ l. old_text ++ l) (sym (append-nil text.0));
     }
 
-pub tells_none : (words : Bool) (packets : List Captured) (x : Captured) (ordered : List (List Placed)) (new : Streams) (digits : List ℕ) (text : List ℕ)
+pub tells_none : (words : Bool) (packets : List Captured) (x : Captured) (ordered : List (List Sequenced)) (new : Streams) (digits : List ℕ) (text : List ℕ)
     → Grows packets x ordered new digits None → TellsPacket words packets x ordered new text text
 tells_none words packets x ordered new digits text g =
     let a = g.added in
@@ -234,7 +234,7 @@ tells_none words packets x ordered new digits text g =
       added = sym (append-nil text);
     }
 
-pub tells_aside : (words : Bool) (packets : List Captured) (x : Captured) (ordered : List (List Placed)) (new : Streams) (text : List ℕ) → KeepsAllOrdered (packets ++ x ∷ []) ordered new → TellsPacket words packets x ordered new text text
+pub tells_aside : (words : Bool) (packets : List Captured) (x : Captured) (ordered : List (List Sequenced)) (new : Streams) (text : List ℕ) → KeepsAllOrdered (packets ++ x ∷ []) ordered new → TellsPacket words packets x ordered new text text
 tells_aside words packets x ordered new text keeps = record {
   later = ordered;
   keeps = keeps;
@@ -251,25 +251,25 @@ tells_aside words packets x ordered new text keeps = record {
 
 -- ---- at the end
 
-is_ordered : (packets : List Captured) (s : Stream) (o : List Placed) (p : Places) → KeepsStreamOrdered packets s o p → IsOrdered (came_in s packets) o
+is_ordered : (packets : List Captured) (s : Stream) (o : List Sequenced) (p : KeptSegments) → KeepsStreamOrdered packets s o p → IsOrdered (came_in s packets) o
 is_ordered packets s o p k = record {
-  placed = k.placed;
-  are_placed = subst (λ (l : List NumberedSegment). ArePlaced (first_place l) l k.placed) (sym k.are) k.are_placed;
+  sequenced = k.sequenced;
+  are_sequenced = subst (λ (l : List NumberedSegment). AreSequenced (first_sequence l) l k.sequenced) (sym k.are) k.are_sequenced;
   ascending = ascending o k.keeps.rises;
   same = k.same;
 }
 
-are_ordered : (packets : List Captured) (keys : List Stream) (orders : List (List Placed)) (places : List Places) → KeepsEachOrdered packets keys orders places
+are_ordered : (packets : List Captured) (keys : List Stream) (orders : List (List Sequenced)) (by_stream : List KeptSegments) → KeepsEachOrdered packets keys orders by_stream
     → AllZip (λ stream. IsOrdered (came_in stream packets)) keys orders
 are_ordered packets [] [] [] each = tt
-are_ordered packets [] [] (p ∷ places) each = absurd each
-are_ordered packets [] (o ∷ orders) places each = absurd each
-are_ordered packets (s ∷ keys) [] places each = absurd each
+are_ordered packets [] [] (p ∷ by_stream) each = absurd each
+are_ordered packets [] (o ∷ orders) by_stream each = absurd each
+are_ordered packets (s ∷ keys) [] by_stream each = absurd each
 are_ordered packets (s ∷ keys) (o ∷ orders) [] each = absurd each
-are_ordered packets (s ∷ keys) (o ∷ orders) (p ∷ places) each = (is_ordered packets s o p each.0, are_ordered packets keys orders places each.1)
+are_ordered packets (s ∷ keys) (o ∷ orders) (p ∷ by_stream) each = (is_ordered packets s o p each.0, are_ordered packets keys orders by_stream each.1)
 
 pub is_watched : (words : Bool) (frames : List (List (List ℕ))) (captured : List Capture) (written : List ℕ) (w : Watching) → Watches words frames captured written w
-    → IsWatched words captured frames written (all_kept_rest w.streams.names.keys w.streams.places.items)
+    → IsWatched words captured frames written (all_kept_rest w.streams.names.keys w.streams.by_stream.items)
 is_watched words frames captured written w k =
     let keys = w.streams.names.keys in
     let names : keys ≡ streams k.packets = k.keeps.names in
@@ -278,9 +278,9 @@ is_watched words frames captured written w k =
       ordered = k.ordered;
       texts = k.texts;
       are_seen = k.are_seen;
-      are_ordered = subst (λ (l : List Stream). AllZip (λ stream. IsOrdered (came_in stream k.packets)) l k.ordered) names (are_ordered k.packets keys k.ordered w.streams.places.items k.keeps.each);
+      are_ordered = subst (λ (l : List Stream). AllZip (λ stream. IsOrdered (came_in stream k.packets)) l k.ordered) names (are_ordered k.packets keys k.ordered w.streams.by_stream.items k.keeps.each);
       are_texts = k.are_texts;
       written_is = k.written_is;
-      rest_is = sym (all_same k.packets keys k.ordered w.streams.places.items k.keeps.each)
+      rest_is = sym (all_same k.packets keys k.ordered w.streams.by_stream.items k.keeps.each)
           ∙ ap (λ (l : List Stream). flat_map (λ (stream, segments). rest_lines stream (fragments_of segments)) (zip l k.ordered)) names;
     }

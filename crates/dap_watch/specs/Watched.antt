@@ -9,7 +9,7 @@ use Rattle.linewise.specs.declared.fault.CaptureFault.TheVariants.{BadLine, TooL
 use Rattle.dap_listing.specs.Lines.{Capture, line_of}
 use Rattle.std.specs.Str.Lines.{lines}
 use Rattle.dap_listing.specs.Listing.{captures, frames_after, packet_limit}
-use Rattle.dap_follow.specs.Streams.{IsOrdered, Captured, Placed, came_in, streams}
+use Rattle.dap_follow.specs.Streams.{IsOrdered, Captured, Sequenced, came_in, streams}
 use Rattle.dap_follow.specs.Joined.{Fragment, is_message, latest, messages, fragments_of}
 use Rattle.dap_follow.specs.Following.{IsCaptured, IsFollowedPacketText, rest_lines}
 
@@ -22,15 +22,15 @@ abbrev pub is_whole_with : ℕ → Fragment → Bool
 is_whole_with packet p = is_message p && (whole_with p == packet)
 
 -- the messages of a stream that are whole with a packet
-abbrev pub whole_at : ℕ → List Placed → List Fragment
+abbrev pub whole_at : ℕ → List Sequenced → List Fragment
 whole_at packet ordered = filter (is_whole_with packet) (fragments_of ordered)
 
 -- What is written when these lines came, and what would be written if the capture ended with them. By the law
--- `watched_captures_are_followed` both together are the listing of `follow`. The frames are the words of the line directly
--- before each packet.
+-- `watched_captures_are_followed` both together are the listing of `follow`. The frames are the words of the line
+-- directly before each packet.
 pub record IsWatched (in_words : Bool) (captured : List Capture) (frames : List (List (List ℕ))) (written rest : List ℕ) : Type 0 where
   pub packets : List Captured
-  pub ordered : List (List Placed)
+  pub ordered : List (List Sequenced)
   pub texts : List (List ℕ)
   pub are_seen : AllZip IsCaptured captured packets
   pub are_ordered : AllZip (λ stream. IsOrdered (came_in stream packets)) (streams packets) ordered
@@ -42,13 +42,13 @@ pub record IsWatched (in_words : Bool) (captured : List Capture) (frames : List 
 abbrev pub heard_lines : List ℕ → List (List ℕ)
 heard_lines input = filter (λ line. nat_le (length line) max_line) (lines input)
 
--- Of each packet of an input, the words of the line directly before it. A line that is too long counts as none: it is as if
--- the lines around it were one after the other. By the law `short_inputs_have_their_frames` an input without such a line, as
--- each that `follow` takes, has the frames that it has there.
+-- Of each packet of an input, the words of the line directly before it. A line that is too long counts as none: it is
+-- as if the lines around it were one after the other. By the law `short_inputs_have_their_frames` an input without
+-- such a line, as each that `follow` takes, has the frames that it has there.
 abbrev pub heard_frames : List ℕ → List (List (List ℕ))
 heard_frames input = frames_after packet_limit [] (heard_lines input)
 
--- a line that is none of a capture, or that is too long: it is told, and has no packet
+-- a line that is none of a capture, or that is too long: it is reported, and has no packet
 abbrev pub is_refused : List ℕ → Bool
 is_refused line = nat_lt max_line (length line) || is_err (line_of packet_limit line)
 
@@ -62,8 +62,8 @@ abbrev pub WatchGives : (in_words : Bool) → (input : List ℕ) → (held holds
 WatchGives in_words input held holds =
     (written rest : List ℕ) × IsWatched in_words (captures packet_limit input) (heard_frames input) written rest × Appends held holds (written ++ rest)
 
--- What the writer holds where that failed: the lines of the packets so far, or a prefix of them where it is the writer that failed.
--- A line at fault doesn't end the listing.
+-- What the writer holds where that failed: the lines of the packets so far, or a prefix of them where it is the writer
+-- that failed. A line at fault doesn't end the listing.
 abbrev pub WatchFails : (in_words : Bool) → (input : List ℕ) → (held holds : Option (List ℕ)) → CaptureFault → Type 0
 WatchFails in_words input held holds WriteFailed =
     (left : List Capture) × (written rest : List ℕ) × IsWatchedTo in_words input left written rest

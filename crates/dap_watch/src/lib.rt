@@ -1,8 +1,8 @@
 //! The listing of a capture in which messages are reassembled, written as its lines come.
 #![tactic(auto)]
 
+mod kept;
 mod laws;
-mod places;
 mod rest;
 mod streams;
 mod watching;

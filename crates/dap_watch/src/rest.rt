@@ -4,7 +4,7 @@ ghost use Rattle.std.specs.Prelude.{◌≡◌, OnOk};
 ghost use Rattle.dap_text.specs.Adding.{Adds};
 ghost use Rattle.dap_watch.specs.Inner.Rest.{all_kept_rest, kept_gap, kept_part, kept_rest};
 
-use crate::places::Kept;
+use crate::kept::Kept;
 use crate::streams::Streams;
 use dap_follow::{Stream, push_length, push_range, push_stream};
 use dap_text::push_str;
@@ -75,15 +75,15 @@ pub(crate) fn push_all(
     streams: &Streams,
 ) -> Result<(), AllocError>
     ensures { OnOk result (Adds text.old text.new
-        (all_kept_rest streams.now.names.keys streams.now.places.items)) }
+        (all_kept_rest streams.now.names.keys streams.now.by_stream.items)) }
 {
     let mut digits = Vec::new(alloc);
     let mut at = 0;
-    while at < streams.places.len() {
+    while at < streams.by_stream.len() {
         let Some(stream) = streams.names.get_index(at) else {
             return Ok(());
         };
-        push_rest(text, stream, &streams.places[at].kept, &mut digits)?;
+        push_rest(text, stream, &streams.by_stream[at].kept, &mut digits)?;
         at += 1;
     }
     Ok(())

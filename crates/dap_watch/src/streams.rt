@@ -3,10 +3,10 @@
 ghost use Rattle.std.specs.Prelude.{◌≡◌, ◌<◌, ◌/◌, ◌^◌, ◌∷◌, [], List, IfOk, IfSome, length};
 ghost use Rattle.dap_listing.specs.Captured.{Spell};
 ghost use Rattle.dap_follow.specs.Segments.{captured_segment};
-ghost use Rattle.dap_follow.specs.Streams.{Captured, Placed};
+ghost use Rattle.dap_follow.specs.Streams.{Captured, Sequenced};
 ghost use Rattle.dap_watch.specs.Inner.Streams.{Grows, IsIndexedStream, KeepsAllOrdered};
 
-use crate::places::{Places, Whole};
+use crate::kept::{KeptSegments, Whole};
 use dap_follow::Stream;
 use dap_listing::{CapturedSegment, Direction};
 use indexmap::IndexSet;
@@ -18,33 +18,33 @@ use std::alloc::{AllocError, Global};
 pub(crate) struct Streams {
     pub(crate) alloc: Global,
     pub(crate) names: IndexSet<Stream>,
-    pub(crate) places: Vec<Places>,
+    pub(crate) by_stream: Vec<KeptSegments>,
 }
 
 impl Streams {
-    /// No streams. It takes no memory.
+    /// Returns no streams. It takes no memory.
     pub(crate) fn new(alloc: Global) -> Self
         ensures { KeepsAllOrdered [] [] result }
     {
         Streams {
             alloc,
             names: IndexSet::new(alloc),
-            places: Vec::new(alloc),
+            by_stream: Vec::new(alloc),
         }
     }
 
-    /// Where what is kept of a stream stands, which begins with the number where it is new.
-    fn place_of(&mut self, stream: Stream, number: Seq12) -> Result<usize, AllocError>
-        ensures within { IfOk result (λ index. index < length self.new.places.items) }
-        ensures indexed { length self.old.names.keys ≡ length self.old.places.items
+    /// Returns the index at which a stream is kept. Where the stream is new, it begins with the number.
+    fn stream_index(&mut self, stream: Stream, number: Seq12) -> Result<usize, AllocError>
+        ensures within { IfOk result (λ index. index < length self.new.by_stream.items) }
+        ensures indexed { length self.old.names.keys ≡ length self.old.by_stream.items
             → IfOk result (IsIndexedStream stream number self.old self.new) }
     {
         let (index, is_new) = self.names.insert_full(stream)?;
-        if !is_new && index < self.places.len() {
+        if !is_new && index < self.by_stream.len() {
             return Ok(index);
         }
-        self.places.push(Places::new(self.alloc, number))?;
-        Ok(self.places.len() - 1)
+        self.by_stream.push(KeptSegments::new(self.alloc, number))?;
+        Ok(self.by_stream.len() - 1)
     }
 
     /// Takes a segment; returns the message that is whole with it, and its digits.
@@ -56,7 +56,7 @@ impl Streams {
     ) -> Result<Option<Whole>, AllocError>
         requires { Spell segment.now.digits.now (length segment.now.digits.now / 2) }
         ensures grows { IfOk result (λ found.
-            (packets : List Captured) (ordered : List (List Placed))
+            (packets : List Captured) (ordered : List (List Sequenced))
             → length packets < 2 ^ 50 → KeepsAllOrdered packets ordered self.old
             → Grows packets (captured_segment way segment.now) ordered self.new digits.new.items
             found) }
@@ -68,7 +68,7 @@ impl Streams {
             dst: segment.dst,
             src: segment.src,
         };
-        let index = self.place_of(stream, segment.number)?;
-        self.places[index].add(segment, digits)
+        let index = self.stream_index(stream, segment.number)?;
+        self.by_stream[index].add(segment, digits)
     }
 }

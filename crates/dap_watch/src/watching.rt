@@ -11,14 +11,14 @@ ghost use Rattle.dap_listing.specs.Captured.{Spell};
 ghost use Rattle.dap_follow.specs.Following.{IsMessageText};
 ghost use Rattle.dap_follow.specs.Segments.{captured_segment};
 ghost use Rattle.dap_follow.specs.Joined.{Fragment};
-ghost use Rattle.dap_follow.specs.Streams.{Captured, Placed};
+ghost use Rattle.dap_follow.specs.Streams.{Captured, Sequenced};
 ghost use Rattle.dap_watch.specs.Inner.Kept.{IsWholeMessage};
 ghost use Rattle.dap_watch.specs.Inner.Rest.{all_kept_rest};
 ghost use Rattle.dap_watch.specs.Inner.Streams.{KeepsAllOrdered};
 ghost use Rattle.dap_watch.specs.Inner.Watching.{WatchesPacket, PassesBy, Starts, TellsPacket};
 ghost use Rattle.dap_watch.specs.Watched.{WatchFails, WatchGives, is_refused};
 
-use crate::places::Whole;
+use crate::kept::Whole;
 use crate::rest::push_all;
 use crate::streams::Streams;
 use dap_follow::{push_length, push_packet_line, push_range};
@@ -31,16 +31,17 @@ use linewise::{Answer, Answers, Became, CaptureFault, talk, write_text};
 use std::alloc::{AllocError, Global};
 use std::io::{BufRead, Write};
 
-/// The most packets of a capture.
+/// The maximum number of packets of a capture.
 const MAX_PACKETS: usize = 1 << 50;
 
-/// A capture as far as its lines came: whether words are wanted, how many packets there were, and what is kept of each stream.
+/// A capture as far as its lines were read: whether words are wanted, how many packets there were, and what is kept of
+/// each stream.
 #[derive(Drop)]
 pub(crate) struct Watching {
     pub(crate) in_words: bool,
     pub(crate) packets: usize,
     pub(crate) streams: Streams,
-    /// The line directly before, where it tells a frame; else nothing.
+    /// The line directly before, where it describes a frame; else nothing.
     pub(crate) before: Vec<u8>,
     /// The digits of a message.
     pub(crate) digits: Vec<u8>,
@@ -69,7 +70,7 @@ fn push_whole(
 }
 
 impl Watching {
-    /// Nothing came yet. It takes no memory.
+    /// Returns a listing of which no line was read yet. It takes no memory.
     fn new(alloc: Global, in_words: bool) -> Self
         ensures words { result.in_words ≡ in_words }
         ensures starts { Starts result }
@@ -95,7 +96,7 @@ impl Watching {
         ensures words { self.new.in_words ≡ self.old.in_words }
         ensures packets { self.new.packets ≡ self.old.packets }
         ensures before { self.new.before ≡ self.old.before }
-        ensures told { OnOk result ((packets : List Captured) (ordered : List (List Placed))
+        ensures told { OnOk result ((packets : List Captured) (ordered : List (List Sequenced))
             → length packets < 2 ^ 50 → KeepsAllOrdered packets ordered self.old.streams
             → TellsPacket self.old.in_words packets (captured_segment way segment.now) ordered
             self.new.streams text.old.items text.new.items) }
@@ -106,7 +107,7 @@ impl Watching {
         push_whole(text, whole, &self.digits, &mut self.room, self.in_words)
     }
 
-    /// Takes a captured packet, and appends its lines. It tells no frame of the packet after it.
+    /// Takes a captured packet, and appends its lines. Its line describes no frame for the packet after it.
     fn push_packet(
         &mut self,
         text: &mut Vec<u8>,
@@ -152,7 +153,7 @@ impl Watching {
 }
 
 impl Watching {
-    /// Takes a line without a packet: it is kept where it tells a frame, and the one before it isn't.
+    /// Takes a line without a packet: it is kept where it describes a frame, and the one before it is dropped.
     fn keep_line(&mut self, line: &[u8]) -> Result<(), AllocError>
         ensures { OnOk result (PassesBy line.now self.old self.new) }
     {
@@ -178,7 +179,7 @@ impl Watching {
 impl Answers for Watching {
     ghost use Rattle.dap_watch.specs.Inner.Watching.{answered, no_pieces, waiting};
 
-    type Place = ();
+    type Cursor = ();
 
     ghost answered = { answered };
 
@@ -199,7 +200,7 @@ impl Answers for Watching {
 
     fn miss(&mut self) {}
 
-    fn more(&self, _place: (), _text: &mut Vec<u8>) -> Result<Option<()>, AllocError> {
+    fn more(&self, _cursor: (), _text: &mut Vec<u8>) -> Result<Option<()>, AllocError> {
         Ok(None)
     }
 
@@ -215,12 +216,12 @@ fn write_rest<W: Write>(
     writer: &mut W,
 ) -> Result<(), CaptureFault>
     ensures whole { OnOk result (Appends (W.contents writer.old) (W.contents writer.new)
-        (all_kept_rest streams.now.names.keys streams.now.places.items)) }
+        (all_kept_rest streams.now.names.keys streams.now.by_stream.items)) }
     ensures fault { IfErr result (λ fault.
         ((fault ≡ CaptureFault.NoMemory) × Keeps (W.contents writer.old) (W.contents writer.new))
         ⊎ ((fault ≡ CaptureFault.WriteFailed)
         × WritesFront (W.contents writer.old) (W.contents writer.new)
-        (all_kept_rest streams.now.names.keys streams.now.places.items))) }
+        (all_kept_rest streams.now.names.keys streams.now.by_stream.items))) }
 {
     let mut text = Vec::new(alloc);
     if push_all(alloc, &mut text, streams).is_err() {
@@ -256,16 +257,16 @@ fn watch_all<R: BufRead, W: Write, F: Write>(
     }
 }
 
-/// Lists the packets of a capture, each before the next line is read, and at the end of the input what is left of each stream;
-/// returns whether some line was bad.
+/// Lists the packets of a capture, each before the next line is read, and at the end of the input what is left of each
+/// stream; returns whether some line was bad.
 ///
-/// Messages are listed under the packet with which they are whole, as `follow` lists them, and with what the lines say in words,
-/// if these are wanted. The comment before a packet is kept until the packet comes. A bad line is reported to the error
-/// writer by its number, from 1, and has no packet. What is kept is the segments of messages that aren't whole, and 48 bytes for
-/// each gap. A capture has at most 2^50 packets; one more is refused as memory is.
+/// Messages are listed under the packet with which they are whole, as `follow` lists them, and with what the lines say
+/// in words, if these are wanted. The comment before a packet is kept until the packet comes. A bad line is reported
+/// to the error writer by its number, from 1, and has no packet. What is kept is the segments of messages that aren't
+/// whole, and 48 bytes for each gap. A capture has at most 2^50 packets; one more is refused as memory is.
 ///
-/// Faults: as `linewise::talk`. What was written then is the lines of the packets so far, or a prefix of them where the writer
-/// failed.
+/// Faults: as `linewise::talk`. What was written then is the lines of the packets so far, or a prefix of them where
+/// the writer failed.
 pub fn watch<R: BufRead, W: Write, F: Write>(
     alloc: Global,
     reader: &mut R,

@@ -31,7 +31,7 @@ one_or_next true f s choice next is others = inr (choice, ap Some is)
 one_or_next false f s choice next is others = others
 
 shape_at : ℕ → Shape
-shape_at place = unwrap_or (slice_get (built dapnsp).subs place) (new_app []).top
+shape_at index = unwrap_or (slice_get (built dapnsp).subs index) (new_app []).top
 
 entered_one : (stop : Option (Text × List Text)) → IsOne (name_in (entered (built dapnsp) stop))
 unfolding name_in shape_at IsOne

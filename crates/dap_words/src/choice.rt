@@ -62,7 +62,7 @@ Example: printf 'setup 512 8 1024 1024\\nask hello\\npost a\\nemit a\\n' | ./dap
 docs/SCHEDULES.md explains each line and each answer.",
 };
 
-/// The command line with one subcommand more, and what help says of it.
+/// Adds a subcommand to the command line, and what help says of it.
 fn with_command<'a>(
     alloc: Global,
     command: Command<'a>,
@@ -79,7 +79,7 @@ fn with_command<'a>(
     Ok(command)
 }
 
-/// The program's command line.
+/// Returns the program's command line.
 fn command_line<'a>(alloc: Global) -> Result<Command<'a>, Error>
     ensures line { IfOk result IsDapnspLine }
     ensures memory { IfErr result (λ error. kind_of error ≡ ErrorKind.OutOfMemory) }
@@ -94,7 +94,7 @@ fn command_line<'a>(alloc: Global) -> Result<Command<'a>, Error>
     with_command(alloc, command, "run", RUN)
 }
 
-/// The command that the words name, the program's name first.
+/// Reads the command that the words name, the program's name first.
 ///
 /// Refused: what `clap` finds wrong with them, help, and out of memory.
 pub fn read_words<'a>(alloc: Global, words: &'a [String]) -> Result<Choice, Error>

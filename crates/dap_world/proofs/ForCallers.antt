@@ -14,7 +14,7 @@ pub use Rattle.dap_world.proofs.Stretch.Still.{sends_nothing}
 -- what an answer names is there
 pub use Rattle.dap_world.proofs.Steps.Naming.{named}
 
--- one packet stands at a place of a wire
+-- one packet stands at an index of a wire
 pub one_on_wire : (s : State) (end : End) (sending : Sending) (a b : List ℕ) → IsOnWire s end sending a → IsOnWire s end sending b → a ≡ b
 unfolding IsOnWire
 one_on_wire s end sending a b one two =

@@ -1,4 +1,5 @@
--- What the link of an end has of the other end's NSP messages, as far as it took their segments and the end went through them.
+-- What the link of an end has of the other end's NSP messages, as far as it took their segments and the end went
+-- through them.
 use Rattle.std.specs.Prelude.{ℕ, ◌-◌, nat_le, if◌then◌else◌, List, [], ◌∷◌, length, take}
 use Rattle.dap_msg.specs.Blocked.{NspMessage, all_joined}
 use Rattle.nsp_link.specs.Cutting.{Piece, cut}
@@ -15,7 +16,7 @@ coming_to s end = cut s.seg_size (all_joined (end_of s (other_end end)).handed)
 abbrev pub came_to : State → End → Coming
 came_to s end = with_all_taken nothing_came (take (end_of s end).taken (coming_to s end))
 
--- how many of the DAP messages in them the end went through: A reads them, and B serves them
+-- how many of the DAP messages in them the end processed: A reads them, and B serves them
 abbrev pub gone_through : State → End → ℕ
 gone_through s A = s.read
 gone_through s B = s.served

@@ -84,7 +84,7 @@ abbrev pub end_of : State → End → EndState
 end_of s A = s.a
 end_of s B = s.b
 
--- the state with this end in the place of one of the two
+-- the state with this end in place of one of the two
 abbrev pub with_end : State → End → EndState → State
 with_end s A e = record s { a = e }
 with_end s B e = record s { b = e }
@@ -156,7 +156,7 @@ taken_and_held keep taken held None = (taken, held)
 taken_and_held keep taken held (Some k) =
     if k == taken + 1 then closed_up k held else (taken, if nat_lt taken k && keep then insert_key nat_cmp held k else held)
 
--- a packet comes; the greatest acknowledgement counts
+-- a packet comes; the highest acknowledgement counts
 abbrev pub delivered : (keep : Bool) → EndState → Sending → EndState
 delivered keep e p =
     let got = taken_and_held keep e.taken e.held p.segment in record e { acked = max e.acked p.acks; taken = got.0; held = got.1 }
@@ -170,7 +170,7 @@ is_old number now = nat_lt (number + max_age) now
 abbrev pub is_stale : EndState → Sending → Bool
 is_stale e p = option_map_or (λ k. is_old k (e.taken + 1)) p.segment false || is_old p.acks e.acked
 
--- the answers to one message more, joined within the limit of A that B knows
+-- the answers to one more message, joined within the limit of A that B knows
 abbrev pub answering : State → Message → List NspMessage
 answering s m = let taken = map Whole (served_by_b s) in Blocked (limit_for s.own_b [] taken) (added s.own_b [] taken (Whole m))
 
@@ -182,7 +182,7 @@ served_one s m = record s { b = record s.b { waiting = answering s m }; served =
 abbrev pub with_read : State → State
 with_read s = record s { read = s.read + 1 }
 
--- whether there is a report more
+-- whether there is one more report
 abbrev pub told_by : State → State → Step
 told_by old new = if length (reported new) == length (reported old) then step.Nothing else step.Reported
 

@@ -9,6 +9,6 @@ use Rattle.dap_world.specs.Runs.{writing_end}
 
 -- What an answer names is there: a packet at its index of the writer's wire, or a newest report.
 abbrev pub NamedIsThere : Event → Step → State → Type 0
-NamedIsThere e (step.Packet place) s = (end : End) × (writing_end e ≡ Some end) × (place < length (end_of s end).wire)
+NamedIsThere e (step.Packet index) s = (end : End) × (writing_end e ≡ Some end) × (index < length (end_of s end).wire)
 NamedIsThere e step.Reported s = 0 < length (reported s)
 NamedIsThere e _ s = Unit {0}

@@ -1,5 +1,5 @@
--- The ends of a world are plain ones: each has a BUFSIZ, and of what it says of itself nothing else is asked. These are the
--- definitions of both ends, of such ends.
+-- The ends of a world are plain ones: each has a BUFSIZ, and of what it says of itself nothing else is asked. These are
+-- the definitions of both ends, of such ends.
 use Rattle.std.specs.Prelude.{ℕ, List}
 use Rattle.dap_msg.specs.BothEnds.{plain_identity}
 use Rattle.dap_msg.specs.declared.message.Message.{Message}
@@ -13,7 +13,7 @@ use Rattle.dap_accessing.specs.declared.fault.AskFault.{AskFault}
 use Rattle.dap_accessing.specs.Asked as accessing
 use Rattle.dap_accessing.specs.Phase as phase
 
--- ---- The end that asks.
+-- ---- The client.
 
 -- the messages of a request
 abbrev pub messages_of : (own : ℕ) → Request → List Message
@@ -31,13 +31,13 @@ IsAdmissible own requests answers request = phase.IsAdmissible (plain_identity o
 abbrev pub IsRefused : (own : ℕ) → List Request → List Item → Request → AskFault → Type 0
 IsRefused own requests answers request fault = phase.IsRefused (plain_identity own) requests answers request fault
 
--- ---- The end that serves.
+-- ---- The server.
 
 -- its state after these items, with these files at first
 abbrev pub stands_after : (own : ℕ) → Files → List Item → Grouped
 stands_after own first items = accessed.stands_after (plain_setup own) first items
 
--- the longest message that the peer of such a server takes after these items
+-- the maximum length of a message to the peer of such a server after these items
 abbrev pub limit_for : (own : ℕ) → Files → List Item → ℕ
 limit_for own first items = accessed.limit_for (plain_setup own) first items
 
@@ -49,6 +49,6 @@ After own first items = accessed.After (plain_setup own) first items
 abbrev pub Answers : (own : ℕ) → Files → List Item → List Message
 Answers own first items = accessed.Answers (plain_setup own) first items
 
--- the answers that one item more adds
+-- the answers that one more item adds
 abbrev pub added : (own : ℕ) → Files → List Item → Item → List Message
 added own first items item = accessed.added (plain_setup own) first items item

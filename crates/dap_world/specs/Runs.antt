@@ -23,7 +23,8 @@ TakesMemory answer = Unit {0}
 abbrev pub WantsMemory : State → Event → Type 0
 WantsMemory s e = (answer : Step) × (new : State) × Steps s e answer new × TakesMemory answer
 
--- It is a step of the machine; or the machine has none, for this reason; or memory was refused. A refusal changes nothing.
+-- It is a step of the machine; or the machine has none, for this reason; or memory was refused. A refusal changes
+-- nothing.
 abbrev pub Went : State → Event → Result Step WorldFault → State → Type 0
 Went old e (Ok answer) new = Steps old e answer new
 Went old e (Err fault.NoMemory) new = WantsMemory old e × (new ≡ old)
@@ -44,7 +45,7 @@ Runs old events new = RunsBy Steps old events new
 abbrev pub IsReached : State → Type 0
 IsReached s = (setup : WorldSetup) × (events : List Event) × IsWorldSetup setup × RunsBy StepsFreely (fresh setup) events s
 
--- the event at this place was refused, and those before it were run
+-- the event at this index was refused, and those before it were run
 pub record StopsAt (events : List Event) (old new : State) (stop : ℕ × WorldFault) : Type 0 where
   pub ran : Runs old (take stop.0 events) new
   pub event : Event

@@ -101,17 +101,17 @@ impl World {
     }
 
     /// Writes a segment again.
-    pub(crate) fn resend(&mut self, end: End, place: usize) -> Result<Step, WorldFault>
-        ensures { Went self.old (Event.Resend end place) result self.new }
+    pub(crate) fn resend(&mut self, end: End, index: usize) -> Result<Step, WorldFault>
+        ensures { Went self.old (Event.Resend end index) result self.new }
     {
         match end {
             End::A => {
-                let packet = self.asking.resend(place);
-                again(self.asking.link(), &mut self.wire_a, place, packet)
+                let packet = self.asking.resend(index);
+                again(self.asking.link(), &mut self.wire_a, index, packet)
             }
             End::B => {
-                let packet = self.serving.resend(place);
-                again(self.serving.link(), &mut self.wire_b, place, packet)
+                let packet = self.serving.resend(index);
+                again(self.serving.link(), &mut self.wire_b, index, packet)
             }
         }
     }
@@ -132,7 +132,7 @@ impl World {
         }
     }
 
-    /// Gives an end a packet of the other.
+    /// Delivers a packet of the other end to an end.
     pub(crate) fn deliver(&mut self, end: End, j: usize) -> Result<Step, WorldFault>
         ensures { Went self.old (Event.Deliver end j) result self.new }
     {
@@ -181,7 +181,7 @@ fn ask_next(
     Ok(step)
 }
 
-/// What is needed of a request that A may ask.
+/// Prepares what is needed of a request that A may ask.
 fn prepare(end: &AskingEnd, request: &Request) -> Result<Prepared, WorldFault>
     ensures ok { IfOk result (IsPrepared end.now.present request.now) }
     ensures admissible { OnOk result (IsAdmittedBy end.now.present request.now) }
@@ -223,7 +223,7 @@ fn keep(reports: &mut Vec<Report>, report: Option<Report>) -> Step
     }
 }
 
-/// An end writes its next segment.
+/// Lets an end write its next segment.
 fn emit_next<R: Role>(end: &mut EndOf<R>, wire: &mut Vec<Wired>) -> Result<Step, WorldFault>
     requires { end.old.port.link.failed ≡ false }
     ensures rest { end.new ≡ record end.old { port = end.new.port } }
@@ -243,7 +243,7 @@ fn emit_next<R: Role>(end: &mut EndOf<R>, wire: &mut Vec<Wired>) -> Result<Step,
     }
 }
 
-/// An end gets the j-th packet of the other end's wire.
+/// Lets an end receive the packet at index j of the other end's wire.
 fn deliver_to<R: Role>(end: &mut EndOf<R>, wire: &[Wired], j: usize) -> Result<Step, WorldFault>
     ensures rest { end.new ≡ record end.old { port = with_link end.old.port end.new.port.link } }
     ensures comes { Delivery end.old.port.link end.new.port.link wire.now j result }
@@ -255,7 +255,7 @@ fn deliver_to<R: Role>(end: &mut EndOf<R>, wire: &[Wired], j: usize) -> Result<S
     }
 }
 
-/// What a delivery comes to: what the link got, or out of memory.
+/// Returns what a delivery comes to: what the link got, or out of memory.
 fn delivered(got: Result<Got, LinkFault>) -> Result<Step, WorldFault>
     ensures { result ≡ delivered_as got }
 {
@@ -265,7 +265,7 @@ fn delivered(got: Result<Got, LinkFault>) -> Result<Step, WorldFault>
     }
 }
 
-/// A passes on what waits; the DAP messages in it are sent.
+/// Lets A pass on what waits; the DAP messages in it are sent.
 fn post_a(
     alloc: Global,
     end: &mut AskingEnd,
@@ -284,11 +284,11 @@ fn post_a(
     ensures err { IfErr result (PostFault end.old.port.link end.old.port.outbox) }
 {
     may_post(end.link(), end.waiting())?;
-    hand_over(alloc, end, posted, sent)
+    pass_on(alloc, end, posted, sent)
 }
 
-/// A passes on what waits, which its link takes. All memory is there before anything changes.
-fn hand_over(
+/// Lets A pass on what waits, which its link takes. All memory is taken before anything changes.
+fn pass_on(
     alloc: Global,
     end: &mut AskingEnd,
     posted: &mut usize,
@@ -317,7 +317,7 @@ fn hand_over(
     }
 }
 
-/// B passes on what waits.
+/// Lets B pass on what waits.
 fn post_b(end: &mut ServingEnd, posted: &mut usize) -> Result<Step, WorldFault>
     requires running { end.old.port.link.failed ≡ false }
     requires short { AreWithinLimit end.old.port.link.setup.max_message end.old.port.outbox }

@@ -5,7 +5,7 @@ ghost use Rattle.dap_world.specs.Machine.{other_end};
 
 use dap_events::End;
 
-/// The other end.
+/// Returns the other end.
 pub(crate) fn other_end(end: End) -> End
     ensures { result ≡ other_end end }
 {

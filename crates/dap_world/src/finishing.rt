@@ -8,7 +8,7 @@ use crate::world::World;
 use dap_accessing::Request;
 use dap_events::{End, Event, WorldFault};
 
-/// Whether there was nothing to do.
+/// Returns whether there was nothing to do.
 fn is_nothing(fault: WorldFault) -> bool
     ensures yes { result ≡ true → fault ≡ NothingToDo }
     ensures no { result ≡ false → fault ≡ NothingToDo → ⊥ }
@@ -29,14 +29,15 @@ impl World {
     ghost use Rattle.dap_events.specs.declared.event.End.TheVariants.{A, B};
     ghost use Rattle.dap_events.specs.declared.event.WorldFault.TheVariants.{NoMemory};
 
-    /// Messages are few, at most one request has no report yet, and each answer had its place.
+    /// Shows that messages are few, at most one request has no report yet, and each answer was in sequence.
     fn few(&self)
         ensures served { self.now.served < 2 ^ 56 }
         ensures read { self.now.read < 2 ^ 56 }
         ensures due { IsOneDue self.now }
-        ensures place { due_after self.now.requests (answers_read self.now) ≢ Wrong }
+        ensures in_sequence { due_after self.now.requests (answers_read self.now) ≢ Wrong }
         ensures quiet { self.now.requests ≡ [] → IsQuiet self.now }
     {
+        // This line is only for the prover: it lets a proof see what is true of every world.
         let _ = &self.read;
     }
 
@@ -50,12 +51,12 @@ impl World {
         ensures err { IfErr result (λ f. (f ≡ NoMemory) × RanTo self.old self.new) }
         ensures left { OnErr result (IsEmpty self.new end → ⊥) }
     {
-        let place = self.wire(end).len();
+        let index = self.wire(end).len();
         match self.step(&Event::Emit(end)) {
             Ok(_step) => {}
             Err(fault) => return Err(fault),
         }
-        match self.step(&Event::Deliver(other_end(end), place)) {
+        match self.step(&Event::Deliver(other_end(end), index)) {
             Ok(_step) => {}
             Err(fault) => return Err(fault),
         }
@@ -65,7 +66,7 @@ impl World {
         }
     }
 
-    /// Brings every segment of an end to the other; how many events that were.
+    /// Brings every segment of an end to the other. Returns how many events that were.
     fn send_every(&mut self, end: End) -> Result<usize, WorldFault>
         requires world { IsWorld self.old }
         requires settled { unacked self.old end ≡ 0 }
@@ -87,7 +88,7 @@ impl World {
         }
     }
 
-    /// Passes on what waits at an end, if anything does; how many events that was.
+    /// Passes on what waits at an end, if anything does. Returns how many events that were.
     fn post_waiting(&mut self, end: End) -> Result<usize, WorldFault>
         requires world { IsWorld self.old }
         requires due { IsPostDue self.old end }
@@ -154,7 +155,7 @@ impl World {
         }
     }
 
-    /// Reads every answer that came; how many.
+    /// Reads every answer that came. Returns how many.
     fn read_every(&mut self) -> Result<usize, WorldFault>
         requires { IsWorld self.old }
         ensures ok { IfOk result (λ n. ReadEvery self.old self.new n × IsWorld self.new) }
@@ -267,7 +268,7 @@ impl World {
         result
     }
 
-    /// Each request to its report, in turn.
+    /// Brings each request to its report, in turn.
     fn direct_all(&mut self, requests: &[Request]) -> Result<(), (usize, WorldFault)>
         requires world { IsWorld self.old }
         requires fresh { IsUnused self.old }
@@ -277,24 +278,24 @@ impl World {
         ensures ran { RunsTo self.old self.new }
         ensures nothing { requests.now ≡ [] → IsOk result × (self.new ≡ self.old) }
     {
-        for (place, request) in requests.iter().enumerate() {
+        for (index, request) in requests.iter().enumerate() {
             self.few();
             match self.ask_copy(request) {
                 Ok(_step) => self.sound(),
-                Err(fault) => return Err((place, fault)),
+                Err(fault) => return Err((index, fault)),
             }
             match self.finish() {
                 Ok(_count) => self.sound(),
-                Err(fault) => return Err((place, fault)),
+                Err(fault) => return Err((index, fault)),
             }
         }
         Ok(())
     }
 
-    /// Each request to its report, over perfect delivery, in a world of which `is_fresh` holds. Refused with the
-    /// place, from 0, of the first request that isn't admissible after those before it and why, or of that at which
-    /// memory or the numbers ran out, which is admissible: the reports are then those of the requests before it.
-    /// The empty list takes no memory.
+    /// Brings each request to its report, over perfect delivery, in a world of which `is_fresh` holds. Refused with the
+    /// index of the first request that isn't admissible after those before it and why, or of that at which memory or
+    /// the numbers ran out, which is admissible: the reports are then those of the requests before it. The empty list
+    /// takes no memory.
     pub fn direct(&mut self, requests: &[Request]) -> Result<(), (usize, WorldFault)>
         requires { IsUnused self.old }
         ensures ok { OnOk result (AllDone requests.now self.new) }

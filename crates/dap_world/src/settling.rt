@@ -24,8 +24,8 @@ impl World {
         ensures err { IfErr result (λ f. (f ≡ NoMemory) × RanTo self.old self.new) }
         ensures left { OnErr result (unacked self.new end ≡ unacked self.old end) }
     {
-        for place in 0..count {
-            match self.step(&Event::Resend(end, place)) {
+        for index in 0..count {
+            match self.step(&Event::Resend(end, index)) {
                 Ok(_step) => {}
                 Err(fault) => return Err(fault),
             }
@@ -53,7 +53,7 @@ impl World {
         Ok(())
     }
 
-    /// The other end, which took all segments, acknowledges them.
+    /// Lets the other end, which took all segments, acknowledge them.
     pub(crate) fn acknowledge(&mut self, end: End) -> Result<(), WorldFault>
         requires world { IsWorld self.old }
         requires taken { (end_of self.old end).sent ≤ (end_of self.old (other_end end)).taken }
@@ -63,18 +63,18 @@ impl World {
         ensures err { IfErr result (λ f. (f ≡ NoMemory) × RanTo self.old self.new) }
         ensures left { OnErr result (unacked self.new end ≡ unacked self.old end) }
     {
-        let place = self.wire(other_end(end)).len();
+        let index = self.wire(other_end(end)).len();
         match self.step(&Event::Ack(other_end(end))) {
             Ok(_step) => {}
             Err(fault) => return Err(fault),
         }
-        match self.step(&Event::Deliver(end, place)) {
+        match self.step(&Event::Deliver(end, index)) {
             Ok(_step) => Ok(()),
             Err(fault) => Err(fault),
         }
     }
 
-    /// Settles an end with this many segments that aren't acknowledged, and says how many events that were.
+    /// Settles an end with this many segments that aren't acknowledged, and returns how many events that were.
     fn settle_some(&mut self, end: End, count: usize) -> Result<usize, WorldFault>
         requires world { IsWorld self.old }
         requires all { count ≡ unacked self.old end }
@@ -102,9 +102,9 @@ impl World {
     }
 
     /// Writes all segments of an end that aren't acknowledged again, delivers them, and then one acknowledgement:
-    /// afterwards none is left. How many events that were: twice the segments and 2, or 0 where there was nothing
-    /// to do, which takes no memory. Fails only if memory is refused, as the last event that wasn't refused left
-    /// the world.
+    /// afterwards none is left. Returns how many events that were: twice the segments and 2, or 0 where there was
+    /// nothing to do, which takes no memory. Fails only if memory is refused, as the last event that wasn't refused
+    /// left the world.
     pub fn settle(&mut self, end: End) -> Result<usize, WorldFault>
         ensures ok { IfOk result (λ n. Settled self.old self.new end n) }
         ensures work { work self.new ≡ work self.old }
@@ -120,7 +120,7 @@ impl World {
         result
     }
 
-    /// Settles an end, and says how many events that were: 0 where there was nothing to do.
+    /// Settles an end, and returns how many events that were: 0 where there was nothing to do.
     pub(crate) fn settle_end(&mut self, end: End) -> Result<usize, WorldFault>
         requires world { IsWorld self.old }
         ensures ok { IfOk result (λ n. Settled self.old self.new end n) }

@@ -18,7 +18,7 @@ use dap_msg::MIN_BUFFER;
 use nsp_link::{LinkFault, LinkSetup};
 use std::alloc::Global;
 
-/// The address of an end.
+/// Returns the address of an end.
 fn address(end: End) -> u16
     ensures { result ≡ end_address end }
 {
@@ -28,7 +28,7 @@ fn address(end: End) -> u16
     }
 }
 
-/// The limits of an end's link.
+/// Returns the limits of an end's link.
 fn link_setup(setup: &WorldSetup, end: End) -> LinkSetup
     ensures { result ≡ link_setup_of setup.now end }
 {
@@ -41,7 +41,7 @@ fn link_setup(setup: &WorldSetup, end: End) -> LinkSetup
     }
 }
 
-/// Why there is no end of these limits.
+/// Returns why there is no end of these limits.
 fn no_end(fault: LinkFault) -> WorldFault
     ensures memory { fault ≡ link_fault.NoMemory → result ≡ NoMemory }
     ensures setup { (fault ≡ link_fault.NoMemory → ⊥) → result ≡ BadSetup }
@@ -53,8 +53,8 @@ fn no_end(fault: LinkFault) -> WorldFault
 }
 
 impl World {
-    /// A world in which nothing happened. `BadSetup` where a number of the setup isn't in its range;
-    /// else `NoMemory` alone.
+    /// Creates a world in which nothing happened. `BadSetup` where a number of the setup isn't in its range; else
+    /// `NoMemory` alone.
     pub fn new(alloc: Global, setup: WorldSetup) -> Result<World, WorldFault>
         ensures ok { IfOk result (λ w. IsWorldSetup setup × (w ≡ fresh setup)) }
         ensures headline { IfOk result HeadlineOf }
@@ -87,7 +87,7 @@ impl World {
         })
     }
 
-    /// Nothing was asked, and no packet was written.
+    /// Returns whether nothing was asked and no packet was written.
     pub fn is_fresh(&self) -> bool
         ensures yes { result ≡ true → IsUnused self.now }
         ensures no { result ≡ false → IsUnused self.now → ⊥ }

@@ -30,23 +30,23 @@ pub struct Wired {
 /// Puts a packet on the wire, which has the room.
 pub(crate) fn put(wire: &mut Vec<Wired>, packet: Vec<u8>, segment: Option<u64>, acks: u64) -> Step
     requires { vec_len wire.old < vec_capacity wire.old }
-    ensures place { result ≡ step.Packet (length wire.old.items) }
+    ensures index { result ≡ step.Packet (length wire.old.items) }
     ensures wire { wire.new.items ≡ wire.old.items ++ record {
       packet = packet;
       segment = segment;
       acks = acks;
     } ∷ [] }
 {
-    let place = wire.len();
+    let index = wire.len();
     wire.push_reserved(Wired {
         packet,
         segment,
         acks,
     });
-    Step::Packet(place)
+    Step::Packet(index)
 }
 
-/// The number of the next segment, for which the wire has room.
+/// Returns the number of the next segment, and makes room for it on the wire.
 pub(crate) fn next_number(link: &LinkEnd, wire: &mut Vec<Wired>) -> Result<u64, WorldFault>
     ensures ok { IfOk result (λ k. IsTrue (may_send link.now) × (k ≡ link.now.sent + 1)) }
     ensures room { OnOk result (vec_len wire.new < vec_capacity wire.new) }
@@ -64,26 +64,26 @@ pub(crate) fn next_number(link: &LinkEnd, wire: &mut Vec<Wired>) -> Result<u64, 
 pub(crate) fn again(
     link: &LinkEnd,
     wire: &mut Vec<Wired>,
-    place: usize,
+    index: usize,
     packet: Result<Vec<u8>, LinkFault>,
 ) -> Result<Step, WorldFault>
     requires wrote { IfOk packet
-        (λ v. WritesSent link.now (Some (link.now.acked + 1 + place)) v.items) }
-    requires missing { link.now.sent - link.now.acked ≤ place → IsErrOf packet NoSuchSegment }
-    requires memory { place < link.now.sent - link.now.acked
+        (λ v. WritesSent link.now (Some (link.now.acked + 1 + index)) v.items) }
+    requires missing { link.now.sent - link.now.acked ≤ index → IsErrOf packet NoSuchSegment }
+    requires memory { index < link.now.sent - link.now.acked
         → IfErr packet (λ f. f ≡ link_fault.NoMemory) }
-    ensures ok { IfOk result (λ answer. (place < link.now.sent - link.now.acked)
-        × WroteWired link.now wire.old.items wire.new.items (Some (link.now.acked + 1 + place))
+    ensures ok { IfOk result (λ answer. (index < link.now.sent - link.now.acked)
+        × WroteWired link.now wire.old.items wire.new.items (Some (link.now.acked + 1 + index))
         answer) }
     ensures err { IfErr result (λ f. (wire.new.items ≡ wire.old.items)
-        × ResendFault link.now place f) }
+        × ResendFault link.now index f) }
 {
     let packet = match packet {
         Ok(packet) => packet,
         Err(LinkFault::NoSuchSegment) => return Err(WorldFault::NothingToDo),
         Err(_) => return Err(WorldFault::NoMemory),
     };
-    let segment = Some(link.acked_count() + 1 + place as u64);
+    let segment = Some(link.acked_count() + 1 + index as u64);
     wire.reserve(1)?;
     Ok(put(wire, packet, segment, link.received_count()))
 }
@@ -106,14 +106,14 @@ pub(crate) fn acknowledge(
     Ok(put(wire, packet, None, link.received_count()))
 }
 
-/// A count is more than 2,047 below another.
+/// Returns whether a count is more than 2,047 below another.
 fn is_stale(number: u64, now: u64) -> bool
     ensures { result ≡ is_old number now }
 {
     now > MAX_AGE && number < now - MAX_AGE
 }
 
-/// The segment of a packet, where it has one, is more than 2,047 old.
+/// Returns whether the segment of a packet, where it has one, is more than 2,047 numbers old.
 fn is_stale_segment(segment: Option<u64>, taken: u64) -> bool
     requires { taken ≤ max_segments }
     ensures { result ≡ is_old_segment taken segment }
@@ -124,7 +124,7 @@ fn is_stale_segment(segment: Option<u64>, taken: u64) -> bool
     }
 }
 
-/// The segment or the acknowledgement is more than 2,047 old.
+/// Returns whether the segment or the acknowledgement is more than 2,047 numbers old.
 fn is_stale_wired(wired: &Wired, taken: u64, acked: u64) -> bool
     requires { taken ≤ max_segments }
     ensures { result ≡ (is_old_segment taken wired.now.segment || is_old wired.now.acks acked) }
@@ -134,7 +134,7 @@ fn is_stale_wired(wired: &Wired, taken: u64, acked: u64) -> bool
     stale_segment || stale_ack
 }
 
-/// The packet at a place of the wire, which isn't stale at the link to which it goes.
+/// Returns the packet at an index of the wire, which isn't stale at the link to which it goes.
 pub(crate) fn due<'a>(link: &LinkEnd, wire: &'a [Wired], j: usize) -> Result<&'a Wired, WorldFault>
     ensures ok { IfOk result (λ w. (slice_get wire.now j ≡ Some w.now)
         × (is_old_wired link.now w.now ≡ false)) }
@@ -151,7 +151,7 @@ pub(crate) fn due<'a>(link: &LinkEnd, wire: &'a [Wired], j: usize) -> Result<&'a
     }
 }
 
-/// Whether what waits may be passed on.
+/// Checks whether what waits may be passed on.
 pub(crate) fn may_post(link: &LinkEnd, waiting: &[Vec<u8>]) -> Result<(), WorldFault>
     requires running { link.now.failed ≡ false }
     requires short { AreWithinLimit link.now.setup.max_message (bodies waiting.now) }

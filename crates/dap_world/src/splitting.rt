@@ -7,7 +7,7 @@ ghost use Rattle.dap_world.specs.Inner.Splitting.{SplitsOne, SplitsAll};
 use dap_msg::item_at;
 use std::alloc::{AllocError, Global};
 
-/// Adds the DAP messages of an NSP message, each as its own bytes.
+/// Adds the DAP messages of an NSP message, each as its bytes.
 fn split_one(alloc: Global, message: &[u8], out: &mut Vec<Vec<u8>>) -> Result<(), AllocError>
     ensures { OnOk result (SplitsOne message.now (bodies out.old.items) (bodies out.new.items)) }
 {
@@ -23,7 +23,7 @@ fn split_one(alloc: Global, message: &[u8], out: &mut Vec<Vec<u8>>) -> Result<()
     }
 }
 
-/// The DAP messages of all these NSP messages, in order.
+/// Returns the DAP messages of all these NSP messages, in order.
 pub(crate) fn split_all(alloc: Global, messages: &[Vec<u8>]) -> Result<Vec<Vec<u8>>, AllocError>
     ensures { IfOk result (λ list. SplitsAll (bodies messages.now) [] (bodies list.items)) }
 {

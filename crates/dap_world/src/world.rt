@@ -15,13 +15,13 @@ pub struct World {
     pub(crate) alloc: Global,
     pub(crate) asking: AskingEnd,
     pub(crate) serving: ServingEnd,
-    /// The packets that each end wrote, and how many NSP messages it handed to its link.
+    /// The packets that each end wrote, and how many NSP messages it passed to its link.
     pub(crate) wire_a: Vec<Wired>,
     pub(crate) wire_b: Vec<Wired>,
     pub(crate) posted_a: usize,
     pub(crate) posted_b: usize,
     pub(crate) requests: Vec<Request>,
-    /// The DAP messages that A handed to its link, and how many of them B served.
+    /// The DAP messages that A passed to its link, and how many of them B served.
     pub(crate) sent: Vec<Vec<u8>>,
     pub(crate) served: usize,
     pub(crate) reports: Vec<Report>,
@@ -55,7 +55,7 @@ impl World {
     ghost use Rattle.nsp_link.specs.Link.{Sends};
     ghost use Rattle.dap_world.specs.Headline.{HeadlineOf};
 
-    /// One event happens, or is refused and changes nothing.
+    /// Lets one event happen, which changes nothing where it is refused.
     fn happen(&mut self, event: &Event) -> Result<Step, WorldFault>
         ensures { Went self.old event.now result self.new }
     {
@@ -63,7 +63,7 @@ impl World {
             Event::Ask(request) => self.ask_copy(request),
             Event::Post(end) => self.post(*end),
             Event::Emit(end) => self.emit(*end),
-            Event::Resend(end, place) => self.resend(*end, *place),
+            Event::Resend(end, index) => self.resend(*end, *index),
             Event::Ack(end) => self.ack(*end),
             Event::Deliver(end, j) => self.deliver(*end, *j),
             Event::Serve => self.serve(),
@@ -71,7 +71,8 @@ impl World {
         }
     }
 
-    /// One event: a step of the machine, or refused as there, or if memory is refused. A refusal changes nothing.
+    /// Applies one event: a step of the machine, or refused as there, or if memory is refused. A refusal changes
+    /// nothing.
     pub fn apply(&mut self, event: &Event) -> Result<Step, WorldFault>
         ensures went { Went self.old event.now result self.new }
         ensures headline { HeadlineOf self.new }
@@ -92,7 +93,7 @@ impl World {
         result
     }
 
-    /// Whether an end has a segment that it may write.
+    /// Returns whether an end has a segment that it may write.
     pub(crate) fn may_emit(&self, end: End) -> bool
         ensures yes { result ≡ true → MayEmit self.now end }
         ensures no { result ≡ false → MayEmit self.now end → ⊥ }
@@ -103,14 +104,14 @@ impl World {
         }
     }
 
-    /// What is true of every world.
+    /// Shows what is true of every world.
     pub(crate) fn sound(&self)
         ensures { IsWorld self.now }
     {
         let _ = &self.read;
     }
 
-    /// One event, after which the same is true.
+    /// Applies one event, after which the same is true.
     pub(crate) fn step(&mut self, event: &Event) -> Result<Step, WorldFault>
         ensures went { Went self.old event.now result self.new }
         ensures world { IsWorld self.new }
@@ -120,7 +121,7 @@ impl World {
         result
     }
 
-    /// The events happen, up to the first that is refused: its place, from 0, and why.
+    /// Lets the events happen, up to the first that is refused. Returns its index, and why it is refused.
     fn go(&mut self, events: &[Event]) -> Result<(), (usize, WorldFault)>
         ensures all { OnOk result (Runs self.old events.now self.new) }
         ensures stopped { IfErr result (λ stop. StopsAt events.now self.old self.new stop) }
@@ -134,7 +135,7 @@ impl World {
         Ok(())
     }
 
-    /// The events, up to the first that is refused: its place, from 0, and why.
+    /// Applies the events, up to the first that is refused. Returns its index, and why it is refused.
     pub fn run(&mut self, events: &[Event]) -> Result<(), (usize, WorldFault)>
         ensures all { OnOk result (Runs self.old events.now self.new) }
         ensures stopped { IfErr result (λ stop. StopsAt events.now self.old self.new stop) }
@@ -145,35 +146,35 @@ impl World {
         result
     }
 
-    /// The requests that were asked.
+    /// Returns the requests that were asked.
     pub fn requests(&self) -> &[Request]
         ensures { result.now ≡ self.now.requests }
     {
         &self.requests
     }
 
-    /// The DAP messages that were handed to A's link, in order.
+    /// Returns the DAP messages that were passed to A's link, in order.
     pub fn sent(&self) -> &[Vec<u8>]
         ensures { bodies result.now ≡ map canon (sent_by self.now.a) }
     {
         &self.sent
     }
 
-    /// The DAP messages that B served: a prefix of those that were handed to A's link.
+    /// Returns the DAP messages that B served: a prefix of those that were passed to A's link.
     pub fn taken(&self) -> &[Vec<u8>]
         ensures { bodies result.now ≡ map canon (served_by_b self.now) }
     {
         &self.sent[..self.served]
     }
 
-    /// How many answers A read.
+    /// Returns how many answers A read.
     pub fn read_count(&self) -> u64
         ensures { result ≡ self.now.read }
     {
         self.read
     }
 
-    /// The reports of A.
+    /// Returns the reports of A.
     pub fn reports(&self) -> &[Report]
         ensures told { result.now ≡ reported self.now }
         ensures headline { HeadlineOf self.now }
@@ -181,7 +182,7 @@ impl World {
         &self.reports
     }
 
-    /// The files that B holds.
+    /// Returns the files that B holds.
     pub fn files(&self) -> &FileTable
         ensures files { result.now ≡ files_of self.now }
         ensures headline { HeadlineOf self.now }
@@ -189,7 +190,7 @@ impl World {
         self.serving.files()
     }
 
-    /// The packets that an end wrote.
+    /// Returns the packets that an end wrote.
     pub fn wire(&self, end: End) -> &[Wired]
         ensures sendings { map sending_of result.now ≡ (end_of self.now end).wire }
         ensures packets { AllByRecursion
@@ -201,7 +202,7 @@ impl World {
         }
     }
 
-    /// The link of an end.
+    /// Returns the link of an end.
     pub fn link(&self, end: End) -> &LinkEnd
         ensures way { (result.now.setup.local ≡ end_address end)
             × (result.now.setup.remote ≡ end_address (other_end end)) }

@@ -1,5 +1,4 @@
-//! Tests of `dap_world`. They stand in a crate of their own, since a crate with tests is proved twice, and that one
-//! is large.
+//! Tests of `dap_world`. They are a separate crate, since a crate with tests is proved twice, and that one is large.
 #![tactic(auto)]
 
 #[cfg(test)]

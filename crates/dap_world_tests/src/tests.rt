@@ -1,5 +1,5 @@
-//! Schedules drawn by lot, and what they come to once all is finished: the same as without a loss. Schedules that are written
-//! out are the sessions of `crates/sessions/data/worlds.txt`.
+//! Schedules drawn by lot, and what they come to once all is finished: the same as without a loss. Schedules that are
+//! written out are the sessions of `crates/sessions/data/worlds.txt`.
 
 ghost use Rattle.std.specs.Prelude.{◌<◌};
 
@@ -39,12 +39,12 @@ const TURNS: &[Told] = &[
     ("close", "closed"),
 ];
 
-/// How many schedules there are, and how many events the longest has.
+/// How many schedules there are; each has fewer than `MAX_EVENTS` events.
 const SCHEDULES: u32 = 200;
 
 const MAX_EVENTS: usize = 5000;
 
-/// The request that words say.
+/// Returns the request that words say.
 fn request(alloc: Global, words: &str) -> Result<Request, WorldFault> {
     match read_request(Words::of(words.as_bytes())) {
         Some(asked) => Ok(asked.to_request(alloc)?),
@@ -52,7 +52,7 @@ fn request(alloc: Global, words: &str) -> Result<Request, WorldFault> {
     }
 }
 
-/// The requests of turns.
+/// Returns the requests of turns.
 fn requests(alloc: Global, turns: &[Told]) -> Result<Vec<Request>, WorldFault> {
     let mut requests = Vec::new(alloc);
     for (words, _report) in turns {
@@ -61,14 +61,14 @@ fn requests(alloc: Global, turns: &[Told]) -> Result<Vec<Request>, WorldFault> {
     Ok(requests)
 }
 
-/// Whether the report is printed so.
+/// Returns whether the report is printed so.
 fn is_told(alloc: Global, report: &Report, words: &str) -> Result<bool, WorldFault> {
     let mut text = Vec::new(alloc);
     push_report(&mut text, report)?;
     Ok(text.as_slice() == words.as_bytes())
 }
 
-/// Whether the reports are those of the turns.
+/// Returns whether the reports are those of the turns.
 fn are_told(alloc: Global, reports: &[Report], turns: &[Told]) -> Result<bool, WorldFault> {
     for (report, (_request, words)) in reports.iter().zip(turns) {
         if !is_told(alloc, report, words)? {
@@ -78,7 +78,7 @@ fn are_told(alloc: Global, reports: &[Report], turns: &[Told]) -> Result<bool, W
     Ok(reports.len() == turns.len())
 }
 
-/// A number below the bound.
+/// Draws a number below the bound.
 fn draw(seed: &mut u32, bound: usize) -> usize
     requires { 0 < bound }
     ensures { result < bound }
@@ -87,7 +87,7 @@ fn draw(seed: &mut u32, bound: usize) -> usize
     (*seed >> 8) as usize % bound
 }
 
-/// One of the ends.
+/// Draws one of the ends.
 fn draw_end(seed: &mut u32) -> End {
     if draw(seed, 2) == 0 { End::A } else { End::B }
 }
@@ -99,12 +99,12 @@ fn other(end: End) -> End {
     }
 }
 
-/// The place of one of the last packets of a wire that has this many.
+/// Draws the index of one of the last packets of a wire that has this many.
 fn draw_packet(written: usize, seed: &mut u32) -> usize {
     written.saturating_sub(draw(seed, 6).saturating_add(1))
 }
 
-/// An event, whether it has a step or not.
+/// Draws an event, whether it has a step or not.
 fn draw_event(world: &World, seed: &mut u32) -> Event {
     let end = draw_end(seed);
     match draw(seed, 10) {
@@ -118,9 +118,9 @@ fn draw_event(world: &World, seed: &mut u32) -> Event {
     }
 }
 
-/// Whether the request at this place is asked.
-fn asks(alloc: Global, world: &mut World, place: usize) -> bool {
-    match TURNS.get(place) {
+/// Asks the request at this index. Returns whether it is asked.
+fn asks(alloc: Global, world: &mut World, index: usize) -> bool {
+    match TURNS.get(index) {
         Some((words, _report)) => match request(alloc, words) {
             Ok(request) => world.ask(request).is_ok(),
             Err(_) => false,
@@ -129,7 +129,7 @@ fn asks(alloc: Global, world: &mut World, place: usize) -> bool {
     }
 }
 
-/// Plays events drawn by lot, and asks the next request where none is due: how many were asked.
+/// Plays events drawn by lot, and asks the next request where none is due. Returns how many were asked.
 fn play_drawn(alloc: Global, world: &mut World, seed: &mut u32) -> usize {
     let mut asked: usize = 0;
     for _ in 0..draw(seed, MAX_EVENTS) {
@@ -142,7 +142,7 @@ fn play_drawn(alloc: Global, world: &mut World, seed: &mut u32) -> usize {
     asked
 }
 
-/// Whether two files have the same records.
+/// Returns whether two files have the same records.
 fn is_same(one: &AnyFile, other: &AnyFile) -> bool {
     for number in 1..10 {
         if one.lookup(number) != other.lookup(number) {
@@ -152,7 +152,7 @@ fn is_same(one: &AnyFile, other: &AnyFile) -> bool {
     one.highest() == other.highest()
 }
 
-/// Whether two tables have the same files.
+/// Returns whether two tables have the same files.
 fn are_same(one: &FileTable, other: &FileTable) -> bool {
     if one.count() != other.count() {
         return false;
@@ -165,7 +165,7 @@ fn are_same(one: &FileTable, other: &FileTable) -> bool {
     true
 }
 
-/// What these turns over a clean network leave.
+/// Returns what these turns over a clean network leave.
 fn clean(alloc: Global, turns: &[Told]) -> Result<World, WorldFault> {
     let mut world = World::new(alloc, SETUP)?;
     let list = requests(alloc, turns)?;
@@ -175,7 +175,7 @@ fn clean(alloc: Global, turns: &[Told]) -> Result<World, WorldFault> {
     }
 }
 
-/// Whether a world, once it is finished, is what this many requests over a clean network come to.
+/// Finishes a world. Returns whether it is what this many requests over a clean network come to.
 fn comes_clean(alloc: Global, world: &mut World, asked: usize) -> Result<bool, WorldFault> {
     let _events = world.finish()?;
     let turns = TURNS.get(..asked).unwrap_or(TURNS);
@@ -188,7 +188,7 @@ fn comes_clean(alloc: Global, world: &mut World, asked: usize) -> Result<bool, W
     )
 }
 
-/// Plays a schedule that is drawn by lot: how many requests were asked, if it comes to what it should.
+/// Plays a schedule that is drawn by lot. Returns how many requests were asked, if it comes to what it should.
 fn play_schedule(alloc: Global, schedule: u32) -> Result<Option<usize>, WorldFault> {
     let mut seed = schedule.wrapping_mul(7919).wrapping_add(1);
     let mut world = World::new(alloc, SETUP)?;
@@ -212,11 +212,11 @@ fn whatever_was_lost(rt: HostRuntime) -> Result<(), Fail> {
     Ok(())
 }
 
-/// What a run of a new world comes to, whether the world is fresh then, and how many requests were asked, messages sent, and
-/// messages read.
+/// What a run of a new world comes to, whether the world is fresh then, and how many requests were asked, messages
+/// sent, and messages read.
 type Run = (Result<(), (usize, WorldFault)>, (bool, usize, usize, u64));
 
-/// The run of these events.
+/// Returns the run of these events.
 fn run(alloc: Global, events: &[Event]) -> Result<Run, WorldFault> {
     let mut world = World::new(alloc, SETUP)?;
     let came = world.run(events);

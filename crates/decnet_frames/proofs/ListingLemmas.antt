@@ -18,7 +18,7 @@ use Rattle.linewise.specs.Output.{WritesFront}
 use Rattle.std.proofs.Math.Seq.{take-append-add}
 use Rattle.decnet_frames.specs.declared.run.FramesFault.{FramesFault}
 use Rattle.decnet_frames.specs.declared.run.FramesFault.TheVariants.{File, WriteFailed, NoMemory as Wants}
-use Rattle.capture_file.specs.Files.Units.{no_more}
+use Rattle.capture_file.specs.Files.Units.{no_unit_more}
 use Rattle.capture_file.specs.declared.units.Format.TheVariants.{Start}
 use Rattle.decnet_frames.specs.declared.run.Frames.{Frames}
 use Rattle.decnet_frames.specs.declared.text.Counts.{Counts}
@@ -308,9 +308,9 @@ listed_to ends old mid input unread left first written holds piece fault counts 
 pub nothing_came : (ends : Option Ends) (input written : Option (List ℕ)) → IfSome input (λ bytes. IsListedTo ends bytes written written Wants)
 nothing_came ends None written = tt
 nothing_came ends (Some xs) written =
-    ([], record { front = []; rest = xs; format = Start; interfaces = []; joined = refl; units = no_more }, Appends-nil written)
+    ([], record { front = []; rest = xs; format = Start; interfaces = []; joined = refl; units = no_unit_more }, Appends-nil written)
 
 -- and nothing was written
 pub nothing_written : (ends : Option Ends) (input : List ℕ) (written holds : Option (List ℕ)) → Keeps written holds → IsListedTo ends input written holds Wants
 nothing_written ends input written holds keeps =
-    ([], record { front = []; rest = input; format = Start; interfaces = []; joined = refl; units = no_more }, Appends-kept written written holds [] (Appends-nil written) keeps)
+    ([], record { front = []; rest = input; format = Start; interfaces = []; joined = refl; units = no_unit_more }, Appends-kept written written holds [] (Appends-nil written) keeps)

@@ -202,7 +202,7 @@ abbrev capture_in : List (List ℕ) → List Capture
 capture_in ls = filter_map (λ line. result_unwrap_or (line_of packet_limit line) None) ls
 
 abbrev faults_in : ℕ → List (List ℕ) → List CaptureFault
-faults_in number ls = filter_map (λ (place, line). option_map (λ fault. fault place) (result_err (line_of packet_limit line))) (enumerate_from number ls)
+faults_in number ls = filter_map (λ (index, line). option_map (λ fault. fault index) (result_err (line_of packet_limit line))) (enumerate_from number ls)
 
 two_lines : (way : Direction) (number : ℕ) (time : Option Time) (p : Packet) (rest : List ℕ) → number < 2 ^ 64 → IsPacket p
     → lines ((heading_text number time p ++ data_text way p.packet) ++ rest) ≡ concat (heading_words number time p) ∷ concat (data_words way p.packet) ∷ lines rest

@@ -56,7 +56,8 @@ is_node at m = slice_index m at == 0xAA && slice_index m (at + 1) == 0 && slice_
 abbrev pub number_at : ℕ → List ℕ → ℕ
 number_at at m = little_number 2 (drop at m)
 
--- long: flags, area and subarea of the destination, its address, which ends with its number, the same of the source, and four bytes
+-- long: flags, area and subarea of the destination, its address, which ends with its number, the same of the source,
+-- and four bytes
 abbrev pub long_of : List ℕ → Result Packet Passed
 long_of m =
     if nat_lt (length m) 22 then Err CutShort

@@ -33,8 +33,9 @@ pub record HasRecords (input : List ℕ) (records : List Record) : Type 0 where
   pub joined : input ≡ front ++ rest
   pub units : HasUnits front records format interfaces
 
--- Where the file is at fault, the lines of the frames before it are written, and these are their counts. Where the reader fails or
--- memory is refused, the lines of some frames that were read; and where the writer fails, a prefix of them.
+-- Where the file is at fault, the lines of the frames before it are written, and these are their counts. Where the
+-- reader fails or memory is refused, the lines of some frames that were read; and where the writer fails, a prefix of
+-- them.
 abbrev pub IsListedTo : Option Ends → List ℕ → (written holds : Option (List ℕ)) → FramesFault → Type 0
 IsListedTo ends input written holds (File fault counts) =
     (records : List Record) × FileFails input records fault × Appends written holds (frame_lines ends 0 records) × (counts ≡ counts_of ends records)

@@ -8,8 +8,8 @@ ghost use Rattle.dap_listing.specs.Listing.{captures, faults_from, packet_limit}
 ghost use Rattle.decnet_frames.specs.Lines.{captured, frame_lines, packets_from};
 ghost use Rattle.decnet_frames.specs.declared.text.Ends.{Ends as TheEnds};
 
-/// The lines of captured frames are read back: they are lines of a capture, none of them at fault, and what is captured in
-/// them are the packets, in order.
+/// States that the lines of captured frames are read back: they are lines of a capture, none of them at fault, and
+/// what is captured in them are the packets, in order.
 pub fn written_lines_are_read()
     ensures clean { (ends : Option TheEnds) (count : ℕ) (records : List Record)
         → AllByRecursion (λ r. AreBytes r.bytes) records

@@ -7,12 +7,12 @@ ghost use Rattle.decnet_frames.specs.Nodes.{node_by as the_node, node_of};
 use dap_text::read_number;
 use linewise::find_byte;
 
-/// The highest area, and the highest number in one (DECnet Phase IV, routing layer 2.0.0).
+/// The maximum of an area, and of a number in one (DECnet Phase IV, routing layer 2.0.0).
 const MAX_AREA: u32 = 63;
 
 const MAX_NUMBER: u32 = 1023;
 
-/// A node by its area and its number in it; neither is 0.
+/// Returns a node by its area and its number in it; neither is 0.
 fn node_by(area: Option<u32>, number: Option<u32>) -> Option<u16>
     requires area { IfSome area (λ n. n ≤ 63) }
     requires number { IfSome number (λ n. n ≤ 1023) }
@@ -24,7 +24,7 @@ fn node_by(area: Option<u32>, number: Option<u32>) -> Option<u16>
     }
 }
 
-/// The node of an address whose point is at this offset.
+/// Returns the node of an address whose point is at this offset.
 fn node_at(text: &[u8], point: usize) -> Option<u16>
     requires { point < length text.now }
     ensures { result ≡ the_node (decimal_of 63 (take point text.now))
@@ -35,7 +35,7 @@ fn node_at(text: &[u8], point: usize) -> Option<u16>
     node_by(read_number(area, MAX_AREA), read_number(number, MAX_NUMBER))
 }
 
-/// The node of an address as 1.10: its area, 1 to 63, and its number in it, 1 to 1,023, both decimal.
+/// Returns the node of an address as 1.10: its area, 1 to 63, and its number in it, 1 to 1,023, both decimal.
 pub fn read_node(text: &[u8]) -> Option<u16>
     ensures { result ≡ node_of text.now }
 {

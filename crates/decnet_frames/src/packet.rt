@@ -46,14 +46,14 @@ const LONG_HEADER: usize = 21;
 
 const SHORT_HEADER: usize = 6;
 
-/// Whether the type is that of a tag.
+/// Returns whether the type is that of a tag.
 fn is_tag(high: u8, low: u8) -> bool
     ensures { result ≡ the_tag high low }
 {
     matches!((high, low), (0x81, 0x00) | (0x88, 0xA8) | (0x91, 0x00))
 }
 
-/// The type of a frame and what follows it, after the tags.
+/// Returns the type of a frame and what follows it, after the tags.
 fn untagged(bytes: &[u8]) -> &[u8]
     ensures { result.now ≡ the_untagged bytes.now }
 {
@@ -67,7 +67,7 @@ fn untagged(bytes: &[u8]) -> &[u8]
     rest
 }
 
-/// As many bytes as the first two say, the least significant first.
+/// Returns as many bytes as the first two say, the lowest of which is first.
 fn take_counted(bytes: &[u8]) -> Result<&[u8], Passed>
     ensures { FindsAs (λ x. x.now) result (counted bytes.now) }
 {
@@ -83,7 +83,7 @@ fn take_counted(bytes: &[u8]) -> Result<&[u8], Passed>
     Ok(front)
 }
 
-/// The routing message after a type.
+/// Returns the routing message after a type.
 fn after_type(bytes: &[u8]) -> Result<&[u8], Passed>
     ensures { FindsAs (λ x. x.now) result (typed bytes.now) }
 {
@@ -96,7 +96,7 @@ fn after_type(bytes: &[u8]) -> Result<&[u8], Passed>
     take_counted(rest)
 }
 
-/// The routing message of a frame.
+/// Returns the routing message of a frame.
 fn message(frame: &[u8]) -> Result<&[u8], Passed>
     ensures { FindsAs (λ x. x.now) result (routing_message frame.now) }
 {
@@ -107,7 +107,7 @@ fn message(frame: &[u8]) -> Result<&[u8], Passed>
     after_type(untagged(tagged))
 }
 
-/// A message without the padding before it, whose first byte has bit 7 and the count.
+/// Returns a message without the padding before it, whose first byte has bit 7 and the count.
 fn unpadded(message: &[u8]) -> Result<&[u8], Passed>
     ensures { FindsAs (λ x. x.now) result (the_unpadded message.now) }
 {
@@ -125,7 +125,7 @@ fn unpadded(message: &[u8]) -> Result<&[u8], Passed>
     Ok(rest)
 }
 
-/// Whether the six bytes at an offset are the address of a node's station, which begins with AA-00-04-00.
+/// Returns whether the six bytes at an offset are the address of a node's station, which begins with AA-00-04-00.
 fn is_node(message: &[u8], at: usize) -> bool
     requires { at + 4 ≤ length message.now }
     ensures { result ≡ the_node at message.now }
@@ -133,7 +133,7 @@ fn is_node(message: &[u8], at: usize) -> bool
     message[at] == 0xAA && message[at + 1] == 0 && message[at + 2] == 4 && message[at + 3] == 0
 }
 
-/// What is after a long header.
+/// Returns what is after a long header.
 fn long(message: &[u8]) -> Result<Carried<'_>, Passed>
     ensures { FindsAs carried_of result (long_of message.now) }
 {
@@ -150,7 +150,7 @@ fn long(message: &[u8]) -> Result<Carried<'_>, Passed>
     })
 }
 
-/// What is after a short header.
+/// Returns what is after a short header.
 fn short(message: &[u8]) -> Result<Carried<'_>, Passed>
     ensures { FindsAs carried_of result (short_of message.now) }
 {
@@ -164,7 +164,7 @@ fn short(message: &[u8]) -> Result<Carried<'_>, Passed>
     })
 }
 
-/// What is after the routing header.
+/// Returns what is after the routing header.
 fn routed_message(message: &[u8]) -> Result<Carried<'_>, Passed>
     ensures { FindsAs carried_of result (routed message.now) }
 {
@@ -181,7 +181,7 @@ fn routed_message(message: &[u8]) -> Result<Carried<'_>, Passed>
     }
 }
 
-/// A packet, if it is one that a line may have, between two nodes.
+/// Returns a packet, if it is one that a line may have, between two nodes.
 fn fit<'a>(carried: Carried<'a>) -> Result<Carried<'a>, Passed>
     ensures { FindsAs carried_of result (fitting (carried_of carried.entry)) }
 {
@@ -194,7 +194,7 @@ fn fit<'a>(carried: Carried<'a>) -> Result<Carried<'a>, Passed>
     Ok(carried)
 }
 
-/// The data in a frame: what is after the padding and the routing header.
+/// Returns the data in a frame: what is after the padding and the routing header.
 fn read_data(frame: &[u8]) -> Result<Carried<'_>, Passed>
     ensures { FindsAs carried_of result (data_of frame.now) }
 {
@@ -208,8 +208,8 @@ fn read_data(frame: &[u8]) -> Result<Carried<'_>, Passed>
     }
 }
 
-/// The NSP packet in an Ethernet frame (DECnet Phase IV, routing layer 2.0.0), of at most `MAX_PACKET` bytes and between two
-/// nodes; or why there is none. It takes no memory.
+/// Returns the NSP packet in an Ethernet frame (DECnet Phase IV, routing layer 2.0.0), of at most `MAX_PACKET` bytes
+/// and between two nodes; or why there is none. It takes no memory.
 pub fn read_frame(frame: &[u8]) -> Result<Carried<'_>, Passed>
     ensures { FindsAs carried_of result (nsp_packet_of frame.now) }
 {

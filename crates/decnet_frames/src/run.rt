@@ -28,7 +28,7 @@ pub enum FramesFault {
     NoMemory,
 }
 
-/// A file as far as it came, and its listing.
+/// A file as far as it was read, and its listing.
 #[derive(Drop)]
 pub(crate) struct Frames {
     pub(crate) reading: Reading,
@@ -38,7 +38,7 @@ pub(crate) struct Frames {
 }
 
 impl Frames {
-    /// Nothing was read yet.
+    /// Returns a listing of which nothing was read yet.
     fn new(alloc: Global, ends: Option<Ends>) -> Self
         ensures listed { HasListed ends result [] [] }
         ensures text { result.text.items ≡ [] }
@@ -54,7 +54,7 @@ impl Frames {
         }
     }
 
-    /// Takes bytes of a piece, no further than the end of a frame; how many.
+    /// Takes bytes of a piece, no further than the end of a frame, and returns how many.
     fn take_frame(&mut self, piece: &[u8]) -> Result<usize, FileFault>
         requires { IsGoing self.old }
         ensures within { IfOk result (λ taken. taken ≤ length piece.now) }
@@ -144,7 +144,8 @@ fn end_at<W: Write>(
     }
 }
 
-/// Reads some bytes, and writes the lines of the frames that are whole with them; or the counts at the end of the file.
+/// Reads some bytes, and writes the lines of the frames that are whole with them; at the end of the file, returns the
+/// counts.
 fn list_some<R: Read, W: Write>(
     frames: &mut Frames,
     chunk: &mut [u8],
@@ -220,13 +221,14 @@ fn list_all<R: Read, W: Write>(
     Err(FramesFault::ReadFailed)
 }
 
-/// Reads a capture file to its end, and writes the NSP packets between two nodes as lines of a capture, each with a comment:
-/// those between the ends, or between the nodes of the first packet. The lines of a frame are written and flushed before more
-/// is read. Returns how many frames were listed, and how many passed over.
+/// Reads a capture file to its end, and writes the NSP packets between two nodes as lines of a capture, each with a
+/// comment: those between the ends, or between the nodes of the first packet. The lines of a frame are written and
+/// flushed before more is read. Returns how many frames were listed, and how many passed over.
 ///
-/// `File`: the file is at fault, and the lines of the frames before it are written. `ReadFailed`, `NoMemory`: lines of frames
-/// that were read are written, and no part of a line. `WriteFailed`: a prefix of such lines is. What is kept of the file is at
-/// most a frame or block of `MAX_UNIT` bytes, 64 KiB of input, the lines of that, and `MAX_INTERFACES` interfaces.
+/// `File`: the file is at fault, and the lines of the frames before it are written. `ReadFailed`, `NoMemory`: lines of
+/// frames that were read are written, and no part of a line. `WriteFailed`: a prefix of such lines is. What is kept of
+/// the file is at most a frame or block of `MAX_UNIT` bytes, 64 KiB of input, the lines of that, and `MAX_INTERFACES`
+/// interfaces.
 pub fn list_frames<R: Read, W: Write>(
     alloc: Global,
     ends: Option<Ends>,

@@ -13,8 +13,8 @@ use dap_text::{push_decimal, push_hex, push_number, push_str};
 use itoa::Buffer;
 use std::alloc::AllocError;
 
-/// The two nodes whose packets are listed, `>` from the first one and `<` from the other: each an area in the upper six bits,
-/// and a number in it.
+/// The two nodes whose packets are listed, `>` from the first one and `<` from the other: each an area in the upper
+/// six bits, and a number in it.
 #[derive(Clone, Copy, Debug, PartialEq, Eq)]
 pub struct Ends {
     pub first: u16,
@@ -31,13 +31,13 @@ pub struct Counts {
 /// Resolutions from here on are powers of two.
 const POWERS_OF_TWO: u8 = 128;
 
-/// The greatest power of ten of 128 bits. A part of a second that is finer shows as none.
+/// The maximum power of ten that 128 bits hold. A part of a second that is finer shows as none.
 const MAX_POWER: u8 = 38;
 
 /// The finest resolution whose times show with six digits.
 const MICROSECONDS: u8 = 6;
 
-/// How many parts a second has.
+/// Returns how many parts a second has.
 fn parts_in_second(resolution: u8) -> u128
     ensures value { result ≡ the_parts_in_second resolution }
     ensures some { 0 < result }
@@ -49,7 +49,7 @@ fn parts_in_second(resolution: u8) -> u128
     }
 }
 
-/// The parts of a second that are shown.
+/// Returns how many parts a second has that are shown.
 fn shown_parts(resolution: u8) -> u64
     ensures { result ≡ the_shown_parts resolution }
 {
@@ -71,7 +71,7 @@ fn push_digits(text: &mut Vec<u8>, number: u64) -> Result<(), AllocError>
     }
 }
 
-/// How many of the shown parts of a second there are, rounded down.
+/// Returns how many of the shown parts of a second there are, rounded down.
 fn scaled(parts: u128, in_second: u128, shown: u64) -> u64
     requires some { parts < in_second }
     requires parts { parts < 2 ^ 64 }
@@ -147,7 +147,7 @@ fn push_heading(
     push_str(text, "\n")
 }
 
-/// The direction of a packet between the ends.
+/// Returns the direction of a packet between the ends.
 fn way_of(ends: Ends, carried: &Carried<'_>) -> Option<Direction>
     ensures { result ≡ the_way ends (carried_of carried.now) }
 {
@@ -179,7 +179,7 @@ pub struct Listing {
 }
 
 impl Listing {
-    /// How many frames were listed, and how many passed over.
+    /// Returns how many frames were listed, and how many passed over.
     pub fn counts(&self) -> Counts
         ensures taken { result.taken ≡ self.now.taken }
         ensures passed { result.passed ≡ self.now.count - self.now.taken }
@@ -190,7 +190,7 @@ impl Listing {
         }
     }
 
-    /// Both ends, those of the packet where none are known.
+    /// Returns both ends, those of the packet where none are known.
     fn ends_with(&self, carried: &Carried<'_>) -> Ends
         ensures { result ≡ the_ends_with self.now.ends (carried_of carried.now) }
     {
@@ -230,8 +230,8 @@ impl Listing {
         push_data(text, way, carried.packet)
     }
 
-    /// Appends the lines of the next frame, if it has an NSP packet between the ends; otherwise nothing. Where memory is
-    /// refused, part of them may be appended.
+    /// Appends the lines of the next frame, if it has an NSP packet between the ends; otherwise nothing. Where memory
+    /// is refused, part of them may be appended.
     pub fn push_frame(
         &mut self,
         text: &mut Vec<u8>,

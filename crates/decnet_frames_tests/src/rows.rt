@@ -2,8 +2,8 @@
 
 use capture_file::FaultKind;
 
-/// The name of a row, two nodes, a file, what is written, and how many frames are taken and passed over; or the fault, its
-/// offset, and how many were before it.
+/// The name of a row, two nodes, a file, what is written, and how many frames are taken and passed over; or the fault,
+/// its offset, and how many were before it.
 pub(crate) type Row = (
     &'static str,
     Option<(u16, u16)>,

@@ -29,7 +29,7 @@ impl Read for Pieces<'_> {
     }
 }
 
-/// What a row says that comes of its file.
+/// Returns what a row says that comes of its file.
 fn outcome(row: &Row) -> Result<Counts, FramesFault> {
     match row.4 {
         Ok((taken, passed)) => Ok(Counts { taken, passed }),
@@ -39,7 +39,7 @@ fn outcome(row: &Row) -> Result<Counts, FramesFault> {
     }
 }
 
-/// Both ends that a row names.
+/// Returns both ends that a row names.
 fn ends(row: &Row) -> Option<Ends> {
     match row.1 {
         Some((first, other)) => Some(Ends { first, other }),
@@ -47,7 +47,7 @@ fn ends(row: &Row) -> Option<Ends> {
     }
 }
 
-/// Whether a row holds where this many bytes come at a time.
+/// Returns whether a row holds where this many bytes come at a time.
 fn holds(alloc: Global, row: &Row, most: usize) -> bool {
     let mut reader = Pieces {
         left: row.2,

@@ -1,5 +1,5 @@
-//! Names of files as other systems send them: two are one where they differ only in a device or directory before them, in a
-//! version after them, or in capitals.
+//! Names of files as other systems send them: two are one where they differ only in a device or directory before them,
+//! in a version after them, or in capitals.
 #![tactic(auto)]
 
 mod fold;

@@ -16,7 +16,7 @@ const BUFFER: u16 = 1024;
 
 /// What takes bytes, whatever they are.
 pub trait Taking {
-    /// Takes the bytes, and tells what became of them.
+    /// Takes the bytes, and returns what became of them.
     fn take(&mut self, bytes: &[u8]) -> Result<Outcome, Trouble>;
 }
 
@@ -71,14 +71,14 @@ impl Counts {
     }
 }
 
-/// Puts a byte in its place.
+/// Puts a byte at an index, if there is one.
 fn put(bytes: &mut [u8], place: usize, value: u8) {
     if let Some(byte) = bytes.get_mut(place) {
         *byte = value;
     }
 }
 
-/// Gives each change of the byte at this place, and puts the right one back.
+/// Gives each change of the byte at this index, and puts the right one back.
 fn change<T: Taking>(
     bytes: &mut [u8],
     place: usize,
@@ -113,7 +113,7 @@ pub fn alter<T: Taking>(
     Ok(())
 }
 
-/// They were taken, or refused.
+/// Returns that the bytes were taken, or that they were refused.
 fn whether_taken(is_whole: bool) -> Outcome {
     if is_whole {
         Outcome::Taken
@@ -166,7 +166,7 @@ struct Served {
     before: &'static [&'static [u8]],
 }
 
-/// The end is sent messages, and one more.
+/// Sends an end messages, and one more.
 fn serve_more(end: &mut Accessed, before: &[&[u8]], bytes: &[u8]) -> Result<Outcome, Trouble> {
     for message in before {
         end.serve(message, 0)?;
@@ -194,14 +194,14 @@ pub fn alter_served(alloc: Global) -> Result<Counts, Trouble> {
     Ok(counts)
 }
 
-/// An end that asked and heard, and hears one answer more.
+/// An end that asked and heard, and hears one more answer.
 #[derive(Drop)]
 struct Heard {
     alloc: Global,
     before: &'static [Line],
 }
 
-/// The end asks or hears what a line says.
+/// Lets the end ask or hear what a line says.
 fn follow(alloc: Global, end: &mut Accessing, line: Line) -> Result<(), Trouble> {
     match line {
         Line::Ask(words) => {
@@ -214,7 +214,7 @@ fn follow(alloc: Global, end: &mut Accessing, line: Line) -> Result<(), Trouble>
     Ok(())
 }
 
-/// The end hears one answer more.
+/// Lets the end hear one more answer.
 fn hear(end: &mut Accessing, answer: &[u8]) -> Result<Outcome, Trouble> {
     match end.read(answer, 0) {
         Ok(_) => Ok(Outcome::Taken),
@@ -223,7 +223,7 @@ fn hear(end: &mut Accessing, answer: &[u8]) -> Result<Outcome, Trouble> {
     }
 }
 
-/// The end asks and hears what the lines say, and hears one answer more.
+/// Lets the end ask and hear what the lines say, and hear one more answer.
 fn hear_more(
     alloc: Global,
     end: &mut Accessing,
@@ -293,7 +293,7 @@ const WORDS: &[&str] = &[
     "refused otherwise",
 ];
 
-/// The place of the word for what became of a packet.
+/// Returns the index of the word for what became of a packet.
 fn word_of(received: Result<Got, LinkFault>) -> usize {
     match received {
         Ok(Got::Accepted) => 0,
@@ -316,7 +316,7 @@ struct Received {
     counts: [u64; 9],
 }
 
-/// The end has sent, and gets the packets.
+/// Lets the end send, and receive the packets.
 fn prepare(end: &mut LinkEnd, before: &[&[u8]]) -> Result<(), LinkFault> {
     end.send(b"eight segments, of four bytes..")?;
     for _ in 0..SETUP.window {
@@ -328,7 +328,7 @@ fn prepare(end: &mut LinkEnd, before: &[&[u8]]) -> Result<(), LinkFault> {
     Ok(())
 }
 
-/// What became of a packet that was received so; an end that failed refuses all.
+/// Returns what became of a packet that was received so; an end that failed refuses all.
 fn outcome_of(
     received: Result<Got, LinkFault>,
     end: &mut LinkEnd,
@@ -343,7 +343,7 @@ fn outcome_of(
     }
 }
 
-/// The end has sent and got packets, and gets one more, which is counted.
+/// Lets the end send, and receive packets and one more, which is counted.
 fn receive_more(
     end: &mut LinkEnd,
     before: &[&[u8]],
@@ -365,7 +365,7 @@ impl Taking for Received {
     }
 }
 
-/// Tells how many packets became what, as a line.
+/// Prints how many packets became what, as a line.
 fn note_words(counts: &[u64], text: &mut Text) {
     for (word, count) in WORDS.iter().zip(counts) {
         text.note(word, *count);
@@ -373,7 +373,7 @@ fn note_words(counts: &[u64], text: &mut Text) {
     text.put(b"\n");
 }
 
-/// Alters each packet that comes to an end which has sent and got packets, and tells what became of them.
+/// Alters each packet that comes to an end which has sent and got packets, and prints what became of them.
 pub fn alter_received(alloc: Global, text: &mut Text) -> Result<Counts, Trouble> {
     let mut counts = Counts::new();
     for before in BEFORE {

@@ -15,7 +15,7 @@ pub const CONFIG: &[u8] = &[1, 2, 10, 0, 4, 7, 3, 5, 6, 0, 0, 0, 0];
 /// The attributes of a relative file of variable records with the numbers 1 to 3.
 pub const RELATIVE: &[u8] = &[2, 2, 0x0b, 0xa6, 4, 0x10, 2, 0, 0, 4, 3, 0, 0, 0];
 
-/// Those of a sequential file whose records have 5 bytes at the most.
+/// Those of a sequential file whose records have at most 5 bytes.
 pub const FIVE: &[u8] = &[2, 2, 0x0b, 0xa6, 4, 0, 2, 5, 0, 4, 0, 0, 0, 0];
 
 /// An Access that makes the file `F`, with the right to get, put and delete.

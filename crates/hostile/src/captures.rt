@@ -8,8 +8,8 @@ use std::alloc::Global;
 use std::io;
 use std::io::Read;
 
-/// A pcap file: an acknowledgement from node 1.1 to 1.2 after a short header, and one back after a tag, padding and a long
-/// header.
+/// A pcap file: an acknowledgement from node 1.1 to 1.2 after a short header, and one back after a tag, padding and a
+/// long header.
 const PCAP: &[u8] = &[
     0xd4, 0xc3, 0xb2, 0xa1, 2, 0, 4, 0, 0, 0, 0, 0, 0, 0, 0, 0, 0, 0, 4, 0, 1, 0, 0, 0, // header
     7, 0, 0, 0, 5, 0, 0, 0, 29, 0, 0, 0, 29, 0, 0, 0, // record
@@ -21,8 +21,8 @@ const PCAP: &[u8] = &[
     4, 1, 1, 2, 2, 0xff, 0x8f, // packet
 ];
 
-/// A pcapng file: a section, an interface with a resolution and an offset, a block of statistics, an enhanced packet and a
-/// simple one.
+/// A pcapng file: a section, an interface with a resolution and an offset, a block of statistics, an enhanced packet
+/// and a simple one.
 const PCAPNG: &[u8] = &[
     0x0a, 0x0d, 0x0d, 0x0a, 28, 0, 0, 0, 0x4d, 0x3c, 0x2b, 0x1a, 1, 0, 0, 0, 0xff, 0xff, 0xff,
     0xff, 0xff, 0xff, 0xff, 0xff, 28, 0, 0, 0, // section

@@ -95,7 +95,7 @@ impl Write for FaultyWriter {
 /// What a run leaves: how it ended, and what was written.
 type Left = (End, &'static [u8]);
 
-/// What a run leaves whose reader is at fault: the same as ever, where it reads nothing.
+/// Returns what a run leaves whose reader is at fault: the same as ever, where it reads nothing.
 fn unread(row: Row, fault: CaptureFault) -> Left {
     let (_engine, input, end, text) = row;
     if input.is_empty() {
@@ -142,7 +142,7 @@ fn reads_without_end(alloc: Global, row: Row, step: usize) -> Result<(), Trouble
     wants(ended, &writer, unread(row, CaptureFault::TooLarge))
 }
 
-/// Runs an engine with a writer, and wants a failed write after a front of the text, where it fails.
+/// Runs an engine with a writer, and wants a failed write after a prefix of the text, where it fails.
 fn writes(
     alloc: Global,
     row: Row,
@@ -168,8 +168,8 @@ fn writes(
     wants(ended, &writer.held, (end, &text[..front]))
 }
 
-/// Each row over readers that give a byte a call, or a few, and fail at each call in turn; and over those
-/// without an end. How many runs that were.
+/// Runs each row over readers that give a byte a call, or a few, and fail at each call in turn; and over those without
+/// an end. Returns how many runs that were.
 pub fn read_all(alloc: Global, rows: &[Row]) -> Result<u64, Trouble> {
     let mut runs: u64 = 0;
     for row in rows {
@@ -191,8 +191,8 @@ pub fn read_all(alloc: Global, rows: &[Row]) -> Result<u64, Trouble> {
     Ok(runs)
 }
 
-/// Each row with writers that take a byte a call, or a few, and fail or take nothing at each call in
-/// turn, or at the flush alone, or never. How many runs that were.
+/// Runs each row with writers that take a byte a call, or a few, and fail or take nothing at each call in turn, or at
+/// the flush alone, or never. Returns how many runs that were.
 pub fn write_all(alloc: Global, rows: &[Row]) -> Result<u64, Trouble> {
     let mut runs: u64 = 0;
     for row in rows {

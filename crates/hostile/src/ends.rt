@@ -1,4 +1,4 @@
-//! The end that asks and the end that holds the files, each by itself.
+//! The client and the server, each by itself.
 
 use crate::bytes::*;
 use crate::growing::{Growing, Trouble, at};
@@ -52,7 +52,7 @@ pub enum Line {
     Hear(&'static [u8]),
 }
 
-/// An end that asks.
+/// A client.
 #[derive(Drop)]
 pub struct Asking {
     alloc: Global,
@@ -74,7 +74,7 @@ impl Asking {
     }
 }
 
-/// What the end came to.
+/// Returns what the end came to.
 fn asked(asked: Result<Vec<Vec<u8>>, AskFault>) -> Result<Vec<Vec<u8>>, Trouble> {
     match asked {
         Ok(messages) => Ok(messages),
@@ -82,7 +82,7 @@ fn asked(asked: Result<Vec<Vec<u8>>, AskFault>) -> Result<Vec<Vec<u8>>, Trouble>
     }
 }
 
-/// Asks a request; its messages.
+/// Asks a request, and returns its messages.
 pub fn ask(alloc: Global, end: &mut Accessing, words: &str) -> Result<Vec<Vec<u8>>, Trouble> {
     let request = request(alloc, words)?;
     asked(end.ask(&request))
@@ -107,7 +107,7 @@ impl Asking {
     }
 }
 
-/// Requests of each phase: what an end says of them tells where it stands.
+/// Requests of each phase: what an end says of them shows its phase.
 const PROBES: [Request; 5] = [
     Request::Hello,
     Request::Connect,

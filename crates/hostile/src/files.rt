@@ -102,7 +102,7 @@ fn replace(file: &mut AnyFile, number: u32, body: &[u8]) -> Result<(), Trouble> 
     file.replace(number, body).map_err(|_| Trouble::Wants)
 }
 
-/// What became of a call on a stream.
+/// Returns what became of a call on a stream.
 fn done(streamed: Result<u32, Refusal>) -> Result<(), Trouble> {
     match streamed {
         Ok(_number) => Ok(()),

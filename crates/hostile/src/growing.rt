@@ -24,12 +24,12 @@ pub enum Trouble {
     Unready,
     /// It was refused for another reason.
     Wrong,
-    /// There is no call of this place.
+    /// There is no call at this index.
     Over,
 }
 
 impl Trouble {
-    /// What is told after the call that was made again.
+    /// Returns what is printed after the call that was made again.
     fn text(self) -> &'static str {
         match self {
             Trouble::Wants => ": Wants",
@@ -53,7 +53,7 @@ impl<T: Drop> From<AllocFailed<T>> for Trouble {
     }
 }
 
-/// Out of memory is reported as such, and any other fault as wrong.
+/// Returns that memory was wanted where a call was out of memory, and that any other fault is wrong.
 fn wants(is_memory: bool) -> Trouble {
     if is_memory {
         Trouble::Wants
@@ -118,14 +118,14 @@ impl From<WorldFault> for Trouble {
 
 /// What is called, and what its readers answer.
 pub trait Growing {
-    /// Makes the call of this place, from 0.
+    /// Makes the call at this index.
     fn call(&mut self, place: usize) -> Result<(), Trouble>;
 
     /// Appends what all readers answer.
     fn look(&self, seen: &mut Text);
 }
 
-/// What stands at this place of a table of calls.
+/// Returns what is at this index of a table of calls.
 pub fn at<T: Copy>(table: &[T], place: usize) -> Result<T, Trouble> {
     match table.get(place) {
         Some(found) => Ok(*found),
@@ -133,12 +133,12 @@ pub fn at<T: Copy>(table: &[T], place: usize) -> Result<T, Trouble> {
     }
 }
 
-/// Puts what was made in its place.
+/// Keeps what was made.
 pub fn put<T: Drop>(place: &mut Option<T>, made: T) {
     *place = Some(made);
 }
 
-/// What was made, where the rest is done too.
+/// Returns what was made, where the rest is done too.
 pub fn when<T: Drop>(done: Result<(), Trouble>, made: T) -> Result<T, Trouble> {
     done?;
     Ok(made)
@@ -160,7 +160,7 @@ pub enum Ending {
 }
 
 impl Ending {
-    /// What is told after the call.
+    /// Returns what is printed after the call.
     fn text(self) -> &'static str {
         match self {
             Ending::Twice => " wanted memory twice, and changed nothing",
@@ -194,7 +194,7 @@ impl From<Trouble> for Ending {
     }
 }
 
-/// What the readers answered before a call and after it, and where that is written and told.
+/// What the readers answered before a call and after it, and where that is written and printed.
 #[derive(Drop)]
 pub struct Seen {
     before: Text,
@@ -253,7 +253,7 @@ impl Seen {
         line.write(&mut self.out)
     }
 
-    /// Tells of a call that gave nothing at first, and how it ended.
+    /// Prints which call gave nothing at first, and how it ended.
     fn tell(
         &mut self,
         name: &str,
@@ -276,7 +276,7 @@ impl Seen {
     }
 }
 
-/// What became of a call that wanted memory, made again where nothing has changed: whether there is one.
+/// Makes a call again that wanted memory, where nothing has changed. Returns whether there is one.
 fn again<G: Growing>(
     subject: &mut G,
     place: usize,
@@ -297,7 +297,7 @@ fn again<G: Growing>(
     Err(Ending::from(second))
 }
 
-/// Makes a call again that gave nothing, and tells of it; whether there is one.
+/// Makes a call again that gave nothing, and prints what came of it. Returns whether there is one.
 fn call_again<G: Growing>(
     name: &str,
     subject: &mut G,
@@ -314,7 +314,7 @@ fn call_again<G: Growing>(
     ended
 }
 
-/// Makes the call of a place, where there is one, and tells where it wanted memory.
+/// Makes the call at an index, and prints where it wanted memory. Returns whether there is one.
 fn call_surely<G: Growing>(
     name: &str,
     subject: &mut G,

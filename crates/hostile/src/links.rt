@@ -63,7 +63,7 @@ struct Pair {
     b: LinkEnd,
 }
 
-/// The limits of an end with these addresses.
+/// Returns the limits of an end with these addresses.
 fn setup(local: u16, remote: u16) -> LinkSetup {
     LinkSetup {
         local,
@@ -74,7 +74,7 @@ fn setup(local: u16, remote: u16) -> LinkSetup {
     }
 }
 
-/// Both ends, new.
+/// Makes both ends.
 fn new_pair(alloc: Global) -> Result<Pair, LinkFault> {
     let a = LinkEnd::new(alloc, setup(0x0101, 0x0202))?;
     let b = LinkEnd::new(alloc, setup(0x0202, 0x0101))?;
@@ -100,7 +100,7 @@ pub fn keep_next(
     }
 }
 
-/// The packet at an index, or no bytes where there is none.
+/// Returns the packet at an index, or no bytes where there is none.
 pub fn packet_of(packets: &[Vec<u8>], index: usize) -> &[u8] {
     match packets.get(index) {
         Some(packet) => packet,
@@ -114,7 +114,7 @@ fn note_got(got: &mut Text, received: Result<Got, LinkFault>) -> Result<(), Trou
     Ok(())
 }
 
-/// Copies of the messages.
+/// Copies the messages.
 fn copies(alloc: Global, list: &[&[u8]]) -> Result<Vec<Vec<u8>>, Trouble> {
     let mut all = Vec::new(alloc);
     for message in list {
@@ -129,7 +129,7 @@ fn send_all(alloc: Global, end: &mut LinkEnd, list: &[&[u8]]) -> Result<(), Trou
     Ok(end.send_all(&all)?)
 }
 
-/// One act of an end.
+/// Does one act of an end.
 fn perform(
     alloc: Global,
     end: &mut LinkEnd,

@@ -48,11 +48,11 @@ const GREETING: &[u8] =
 const GREETING_PLAYED: &[u8] =
     b"1 asked 1\n2 posted 1\n3 packet a 0 60020201010080010001020a00040703050600000000\n4 accepted\n5 served 1\n6 posted 1\n7 packet b 0 60010102020180010001020a00040703050600000000\n8 accepted\n9 report ready 1024\n";
 
-/// What the program tells for help.
+/// What the program prints for help.
 const HELP: &[u8] =
     b"Lists DECnet packets and messages, and plays file accesses. Each command reads standard input.\n\nUsage: dapnsp <COMMAND>\n\nCommands:\n  show  Lists captured NSP packets, and the DAP messages in them\n  msg   Lists DAP messages that come without packets\n  run   Plays requests, losses, repeats and reorderings over both ends of a file access\n\nOptions:\n  -h, --help  Print help\n\nExample: echo '> 600201040305800100060200' | ./dapnsp show\n";
 
-/// What it tells of a word that is a mistake.
+/// What it prints for a word that is a mistake.
 const MISTAKEN: &[u8] =
     b"error: unexpected argument '-x' found\n\nUsage: dapnsp <COMMAND>\n\nFor more information, try '--help'.\n";
 
@@ -84,7 +84,7 @@ pub const WORDS: &[Row] = &[
     (Engine::Word("-x"), b"", End::Mistake, b""),
 ];
 
-/// What an exit status and what was told say of the end.
+/// What an exit status and what was printed say of the end.
 const ENDS: &[(u8, &[u8], End)] = &[
     (0, b"", End::Good),
     (1, b"", End::Stopped),
@@ -96,10 +96,10 @@ const ENDS: &[(u8, &[u8], End)] = &[
     (3, b"no memory\n", End::Fault(CaptureFault::NoMemory)),
 ];
 
-/// The most bytes that the program tells.
+/// The maximum number of bytes that the program prints.
 const MAX_TOLD: usize = 1024;
 
-/// What an exit status and what was told say of the end.
+/// Returns what an exit status and what was printed say of the end.
 fn end_of(status: u8, told: &[u8]) -> Result<End, Trouble> {
     for (its_status, line, end) in ENDS {
         if status == *its_status && told == *line {
@@ -109,13 +109,13 @@ fn end_of(status: u8, told: &[u8]) -> Result<End, Trouble> {
     Err(Trouble::Wrong)
 }
 
-/// The program's name, and a word.
+/// Returns the program's name, and a word.
 fn words(alloc: Global, word: &str) -> Result<[String; 2], Trouble> {
     let program = String::from_str(alloc, "dapnsp")?;
     Ok([program, String::from_str(alloc, word)?])
 }
 
-/// Runs the program with words, over room for what it tells.
+/// Runs the program with words, over room for what it prints.
 fn run_words_over<R: Read, W: Write>(
     alloc: Global,
     words: &[String],
@@ -138,7 +138,7 @@ fn run_word<R: Read, W: Write>(
     run_words_over(alloc, &words, reader, writer)
 }
 
-/// How a call of the library ended.
+/// Returns how a call of the library ended.
 fn ended(outcome: Result<Outcome, CaptureFault>) -> Result<End, Trouble> {
     Ok(match outcome {
         Ok(Outcome::Good) => End::Good,

@@ -105,7 +105,7 @@ const READERS: &[u8] = b" readers that fail, give little or never end:";
 
 const WRITERS: &[u8] = b" writers that fail, take little or nothing:";
 
-/// The calls on files.
+/// Makes the calls on files.
 fn grow_files(alloc: Global, seen: &mut Seen) -> Result<(), Ending> {
     for (name, org, acts) in FILES {
         make_all(name, Filing::new(alloc, *org, acts)?, seen)?;
@@ -113,13 +113,13 @@ fn grow_files(alloc: Global, seen: &mut Seen) -> Result<(), Ending> {
     Ok(())
 }
 
-/// The calls on links.
+/// Makes the calls on links.
 fn grow_links(alloc: Global, seen: &mut Seen) -> Result<(), Ending> {
     make_all("a link", Links::new(alloc), seen)?;
     make_all("both ends", Peers::new(alloc), seen)
 }
 
-/// The calls on ends that are sent messages.
+/// Makes the calls on ends that are sent messages.
 fn grow_serving(alloc: Global, seen: &mut Seen) -> Result<(), Ending> {
     for (name, messages) in SERVED {
         make_all(name, Serving::new(alloc, messages), seen)?;
@@ -127,7 +127,7 @@ fn grow_serving(alloc: Global, seen: &mut Seen) -> Result<(), Ending> {
     make_all("sharing files", Sharing::new(alloc, SHARED), seen)
 }
 
-/// The calls on ends that ask.
+/// Makes the calls on clients.
 fn grow_asking(alloc: Global, seen: &mut Seen) -> Result<(), Ending> {
     for (name, lines) in ASKED {
         make_all(name, Asking::new(alloc, lines), seen)?;
@@ -135,7 +135,7 @@ fn grow_asking(alloc: Global, seen: &mut Seen) -> Result<(), Ending> {
     Ok(())
 }
 
-/// The calls on worlds.
+/// Makes the calls on worlds.
 fn grow_worlds(alloc: Global, seen: &mut Seen) -> Result<(), Ending> {
     for (name, setup, script, shows_wires) in WORLDS {
         let playing = Playing::new(alloc, *setup, script, *shows_wires);
@@ -144,13 +144,13 @@ fn grow_worlds(alloc: Global, seen: &mut Seen) -> Result<(), Ending> {
     Ok(())
 }
 
-/// The call on a world that is directed.
+/// Makes the call on a world that is directed.
 fn grow_directed(alloc: Global, seen: &mut Seen) -> Result<(), Ending> {
     let directing = Directing::new(alloc, ROOMY);
     make_all("a world that is directed", directing, seen)
 }
 
-/// The listings and the words of the program.
+/// Runs the listings and the words of the program.
 fn grow_listings(alloc: Global, seen: &mut Seen) -> Result<(), Ending> {
     for (name, rows) in LISTED {
         make_all(name, Listing::new(alloc, rows)?, seen)?;
@@ -171,7 +171,7 @@ fn grow(alloc: Global, seen: &mut Seen) -> Result<(), Ending> {
     grow_listings(alloc, seen)
 }
 
-/// Alters messages, packets and answers, and tells what became of them.
+/// Alters messages, packets and answers, and prints what became of them.
 fn alter(alloc: Global, text: &mut Text) -> Result<(), Trouble> {
     alter_all(alloc, false)?.note("altered messages", text);
     alter_all(alloc, true)?.note("altered packets", text);
@@ -182,14 +182,14 @@ fn alter(alloc: Global, text: &mut Text) -> Result<(), Trouble> {
     Ok(())
 }
 
-/// Tells how many runs there were.
+/// Prints how many runs there were.
 fn note_runs(what: &[u8], runs: u64, text: &mut Text) {
     text.put(what);
     text.show(&runs);
     text.put(b" runs\n");
 }
 
-/// Runs the listings over devices at fault, and tells how many runs that were.
+/// Runs the listings over devices at fault, and prints how many runs that were.
 fn fail_devices(alloc: Global, text: &mut Text) -> Result<(), Trouble> {
     for (name, rows) in LISTED {
         text.put(name.as_bytes());
@@ -200,7 +200,7 @@ fn fail_devices(alloc: Global, text: &mut Text) -> Result<(), Trouble> {
     Ok(())
 }
 
-/// Alters bytes and fails devices, and writes what was told until the end, or until something went wrong.
+/// Alters bytes and fails devices, and writes what was printed until the end, or until something went wrong.
 fn go_wrong(alloc: Global, out: &mut Stdout) -> Result<(), Ending> {
     let mut text = Text::new(alloc);
     text.reserve()?;
@@ -212,7 +212,7 @@ fn go_wrong(alloc: Global, out: &mut Stdout) -> Result<(), Ending> {
     Ok(done?)
 }
 
-/// All of it, or with any input the growing calls alone.
+/// Runs all of it, or with any input the growing calls alone.
 fn run(rt: HostRuntime) -> Result<(), Ending> {
     let alloc = rt.alloc();
     let mut word = [0; 16];

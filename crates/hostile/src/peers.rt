@@ -1,4 +1,4 @@
-//! The end that asks and the end that serves, each with its link, over a line between them.
+//! The client and the server, each with its link, over a line between them.
 
 use crate::growing::{Growing, Trouble, at, put};
 use crate::links::{keep, keep_next, packet_of};
@@ -15,7 +15,7 @@ use std::alloc::Global;
 /// The buffer of each end.
 const BUFFER: u16 = 1024;
 
-/// The end that serves goes on while fewer bytes wait than this.
+/// The server goes on while fewer bytes wait than this.
 const MAX_WAITING: u64 = 1 << 20;
 
 /// What an end does with its link. Each packet that it writes is kept, in order from 0.
@@ -36,7 +36,7 @@ use Deed::*;
 /// What is done.
 #[derive(Clone, Copy)]
 enum Act {
-    /// The end that serves is given a relative file, and a record of it.
+    /// The server is given a relative file, and a record of it.
     Add(&'static [u8]),
     AddRecord(u32, &'static [u8]),
     Ask(&'static str),
@@ -48,7 +48,8 @@ enum Act {
 
 use Act::*;
 
-/// A file is opened and fetched call by call, packets come late, twice and in another order; then both links are renewed.
+/// A file is opened and fetched call by call, packets come late, twice and in another order; then both links are
+/// renewed.
 const ACTS: &[Act] = &[
     Add(b"F"),
     AddRecord(3, b"three"),
@@ -118,7 +119,7 @@ const SERVING: LinkSetup = LinkSetup {
     ..ASKING
 };
 
-/// What is left to do where memory was wanted after a part of the way.
+/// Returns what is left to do where memory was wanted after a part of the way.
 fn stopped(is_memory: bool) -> Trouble {
     if is_memory {
         Trouble::Stopped
@@ -161,7 +162,7 @@ struct Pair {
     serving: ServingEnd,
 }
 
-/// Both ends, new.
+/// Makes both ends.
 fn new_pair(alloc: Global) -> Result<Pair, LinkFault> {
     let asking = AskingEnd::new(alloc, BUFFER, ASKING)?;
     let serving = ServingEnd::new(alloc, BUFFER, SERVING)?;
@@ -201,7 +202,7 @@ fn serve(end: &mut ServingEnd) -> Result<(), Trouble> {
     }
 }
 
-/// The end that asks takes a packet.
+/// Lets the client receive a packet.
 fn asking_takes(
     end: &mut AskingEnd,
     packet: &[u8],
@@ -212,7 +213,7 @@ fn asking_takes(
     Ok(())
 }
 
-/// The end that serves takes a packet.
+/// Lets the server receive a packet.
 fn serving_takes(
     end: &mut ServingEnd,
     packet: &[u8],
@@ -222,7 +223,7 @@ fn serving_takes(
     Ok(())
 }
 
-/// The end that serves goes on.
+/// Lets the server go on.
 fn serving_goes_on(end: &mut ServingEnd, out: &mut Vec<Vec<u8>>) -> Result<(), Trouble> {
     match end.go_on(MAX_WAITING, out) {
         Ok(()) => Ok(()),
@@ -230,7 +231,7 @@ fn serving_goes_on(end: &mut ServingEnd, out: &mut Vec<Vec<u8>>) -> Result<(), T
     }
 }
 
-/// What the end that asks writes, for which there is room.
+/// Makes room for a packet, and lets the client write it.
 fn asking_writes(end: &mut AskingEnd, deed: Deed, out: &mut Vec<Vec<u8>>) -> Result<(), Trouble> {
     out.reserve(1)?;
     match deed {
@@ -240,7 +241,7 @@ fn asking_writes(end: &mut AskingEnd, deed: Deed, out: &mut Vec<Vec<u8>>) -> Res
     }
 }
 
-/// What the end that serves writes, for which there is room.
+/// Makes room for a packet, and lets the server write it.
 fn serving_writes(end: &mut ServingEnd, deed: Deed, out: &mut Vec<Vec<u8>>) -> Result<(), Trouble> {
     out.reserve(1)?;
     match deed {
@@ -250,7 +251,7 @@ fn serving_writes(end: &mut ServingEnd, deed: Deed, out: &mut Vec<Vec<u8>>) -> R
     }
 }
 
-/// What a call on a link came to, apart from its number.
+/// Returns what a call on a link came to, apart from its number.
 fn linked<T: Copy>(done: Result<T, LinkFault>) -> Result<(), Trouble> {
     match done {
         Ok(_) => Ok(()),
@@ -279,7 +280,7 @@ impl Peers {
         }
     }
 
-    /// What the end that asks does with its link.
+    /// Lets the client do something with its link.
     fn asking_does(&mut self, deed: Deed) -> Result<(), Trouble> {
         let Some(Pair { asking: end, .. }) = &mut self.pair else {
             return Err(Trouble::Wrong);
@@ -295,7 +296,7 @@ impl Peers {
         }
     }
 
-    /// What the end that serves does with its link.
+    /// Lets the server do something with its link.
     fn serving_does(&mut self, deed: Deed) -> Result<(), Trouble> {
         let Some(Pair { serving: end, .. }) = &mut self.pair else {
             return Err(Trouble::Wrong);

@@ -7,7 +7,7 @@ use nsp_link::LinkEnd;
 use rec_file::{RecordFile, first_record};
 use std::fmt::Debug;
 
-/// The shape of a file.
+/// Appends the shape of a file.
 fn look_at_shape<F: RecordFile>(file: &F, seen: &mut Text) {
     let shape = file.shape();
     seen.put(b"\n");
@@ -17,13 +17,13 @@ fn look_at_shape<F: RecordFile>(file: &F, seen: &mut Text) {
     seen.note("mrn", u64::from(shape.mrn));
 }
 
-/// A record.
+/// Appends a record.
 fn look_at_record(number: u64, body: &[u8], seen: &mut Text) {
     seen.note("record", number);
     seen.note_bytes("body", body);
 }
 
-/// The shape and the records of a file.
+/// Appends the shape and the records of a file.
 pub fn look_at_file<F: RecordFile>(file: &F, seen: &mut Text) {
     look_at_shape(file, seen);
     seen.note("highest", u64::from(file.highest()));
@@ -37,7 +37,7 @@ pub fn look_at_file<F: RecordFile>(file: &F, seen: &mut Text) {
     }
 }
 
-/// All files.
+/// Appends all files.
 pub fn look_at_files(files: &FileTable, seen: &mut Text) {
     for at in 0..files.count() {
         seen.note_bytes("file", files.name(at));
@@ -45,7 +45,7 @@ pub fn look_at_files(files: &FileTable, seen: &mut Text) {
     }
 }
 
-/// How a batch ended.
+/// Appends how a batch ended.
 fn look_at_ending(ending: Ending, seen: &mut Text) {
     match ending {
         Ending::Complete => seen.put(b" complete"),
@@ -58,7 +58,7 @@ fn look_at_ending(ending: Ending, seen: &mut Text) {
     }
 }
 
-/// A batch.
+/// Appends a batch.
 fn look_at_batch(bodies: &[(u64, Octets)], ending: Ending, seen: &mut Text) {
     seen.put(b"\n batch");
     for (number, body) in bodies {
@@ -67,7 +67,7 @@ fn look_at_batch(bodies: &[(u64, Octets)], ending: Ending, seen: &mut Text) {
     look_at_ending(ending, seen);
 }
 
-/// What is known of a file that was opened.
+/// Appends what is known of a file that was opened.
 fn look_at_opened(org: u8, rfm: u8, mrs: u16, mrn: u32, seen: &mut Text) {
     seen.put(b"\n opened");
     seen.show(&org);
@@ -76,14 +76,14 @@ fn look_at_opened(org: u8, rfm: u8, mrs: u16, mrn: u32, seen: &mut Text) {
     seen.show(&mrn);
 }
 
-/// A word in a line of its own, and what is after it.
+/// Appends a line with a word, and what is after it.
 fn look_at<T: Debug>(word: &[u8], value: &T, seen: &mut Text) {
     seen.put(b"\n ");
     seen.put(word);
     seen.show(value);
 }
 
-/// A report.
+/// Appends a report.
 pub fn look_at_report(report: &Report, seen: &mut Text) {
     match report {
         Report::Ready(bufsiz) => look_at(b"ready", bufsiz, seen),
@@ -105,14 +105,14 @@ pub fn look_at_report(report: &Report, seen: &mut Text) {
     }
 }
 
-/// All reports.
+/// Appends all reports.
 pub fn look_at_reports(reports: &[Report], seen: &mut Text) {
     for report in reports {
         look_at_report(report, seen);
     }
 }
 
-/// An end of a link.
+/// Appends an end of a link.
 pub fn look_at_link(link: &LinkEnd, seen: &mut Text) {
     seen.note("sent", link.sent_count());
     seen.note("unacknowledged", link.unacked() as u64);

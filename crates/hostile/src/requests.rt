@@ -5,7 +5,7 @@ use dap_accessing::Request;
 use dap_text::{Words, read_request};
 use std::alloc::Global;
 
-/// The request that words say.
+/// Returns the request that words say.
 pub fn request(alloc: Global, words: &str) -> Result<Request, Trouble> {
     match read_request(Words::of(words.as_bytes())) {
         Some(asked) => Ok(asked.to_request(alloc)?),

@@ -5,7 +5,7 @@ use std::fmt::Debug;
 use std::io;
 use std::io::Write;
 
-/// The most bytes that readers answer.
+/// The maximum number of bytes that readers answer.
 const MOST: usize = 65_536;
 
 /// A text that grows, and whether a part of it is missing since memory ran out.
@@ -37,12 +37,12 @@ impl Text {
         &self.bytes
     }
 
-    /// Whether no part is missing.
+    /// Returns whether no part is missing.
     pub fn is_whole(&self) -> bool {
         !self.is_short
     }
 
-    /// Whether a part that was written is there.
+    /// Keeps whether a part that was written is there.
     fn keep(&mut self, written: io::Result<()>) {
         if written.is_err() {
             self.is_short = true;
@@ -97,7 +97,7 @@ impl Text {
     }
 }
 
-/// The digit of a number below 16.
+/// Returns the digit of a number below 16.
 fn digit(number: u8) -> u8 {
     match number {
         0..=9 => b'0' + number,

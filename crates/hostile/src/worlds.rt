@@ -159,7 +159,7 @@ pub const SETTLING: Script = &[
     FINISH,
 ];
 
-/// The part of a script that has this place.
+/// Returns the act at this index of a script.
 fn act_at(script: Script, place: usize) -> Option<Act> {
     let mut rest = place;
     for part in script {
@@ -183,7 +183,7 @@ pub struct Playing {
 }
 
 impl Playing {
-    /// What is settled after a refusal is written once more, so there the wires are not shown.
+    /// Creates the subject. What is settled after a refusal is written once more, so there the wires are not shown.
     pub fn new(alloc: Global, setup: WorldSetup, script: Script, shows_wires: bool) -> Playing {
         Playing {
             alloc,
@@ -203,7 +203,7 @@ impl Playing {
     }
 }
 
-/// What is refused on its way goes on from the last event that happened.
+/// Returns what a run came to: one that memory stopped goes on from the last event that happened.
 fn ran(ran: Result<usize, WorldFault>) -> Result<(), Trouble> {
     match ran {
         Ok(_count) => Ok(()),
@@ -230,12 +230,12 @@ fn give(alloc: Global, world: &mut World, words: &str, steps: &mut Text) -> Resu
     note_step(steps, world.ask(request))
 }
 
-/// The place of the last packet that an end wrote.
+/// Returns the index of the last packet that an end wrote.
 fn last(world: &World, end: End) -> usize {
     world.wire(end).len().saturating_sub(1)
 }
 
-/// The event of an act.
+/// Returns the event of an act.
 fn event(world: &World, act: Act) -> Event {
     match act {
         Act::Post(end) => Event::Post(end),
@@ -339,7 +339,7 @@ const DIRECTED: &[&str] = &[
     "purge",
 ];
 
-/// The requests of the world that is directed.
+/// Returns the requests of the world that is directed.
 fn requests(alloc: Global) -> Result<Vec<Request>, Trouble> {
     let mut all = Vec::with_capacity(alloc, DIRECTED.len())?;
     for words in DIRECTED {
@@ -360,7 +360,7 @@ fn direct(alloc: Global, world: &mut World) -> Result<(), Trouble> {
     }
 }
 
-/// A new world, directed.
+/// Directs a new world.
 fn directed(alloc: Global, setup: WorldSetup) -> Result<World, Trouble> {
     let mut world = World::new(alloc, setup)?;
     let done = direct(alloc, &mut world);

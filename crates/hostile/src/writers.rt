@@ -32,7 +32,7 @@ impl Writers {
 /// The image that is written: longer than any room that is left.
 const IMAGE: [u8; 255] = [0x55; 255];
 
-/// Writes the field of this place.
+/// Writes the field at this index.
 fn write_field(place: usize, out: &mut Vec<u8>) -> Result<(), FieldFault> {
     match place {
         0 => write_u8(7, out),
@@ -61,7 +61,7 @@ fn write_packet(bytes: &[u8], out: &mut Vec<u8>) -> Result<(), Trouble> {
 /// The fields that are written.
 const FIELDS: usize = 4;
 
-/// Writes what has this place, where there is something.
+/// Writes what is at this index, where there is something.
 fn write(place: usize, out: &mut Vec<u8>) -> Result<(), Trouble> {
     if place < FIELDS {
         return Ok(write_field(place, out)?);
@@ -73,7 +73,7 @@ fn write(place: usize, out: &mut Vec<u8>) -> Result<(), Trouble> {
     }
 }
 
-/// Writes what has this place after the front, which stays where it is refused.
+/// Writes what is at this index after the prefix, which stays where it is refused.
 fn write_behind(place: usize, out: &mut Vec<u8>) -> Result<(), Trouble> {
     let written = write(place, out);
     if written.is_err() && out.as_slice() != FRONT {

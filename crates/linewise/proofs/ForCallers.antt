@@ -9,4 +9,4 @@ pub use Rattle.linewise.proofs.SliceLemmas.{slice_from}
 -- the end of an end of some bytes
 pub use Rattle.linewise.proofs.LineLemmas.{end_of_end}
 -- what was taken of a reader so far, and with what is taken after it
-pub use Rattle.linewise.proofs.InputLemmas.{HasTaken, ok_apart, taken_behind, taken_more, taken_none, up_behind}
+pub use Rattle.linewise.proofs.InputLemmas.{HasTaken, ok_apart, taken_more, taken_none, takes_then, takes_up_to_then}

@@ -4,7 +4,7 @@ use Rattle.std.specs.Io.KnownBytes.{Consumes}
 use Rattle.std.proofs.KnownBytes.{Consumes-nil, Consumes-trans}
 use Rattle.linewise.specs.Talks.{max_line}
 use Rattle.linewise.specs.Gives.{TakesAnInput, TakesWithinLimit}
-use Rattle.linewise.specs.Input.{TakesBehind, TakesUpTo}
+use Rattle.linewise.specs.Input.{TakesAfter, TakesUpTo}
 
 -- this many of the known bytes, from the front
 unfoldable pub HasTaken : ℕ → Option (List ℕ) → Option (List ℕ) → Type 0
@@ -24,20 +24,20 @@ pub taken_within : (count : ℕ) (old now : Option (List ℕ)) → HasTaken coun
 unfolding HasTaken
 taken_within count old now before within = (before.0, before.2, omega (arith, before.1, within))
 
-pub takes_none : (count : ℕ) (known : Option (List ℕ)) → count ≤ max_line → TakesBehind count known known
-unfolding TakesBehind
+pub takes_none : (count : ℕ) (known : Option (List ℕ)) → count ≤ max_line → TakesAfter count known known
+unfolding TakesAfter
 takes_none count known within = ([], Consumes-nil known, omega (arith, within))
 
 -- with what is taken after it
-pub taken_behind : (count : ℕ) (old now new : Option (List ℕ)) → HasTaken count old now → TakesBehind count now new → TakesWithinLimit old new
-unfolding HasTaken TakesBehind
-taken_behind count old now new before behind =
+pub takes_then : (count : ℕ) (old now new : Option (List ℕ)) → HasTaken count old now → TakesAfter count now new → TakesWithinLimit old new
+unfolding HasTaken TakesAfter
+takes_then count old now new before behind =
     (before.0 ++ behind.0, Consumes-trans old now new before.0 behind.0 before.2 behind.1, omega (arith, before.1, behind.2, length-append before.0 behind.0))
 
 -- after what was taken before
 pub takes_more : (count later : ℕ) (old now new : Option (List ℕ)) (taken : List ℕ) → later ≡ count + length taken → Consumes old now taken
-    → TakesBehind later now new → TakesBehind count old new
-unfolding TakesBehind
+    → TakesAfter later now new → TakesAfter count old new
+unfolding TakesAfter
 takes_more count later old now new taken counted before more =
     (taken ++ more.0, Consumes-trans old now new taken more.0 before more.1, omega (arith, counted, more.2, length-append taken more.0))
 
@@ -53,9 +53,9 @@ unfolding TakesUpTo
 up_more count later old now new taken counted before more =
     (taken ++ more.0, Consumes-trans old now new taken more.0 before more.1, omega (arith, counted, more.2, length-append taken more.0))
 
-pub up_behind : (count : ℕ) (old now new : Option (List ℕ)) → HasTaken count old now → TakesUpTo count now new → TakesAnInput old new
+pub takes_up_to_then : (count : ℕ) (old now new : Option (List ℕ)) → HasTaken count old now → TakesUpTo count now new → TakesAnInput old new
 unfolding HasTaken TakesUpTo
-up_behind count old now new before behind =
+takes_up_to_then count old now new before behind =
     (before.0 ++ behind.0, Consumes-trans old now new before.0 behind.0 before.2 behind.1, omega (arith, before.1, behind.2, length-append before.0 behind.0))
 
 pub up_within : (count : ℕ) (old now : Option (List ℕ)) → HasTaken count old now → count ≤ max_line → TakesAnInput old now

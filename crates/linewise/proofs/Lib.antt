@@ -1,6 +1,6 @@
 pub mod InputLemmas
 pub mod LineLemmas
-mod PlaceLemmas
+mod IndexLemmas
 mod ReadingLemmas
 mod OutputLemmas
 pub mod PieceLemmas

@@ -37,8 +37,8 @@ module _ {E : Type 0} (answered : Answering E) (waiting : E → Option ℕ) wher
 
   from_front : (old new : E) (input rest text : List ℕ) (lines : List (Option Became)) → Talked answered waiting old input new rest text lines → Sates lines
       → Answers answered waiting old input new rest text lines
-  from_front old new input rest text lines Talked.begins never = over
-  from_front old new input rest text lines (Talked.goes now left said more before became talked some says) never =
+  from_front old new input rest text lines Talked.no_line_more never = over
+  from_front old new input rest text lines (Talked.one_line_more now left said more before became talked some says) never =
       let each = parts before (became ∷ []) never in
       behind old now new input left said more before became (from_front old now input left said before talked each.0) some each.1.0 says
 

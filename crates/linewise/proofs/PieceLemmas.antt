@@ -79,5 +79,5 @@ pub completed : {E P : Type 0} (answered : Answering E) (waiting : E → Option 
 completed answered waiting pieces old new line text whole (Whole became) came begun (same, is) =
     subst (λ l. AnswersLine answered waiting old line new l (Some came)) (sym same)
     (subst (λ b. AnswersLine answered waiting old line new text (Some b)) (sym is) begun)
-completed answered waiting pieces old new line text whole (Begun place) came begun (more, comes, is) =
+completed answered waiting pieces old new line text whole (Begun cursor) came begun (more, comes, is) =
     subst (λ l. AnswersLine answered waiting old line new l (Some came)) (sym is) (begun more came comes)

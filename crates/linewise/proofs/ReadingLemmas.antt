@@ -15,11 +15,11 @@ is_it : (x : ℕ) → x ≡ 10 → eqb x 10 ≡ true
 is_it x same = eq-eqb x 10 same
 
 -- no byte before the first line feed is one
-pub none_before : (bytes : List ℕ) (place : ℕ) → IsFirstByte (is_byte 10) bytes (Some place) → All (λ byte. byte ≢ 10) (take (place + 1 - 1) bytes)
-none_before bytes place first =
-    All-from_get_or (λ byte. byte ≢ 10) (take (place + 1 - 1) bytes) 0 (λ i inside same.
-    let within : i < place = omega (arith, inside, length-take-le (place + 1 - 1) bytes (omega (arith, first.0.high))) in
-    first.0.before i (omega arith) within (is_it _ (sym (get_or-take (place + 1 - 1) bytes i 0 (omega (arith, within))) ∙ same)))
+pub none_before : (bytes : List ℕ) (index : ℕ) → IsFirstByte (is_byte 10) bytes (Some index) → All (λ byte. byte ≢ 10) (take (index + 1 - 1) bytes)
+none_before bytes index first =
+    All-from_get_or (λ byte. byte ≢ 10) (take (index + 1 - 1) bytes) 0 (λ i inside same.
+    let within : i < index = omega (arith, inside, length-take-le (index + 1 - 1) bytes (omega (arith, first.0.high))) in
+    first.0.before i (omega arith) within (is_it _ (sym (get_or-take (index + 1 - 1) bytes i 0 (omega (arith, within))) ∙ same)))
 
 -- nor one of all, where there is none
 pub none_at_all : (bytes : List ℕ) → IsFirstByte (is_byte 10) bytes None → All (λ byte. byte ≢ 10) (take (length bytes - 1) bytes)

@@ -29,7 +29,7 @@ unbroken_more (b ∷ lines) became all one = (all.0, unbroken_more lines became 
 module _ {E : Type 0} (answered : Answering E) (waiting : E → Option ℕ) where
   pub begins : (e : E) (unread written : Option (List ℕ)) → HasTalked answered waiting e unread written e unread written false
   begins e None written = _
-  begins e (Some input) written = (input, [], [], refl, Appends-nil written, Talked.begins, refl, λ none. tt)
+  begins e (Some input) written = (input, [], [], refl, Appends-nil written, Talked.no_line_more, refl, λ none. tt)
 
   -- one line more was answered
   pub goes_on : (old now next : E) (unread written left holds later_left later_holds : Option (List ℕ)) (bad : Bool) (became : Option Became)
@@ -45,7 +45,7 @@ module _ {E : Type 0} (answered : Answering E) (waiting : E → Option ℕ) wher
         before.2 ++ became ∷ [],
         dropped,
         Appends-trans written holds later_holds before.1 says.0 before.4 says.2,
-        Talked.goes now before.0 before.1 says.0 before.2 became before.5 some says.1,
+        Talked.one_line_more now before.0 before.1 says.0 before.2 became before.5 some says.1,
         bad_more bad before.2 became before.6,
         λ none. unbroken_more before.2 became (before.7 none) (going (none next)),
       )
@@ -100,7 +100,7 @@ module _ {E : Type 0} (answered : Answering E) (waiting : E → Option ℕ) wher
         before.1 ++ says.0,
         before.2,
         subst (λ b. Talked answered waiting old input next (drop_through 10 before.0) (before.1 ++ says.0) (before.2 ++ b ∷ [])) memory
-            (Talked.goes now before.0 before.1 says.0 before.2 became before.5 some says.1),
+            (Talked.one_line_more now before.0 before.1 says.0 before.2 became before.5 some says.1),
         Appends-trans written holds later_holds before.1 says.0 before.4 says.2,
         none,
         before.7,

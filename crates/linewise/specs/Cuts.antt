@@ -1,4 +1,4 @@
--- Lines that are cut off the front of bytes, after which others may come.
+-- Lines that are cut off the start of bytes, after which others may follow.
 use Rattle.std.specs.Prelude.{◌≡◌, ◌++◌, ◌∷◌, ◌==◌, ◌-◌, ℕ, Bool, true, List, [], None, drop, length}
 use Rattle.std.specs.List.{position}
 use Rattle.std.specs.Str.Lines.{lines}

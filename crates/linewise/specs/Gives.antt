@@ -27,17 +27,17 @@ HasLineFault faults input fault = (length input ≤ max_line) × (slice_get faul
 -- What a command does with an input, by the faults of its lines and by the texts of each outcome. The text was
 -- written; or a line has a fault, or the input is too large, and nothing was written; or the writer failed, and a
 -- prefix of the text was written; or the reader failed or memory was refused, and nothing was written.
-abbrev pub Gives : List CaptureFault → (Outcome → List ℕ → Type 0) → List ℕ
+abbrev pub GivesText : List CaptureFault → (Outcome → List ℕ → Type 0) → List ℕ
     → Option (List ℕ) → Option (List ℕ) → Result Outcome CaptureFault → Type 0
-Gives faults IsText input old new (Ok outcome) =
+GivesText faults IsText input old new (Ok outcome) =
     (text : List ℕ) × IsTextOf faults (IsText outcome) input text × Appends old new text
-Gives faults IsText input old new (Err (BadLine number)) =
+GivesText faults IsText input old new (Err (BadLine number)) =
     HasLineFault faults input (BadLine number) × Keeps old new
-Gives faults IsText input old new (Err TooLarge) =
+GivesText faults IsText input old new (Err TooLarge) =
     ((max_line < length input) ⊎ HasLineFault faults input TooLarge) × Keeps old new
-Gives faults IsText input old new (Err WriteFailed) =
+GivesText faults IsText input old new (Err WriteFailed) =
     (outcome : Outcome) × (text : List ℕ) × IsTextOf faults (IsText outcome) input text × WritesFront old new text
-Gives faults IsText input old new (Err _) = Keeps old new
+GivesText faults IsText input old new (Err _) = Keeps old new
 
 -- After a fault nothing was written, unless the writer failed.
 abbrev pub KeepsUnwritten : Result Outcome CaptureFault → Option (List ℕ) → Option (List ℕ) → Type 0

@@ -5,15 +5,15 @@ use Rattle.linewise.specs.Talks.{max_line}
 use Rattle.linewise.specs.declared.fault.CaptureFault.{CaptureFault}
 use Rattle.linewise.specs.declared.fault.CaptureFault.TheVariants.{TooLarge, ReadFailed}
 
--- a front of the known bytes is taken, after this many that were taken before
-unfoldable pub TakesBehind : ℕ → Option (List ℕ) → Option (List ℕ) → Type 0
-TakesBehind count old new = (taken : List ℕ) × Consumes old new taken × (count + length taken ≤ max_line + 1)
+-- a prefix of the known bytes is taken, after this many that were taken before
+unfoldable pub TakesAfter : ℕ → Option (List ℕ) → Option (List ℕ) → Type 0
+TakesAfter count old new = (taken : List ℕ) × Consumes old new taken × (count + length taken ≤ max_line + 1)
 
 -- and with these no more than an input may have
 unfoldable pub TakesUpTo : ℕ → Option (List ℕ) → Option (List ℕ) → Type 0
 TakesUpTo count old new = (taken : List ℕ) × Consumes old new taken × (count + length taken ≤ max_line)
 
--- why what stands after this many bytes can't be read, where no memory is taken
+-- why what is after this many bytes can't be read, where no memory is taken
 abbrev pub IsFaultAfter : ℕ → Option (List ℕ) → CaptureFault → Type 0
 IsFaultAfter count known TooLarge = IfSome known (λ bytes. max_line < count + length bytes)
 IsFaultAfter count known ReadFailed = Unit {0}

@@ -23,7 +23,7 @@ abbrev pub is_skipped : List ℕ → Bool
 is_skipped [] = true
 is_skipped (first ∷ others) = first == 35
 
--- An end isn't given a line that says nothing, unless its answers have no ending: by these it learns what stands between
+-- An end isn't given a line that says nothing, unless its answers have no ending: by these it learns what is between
 -- other lines. (What an end waits for is a count, or it names none.)
 abbrev pub is_given : Option ℕ → List ℕ → Bool
 is_given (Some count) line = not (is_skipped line)
@@ -48,8 +48,8 @@ abbrev pub said_of : List ℕ → Option Became → Option ℕ → List ℕ
 said_of text None count = []
 said_of text (Some became) count = text ++ ending_of became count
 
--- What an end does by a line: the end then, its text, and what became of the line. `None` is a line that it missed, since it
--- wasn't read whole.
+-- What an end does by a line: the end then, its text, and what became of the line. `None` is a line that it missed,
+-- since it wasn't read whole.
 abbrev pub Answering : Type 0 → Type 1
 Answering E = E → Option (List ℕ) → E → List ℕ → Became → Type 0
 
@@ -59,21 +59,21 @@ ComesIn pieces text Done = text ≡ concat pieces
 ComesIn pieces text BadLine = ⊥
 ComesIn pieces text NoMemory = (front rest : List (List ℕ)) × (pieces ≡ front ++ rest) × (0 < length rest) × (text ≡ concat front)
 
--- What was done by a line, and its whole text; or a prefix of the text, which is an answer together with whatever
--- comes of the pieces from a place on.
-abbrev pub Begins : {E L P : Type 0} → (answered : E → L → E → List ℕ → Became → Type 0) → (pieces : E → P → List (List ℕ))
+-- What was done by a line, and its whole text; or a prefix of the text, which is an answer together with whatever is
+-- written of the pieces from a position on.
+abbrev pub BeginsAnswer : {E L P : Type 0} → (answered : E → L → E → List ℕ → Became → Type 0) → (pieces : E → P → List (List ℕ))
     → E → L → E → List ℕ → Answer P → Type 0
-Begins answered pieces old line new text (Whole became) = answered old line new text became
-Begins answered pieces old line new text (Begun place) =
-    (more : List ℕ) (became : Became) → ComesIn (pieces new place) more became → answered old line new (text ++ more) became
+BeginsAnswer answered pieces old line new text (Whole became) = answered old line new text became
+BeginsAnswer answered pieces old line new text (Begun cursor) =
+    (more : List ℕ) (became : Became) → ComesIn (pieces new cursor) more became → answered old line new (text ++ more) became
 
--- The text is the piece at this place, and the other pieces are those from the next place on; or there is none.
+-- The text is the piece at this position, and the other pieces are those from the next position on; or there is none.
 abbrev pub GivesPiece : {P : Type 0} → (pieces : P → List (List ℕ)) → P → List ℕ → Option P → Type 0
-GivesPiece pieces place text None = (pieces place ≡ []) × (text ≡ [])
-GivesPiece pieces place text (Some next) = pieces place ≡ text ∷ pieces next
+GivesPiece pieces cursor text None = (pieces cursor ≡ []) × (text ≡ [])
+GivesPiece pieces cursor text (Some next) = pieces cursor ≡ text ∷ pieces next
 
--- What comes of a line. A line that is too long is a bad line. The end misses it, and a line to which memory was refused:
--- it learns that there was one, and has no text.
+-- What comes of a line. A line that is too long is a bad line. The end misses it, and a line to which memory was
+-- refused: it learns that there was one, and has no text.
 abbrev pub AnswersLine : {E : Type 0} → Answering E → (E → Option ℕ) → E → List ℕ → E → List ℕ → Option Became → Type 0
 AnswersLine answered waiting old line new text None =
     (is_given (waiting old) line ≡ false) × (length line ≤ max_line) × (new ≡ old) × (text ≡ [])
@@ -94,16 +94,17 @@ abbrev pub is_bad : Option Became → Bool
 is_bad (Some BadLine) = true
 is_bad _ = false
 
--- The end answered the lines of an input, one after another, up to this rest. The text is its answers, joined, and
+-- The end answered the lines of an input, one after another, up to this suffix. The text is its answers, joined, and
 -- the list is what became of the lines.
 pub data Talked {E : Type 0} (answered : Answering E) (waiting : E → Option ℕ) : E → List ℕ → E → List ℕ → List ℕ → List (Option Became) → Type 0 where
-  begins : {e : E} {input : List ℕ} → Talked answered waiting e input e input [] []
-  goes : {old new : E} {input : List ℕ} (now : E) (rest said more : List ℕ) (lines : List (Option Became)) (became : Option Became)
+  no_line_more : {e : E} {input : List ℕ} → Talked answered waiting e input e input [] []
+  one_line_more : {old new : E} {input : List ℕ} (now : E) (rest said more : List ℕ) (lines : List (Option Became)) (became : Option Became)
       → Talked answered waiting old input now rest said lines → 0 < length rest
       → SaysTo answered waiting now (first_line rest) new more became
       → Talked answered waiting old input new (drop_through 10 rest) (said ++ more) (lines ++ became ∷ [])
 
--- An answerer whose answers never have an ending was out of memory at none of these lines: a conversation ends with such a line.
+-- An answerer whose answers never have an ending was out of memory at none of these lines: a conversation ends with
+-- such a line.
 abbrev pub IsUnbroken : {E : Type 0} → (E → Option ℕ) → List (Option Became) → Type 0
 IsUnbroken {E} waiting lines = ((e : E) → waiting e ≡ None) → AllByRecursion (λ became. became ≢ Some NoMemory) lines
 
@@ -116,8 +117,8 @@ HaveOneText answered waiting AreSame =
     → AllByRecursion (λ became. became ≢ Some NoMemory) (lines ++ others) → (text ≡ more) × (lines ≡ others)
 
 -- What was written where a conversation ended before its input. The reader failed: the answers to all lines before.
--- The writer failed: these, and a prefix of the next answer. Memory was refused to an answer that has no ending to say so: all
--- answers with that one. A conversation ends with no other fault.
+-- The writer failed: these, and a prefix of the next answer. Memory was refused to an answer that has no ending to say
+-- so: all answers with that one. A conversation ends with no other fault.
 abbrev pub Fails : {E : Type 0} → Answering E → (E → Option ℕ) → E → List ℕ → E → Option (List ℕ) → Option (List ℕ) → CaptureFault → Type 0
 Fails answered waiting old input new written holds ReadFailed =
     (rest said : List ℕ) × (lines : List (Option Became)) × Talked answered waiting old input new rest said lines × Appends written holds said

@@ -30,7 +30,7 @@ pub enum CaptureFault {
     /// The writer failed, or took nothing.
     #[error("write failed")]
     WriteFailed,
-    /// Memory ran out.
+    /// Out of memory.
     #[error("no memory")]
     NoMemory,
 }
@@ -45,7 +45,7 @@ impl From<AllocError> for CaptureFault {
     }
 }
 
-/// The exit status of an outcome, whose fault is reported in one line.
+/// Returns the exit status of an outcome, whose fault is reported in one line.
 pub fn finish<E: Write>(outcome: Result<Outcome, CaptureFault>, error_writer: &mut E) -> u8
     ensures { result ≡ status_of outcome }
 {

@@ -4,22 +4,22 @@ ghost use Rattle.std.specs.Io.KnownBytes.{Consumes, IsAtEnd};
 ghost use Rattle.linewise.specs.Talks.{max_line};
 ghost use Rattle.linewise.specs.Gives.{TakesAnInput, TakesWithinLimit};
 ghost use Rattle.linewise.specs.declared.fault.CaptureFault.TheVariants.{NoMemory, ReadFailed, TooLarge};
-ghost use Rattle.linewise.specs.Input.{IsFaultAfter, TakesBehind, TakesUpTo};
+ghost use Rattle.linewise.specs.Input.{IsFaultAfter, TakesAfter, TakesUpTo};
 
 use crate::CaptureFault;
 use crate::reading::MAX_LINE;
 use std::alloc::Global;
 use std::io::Read;
 
-/// The most bytes that an input may have: those of the longest line.
+/// The maximum of an input in bytes: that of a line.
 pub const MAX_INPUT: usize = MAX_LINE;
 
 /// How many bytes are read at a time.
 pub const CHUNK: usize = 65_536;
 
-/// Reads on into the front of the chunk, no further than the byte that breaks the limit, and answers how many bytes
-/// came: 0 at the end. The count is of the bytes that were read before.
-#[tactic(auto, unfolding(crate::specs::Input::TakesBehind, crate::specs::Input::TakesUpTo))]
+/// Reads on into the start of the chunk, no further than the byte that breaks the limit, and returns how many bytes
+/// were read: 0 at the end. The count is of the bytes that were read before.
+#[tactic(auto, unfolding(crate::specs::Input::TakesAfter, crate::specs::Input::TakesUpTo))]
 pub fn read_some<R: Read>(
     reader: &mut R,
     chunk: &mut [u8],
@@ -34,7 +34,7 @@ pub fn read_some<R: Read>(
     ensures bytes { IfOk result (λ came.
         Consumes (R.remaining reader.old) (R.remaining reader.new) (take came chunk.new)) }
     ensures end { IfOk result (λ came. came ≡ 0 → IsAtEnd (R.remaining reader.new)) }
-    ensures taken { TakesBehind count.old (R.remaining reader.old) (R.remaining reader.new) }
+    ensures taken { TakesAfter count.old (R.remaining reader.old) (R.remaining reader.new) }
     ensures within { (IsErrOf result TooLarge → ⊥)
         → TakesUpTo count.old (R.remaining reader.old) (R.remaining reader.new) }
     ensures fault { IfErr result (IsFaultAfter count.old (R.remaining reader.old)) }
@@ -60,7 +60,7 @@ fn skip_rest<R: Read>(
     requires count { count.old ≤ MAX_INPUT }
     ensures small { OnOk result (IfSome (R.remaining reader.old)
         (λ rest. count.old + length rest ≤ max_line)) }
-    ensures taken { TakesBehind count.old (R.remaining reader.old) (R.remaining reader.new) }
+    ensures taken { TakesAfter count.old (R.remaining reader.old) (R.remaining reader.new) }
     ensures within { (IsErrOf result TooLarge → ⊥)
         → TakesUpTo count.old (R.remaining reader.old) (R.remaining reader.new) }
     ensures fault { IfErr result (IsFaultAfter count.old (R.remaining reader.old)) }
@@ -81,7 +81,7 @@ pub fn skip_unread<R: Read>(
     requires met { is_met ≡ true → IsAtEnd (R.remaining reader.old) }
     ensures small { OnOk result (IfSome (R.remaining reader.old)
         (λ rest. count.old + length rest ≤ max_line)) }
-    ensures taken { TakesBehind count.old (R.remaining reader.old) (R.remaining reader.new) }
+    ensures taken { TakesAfter count.old (R.remaining reader.old) (R.remaining reader.new) }
     ensures within { (IsErrOf result TooLarge → ⊥)
         → TakesUpTo count.old (R.remaining reader.old) (R.remaining reader.new) }
     ensures fault { IfErr result (IsFaultAfter count.old (R.remaining reader.old)) }
@@ -92,8 +92,8 @@ pub fn skip_unread<R: Read>(
     skip_rest(reader, chunk, count)
 }
 
-/// All that the reader has left, where it is no more than the limit. No byte past the one that breaks the limit is
-/// read.
+/// Returns all that the reader has left, where it is no more than the limit. No byte past the one that breaks the
+/// limit is read.
 ///
 /// `TooLarge`: there is more. `ReadFailed`: the reader failed. `NoMemory`: a growth was refused.
 pub fn read_input<R: Read>(alloc: Global, reader: &mut R) -> Result<Vec<u8>, CaptureFault>

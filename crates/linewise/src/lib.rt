@@ -1,5 +1,5 @@
-//! Texts in and out of a program: lines, inputs that have a limit, what is written, and the fault and the exit status of a
-//! run; and a program that answers lines, each before it reads the next.
+//! Texts in and out of a program: lines, inputs that have a limit, what is written, and the fault and the exit status
+//! of a run; and a program that answers lines, each before it reads the next.
 #![tactic(auto)]
 
 mod fault;

@@ -10,15 +10,15 @@ ghost use Rattle.linewise.specs.Inner.Kept.{without_end as ended};
 
 use memchr::memchr;
 
-/// Where a byte is first, or None where it is nowhere.
-#[tactic(auto, using(crate::proofs::PlaceLemmas::first_place))]
+/// Returns the first offset of a byte, or None where it is nowhere.
+#[tactic(auto, using(crate::proofs::IndexLemmas::first_index))]
 pub fn find_byte(wanted: u8, bytes: &[u8]) -> Option<usize>
     ensures { result ≡ position (λ byte. byte == wanted) bytes.now }
 {
     memchr(wanted, bytes)
 }
 
-/// A line without the carriage return at its end, if it has one.
+/// Returns a line without the carriage return at its end, if it has one.
 fn without_carriage_return(line: &[u8]) -> &[u8]
     ensures of_bytes { result.now ≡ strip_carriage_return line.now }
     ensures of_reader { result.now ≡ strip_last 13 line.now }
@@ -29,7 +29,7 @@ fn without_carriage_return(line: &[u8]) -> &[u8]
     }
 }
 
-/// A line without its end.
+/// Returns a line without its end.
 pub(crate) fn without_end(line: &[u8]) -> &[u8]
     ensures { result.now ≡ ended line.now }
 {
@@ -39,8 +39,8 @@ pub(crate) fn without_end(line: &[u8]) -> &[u8]
     }
 }
 
-/// Whether a line says nothing: it is empty, or begins with `#`. An end is given such a line only where its answers have no
-/// ending.
+/// Returns whether a line says nothing: it is empty, or begins with `#`. An end is given such a line only where its
+/// answers have no ending.
 pub fn is_skipped(line: &[u8]) -> bool
     ensures { result ≡ says_nothing line.now }
 {
@@ -50,7 +50,7 @@ pub fn is_skipped(line: &[u8]) -> bool
     }
 }
 
-/// The first line, without its end, and what is after it. A line ends with LF, or CR LF, or with the bytes.
+/// Returns the first line, without its end, and what is after it. A line ends with LF, or CR LF, or with the bytes.
 #[tactic(auto, using(crate::proofs::LineLemmas::first_line, crate::proofs::LineLemmas::last_line))]
 pub fn next_line(bytes: &[u8]) -> Option<(&[u8], &[u8])>
     ensures first { MatchOption result (bytes.now ≡ [])
@@ -68,7 +68,7 @@ pub fn next_line(bytes: &[u8]) -> Option<(&[u8], &[u8])>
     }
 }
 
-/// The first line that has its end, without that, and what is after it.
+/// Returns the first line that has its end, without that, and what is after it.
 #[tactic(auto, using(crate::proofs::LineLemmas::first_line, crate::proofs::LineLemmas::ended_first))]
 fn ended_line(bytes: &[u8]) -> Option<(&[u8], &[u8])>
     ensures first { IfSome result (λ cut. IsCut false bytes.now cut.0.now cut.1.now
@@ -80,7 +80,7 @@ fn ended_line(bytes: &[u8]) -> Option<(&[u8], &[u8])>
     Some((without_carriage_return(&bytes[..end]), &bytes[end + 1..]))
 }
 
-/// The first line and what is after it, where the line has its end or the bytes are the last.
+/// Returns the first line and what is after it, where the line has its end or the bytes are the last.
 pub fn cut_line(bytes: &[u8], is_last: bool) -> Option<(&[u8], &[u8])>
     ensures first { IfSome result (λ cut. IsCut is_last bytes.now cut.0.now cut.1.now
         × (length cut.1.now < length bytes.now)) }

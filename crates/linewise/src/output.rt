@@ -75,7 +75,7 @@ fn write_waits<W: Write>(waits: usize, writer: &mut W) -> Result<(), CaptureFaul
     write_both(digits.format(waits).as_bytes(), b"\n", writer)
 }
 
-/// The line of a refusal.
+/// Returns the line of a refusal.
 fn refusal_line(became: Became) -> &'static [u8]
     ensures { result.now ≡ refusal_of became }
 {

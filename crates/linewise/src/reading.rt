@@ -9,7 +9,7 @@ use memchr::memchr;
 use std::alloc::Global;
 use std::io::{BufRead, Error, ErrorKind, Result};
 
-/// The most bytes of a line, without its end.
+/// The maximum of a line in bytes, without its end.
 pub const MAX_LINE: usize = 16_777_216;
 
 /// A carriage return and a line feed.
@@ -24,7 +24,7 @@ pub(crate) enum Kept {
     All,
     /// It is longer than a line may be.
     TooLong,
-    /// Memory was refused.
+    /// Out of memory.
     NoMemory,
 }
 
@@ -36,7 +36,7 @@ pub(crate) struct Line {
 }
 
 impl Line {
-    /// A line of which nothing was read yet.
+    /// Returns a line of which nothing was read yet.
     pub(crate) fn new(alloc: Global) -> Line
         ensures { HoldsLine result [] }
     {
@@ -49,7 +49,7 @@ impl Line {
         }
     }
 
-    /// Nothing of the next line was read yet.
+    /// Begins the next line, of which nothing was read yet.
     fn begin(&mut self)
         ensures { HoldsLine self.new [] }
     {
@@ -57,7 +57,7 @@ impl Line {
         self.kept = Kept::All;
     }
 
-    /// Whether nothing was read, so that there is no line.
+    /// Returns whether nothing was read, so that there is no line.
     pub(crate) fn is_over(&self) -> bool
         ensures over { result ≡ true → (read : List ℕ) → HoldsLine self.now read → read ≡ [] }
         ensures more { result ≡ false → (read : List ℕ) → HoldsLine self.now read
@@ -83,19 +83,19 @@ impl Line {
     }
 }
 
-/// How many bytes are up to and with the first line feed, or how many there are.
+/// Returns how many bytes there are up to and with the first line feed, or in all where there is none.
 fn len_through(bytes: &[u8]) -> usize
     ensures bound { result ≤ length bytes.now }
     ensures some { 0 < length bytes.now → 0 < result }
     ensures before { All (λ byte. byte ≢ 10) (take (result - 1) bytes.now) }
 {
     match memchr(b'\n', bytes) {
-        Some(place) => place + 1,
+        Some(index) => index + 1,
         None => bytes.len(),
     }
 }
 
-/// Takes what the reader shows, no further than the first line feed; whether the line ends there.
+/// Takes what the reader shows, no further than the first line feed, and returns whether the line ends there.
 fn take_some<R: BufRead>(reader: &mut R, line: &mut Line) -> Result<bool>
     ensures { IfOk result (Passes (R.remaining reader.old) (R.remaining reader.new)
         line.old line.new) }

@@ -23,9 +23,9 @@ use std::io::{BufRead, Write};
 pub enum Became {
     /// It was answered.
     Done,
-    /// It is none of the end's.
+    /// The end doesn't know such a line.
     BadLine,
-    /// Memory was refused, and what was done before that stays done.
+    /// Out of memory; what was done before that stays done.
     NoMemory,
 }
 
@@ -34,57 +34,58 @@ pub enum Became {
 pub enum Answer<P> {
     /// The text is the whole of it, and this became of the line.
     Whole(Became),
-    /// The text is its front, and the pieces from this place on follow.
+    /// The text is a prefix of it, and the pieces from this position on follow.
     Begun(P),
 }
 
 /// An end that answers lines.
 pub trait Answers {
     ghost use Rattle.linewise.specs.declared.talking.Became.{Became};
-    ghost use Rattle.linewise.specs.Talks.{Begins, GivesPiece};
+    ghost use Rattle.linewise.specs.Talks.{BeginsAnswer, GivesPiece};
 
-    /// Where an answer that is said piece by piece goes on.
-    type Place: Copy;
+    /// The position in an answer at which the next piece begins, where it is said piece by piece.
+    type Cursor: Copy;
 
-    // What it may come to by a line, the text of its answer, and what became of the line. `None` is a line that it missed,
-    // since it wasn't read whole.
+    // What it may come to by a line, the text of its answer, and what became of the line. `None` is a line that it
+    // missed, since it wasn't read whole.
     ghost answered: { Self → Option (List ℕ) → Self → List ℕ → Became → Type 0 };
 
-    // How many packets it waits to be acknowledged, and one more where it has something left to do; or that its answers have
-    // no ending.
+    // How many packets it waits to be acknowledged, and one more where it has something left to do; or that its
+    // answers have no ending.
     ghost waiting: { Self → Option ℕ };
 
-    // The pieces of an answer from a place on.
-    ghost pieces: { Self → Self.Place → List (List ℕ) };
+    // The pieces of an answer from a position on.
+    ghost pieces: { Self → Self.Cursor → List (List ℕ) };
 
     /// Answers a line, which comes without its end, or begins to. The text comes empty.
-    fn answer(&mut self, line: &[u8], text: &mut Vec<u8>) -> Answer<Self::Place>
+    fn answer(&mut self, line: &[u8], text: &mut Vec<u8>) -> Answer<Self::Cursor>
         requires { text.old.items ≡ [] }
-        ensures { Begins answered pieces self.old (Some line.now) self.new text.new.items result };
+        ensures { BeginsAnswer answered pieces self.old (Some line.now)
+            self.new text.new.items result };
 
-    /// Misses a line, which is too long, or to which memory was refused while it was read. The answer is that, and how many
-    /// packets the end waits for then.
+    /// Misses a line, which is too long, or to which memory was refused while it was read. The answer says that, and
+    /// how many packets the end waits for then.
     fn miss(&mut self)
         ensures { (became : Became) → answered self.old None self.new [] became };
 
-    /// The next piece of an answer, and where it goes on after that; nothing where all is said. The text comes
-    /// empty.
+    /// Appends the next piece of an answer to the text, which comes empty, and returns the position after it; or
+    /// returns None where all is said.
     fn more(
         &self,
-        place: Self::Place,
+        cursor: Self::Cursor,
         text: &mut Vec<u8>,
-    ) -> Result<Option<Self::Place>, AllocError>
+    ) -> Result<Option<Self::Cursor>, AllocError>
         requires { text.old.items ≡ [] }
-        ensures piece { IfOk result (GivesPiece (pieces self.now) place text.new.items) }
-        ensures refused { OnErr result (0 < length (pieces self.now place)) };
+        ensures piece { IfOk result (GivesPiece (pieces self.now) cursor text.new.items) }
+        ensures refused { OnErr result (0 < length (pieces self.now cursor)) };
 
-    /// How many packets it waits to be acknowledged, and one more where it has something left to do. `None`: its answers have
-    /// no ending, and it is given all lines that aren't too long, also those that say nothing.
+    /// Returns how many packets it waits to be acknowledged, and one more where it has something left to do. `None`:
+    /// its answers have no ending, and it is given all lines that aren't too long, also those that say nothing.
     fn waits(&self) -> Option<usize>
         ensures { result ≡ waiting self.now };
 }
 
-/// Whether an end is given a line, by the number of packets that it waits for.
+/// Returns whether an end is given a line, by the number of packets that it waits for.
 fn is_given(waits: Option<usize>, line: &[u8]) -> bool
     ensures { result ≡ given_by waits line.now }
 {
@@ -94,8 +95,8 @@ fn is_given(waits: Option<usize>, line: &[u8]) -> bool
     }
 }
 
-/// The answer to a line that wasn't read whole, which the end misses.
-fn miss<E: Answers>(end: &mut E, became: Became) -> Answer<E::Place>
+/// Returns the answer to a line that wasn't read whole, which the end misses.
+fn miss<E: Answers>(end: &mut E, became: Became) -> Answer<E::Cursor>
     ensures missed { E.answered end.old None end.new [] became }
     ensures whole { result ≡ TheAnswer.Whole became }
 {
@@ -108,7 +109,7 @@ fn answer_whole<E: Answers>(
     end: &mut E,
     line: &[u8],
     text: &mut Vec<u8>,
-) -> Option<Answer<E::Place>>
+) -> Option<Answer<E::Cursor>>
     requires { text.old.items ≡ [] }
     ensures { BeginsLine E.answered E.waiting E.pieces
         end.old line.now end.new text.new.items result }
@@ -123,7 +124,11 @@ fn answer_whole<E: Answers>(
 }
 
 /// Answers a line that was read, or begins to.
-fn answer_read<E: Answers>(end: &mut E, line: &Line, text: &mut Vec<u8>) -> Option<Answer<E::Place>>
+fn answer_read<E: Answers>(
+    end: &mut E,
+    line: &Line,
+    text: &mut Vec<u8>,
+) -> Option<Answer<E::Cursor>>
     requires { text.old.items ≡ [] }
     ensures { (raw : List ℕ) → HoldsLine line.now raw
         → BeginsLine E.answered E.waiting E.pieces
@@ -136,11 +141,11 @@ fn answer_read<E: Answers>(end: &mut E, line: &Line, text: &mut Vec<u8>) -> Opti
     }
 }
 
-/// Writes the text and the pieces from a place on, each before the next is asked for; what became of the line. The text
-/// is empty then.
+/// Writes the text and the pieces from a position on, each before the next is asked for, and returns what became of
+/// the line. The text is empty then.
 fn write_pieces<E: Answers, W: Write>(
     end: &E,
-    first: E::Place,
+    first: E::Cursor,
     text: &mut Vec<u8>,
     writer: &mut W,
 ) -> Result<Became, CaptureFault>
@@ -152,12 +157,12 @@ fn write_pieces<E: Answers, W: Write>(
     ensures front { OnErr result (WritesFront (W.contents writer.old) (W.contents writer.new)
         (text.old.items ++ concat (E.pieces end.now first))) }
 {
-    let mut place = first;
+    let mut cursor = first;
     loop {
         write_part(text, writer)?;
         text.clear();
-        match end.more(place, text) {
-            Ok(Some(next)) => place = next,
+        match end.more(cursor, text) {
+            Ok(Some(next)) => cursor = next,
             Ok(None) => return Ok(Became::Done),
             Err(_) => {
                 text.clear();
@@ -167,10 +172,10 @@ fn write_pieces<E: Answers, W: Write>(
     }
 }
 
-/// Writes all of an answer but the last text and its ending; what became of the line.
+/// Writes all of an answer but the last text and its ending, and returns what became of the line.
 fn write_begun<E: Answers, W: Write>(
     end: &E,
-    answer: Answer<E::Place>,
+    answer: Answer<E::Cursor>,
     text: &mut Vec<u8>,
     writer: &mut W,
 ) -> Result<Became, CaptureFault>
@@ -184,11 +189,11 @@ fn write_begun<E: Answers, W: Write>(
 {
     match answer {
         Answer::Whole(became) => Ok(became),
-        Answer::Begun(place) => write_pieces(end, place, text, writer),
+        Answer::Begun(cursor) => write_pieces(end, cursor, text, writer),
     }
 }
 
-/// Tells a bad line at once. What the error writer does with it changes nothing.
+/// Reports a bad line at once. What the error writer does with it changes nothing.
 fn tell_bad<F: Write>(became: Became, number: u64, error_writer: &mut F) {
     if became == Became::BadLine {
         let _ = writeln!(error_writer, "bad line {number}");
@@ -261,14 +266,14 @@ fn answer_next<E: Answers, R: BufRead, W: Write, F: Write>(
     Ok(Next::Line(became))
 }
 
-/// Whether a line was bad.
+/// Returns whether a line was bad.
 fn is_bad(became: Option<Became>) -> bool
     ensures { result ≡ is_bad_line became }
 {
     matches!(became, Some(Became::BadLine))
 }
 
-/// Whether a line's answer can't say that memory was refused to it.
+/// Returns whether a line's answer can't say that memory was refused to it.
 fn ends_talk<E: Answers>(end: &E, became: Option<Became>) -> bool
     ensures memory { result ≡ true → became ≡ Some TheBecame.NoMemory }
     ensures waiting { result ≡ true → E.waiting end.now ≡ None }

@@ -72,15 +72,15 @@ GivesAs Serve o input written holds status = ServesLines o input written holds s
 GivesAs Ask o input written holds status =
     (first : Asking) × asking.IsNewAsking (link_setup o) (identity_of o) first × AnswersAll asking.answered asking.waiting first input written holds status
 
--- The listing of all packets is written, and the status is 1 where some line is bad and 0 otherwise; or the reader or the writer fails,
--- or memory is refused, and it is 3.
+-- The listing of all packets is written, and the status is 1 where some line is bad and 0 otherwise; or the reader or
+-- the writer fails, or memory is refused, and it is 3.
 abbrev pub ListsLines : (in_words : Bool) → List ℕ → (written holds : Option (List ℕ)) → ℕ → Type 0
 ListsLines in_words input written holds status =
     (WatchGives in_words input written holds × (status ≡ (if list_any is_refused (lines input) then 1 else 0)))
     ⊎ ((fault : CaptureFault) × WatchFails in_words input written holds fault × (status ≡ 3))
 
--- The lines of a capture file's frames are written, and the status is 0; or those before a fault of the file, and it is 1; or the
--- reader or the writer fails, or memory is refused, and it is 3.
+-- The lines of a capture file's frames are written, and the status is 0; or those before a fault of the file, and it is
+-- 1; or the reader or the writer fails, or memory is refused, and it is 3.
 abbrev pub FramesGive : Option Ends → List ℕ → (written holds : Option (List ℕ)) → ℕ → Type 0
 FramesGive ends input written holds status =
     ((counts : Counts) × IsListed ends input written holds counts × (status ≡ 0))

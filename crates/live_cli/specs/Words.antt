@@ -188,8 +188,8 @@ abbrev pub links_of : Role → List Row → Option ℕ
 links_of Serve rows = option_and_then (links_beside rows) (option_and_then short (first_of (codes "links") rows))
 links_of Ask rows = Some 1
 
--- The options of an end. An address is four hex digits, a number is decimal digits, a buffer has at least 64 bytes, and a SYSCAP is
--- hex digits.
+-- The options of an end. An address is four hex digits, a number is decimal digits, a buffer has at least 64 bytes, and
+-- a SYSCAP is hex digits.
 abbrev pub options_of : Role → List Row → Option Options
 options_of role rows =
     value rows address_of (codes "local") (λ local.

@@ -30,7 +30,7 @@ use std::alloc::Global;
 use std::fmt::Display;
 use std::io::{BufRead, Write};
 
-/// How the link is set up: the limit of a message is any length that a buffer may have.
+/// Returns how the link is set up: the limit of a message is any length that a buffer may have.
 fn link_setup(options: Options) -> LinkSetup
     ensures { result ≡ link_setup options }
 {
@@ -43,7 +43,7 @@ fn link_setup(options: Options) -> LinkSetup
     }
 }
 
-/// Tells why there is no end, or no more of it, and answers the exit status.
+/// Reports why there is no end, or no more of it, and returns the exit status.
 fn tell<D: Display + Drop, E: Write>(why: D, error_writer: &mut E) -> u8
     ensures { result ≡ 3 }
 {
@@ -51,7 +51,7 @@ fn tell<D: Display + Drop, E: Write>(why: D, error_writer: &mut E) -> u8
     3
 }
 
-/// The exit status of a conversation over all lines.
+/// Returns the exit status of a conversation over all lines.
 fn status(bad: bool) -> u8
     ensures { result ≡ (if bad then 1 else 0) }
 {
@@ -76,14 +76,14 @@ fn converse<A: Answers, R: BufRead, W: Write, E: Write>(
     }
 }
 
-/// Why an end isn't made.
+/// Reports why an end isn't made, and returns the exit status.
 fn no_end<E: Write>(_fault: LinkFault, error_writer: &mut E) -> u8
     ensures { result ≡ 3 }
 {
     tell("no memory", error_writer)
 }
 
-/// What an end says of itself.
+/// Returns what an end says of itself.
 fn identity(options: Options) -> Configuration
     requires { options.syscap < 2 ^ 84 }
     ensures is { result ≡ identity_of options }
@@ -97,14 +97,14 @@ fn identity(options: Options) -> Configuration
     }
 }
 
-/// How names are compared.
+/// Returns how names are compared.
 fn comparing(folded: bool) -> Names
     ensures { result ≡ names_by folded }
 {
     if folded { Names::Folded } else { Names::Exact }
 }
 
-/// How the server is set up.
+/// Returns how the server is set up.
 fn server_setup(options: Options) -> ServerSetup
     requires room { min_buffer ≤ options.buffer }
     requires syscap { options.syscap < 2 ^ 84 }
@@ -118,7 +118,7 @@ fn server_setup(options: Options) -> ServerSetup
     }
 }
 
-/// Answers the lines of the input by a server of one link or several, and answers the exit status.
+/// Answers the lines of the input by a server of one link or several, and returns the exit status.
 fn serve<R: BufRead, W: Write, E: Write>(
     alloc: Global,
     options: Options,
@@ -146,7 +146,7 @@ fn serve<R: BufRead, W: Write, E: Write>(
     }
 }
 
-/// Answers the lines of the input by a client, and answers the exit status.
+/// Answers the lines of the input by a client, and returns the exit status.
 fn ask<R: BufRead, W: Write, E: Write>(
     alloc: Global,
     options: Options,
@@ -167,7 +167,8 @@ fn ask<R: BufRead, W: Write, E: Write>(
 }
 
 /// Answers the lines of the input by an end that is set up so, a server with room for several links by one that begins
-/// without a link, and answers the exit status: 0, or 1 where some line was none of the end's; 3 where the reader or the writer failed, or memory was refused before the first line.
+/// without a link, and returns the exit status: 0, or 1 where some line was none of the end's; 3 where the reader or
+/// the writer failed, or memory was refused before the first line.
 pub fn run_options<R: BufRead, W: Write, E: Write>(
     alloc: Global,
     options: Options,
@@ -193,7 +194,7 @@ const FOLLOWING: Reading = Reading {
     lines: "a capture",
 };
 
-/// Lists a capture, and answers the exit status.
+/// Lists a capture, and returns the exit status.
 fn list<R: BufRead, W: Write, E: Write>(
     alloc: Global,
     in_words: bool,
@@ -209,7 +210,7 @@ fn list<R: BufRead, W: Write, E: Write>(
     finish_reading(FOLLOWING, lines.front(), outcome, error_writer)
 }
 
-/// Lists a capture as its lines come, and answers the exit status.
+/// Lists a capture as its lines come, and returns the exit status.
 fn watch_lines<R: BufRead, W: Write, E: Write>(
     alloc: Global,
     in_words: bool,
@@ -245,8 +246,8 @@ fn tell_lines<E: Write>(front: &[u8], error_writer: &mut E) {
     }
 }
 
-/// Reports why the frames of a capture file, of which these are the first bytes, aren't written to its end, and answers the exit
-/// status.
+/// Reports why the frames of a capture file, of which these are the first bytes, aren't written to its end, and returns
+/// the exit status.
 fn finish_frames<E: Write>(fault: FramesFault, front: &[u8], error_writer: &mut E) -> u8
     ensures { result ≡ frames_status fault }
 {
@@ -261,7 +262,7 @@ fn finish_frames<E: Write>(fault: FramesFault, front: &[u8], error_writer: &mut 
     }
 }
 
-/// Writes the packets in a capture file, and answers the exit status.
+/// Writes the packets in a capture file, and returns the exit status.
 fn write_frames<R: BufRead, W: Write, E: Write>(
     alloc: Global,
     ends: Option<Ends>,
@@ -282,7 +283,7 @@ fn write_frames<R: BufRead, W: Write, E: Write>(
     }
 }
 
-/// Does what was named, and answers the exit status.
+/// Does what was named, and returns the exit status.
 fn run_task<R: BufRead, W: Write, E: Write>(
     alloc: Global,
     task: Task,
@@ -302,7 +303,7 @@ fn run_task<R: BufRead, W: Write, E: Write>(
     }
 }
 
-/// Tells which address or number isn't spelled as it has to be.
+/// Reports which address or number isn't spelled as it has to be.
 fn refuse_word<E: Write>(misspelt: Misspelt<'_>, error_writer: &mut E) -> u8
     ensures { result ≡ 2 }
 {
@@ -310,13 +311,13 @@ fn refuse_word<E: Write>(misspelt: Misspelt<'_>, error_writer: &mut E) -> u8
     2
 }
 
-/// Does what the words name, the program's name first, and answers the exit status.
+/// Does what the words name, the program's name first, and returns the exit status.
 ///
-/// 0: the input ended, or help was asked for and written. 1: the input ended, and some line was none of the end's;
-/// of a capture, that some line is at fault, or too large, which is reported; of a capture file, that it is at fault.
-/// 2: the words name nothing. 3: the reader or the writer failed, or memory was refused; of an end, before the first line. Nothing is read where the
-/// words name nothing or ask for help. What is wrong is reported to the error writer, whose failure changes
-/// nothing.
+/// 0: the input ended, or help was asked for and written. 1: the input ended, and some line was none of the end's; of a
+/// capture, that some line is at fault, or too large, which is reported; of a capture file, that it is at fault. 2: the
+/// words name nothing. 3: the reader or the writer failed, or memory was refused; of an end, before the first line.
+/// Nothing is read where the words name nothing or ask for help. What is wrong is reported to the error writer, whose
+/// failure changes nothing.
 pub fn run_words<R: BufRead, W: Write, E: Write>(
     alloc: Global,
     words: &[String],

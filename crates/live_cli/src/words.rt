@@ -103,7 +103,7 @@ const ASKING: Usual = Usual {
     remote: "0202",
 };
 
-/// An option with a value, and the one that is usual.
+/// Returns an option with a value, and the usual value.
 fn option<'a>(
     alloc: Global,
     name: &'static str,
@@ -121,7 +121,7 @@ fn option<'a>(
         .default_value(usual)
 }
 
-/// The words with the two addresses of an end.
+/// Adds the two addresses of an end to a command line.
 fn with_addresses<'a>(
     alloc: Global,
     command: Command<'a>,
@@ -149,7 +149,7 @@ fn with_addresses<'a>(
     Ok(command)
 }
 
-/// An option with a number.
+/// Returns an option with a number.
 fn number<'a>(
     alloc: Global,
     name: &'static str,
@@ -165,63 +165,63 @@ fn number<'a>(
     option(alloc, name, value, usual, help).value_parser(range)
 }
 
-/// The bytes that a segment may have at most: 1 to 1,400.
+/// Returns the range of the maximum number of bytes of a segment: 1 to 1,400.
 fn segments<'a>() -> ValueParser<'a>
     ensures { result ≡ parser.Signed (pos 1) (pos max_segment) }
 {
     value_parser!(u16).range(1..=MAX_SEGMENT as i64)
 }
 
-/// The segments that a window may have: 1 to 2,047.
+/// Returns the range of the number of segments of a window: 1 to 2,047.
 fn windows<'a>() -> ValueParser<'a>
     ensures { result ≡ parser.Signed (pos 1) (pos max_window) }
 {
     value_parser!(u16).range(1..=MAX_WINDOW as i64)
 }
 
-/// The bytes that a buffer may have: 64 to 65,535.
+/// Returns the range of the number of bytes of a buffer: 64 to 65,535.
 fn buffers<'a>() -> ValueParser<'a>
     ensures { result ≡ parser.Signed (pos min_buffer) (pos max_nsp_message) }
 {
     value_parser!(u16).range(MIN_BUFFER as i64..=MAX_MESSAGE as i64)
 }
 
-/// The bytes that may wait while an end serves more: 64 to 1,073,741,824.
+/// The minimum number of bytes that may wait while an end serves more; the maximum is 1,073,741,824.
 const MIN_WAITING: i64 = 64;
 
 const MAX_WAITING: u32 = 1 << 30;
 
-/// What may wait where nothing is said: 1 MiB.
+/// How many bytes may wait where nothing is said: 1 MiB.
 const USUAL_WAITING: u32 = 1 << 20;
 
-/// The bytes that may wait.
+/// Returns the range of the number of bytes that may wait.
 fn waitings<'a>() -> ValueParser<'a>
     ensures { result ≡ parser.Signed (pos min_waiting) (pos max_waiting) }
 {
     value_parser!(u32).range(MIN_WAITING..=MAX_WAITING as i64)
 }
 
-/// The links that a server may have room for: 1 to 1,023.
+/// The maximum number of links that a server may have room for.
 const MAX_LINKS: i64 = 1023;
 
-/// The greatest OSTYPE and FILESYS.
+/// The maximum OSTYPE and FILESYS.
 const MAX_CODE: u32 = 255;
 
-/// The links that there may be room for.
+/// Returns the range of the number of links that there may be room for.
 fn link_counts<'a>() -> ValueParser<'a>
     ensures { result ≡ parser.Signed (pos 1) (pos max_links) }
 {
     value_parser!(u16).range(1..=MAX_LINKS)
 }
 
-/// A code of a Configuration: 0 to 255.
+/// Returns the range of a code of a Configuration: 0 to 255.
 fn codes_of<'a>() -> ValueParser<'a>
     ensures { result ≡ parser.Signed (pos 0) (pos 255) }
 {
     value_parser!(u16).range(0..=MAX_CODE as i64)
 }
 
-/// The words with `--ostype` and `--filesys`, the codes of a Configuration.
+/// Adds `--ostype` and `--filesys`, the codes of a Configuration, to a command line.
 fn with_codes<'a>(alloc: Global, command: Command<'a>) -> Result<Command<'a>, Error>
     ensures added { IfOk result (HasCodes command.entry) }
     ensures memory { IfErr result (λ error. kind_of error ≡ ErrorKind.OutOfMemory) }
@@ -246,7 +246,7 @@ fn with_codes<'a>(alloc: Global, command: Command<'a>) -> Result<Command<'a>, Er
     Ok(command)
 }
 
-/// The words with `--syscap`, what an end says that it can do.
+/// Adds `--syscap` to a command line: what an end says that it can do.
 fn with_syscap<'a>(alloc: Global, command: Command<'a>) -> Result<Command<'a>, Error>
     ensures added { IfOk result (HasSyscap command.entry) }
     ensures memory { IfErr result (λ error. kind_of error ≡ ErrorKind.OutOfMemory) }
@@ -262,7 +262,7 @@ fn with_syscap<'a>(alloc: Global, command: Command<'a>) -> Result<Command<'a>, E
     Ok(command)
 }
 
-/// The words with all that an end says of itself.
+/// Adds all that an end says of itself to a command line.
 fn with_identity<'a>(alloc: Global, command: Command<'a>) -> Result<Command<'a>, Error>
     ensures added { IfOk result (HasIdentity command.entry) }
     ensures memory { IfErr result (λ error. kind_of error ≡ ErrorKind.OutOfMemory) }
@@ -272,7 +272,7 @@ fn with_identity<'a>(alloc: Global, command: Command<'a>) -> Result<Command<'a>,
     Ok(command)
 }
 
-/// The words with `--waiting`, how many bytes may wait, which only the server has.
+/// Adds `--waiting` to a command line: how many bytes may wait, which only the server has.
 fn with_waiting<'a>(alloc: Global, command: Command<'a>) -> Result<Command<'a>, Error>
     ensures added { IfOk result (HasWaiting command.entry) }
     ensures memory { IfErr result (λ error. kind_of error ≡ ErrorKind.OutOfMemory) }
@@ -289,7 +289,7 @@ fn with_waiting<'a>(alloc: Global, command: Command<'a>) -> Result<Command<'a>, 
     Ok(command)
 }
 
-/// The words with `--links`, how many links there is room for, which only the server has.
+/// Adds `--links` to a command line: how many links there is room for, which only the server has.
 fn with_links<'a>(alloc: Global, command: Command<'a>) -> Result<Command<'a>, Error>
     ensures added { IfOk result (HasLinks command.entry) }
     ensures memory { IfErr result (λ error. kind_of error ≡ ErrorKind.OutOfMemory) }
@@ -306,7 +306,7 @@ fn with_links<'a>(alloc: Global, command: Command<'a>) -> Result<Command<'a>, Er
     Ok(command)
 }
 
-/// The words with `--names`, how names are compared, which only the server has.
+/// Adds `--names` to a command line: how names are compared, which only the server has.
 fn with_names<'a>(alloc: Global, command: Command<'a>) -> Result<Command<'a>, Error>
     ensures added { IfOk result (HasNames command.entry) }
     ensures memory { IfErr result (λ error. kind_of error ≡ ErrorKind.OutOfMemory) }
@@ -322,7 +322,7 @@ fn with_names<'a>(alloc: Global, command: Command<'a>) -> Result<Command<'a>, Er
     Ok(command)
 }
 
-/// The words with the limits of an end.
+/// Adds the limits of an end to a command line.
 fn with_limits<'a>(alloc: Global, command: Command<'a>) -> Result<Command<'a>, Error>
     ensures added { IfOk result (HasLimits command.entry) }
     ensures memory { IfErr result (λ error. kind_of error ≡ ErrorKind.OutOfMemory) }
@@ -355,7 +355,7 @@ fn with_limits<'a>(alloc: Global, command: Command<'a>) -> Result<Command<'a>, E
     Ok(command)
 }
 
-/// The command line of an end.
+/// Returns the command line of an end.
 fn end_command<'a>(alloc: Global, usual: &Usual) -> Result<Command<'a>, Error>
     ensures line { IfOk result
         (IsEndLine usual.now.name.now usual.now.local.now usual.now.remote.now) }
@@ -369,7 +369,7 @@ fn end_command<'a>(alloc: Global, usual: &Usual) -> Result<Command<'a>, Error>
     with_identity(alloc, command)
 }
 
-/// The command line of the server.
+/// Returns the command line of the server.
 fn serve_command<'a>(alloc: Global) -> Result<Command<'a>, Error>
     ensures line { IfOk result IsServeLine }
     ensures memory { IfErr result (λ error. kind_of error ≡ ErrorKind.OutOfMemory) }
@@ -380,7 +380,7 @@ fn serve_command<'a>(alloc: Global) -> Result<Command<'a>, Error>
     with_names(alloc, command)
 }
 
-/// The command line of the listing.
+/// Returns the command line of the listing.
 fn follow_command<'a>(alloc: Global) -> Result<Command<'a>, Error>
     ensures line { IfOk result IsFollowLine }
     ensures memory { IfErr result (λ error. kind_of error ≡ ErrorKind.OutOfMemory) }
@@ -396,7 +396,7 @@ fn follow_command<'a>(alloc: Global) -> Result<Command<'a>, Error>
     Ok(command)
 }
 
-/// The command line of the listing that is written as lines come.
+/// Returns the command line of the listing that is written as lines come.
 fn watch_command<'a>(alloc: Global) -> Result<Command<'a>, Error>
     ensures line { IfOk result IsWatchLine }
     ensures memory { IfErr result (λ error. kind_of error ≡ ErrorKind.OutOfMemory) }
@@ -412,7 +412,7 @@ fn watch_command<'a>(alloc: Global) -> Result<Command<'a>, Error>
     Ok(command)
 }
 
-/// The command line of the frames of a capture file.
+/// Returns the command line of the frames of a capture file.
 fn frames_command<'a>(alloc: Global) -> Result<Command<'a>, Error>
     ensures line { IfOk result IsFramesLine }
     ensures memory { IfErr result (λ error. kind_of error ≡ ErrorKind.OutOfMemory) }
@@ -427,7 +427,7 @@ fn frames_command<'a>(alloc: Global) -> Result<Command<'a>, Error>
     Ok(command)
 }
 
-/// The program's command line.
+/// Returns the program's command line.
 fn command_line<'a>(alloc: Global) -> Result<Command<'a>, Error>
     ensures line { IfOk result IsDapliveLine }
     ensures memory { IfErr result (λ error. kind_of error ≡ ErrorKind.OutOfMemory) }
@@ -461,7 +461,7 @@ pub struct Options {
     pub window: u16,
     /// At least 64.
     pub buffer: u16,
-    /// OSTYPE of the own Configuration.
+    /// OSTYPE of this end's Configuration.
     pub ostype: u8,
     /// Its FILESYS.
     pub filesys: u8,
@@ -493,7 +493,7 @@ pub enum Task {
 pub(crate) enum Digits {
     /// By four hex digits.
     Address,
-    /// By decimal digits, ten at most.
+    /// By at most ten decimal digits.
     Number,
     /// By the same, of a number of bytes that may wait.
     Bytes,
@@ -505,7 +505,7 @@ pub(crate) enum Digits {
     Comparing,
     /// By the address of a node.
     Node,
-    /// Not at all: a server of several links has no addresses of its own.
+    /// Not at all: a server of several links has no address among its options.
     Nowhere,
 }
 
@@ -540,7 +540,7 @@ impl Display for Misspelt<'_> {
     }
 }
 
-/// The value of an option.
+/// Returns the value of an option.
 fn text_in<'a>(matches: &ArgMatches<'a>, name: &str) -> Option<&'a str>
     ensures { option_map (λ text. text.now) result
         ≡ first_of name.now (rows_of (found_of matches.now)) }
@@ -548,7 +548,7 @@ fn text_in<'a>(matches: &ArgMatches<'a>, name: &str) -> Option<&'a str>
     matches.get_str(name)
 }
 
-/// An address, by four hex digits.
+/// Reads an address: four hex digits.
 fn address_in<'a>(matches: &ArgMatches<'a>, name: &'static str) -> Result<u16, Misspelt<'a>>
     ensures value { result_ok result
         ≡ option_and_then address_of (first_of name.now (rows_of (found_of matches.now))) }
@@ -567,7 +567,7 @@ fn address_in<'a>(matches: &ArgMatches<'a>, name: &'static str) -> Result<u16, M
     }
 }
 
-/// A number, by decimal digits.
+/// Reads a number: decimal digits.
 fn number_in<'a>(matches: &ArgMatches<'a>, name: &'static str) -> Result<u16, Misspelt<'a>>
     ensures value { result_ok result
         ≡ option_and_then short (first_of name.now (rows_of (found_of matches.now))) }
@@ -586,7 +586,7 @@ fn number_in<'a>(matches: &ArgMatches<'a>, name: &'static str) -> Result<u16, Mi
     }
 }
 
-/// A code of a Configuration.
+/// Reads a code of a Configuration.
 fn code_in<'a>(matches: &ArgMatches<'a>, name: &'static str) -> Result<u8, Misspelt<'a>>
     ensures value { result_ok result
         ≡ option_and_then code_of (first_of name.now (rows_of (found_of matches.now))) }
@@ -605,7 +605,7 @@ fn code_in<'a>(matches: &ArgMatches<'a>, name: &'static str) -> Result<u8, Missp
     }
 }
 
-/// A number of 8 bits.
+/// Reads a number of 8 bits.
 fn read_code(text: &str) -> Option<u8>
     ensures { result ≡ code_of text.now }
 {
@@ -613,13 +613,13 @@ fn read_code(text: &str) -> Option<u8>
     Some(number as u8)
 }
 
-/// The digits of a SYSCAP, at most.
+/// The maximum number of digits of a SYSCAP.
 const SYSCAP_DIGITS: usize = 21;
 
-/// What is above every SYSCAP: it has 84 bits.
+/// The number after the maximum SYSCAP, which has 84 bits.
 const SYSCAP_END: u128 = 1 << 84;
 
-/// The digits, with zeros before them.
+/// Returns the digits, with zeros before them.
 fn padded(digits: &[u8]) -> [u8; 32]
     requires { length digits.now ≤ 21 }
     ensures { result ≡ replicate (32 - length digits.now) 48 ++ digits.now }
@@ -629,7 +629,7 @@ fn padded(digits: &[u8]) -> [u8; 32]
     all
 }
 
-/// The number of 16 bytes, by their hex digits.
+/// Reads the number of 16 bytes: their hex digits.
 fn read_bytes(digits: &[u8]) -> Option<u128>
     ensures { result ≡ option_map (from_be_bytes w128) (result_ok (decode_sized digits.now 16)) }
 {
@@ -640,7 +640,7 @@ fn read_bytes(digits: &[u8]) -> Option<u128>
     }
 }
 
-/// A SYSCAP, by hex digits.
+/// Reads a SYSCAP: hex digits.
 fn read_syscap(text: &str) -> Option<u128>
     ensures value { result ≡ syscap_of text.now }
     ensures small { IfSome result (λ syscap. syscap < 2 ^ 84) }
@@ -657,7 +657,7 @@ fn read_syscap(text: &str) -> Option<u128>
     }
 }
 
-/// What an end says that it can do.
+/// Reads what an end says that it can do.
 fn syscap_in<'a>(matches: &ArgMatches<'a>) -> Result<u128, Misspelt<'a>>
     ensures value { result_ok result ≡ option_and_then syscap_of
         (first_of (codes "syscap") (rows_of (found_of matches.now))) }
@@ -677,7 +677,7 @@ fn syscap_in<'a>(matches: &ArgMatches<'a>) -> Result<u128, Misspelt<'a>>
     }
 }
 
-/// Whether names are compared by their folds, by its word.
+/// Reads whether names are compared by their folds, by its word.
 fn read_folded(text: &str) -> Option<bool>
     ensures { result ≡ folded_of text.now }
 {
@@ -688,7 +688,7 @@ fn read_folded(text: &str) -> Option<bool>
     }
 }
 
-/// Whether names are compared by their folds; a client has no such option.
+/// Reads whether names are compared by their folds; a client has no such option.
 fn folded_in<'a>(role: Role, matches: &ArgMatches<'a>) -> Result<bool, Misspelt<'a>>
     ensures value { result_ok result ≡ names_of role (rows_of (found_of matches.now)) }
     ensures misspelt { IfErr result (IsMisspelt (rows_of (found_of matches.now))) }
@@ -709,7 +709,7 @@ fn folded_in<'a>(role: Role, matches: &ArgMatches<'a>) -> Result<bool, Misspelt<
     }
 }
 
-/// How many bytes may wait while an end serves more; a client has no such option.
+/// Reads how many bytes may wait while an end serves more; a client has no such option.
 fn waiting_in<'a>(role: Role, matches: &ArgMatches<'a>) -> Result<u32, Misspelt<'a>>
     ensures value { result_ok result ≡ waiting_of role (rows_of (found_of matches.now)) }
     ensures misspelt { IfErr result (IsMisspelt (rows_of (found_of matches.now))) }
@@ -730,28 +730,28 @@ fn waiting_in<'a>(role: Role, matches: &ArgMatches<'a>) -> Result<u32, Misspelt<
     }
 }
 
-/// Whether a value is in the words, and no default.
+/// Returns whether a value is in the words, and no default.
 fn is_word(source: Option<ValueSource>) -> bool
     ensures { result ≡ is_in_words source }
 {
     matches!(source, Some(ValueSource::CommandLine))
 }
 
-/// Whether the words give an option a value.
+/// Returns whether the words give an option a value.
 fn is_given(matches: &ArgMatches<'_>, name: &str) -> bool
     ensures { result ≡ is_given_in name.now (rows_of (found_of matches.now)) }
 {
     is_word(matches.value_source(name))
 }
 
-/// Whether the words give an end an address.
+/// Returns whether the words give an end an address.
 fn is_addressed(matches: &ArgMatches<'_>) -> bool
     ensures { result ≡ has_address (rows_of (found_of matches.now)) }
 {
     is_given(matches, "local") || is_given(matches, "remote")
 }
 
-/// An address that the words give where there is no place for it.
+/// Returns the fault of an address that the words give where no address is allowed.
 fn addressed<'a>(matches: &ArgMatches<'a>, name: &'static str) -> Misspelt<'a>
     requires { IsTrue (is_given_in name.now (rows_of (found_of matches.now))) }
     ensures { IsMisspelt (rows_of (found_of matches.now)) result }
@@ -763,7 +763,7 @@ fn addressed<'a>(matches: &ArgMatches<'a>, name: &'static str) -> Misspelt<'a>
     }
 }
 
-/// The first address that the words give.
+/// Returns the fault of the first address that the words give.
 fn first_address<'a>(matches: &ArgMatches<'a>) -> Misspelt<'a>
     requires { IsTrue (has_address (rows_of (found_of matches.now))) }
     ensures { IsMisspelt (rows_of (found_of matches.now)) result }
@@ -775,7 +775,7 @@ fn first_address<'a>(matches: &ArgMatches<'a>) -> Misspelt<'a>
     }
 }
 
-/// How many links there is room for; with several of them the words give no address. A client has one.
+/// Reads how many links there is room for; with several of them the words give no address. A client has one.
 fn links_in<'a>(role: Role, matches: &ArgMatches<'a>) -> Result<u16, Misspelt<'a>>
     ensures value { result_ok result ≡ links_of role (rows_of (found_of matches.now)) }
     ensures misspelt { IfErr result (IsMisspelt (rows_of (found_of matches.now))) }
@@ -790,8 +790,8 @@ fn links_in<'a>(role: Role, matches: &ArgMatches<'a>) -> Result<u16, Misspelt<'a
     Ok(links)
 }
 
-/// How an end is set up, or the first value that isn't spelled as it has to be; of a server, then the first address where there
-/// are several links, and last how names are compared.
+/// Reads how an end is set up, or returns the first value that isn't spelled as it has to be; of a server, then the
+/// first address where there are several links, and last how names are compared.
 fn options_in<'a>(role: Role, matches: &ArgMatches<'a>) -> Result<Options, Misspelt<'a>>
     ensures options { result_ok result ≡ options_of role (rows_of (found_of matches.now)) }
     ensures room { IfOk result (λ o. min_buffer ≤ o.buffer) }
@@ -825,7 +825,7 @@ fn options_in<'a>(role: Role, matches: &ArgMatches<'a>) -> Result<Options, Missp
     })
 }
 
-/// A node, by its address.
+/// Reads a node by its address.
 fn node_in(text: &str) -> Result<u16, Misspelt<'_>>
     ensures value { result_ok result ≡ node_of text.now }
     ensures misspelt { IfErr result (λ m. (m.digits ≡ Digits.Node)
@@ -843,7 +843,7 @@ fn node_in(text: &str) -> Result<u16, Misspelt<'_>>
     }
 }
 
-/// The words after `frames`.
+/// Returns the words after `frames`.
 fn nodes_of<'a, 'b>(matches: &'b ArgMatches<'a>) -> Option<&'b [&'a str]>
     ensures { option_map (λ s. map (λ word. word.now) s.now) result
         ≡ all_of (codes "nodes") (rows_of (found_of matches.now)) }
@@ -851,7 +851,7 @@ fn nodes_of<'a, 'b>(matches: &'b ArgMatches<'a>) -> Option<&'b [&'a str]>
     matches.get_strs("nodes")
 }
 
-/// The nodes between which packets are wanted, or the first address that is none.
+/// Reads the nodes between which packets are wanted, or returns the first address that is none.
 fn ends_in<'a>(matches: &ArgMatches<'a>) -> Result<Option<Ends>, Misspelt<'a>>
     ensures ends { result_ok result
         ≡ ends_of (all_of (codes "nodes") (rows_of (found_of matches.now))) }
@@ -867,7 +867,7 @@ fn ends_in<'a>(matches: &ArgMatches<'a>) -> Result<Option<Ends>, Misspelt<'a>>
     }
 }
 
-/// Whether the lines of a listing are wanted in words, too.
+/// Returns whether the lines of a listing are wanted in words, too.
 fn has_words(matches: &ArgMatches<'_>) -> bool
     ensures { result ≡ words_wanted (rows_of (found_of matches.now)) }
 {
@@ -877,7 +877,7 @@ fn has_words(matches: &ArgMatches<'_>) -> bool
     }
 }
 
-/// What a word and those after it name.
+/// Reads what a word and those after it name.
 fn task_in<'a>(name: &str, matches: &ArgMatches<'a>) -> Result<Task, Misspelt<'a>>
     ensures task { result_ok result ≡ task_of_rows (name.now, rows_of (found_of matches.now)) }
     ensures room { IfOk result HasBufferRoom }
@@ -900,7 +900,8 @@ fn task_in<'a>(name: &str, matches: &ArgMatches<'a>) -> Result<Task, Misspelt<'a
     }
 }
 
-/// What the words name, the program's name first, or the first address or number that isn't spelled as it has to be.
+/// Reads what the words name, the program's name first, or returns the first address or number that isn't spelled as it
+/// has to be.
 pub(crate) fn read_words<'a>(
     alloc: Global,
     words: &'a [String],

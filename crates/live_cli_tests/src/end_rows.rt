@@ -47,7 +47,7 @@ accepted\n< 60010102020180010001020e0004120d0506000000e6e8f08020\nwaits 1\nrefus
 waits 0\nfile 46 rel variable 0 3\n  3 41\nwaits 0\n",
         b"",
     ),
-    // The end that asks: its packet again, its peer's answer, and an answer that is out of sequence.
+    // The client: its packet again, its peer's answer, and an answer that is out of sequence.
     (
         &["ask"],
         b"ask hello\nask hello\nresend\n> 60010102020180010001020a00040703050600000000\nask get\n\
@@ -79,7 +79,7 @@ refused bad-line\nwaits 0\nrefused bad-line\nwaits 0\nrefused bad-setup\nwaits 0
 refused bad-line\nwaits 0\nrefused bad-line\nwaits 0\n",
         b"bad line 1\nbad line 2\nbad line 3\n",
     ),
-    // Addresses and numbers that aren't spelled as they have to be, of which the first is told.
+    // Addresses and numbers that aren't spelled as they have to be, of which the first is reported.
     (
         &["serve", "--local", "12345"],
         b"files\n",
@@ -115,7 +115,8 @@ refused bad-line\nwaits 0\nrefused bad-line\nwaits 0\n",
         b"",
         b"daplive: --window 00000000008: a number is decimal digits, ten at most\n",
     ),
-    // Room for several links: lines name their link, and the server begins without one; with room for one all is as ever.
+    // Room for several links: lines name their link, and the server begins without one; with room for one all is as
+    // ever.
     (
         &["serve", "--links", "2", "--segment", "10"],
         b"ack\nack 0202\nnew 0202 0101\nack 0202\n> 60020201010080010001020a00040703050600000000\n\
@@ -140,7 +141,7 @@ waits 0\nrefused no-links\nwaits 0\nwaits 0\n",
         b"refused bad-line\nwaits 0\nrefused bad-line\nwaits 0\nwaits 0\n< 04010103030080\nwaits 0\n",
         b"bad line 1\nbad line 2\n",
     ),
-    // Addresses have no place beside several links, and the number of links is one from 1 to 1,023.
+    // No address is allowed beside several links, and the number of links is one from 1 to 1,023.
     (
         &["serve", "--links", "2", "--local", "0303"],
         b"files\n",
@@ -339,7 +340,7 @@ For more information, try '--help'.\n",
         b"",
         b"daplive: --filesys +13: a number is decimal digits, ten at most\n",
     ),
-    // Each record of a fetch by itself, and then together; what was told before an unexpected answer stays.
+    // Each record of a fetch by itself, and then together; what was reported before an unexpected answer stays.
     (
         &["ask"],
         b"ask hello\n> 60010102020180010001020a00040703050600000000\nask open 46 2\n\

@@ -2,7 +2,7 @@
 
 use crate::rows::Row;
 
-/// What is told of a pcap file.
+/// What is reported of a pcap file.
 const PCAP: &[u8] = b"bad line 1\ndaplive: line 1: a pcap file; daplive frames turns it into lines \
 for dapnsp show and daplive follow\n";
 
@@ -204,7 +204,7 @@ for dapnsp show and daplive follow\n",
         b"# frame 1 7.000005 1.1 -> 1.2\n< 0402010103ff8f\n",
         b"bad cut-short at=69\ntaken 1 passed 0\n",
     ),
-    // Lines in the place of a capture file, and words that name no nodes.
+    // Lines in place of a capture file, and words that name no nodes.
     (
         &["frames"],
         b"> 600201040305800100060200\n",
@@ -305,7 +305,7 @@ part > dst=0202 src=0101 seg=3..3 len=5\n",
         b"1 > bad truncated at=1\n2 > ack dst=0202 src=0101 acks=0:1\n",
         b"bad line 2\nbad line 3\n",
     ),
-    // Those in words; and a frame that a bad line is after, which tells of no packet.
+    // Those in words; and a frame that a bad line is after, which lists no packet.
     (
         &["watch", "--words"],
         b"# frame 12 1600000000.123456 1.1 -> 1.2\n\

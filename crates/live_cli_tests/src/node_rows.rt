@@ -77,7 +77,8 @@ refused failed\nwaits 0\n\
 accepted\n< 60040403030180010001020e0004120d0506000000e6e8f08020\nwaits 1\n\
 < 60040403030180010001020e0004120d0506000000e6e8f08020\nwaits 1\nwaits 0\n< 04010102020080\nwaits 0\n",
     ),
-    // The bytes of a segment stay those of the link; a refused `new` of a link that is there ends with what waits on it.
+    // The bytes of a segment stay those of the link; a refused `new` of a link that is there ends with what waits on
+    // it.
     (
         2,
         b"new 0202 0101 10\n> 60020201010080010001020a00040703050600000000\n\
@@ -108,7 +109,8 @@ accepted\n< 60010102020180010001020e0004120d0506000000e6e8f08020\nwaits 1\n\
 refused busy\nwaits 0\nrefused busy\nwaits 0\nwaits 0\nrefused 4000 11\nwaits 0\n\
 waits 0\nwaits 0\nrefused 5000 6\nwaits 0\nfile 46 seq variable 0 0\n  1 41\nwaits 0\n",
     ),
-    // Each link has its own rights, and a file that some link has open isn't dropped; those after one that is dropped move up.
+    // Each link has its rights, and a file that some link has open isn't dropped; those after one that is dropped move
+    // up.
     (
         2,
         b"file 45 seq variable 0 0\nfile 46 seq variable 0 0\n  1 41\nnew 0202 0101 512 2\nnew 0303 0404\n\

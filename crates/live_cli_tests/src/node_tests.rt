@@ -18,7 +18,7 @@ const USUAL: LinkSetup = LinkSetup {
     max_message: MAX_LIMIT,
 };
 
-/// What a server of this many links, which says what is true of it, answers to lines.
+/// Returns what a server of this many links, which says what is true of it, answers to lines.
 fn answers(alloc: Global, links: usize, lines: &[u8]) -> Result<Vec<u8>, Fail> {
     let setup = ServerSetup {
         identity: Configuration::truthful(1024),

@@ -9,7 +9,7 @@ use std::io;
 use std::io::{BufRead, ErrorKind, Read};
 use std::test::Fail;
 
-/// The program's name, and words after it.
+/// Returns the program's name, and words after it.
 fn words_of(alloc: Global, words: &[&str]) -> Result<Vec<String>, Fail> {
     let mut list = Vec::new(alloc);
     list.push(String::from_str(alloc, "daplive")?)?;
@@ -19,7 +19,7 @@ fn words_of(alloc: Global, words: &[&str]) -> Result<Vec<String>, Fail> {
     Ok(list)
 }
 
-/// Whether a row comes to what it says.
+/// Returns whether a row comes to what it says.
 fn holds(alloc: Global, row: &Row) -> Result<bool, Fail> {
     let words = words_of(alloc, row.0)?;
     let mut reader = row.1;

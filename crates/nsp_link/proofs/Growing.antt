@@ -14,21 +14,21 @@ use Rattle.nsp_link.specs.Sending.{queued_link}
 use Rattle.nsp_link.proofs.Taking.{cut-append}
 use Rattle.nsp_link.proofs.Taken.{taken_few, taken_given}
 
-kept_place : (xs ys : List Piece) (i : ℕ) (p : Piece) → slice_get xs i ≡ Some p → slice_get (xs ++ ys) i ≡ Some p
-kept_place xs ys i p at =
+kept_index : (xs ys : List Piece) (i : ℕ) (p : Piece) → slice_get xs i ≡ Some p → slice_get (xs ++ ys) i ≡ Some p
+kept_index xs ys i p at =
     let lt = slice_get_within xs i p at in
     let longer = length-append xs ys in
     let here = get_or_from_slice_get xs i p p at in
     slice_get-get_or (xs ++ ys) i p (omega arith) ∙ ap (λ (q : Piece). Some q) (get_or_append_left xs ys p i lt ∙ here)
 
 pub carries_more : (p : Packet) (size : ℕ) (ms more : List (List ℕ)) (k : Option ℕ) (a : ℕ) → Carries p (cut size ms) k a → Carries p (cut size (ms ++ more)) k a
-carries_more (Segment s) size ms more (Some k) a c = (c.0, rw (cut-append size ms more) (kept_place (cut size ms) (cut size more) (k - 1) _ c.1), c.2, c.3)
+carries_more (Segment s) size ms more (Some k) a c = (c.0, rw (cut-append size ms more) (kept_index (cut size ms) (cut size more) (k - 1) _ c.1), c.2, c.3)
 carries_more (Segment s) size ms more None a c = c
 carries_more (DataAck s) size ms more None a c = c
 carries_more (DataAck s) size ms more (Some k) a c = c
 
 pub written_longer : (src dst : ℕ) (pieces more : List Piece) (k : Option ℕ) (a : ℕ) (bytes : List ℕ) → IsWrittenPacket src dst pieces k a bytes → IsWrittenPacket src dst (pieces ++ more) k a bytes
-written_longer src dst pieces more (Some k) a bytes (p, is, spells) = (p, (is.0, is.1, kept_place pieces more (k - 1) is.0 is.2, is.3), spells)
+written_longer src dst pieces more (Some k) a bytes (p, is, spells) = (p, (is.0, is.1, kept_index pieces more (k - 1) is.0 is.2, is.3), spells)
 written_longer src dst pieces more None a bytes w = w
 
 pub writes_more : (v : LinkValue) (ms more : List (List ℕ)) (k : Option ℕ) (a : ℕ) (bytes : List ℕ) → Writes v ms k a bytes → Writes v (ms ++ more) k a bytes
@@ -36,7 +36,7 @@ writes_more v ms more k a bytes w = rw (cut-append v.setup.seg_size ms more) (wr
 
 held_more : (xs ys : List Piece) (held : List (ℕ × Piece)) → AllByRecursion (λ h. slice_get xs (h.0 - 1) ≡ Some h.1) held → AllByRecursion (λ h. slice_get (xs ++ ys) (h.0 - 1) ≡ Some h.1) held
 held_more xs ys [] all = tt
-held_more xs ys (h ∷ hs) all = (kept_place xs ys (h.0 - 1) h.1 all.0, held_more xs ys hs all.1)
+held_more xs ys (h ∷ hs) all = (kept_index xs ys (h.0 - 1) h.1 all.0, held_more xs ys hs all.1)
 
 pub stands_more : (v : LinkValue) (size : ℕ) (ms more given : List (List ℕ)) → Stands v size ms given → Stands v size (ms ++ more) given
 stands_more v size ms more given st =

@@ -15,12 +15,12 @@ use Rattle.nsp_link.proofs.Taking.{AreNext}
 
 -- ---- bounds
 
--- what the places hold has their numbers
-pub held_within : (low n high : ℕ) (places : List (Option Held)) → low < n → n + length places ≤ high → AreHeld low high (held_from n places)
+-- what the slots hold has their numbers
+pub held_within : (low n high : ℕ) (slots : List (Option Held)) → low < n → n + length slots ≤ high → AreHeld low high (held_from n slots)
 unfolding AreHeld held_from
 held_within low n high [] lt le = tt
-held_within low n high (None ∷ places) lt le = held_within low (n + 1) high places (omega arith) (omega arith)
-held_within low n high (Some h ∷ places) lt le = (lt, omega arith, held_within n (n + 1) high places (omega arith) (omega arith))
+held_within low n high (None ∷ slots) lt le = held_within low (n + 1) high slots (omega arith) (omega arith)
+held_within low n high (Some h ∷ slots) lt le = (lt, omega arith, held_within n (n + 1) high slots (omega arith) (omega arith))
 
 -- and fewer than there are numbers
 pub held_few : (low high : ℕ) (held : List (ℕ × Piece)) → low < high → AreHeld low high held → length held + low < high
@@ -35,124 +35,124 @@ unfolding AreHeld following
 none_follow k low high [] lt all = refl
 none_follow k low high (h ∷ held) lt all = rw (ne_eqb h.0 (k + 1) (λ e. omega (arith, all.0))) refl
 
-pub leading_follow : (n : ℕ) (places : List (Option Held)) → following n (held_from (n + 1) places) ≡ leading places
+pub leading_follow : (n : ℕ) (slots : List (Option Held)) → following n (held_from (n + 1) slots) ≡ leading slots
 unfolding following held_from leading
 leading_follow n [] = refl
-leading_follow n (None ∷ places) = none_follow n (n + 1) (n + 1 + 1 + length places) (held_from (n + 1 + 1) places) (omega arith) (held_within (n + 1) (n + 1 + 1) (n + 1 + 1 + length places) places (omega arith) (omega arith))
-leading_follow n (Some h ∷ places) = rw (eq-eqb (n + 1) (n + 1) refl) (ap (λ (ps : List Piece). held_piece h ∷ ps) (leading_follow (n + 1) places))
+leading_follow n (None ∷ slots) = none_follow n (n + 1) (n + 1 + 1 + length slots) (held_from (n + 1 + 1) slots) (omega arith) (held_within (n + 1) (n + 1 + 1) (n + 1 + 1 + length slots) slots (omega arith) (omega arith))
+leading_follow n (Some h ∷ slots) = rw (eq-eqb (n + 1) (n + 1) refl) (ap (λ (ps : List Piece). held_piece h ∷ ps) (leading_follow (n + 1) slots))
 
 -- what follows leaves
-pub held_left : (n : ℕ) (places : List (Option Held)) → drop (length (leading places)) (held_from n places) ≡ held_from (n + length (leading places)) (drop (length (leading places)) places)
+pub held_left : (n : ℕ) (slots : List (Option Held)) → drop (length (leading slots)) (held_from n slots) ≡ held_from (n + length (leading slots)) (drop (length (leading slots)) slots)
 unfolding held_from leading
 held_left n [] = refl
-held_left n (None ∷ places) = let z : n + 0 ≡ n = omega arith in rw z refl
-held_left n (Some h ∷ places) =
-    let e : (n + 1) + length (leading places) ≡ n + suc (length (leading places)) = omega arith in
-    rw (← e) (held_left (n + 1) places)
+held_left n (None ∷ slots) = let z : n + 0 ≡ n = omega arith in rw z refl
+held_left n (Some h ∷ slots) =
+    let e : (n + 1) + length (leading slots) ≡ n + suc (length (leading slots)) = omega arith in
+    rw (← e) (held_left (n + 1) slots)
 
 pub held_free : (n m : ℕ) → held_from n (replicate m None) ≡ []
 unfolding held_from
 held_free n zero = refl
 held_free n (suc m) = held_free (n + 1) m
 
-pub held_more_free : (n m : ℕ) (places : List (Option Held)) → held_from n (places ++ replicate m None) ≡ held_from n places
+pub held_more_free : (n m : ℕ) (slots : List (Option Held)) → held_from n (slots ++ replicate m None) ≡ held_from n slots
 unfolding held_from
 held_more_free n m [] = held_free n m
-held_more_free n m (None ∷ places) = held_more_free (n + 1) m places
-held_more_free n m (Some h ∷ places) = ap (λ (hs : List (ℕ × Piece)). (n, held_piece h) ∷ hs) (held_more_free (n + 1) m places)
+held_more_free n m (None ∷ slots) = held_more_free (n + 1) m slots
+held_more_free n m (Some h ∷ slots) = ap (λ (hs : List (ℕ × Piece)). (n, held_piece h) ∷ hs) (held_more_free (n + 1) m slots)
 
--- the place after those that follow is free, or after the last
-pub leading_ends : (places : List (Option Held)) (m : ℕ) → 0 < m → slice_get (drop (length (leading places)) places ++ replicate m None) 0 ≡ Some None
+-- the slot after those that follow is free, or after the last
+pub leading_ends : (slots : List (Option Held)) (m : ℕ) → 0 < m → slice_get (drop (length (leading slots)) slots ++ replicate m None) 0 ≡ Some None
 unfolding leading
 leading_ends [] zero lt = elim lt [ ]
 leading_ends [] (suc m) lt = refl
-leading_ends (None ∷ places) m lt = refl
-leading_ends (Some h ∷ places) m lt = leading_ends places m lt
+leading_ends (None ∷ slots) m lt = refl
+leading_ends (Some h ∷ slots) m lt = leading_ends slots m lt
 
-pub leading_few : (places : List (Option Held)) → length (leading places) ≤ length places
+pub leading_few : (slots : List (Option Held)) → length (leading slots) ≤ length slots
 unfolding leading
 leading_few [] = omega arith
-leading_few (None ∷ places) = omega arith
-leading_few (Some h ∷ places) = omega (arith, leading_few places)
+leading_few (None ∷ slots) = omega arith
+leading_few (Some h ∷ slots) = omega (arith, leading_few slots)
 
--- what a place says of those that stand from there on
-pub leading_stops : (places : List (Option Held)) (i : ℕ) → slice_get places i ≡ Some None → leading (drop i places) ≡ []
+-- what a slot says of those that stand from there on
+pub leading_stops : (slots : List (Option Held)) (i : ℕ) → slice_get slots i ≡ Some None → leading (drop i slots) ≡ []
 unfolding leading
 leading_stops [] zero at = refl
 leading_stops [] (suc i) at = refl
-leading_stops (None ∷ places) zero at = refl
-leading_stops (Some h ∷ places) zero at = absurd (cc)
-leading_stops (o ∷ places) (suc i) at = leading_stops places i at
+leading_stops (None ∷ slots) zero at = refl
+leading_stops (Some h ∷ slots) zero at = absurd (cc)
+leading_stops (o ∷ slots) (suc i) at = leading_stops slots i at
 
-pub leading_goes : (places : List (Option Held)) (i : ℕ) (h : Held) → slice_get places i ≡ Some (Some h) → leading (drop i places) ≡ held_piece h ∷ leading (drop (suc i) places)
+pub leading_goes : (slots : List (Option Held)) (i : ℕ) (h : Held) → slice_get slots i ≡ Some (Some h) → leading (drop i slots) ≡ held_piece h ∷ leading (drop (suc i) slots)
 unfolding leading
 leading_goes [] i h at = absurd (cc)
-leading_goes (None ∷ places) zero h at = absurd (cc)
-leading_goes (Some g ∷ places) zero h at = let same : g ≡ h = (cc) in ap (λ (x : Held). held_piece x ∷ leading places) same
-leading_goes (o ∷ places) (suc i) h at = leading_goes places i h at
+leading_goes (None ∷ slots) zero h at = absurd (cc)
+leading_goes (Some g ∷ slots) zero h at = let same : g ≡ h = (cc) in ap (λ (x : Held). held_piece x ∷ leading slots) same
+leading_goes (o ∷ slots) (suc i) h at = leading_goes slots i h at
 
--- what is read at a place says what stands from there on
-leads_past : (places : List (Option Held)) (i : ℕ) → slice_get places i ≡ None → leading (drop i places) ≡ []
+-- what is read at a slot says what stands from there on
+leads_past : (slots : List (Option Held)) (i : ℕ) → slice_get slots i ≡ None → leading (drop i slots) ≡ []
 unfolding leading
 leads_past [] zero at = refl
 leads_past [] (suc i) at = refl
-leads_past (o ∷ places) zero at = absurd (cc)
-leads_past (o ∷ places) (suc i) at = leads_past places i at
+leads_past (o ∷ slots) zero at = absurd (cc)
+leads_past (o ∷ slots) (suc i) at = leads_past slots i at
 
-pub leads_none : (places : List (Option Held)) (i : ℕ) (read : Option (Bor (Option Held))) → option_copied read ≡ slice_get places i → read ≡ None → leading (drop i places) ≡ []
-leads_none places i None e is = leads_past places i (sym e)
-leads_none places i (Some r) e is = absurd (cc)
+pub leads_none : (slots : List (Option Held)) (i : ℕ) (read : Option (Bor (Option Held))) → option_copied read ≡ slice_get slots i → read ≡ None → leading (drop i slots) ≡ []
+leads_none slots i None e is = leads_past slots i (sym e)
+leads_none slots i (Some r) e is = absurd (cc)
 
-pub leads_slot : (places : List (Option Held)) (i : ℕ) (slot : Option Held) (held : Option (Bor Held)) → slice_get places i ≡ Some slot → option_copied held ≡ slot
-    → MatchOption held (leading (drop i places) ≡ []) (λ h. leading (drop i places) ≡ held_piece h.now ∷ leading (drop (i + 1) places))
-leads_slot places i slot None at e = leading_stops places i (at ∙ ap (λ (o : Option Held). Some o) (sym e))
-leads_slot places i slot (Some h) at e =
+pub leads_slot : (slots : List (Option Held)) (i : ℕ) (slot : Option Held) (held : Option (Bor Held)) → slice_get slots i ≡ Some slot → option_copied held ≡ slot
+    → MatchOption held (leading (drop i slots) ≡ []) (λ h. leading (drop i slots) ≡ held_piece h.now ∷ leading (drop (i + 1) slots))
+leads_slot slots i slot None at e = leading_stops slots i (at ∙ ap (λ (o : Option Held). Some o) (sym e))
+leads_slot slots i slot (Some h) at e =
     let next : suc i ≡ i + 1 = omega arith in
-    rw (← next) (leading_goes places i h.now (at ∙ ap (λ (o : Option Held). Some o) (sym e)))
+    rw (← next) (leading_goes slots i h.now (at ∙ ap (λ (o : Option Held). Some o) (sym e)))
 
 -- ---- keeping
 
--- with the first place free, what is held lies above its number
-pub held_end : (n high : ℕ) (places : List (Option Held)) → slice_get places 0 ≡ Some None → n + length places ≤ high → AreHeld n high (held_from n places)
+-- with the first slot free, what is held lies above its number
+pub held_end : (n high : ℕ) (slots : List (Option Held)) → slice_get slots 0 ≡ Some None → n + length slots ≤ high → AreHeld n high (held_from n slots)
 unfolding held_from
 held_end n high [] at le = absurd (cc)
-held_end n high (None ∷ places) at le = held_within n (n + 1) high places (omega arith) (omega arith)
-held_end n high (Some h ∷ places) at le = absurd (cc)
+held_end n high (None ∷ slots) at le = held_within n (n + 1) high slots (omega arith) (omega arith)
+held_end n high (Some h ∷ slots) at le = absurd (cc)
 
-pub ring_follows : (n : ℕ) (places : List (Option Held)) → slice_get places 0 ≡ Some None → following n (held_from n places) ≡ leading (drop 1 places)
+pub ring_follows : (n : ℕ) (slots : List (Option Held)) → slice_get slots 0 ≡ Some None → following n (held_from n slots) ≡ leading (drop 1 slots)
 unfolding held_from
 ring_follows n [] at = absurd (cc)
-ring_follows n (None ∷ places) at = leading_follow n places
-ring_follows n (Some h ∷ places) at = absurd (cc)
+ring_follows n (None ∷ slots) at = leading_follow n slots
+ring_follows n (Some h ∷ slots) at = absurd (cc)
 
--- the places once this many went on
-pub ring_closed : (n m : ℕ) (places : List (Option Held)) → slice_get places 0 ≡ Some None → m ≡ 1 + length (leading (drop 1 places))
-    → drop (length (following n (held_from n places))) (held_from n places) ≡ held_from (n + m) (drop m places ++ replicate m None)
+-- the slots once this many went on
+pub ring_closed : (n m : ℕ) (slots : List (Option Held)) → slice_get slots 0 ≡ Some None → m ≡ 1 + length (leading (drop 1 slots))
+    → drop (length (following n (held_from n slots))) (held_from n slots) ≡ held_from (n + m) (drop m slots ++ replicate m None)
 unfolding held_from
 ring_closed n m [] at e = absurd (cc)
-ring_closed n m (None ∷ places) at e =
-    let len = length (leading places) in
+ring_closed n m (None ∷ slots) at e =
+    let len = length (leading slots) in
     let one : m ≡ suc len = omega arith in
     let at-is : (n + 1) + len ≡ n + suc len = omega arith in
-    rw (one, held_more_free (n + suc len) (suc len) (drop len places), leading_follow n places) (held_left (n + 1) places ∙ ap (λ (k : ℕ). held_from k (drop len places)) at-is)
-ring_closed n m (Some h ∷ places) at e = absurd (cc)
+    rw (one, held_more_free (n + suc len) (suc len) (drop len slots), leading_follow n slots) (held_left (n + 1) slots ∙ ap (λ (k : ℕ). held_from k (drop len slots)) at-is)
+ring_closed n m (Some h ∷ slots) at e = absurd (cc)
 
-pub ring_free : (m : ℕ) (places : List (Option Held)) → slice_get places 0 ≡ Some None → m ≡ 1 + length (leading (drop 1 places)) → slice_get (drop m places ++ replicate m None) 0 ≡ Some None
+pub ring_free : (m : ℕ) (slots : List (Option Held)) → slice_get slots 0 ≡ Some None → m ≡ 1 + length (leading (drop 1 slots)) → slice_get (drop m slots ++ replicate m None) 0 ≡ Some None
 ring_free m [] at e = absurd (cc)
-ring_free m (o ∷ places) at e =
-    let one : m ≡ suc (length (leading places)) = omega arith in
-    rw one (leading_ends places (suc (length (leading places))) (omega arith))
+ring_free m (o ∷ slots) at e =
+    let one : m ≡ suc (length (leading slots)) = omega arith in
+    rw one (leading_ends slots (suc (length (leading slots))) (omega arith))
 
-pub ring_fewer : (m : ℕ) (places : List (Option Held)) → slice_get places 0 ≡ Some None → m ≡ 1 + length (leading (drop 1 places)) → m ≤ length places
+pub ring_fewer : (m : ℕ) (slots : List (Option Held)) → slice_get slots 0 ≡ Some None → m ≡ 1 + length (leading (drop 1 slots)) → m ≤ length slots
 ring_fewer m [] at e = absurd (cc)
-ring_fewer m (o ∷ places) at e = omega (arith, e, leading_few places)
+ring_fewer m (o ∷ slots) at e = omega (arith, e, leading_few slots)
 
-pub ring_long : (m : ℕ) (places : List (Option Held)) → m ≤ length places → length (drop m places ++ replicate m None) ≡ length places
-ring_long m places le =
+pub ring_long : (m : ℕ) (slots : List (Option Held)) → m ≤ length slots → length (drop m slots ++ replicate m None) ≡ length slots
+ring_long m slots le =
     let free : List (Option Held) = replicate m None in
-    omega (arith, length-append (drop m places) free, length-drop m places, length-replicate {A = Option Held} m None)
+    omega (arith, length-append (drop m slots) free, length-drop m slots, length-replicate {A = Option Held} m None)
 
--- one place goes on
+-- one slot goes on
 pub ring_step : (n cap : ℕ) (first items : List (Option Held)) → items ≡ drop n first ++ replicate n None → length first ≡ cap → n < length first
     → drop (length (drop 1 items ++ None ∷ []) - cap) (drop 1 items ++ None ∷ []) ≡ drop (n + 1) first ++ replicate (n + 1) None
 ring_step n cap first items e full lt =
@@ -166,46 +166,46 @@ ring_step n cap first items e full lt =
     let zero-is : length (drop (n + 1) first ++ replicate (n + 1) None) - cap ≡ 0 = omega arith in
     rw (all, zero-is) refl
 
--- how many are held doesn't hang on the number of the first place
-held_any : (n m : ℕ) (places : List (Option Held)) → length (held_from n places) ≡ length (held_from m places)
+-- how many are held doesn't hang on the number of the first slot
+held_any : (n m : ℕ) (slots : List (Option Held)) → length (held_from n slots) ≡ length (held_from m slots)
 unfolding held_from
 held_any n m [] = refl
-held_any n m (None ∷ places) = held_any (n + 1) (m + 1) places
-held_any n m (Some h ∷ places) = ap (λ (k : ℕ). suc k) (held_any (n + 1) (m + 1) places)
+held_any n m (None ∷ slots) = held_any (n + 1) (m + 1) slots
+held_any n m (Some h ∷ slots) = ap (λ (k : ℕ). suc k) (held_any (n + 1) (m + 1) slots)
 
--- a place that was free is filled
-pub length-held_put : (n i : ℕ) (places : List (Option Held)) (h : Held) → slice_get places i ≡ Some None → length (held_from n (slice_set places i (Some h))) ≡ length (held_from n places) + 1
+-- a slot that was free is filled
+pub length-held_put : (n i : ℕ) (slots : List (Option Held)) (h : Held) → slice_get slots i ≡ Some None → length (held_from n (slice_set slots i (Some h))) ≡ length (held_from n slots) + 1
 unfolding held_from
 length-held_put n i [] h at = absurd (cc)
-length-held_put n zero (None ∷ places) h at = omega (arith, held_any n (n + 1) places)
-length-held_put n zero (Some g ∷ places) h at = absurd (cc)
-length-held_put n (suc i) (None ∷ places) h at = length-held_put (n + 1) i places h at
-length-held_put n (suc i) (Some g ∷ places) h at = let more = length-held_put (n + 1) i places h at in omega arith
+length-held_put n zero (None ∷ slots) h at = omega (arith, held_any n (n + 1) slots)
+length-held_put n zero (Some g ∷ slots) h at = absurd (cc)
+length-held_put n (suc i) (None ∷ slots) h at = length-held_put (n + 1) i slots h at
+length-held_put n (suc i) (Some g ∷ slots) h at = let more = length-held_put (n + 1) i slots h at in omega arith
 
 -- those in front are held
-leading_held : (n : ℕ) (places : List (Option Held)) → length (leading places) ≤ length (held_from n places)
+leading_held : (n : ℕ) (slots : List (Option Held)) → length (leading slots) ≤ length (held_from n slots)
 unfolding held_from leading
 leading_held n [] = omega arith
-leading_held n (None ∷ places) = omega arith
-leading_held n (Some h ∷ places) = let few = leading_held (n + 1) places in omega arith
+leading_held n (None ∷ slots) = omega arith
+leading_held n (Some h ∷ slots) = let few = leading_held (n + 1) slots in omega arith
 
 -- those that follow the next one are held
-pub follows_held : (n : ℕ) (places : List (Option Held)) → slice_get places 0 ≡ Some None → length (leading (drop 1 places)) ≤ length (held_from n places)
+pub follows_held : (n : ℕ) (slots : List (Option Held)) → slice_get slots 0 ≡ Some None → length (leading (drop 1 slots)) ≤ length (held_from n slots)
 unfolding held_from
 follows_held n [] at = absurd (cc)
-follows_held n (None ∷ places) at = leading_held (n + 1) places
-follows_held n (Some h ∷ places) at = absurd (cc)
+follows_held n (None ∷ slots) at = leading_held (n + 1) slots
+follows_held n (Some h ∷ slots) at = absurd (cc)
 
 -- those that follow the next one have left
-pub length-ring_closed : (n k m : ℕ) (places : List (Option Held)) → slice_get places 0 ≡ Some None → m ≡ 1 + length (leading (drop 1 places))
-    → length (held_from k (drop m places ++ replicate m None)) + length (leading (drop 1 places)) ≡ length (held_from n places)
-length-ring_closed n k m places at e =
-    let after : List (Option Held) = drop m places ++ replicate m None in
+pub length-ring_closed : (n k m : ℕ) (slots : List (Option Held)) → slice_get slots 0 ≡ Some None → m ≡ 1 + length (leading (drop 1 slots))
+    → length (held_from k (drop m slots ++ replicate m None)) + length (leading (drop 1 slots)) ≡ length (held_from n slots)
+length-ring_closed n k m slots at e =
+    let after : List (Option Held) = drop m slots ++ replicate m None in
     let any = held_any k (n + m) after in
-    let closed = ap length (ring_closed n m places at e) in
-    let dropped = length-drop (length (following n (held_from n places))) (held_from n places) in
-    let follows = ap length (ring_follows n places at) in
-    let some = follows_held n places at in
+    let closed = ap length (ring_closed n m slots at e) in
+    let dropped = length-drop (length (following n (held_from n slots))) (held_from n slots) in
+    let follows = ap length (ring_follows n slots at) in
+    let some = follows_held n slots at in
     omega (arith, any, closed, dropped, follows, some)
 
 -- the k-th is held too
@@ -230,45 +230,45 @@ unfolding AreHeld
 lacks_low k low high [] le all = tt
 lacks_low k low high (h ∷ held) le all = ((λ x. omega (arith, all.0)), lacks_low k h.0 high held (omega (arith, all.0)) all.2)
 
-pub held_put : (n i : ℕ) (places : List (Option Held)) (h : Held) → slice_get places i ≡ Some None → held_from n (slice_set places i (Some h)) ≡ inserted (n + i) (held_piece h) (held_from n places)
+pub held_put : (n i : ℕ) (slots : List (Option Held)) (h : Held) → slice_get slots i ≡ Some None → held_from n (slice_set slots i (Some h)) ≡ inserted (n + i) (held_piece h) (held_from n slots)
 unfolding held_from
 held_put n i [] h at = absurd (cc)
-held_put n zero (None ∷ places) h at =
+held_put n zero (None ∷ slots) h at =
     let z : n + 0 ≡ n = omega arith in
-    rw (z, inserted_low n n (n + 1 + length places) (held_piece h) (held_from (n + 1) places) (omega arith) (held_within n (n + 1) (n + 1 + length places) places (omega arith) (omega arith))) refl
-held_put n zero (Some g ∷ places) h at = absurd (cc)
-held_put n (suc i) (None ∷ places) h at =
+    rw (z, inserted_low n n (n + 1 + length slots) (held_piece h) (held_from (n + 1) slots) (omega arith) (held_within n (n + 1) (n + 1 + length slots) slots (omega arith) (omega arith))) refl
+held_put n zero (Some g ∷ slots) h at = absurd (cc)
+held_put n (suc i) (None ∷ slots) h at =
     let e : (n + 1) + i ≡ n + suc i = omega arith in
-    held_put (n + 1) i places h at ∙ ap (λ (k : ℕ). inserted k (held_piece h) (held_from (n + 1) places)) e
-held_put n (suc i) (Some g ∷ places) h at =
+    held_put (n + 1) i slots h at ∙ ap (λ (k : ℕ). inserted k (held_piece h) (held_from (n + 1) slots)) e
+held_put n (suc i) (Some g ∷ slots) h at =
     let e : (n + 1) + i ≡ n + suc i = omega arith in
-    ap (λ (hs : List (ℕ × Piece)). (n, held_piece g) ∷ hs) (held_put (n + 1) i places h at ∙ ap (λ (k : ℕ). inserted k (held_piece h) (held_from (n + 1) places)) e)
-    ∙ sym (inserted_past (n + suc i) (held_piece h) (n, held_piece g) (held_from (n + 1) places) (omega arith))
+    ap (λ (hs : List (ℕ × Piece)). (n, held_piece g) ∷ hs) (held_put (n + 1) i slots h at ∙ ap (λ (k : ℕ). inserted k (held_piece h) (held_from (n + 1) slots)) e)
+    ∙ sym (inserted_past (n + suc i) (held_piece h) (n, held_piece g) (held_from (n + 1) slots) (omega arith))
 
-pub held_there : (n i : ℕ) (places : List (Option Held)) (h : Held) (p : Piece) → slice_get places i ≡ Some (Some h) → inserted (n + i) p (held_from n places) ≡ held_from n places
+pub held_there : (n i : ℕ) (slots : List (Option Held)) (h : Held) (p : Piece) → slice_get slots i ≡ Some (Some h) → inserted (n + i) p (held_from n slots) ≡ held_from n slots
 unfolding held_from
 held_there n i [] h p at = absurd (cc)
-held_there n zero (None ∷ places) h p at = absurd (cc)
-held_there n zero (Some g ∷ places) h p at = let z : n + 0 ≡ n = omega arith in rw (z, le-ltb n n (omega arith), eq-eqb n n refl) refl
-held_there n (suc i) (None ∷ places) h p at =
+held_there n zero (None ∷ slots) h p at = absurd (cc)
+held_there n zero (Some g ∷ slots) h p at = let z : n + 0 ≡ n = omega arith in rw (z, le-ltb n n (omega arith), eq-eqb n n refl) refl
+held_there n (suc i) (None ∷ slots) h p at =
     let e : n + suc i ≡ (n + 1) + i = omega arith in
-    ap (λ (k : ℕ). inserted k p (held_from (n + 1) places)) e ∙ held_there (n + 1) i places h p at
-held_there n (suc i) (Some g ∷ places) h p at =
+    ap (λ (k : ℕ). inserted k p (held_from (n + 1) slots)) e ∙ held_there (n + 1) i slots h p at
+held_there n (suc i) (Some g ∷ slots) h p at =
     let e : n + suc i ≡ (n + 1) + i = omega arith in
-    inserted_past (n + suc i) p (n, held_piece g) (held_from (n + 1) places) (omega arith)
-    ∙ ap (λ (hs : List (ℕ × Piece)). (n, held_piece g) ∷ hs) (ap (λ (k : ℕ). inserted k p (held_from (n + 1) places)) e ∙ held_there (n + 1) i places h p at)
+    inserted_past (n + suc i) p (n, held_piece g) (held_from (n + 1) slots) (omega arith)
+    ∙ ap (λ (hs : List (ℕ × Piece)). (n, held_piece g) ∷ hs) (ap (λ (k : ℕ). inserted k p (held_from (n + 1) slots)) e ∙ held_there (n + 1) i slots h p at)
 
-pub held_lacks : (n i : ℕ) (places : List (Option Held)) → slice_get places i ≡ Some None → Lacks (n + i) (held_from n places)
+pub held_lacks : (n i : ℕ) (slots : List (Option Held)) → slice_get slots i ≡ Some None → Lacks (n + i) (held_from n slots)
 unfolding held_from
 held_lacks n i [] at = absurd (cc)
-held_lacks n zero (None ∷ places) at =
+held_lacks n zero (None ∷ slots) at =
     let z : n + 0 ≡ n = omega arith in
-    rw z (lacks_low n n (n + 1 + length places) (held_from (n + 1) places) (omega arith) (held_within n (n + 1) (n + 1 + length places) places (omega arith) (omega arith)))
-held_lacks n zero (Some g ∷ places) at = absurd (cc)
-held_lacks n (suc i) (None ∷ places) at = let e : (n + 1) + i ≡ n + suc i = omega arith in subst (λ (k : ℕ). Lacks k (held_from (n + 1) places)) e (held_lacks (n + 1) i places at)
-held_lacks n (suc i) (Some g ∷ places) at =
+    rw z (lacks_low n n (n + 1 + length slots) (held_from (n + 1) slots) (omega arith) (held_within n (n + 1) (n + 1 + length slots) slots (omega arith) (omega arith)))
+held_lacks n zero (Some g ∷ slots) at = absurd (cc)
+held_lacks n (suc i) (None ∷ slots) at = let e : (n + 1) + i ≡ n + suc i = omega arith in subst (λ (k : ℕ). Lacks k (held_from (n + 1) slots)) e (held_lacks (n + 1) i slots at)
+held_lacks n (suc i) (Some g ∷ slots) at =
     let e : (n + 1) + i ≡ n + suc i = omega arith in
-    ((λ x. omega arith), subst (λ (k : ℕ). Lacks k (held_from (n + 1) places)) e (held_lacks (n + 1) i places at))
+    ((λ x. omega arith), subst (λ (k : ℕ). Lacks k (held_from (n + 1) slots)) e (held_lacks (n + 1) i slots at))
 
 -- ---- what is held of the messages
 
@@ -298,15 +298,15 @@ all_inserted segments k p (h ∷ held) at all = elim (cases_lt k h.0) [
   ]
 ]
 
--- ---- what reading a place says
+-- ---- what reading a slot says
 
 free_read : (o : Option (Option Held)) (b : Bool) → MatchOption o (b ≡ false) (λ x. b ≡ is_none x) → b ≡ true → o ≡ Some None
 free_read None b m e = absurd cc
 free_read (Some None) b m e = refl
 free_read (Some (Some h)) b m e = absurd cc
 
-pub is_free_read : (places : List (Option Held)) (i : ℕ) (b : Bool) → MatchOption (slice_get places i) (b ≡ false) (λ x. b ≡ is_none x) → b ≡ true → slice_get places i ≡ Some None
-is_free_read places i b m e = free_read (slice_get places i) b m e
+pub is_free_read : (slots : List (Option Held)) (i : ℕ) (b : Bool) → MatchOption (slice_get slots i) (b ≡ false) (λ x. b ≡ is_none x) → b ≡ true → slice_get slots i ≡ Some None
+is_free_read slots i b m e = free_read (slice_get slots i) b m e
 
 pub data Taken (o : Option (Option Held)) : Type 0 where
   beyond : o ≡ None → Taken o
@@ -317,5 +317,5 @@ taken_read None b m e = beyond refl
 taken_read (Some None) b m e = absurd cc
 taken_read (Some (Some h)) b m e = there h refl
 
-pub is_taken_read : (places : List (Option Held)) (i : ℕ) (b : Bool) → MatchOption (slice_get places i) (b ≡ false) (λ x. b ≡ is_none x) → b ≡ false → Taken (slice_get places i)
-is_taken_read places i b m e = taken_read (slice_get places i) b m e
+pub is_taken_read : (slots : List (Option Held)) (i : ℕ) (b : Bool) → MatchOption (slice_get slots i) (b ≡ false) (λ x. b ≡ is_none x) → b ≡ false → Taken (slice_get slots i)
+is_taken_read slots i b m e = taken_read (slice_get slots i) b m e

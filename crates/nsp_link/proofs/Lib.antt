@@ -1,7 +1,7 @@
 pub mod Counts
 pub mod Waiting
 pub mod Allowed
-pub mod Placing
+pub mod Queued
 pub mod Taking
 pub mod Held
 pub mod Joining

@@ -66,7 +66,7 @@ cut-at size messages n i p lt small at =
 pub record NextIs (size : ℕ) (messages : List (List ℕ)) (r n : ℕ) (p : Piece) : Type 0 where
   pub more : n < length messages
   pub over : ℕ
-  pub place : r ≡ length (cut size (take n messages)) + over
+  pub index : r ≡ length (cut size (take n messages)) + over
   pub within : over < count_of size (length (get_or messages n []))
   pub piece : p ≡ piece_at size (get_or messages n []) over
 
@@ -81,14 +81,14 @@ next_is size messages r n p w at =
     let more : n < length messages = omega (arith, all_of) in
     let over = r - length (cut size (take n messages)) in
     let le = w.whole in
-    let place : r ≡ length (cut size (take n messages)) + over = omega arith in
+    let index : r ≡ length (cut size (take n messages)) + over = omega arith in
     let longer = length-cut-more size messages n more in
     let before = w.next more in
     let small : over < count_of size (length (get_or messages n [])) = omega arith in
-    record { more = more; over = over; place = place; within = small; piece = cut-at size messages n over p more small (rw (← place) at) }
+    record { more = more; over = over; index = index; within = small; piece = cut-at size messages n over p more small (rw (← index) at) }
 
 begun_is : (size : ℕ) (messages : List (List ℕ)) (r n over : ℕ) → r ≡ length (cut size (take n messages)) + over → begun_bytes size messages r n ≡ cond (over == 0) None (Some (take (size * over) (get_or messages n [])))
-begun_is size messages r n over place =
+begun_is size messages r n over index =
     let e : r - length (cut size (take n messages)) ≡ over = omega arith in
     rw e refl
 
@@ -113,7 +113,7 @@ module _ (v : Coming) (size : ℕ) (messages given : List (List ℕ)) (s : Piece
   unfolding piece_at
   body-is =
       let m = get_or messages st.count [] in
-      let had : v.partial ≡ cond (nx.over == 0) None (Some (take (size * nx.over) m)) = st.partial ∙ begun_is size messages v.received st.count nx.over nx.place in
+      let had : v.partial ≡ cond (nx.over == 0) None (Some (take (size * nx.over) m)) = st.partial ∙ begun_is size messages v.received st.count nx.over nx.index in
       let payload : s.payload ≡ take size (drop (size * nx.over) m) = ap (λ (p : Piece). p.payload) nx.piece in
       let both = take_two (size * nx.over) size m in
       let grown : size * nx.over + size ≡ size * (nx.over + 1) = omega arith in
@@ -123,7 +123,7 @@ module _ (v : Coming) (size : ℕ) (messages given : List (List ℕ)) (s : Piece
   unfolding piece_at
   mark-is =
       let m = get_or messages st.count [] in
-      let had : v.partial ≡ cond (nx.over == 0) None (Some (take (size * nx.over) m)) = st.partial ∙ begun_is size messages v.received st.count nx.over nx.place in
+      let had : v.partial ≡ cond (nx.over == 0) None (Some (take (size * nx.over) m)) = st.partial ∙ begun_is size messages v.received st.count nx.over nx.index in
       let first : s.first ≡ (nx.over == 0) = ap (λ (p : Piece). p.first) nx.piece in
       rw (had, opens nx.over (take (size * nx.over) m)) first
 
@@ -137,7 +137,7 @@ module _ (v : Coming) (size : ℕ) (messages given : List (List ℕ)) (s : Piece
   stands-part : (nx.over + 1 ≡ count_of size (length (get_or messages st.count [])) → ⊥) → HasWhole (record { received = v.received + 1; partial = Some (body_with v s.payload); inbox = v.inbox }) size messages given
   stands-part part =
       let longer = length-cut-more size messages st.count nx.more in
-      let place = nx.place in
+      let index = nx.index in
       let within = nx.within in
       let le = st.whole.whole in
       let lt = inside in
@@ -154,7 +154,7 @@ module _ (v : Coming) (size : ℕ) (messages given : List (List ℕ)) (s : Piece
   stands-whole done =
       let m = get_or messages st.count [] in
       let longer = length-cut-more size messages st.count nx.more in
-      let place = nx.place in
+      let index = nx.index in
       let lt = inside in
       let next : v.received + 1 ≡ length (cut size (take (st.count + 1) messages)) + 0 = omega arith in
       let reaches = count-reaches size (length m) pos in
@@ -196,7 +196,7 @@ takes_next v size messages given s limit pos short st at =
 
 -- ---- several segments
 
--- these are the segments from place r on
+-- these are the segments from index r on
 unfoldable pub AreNext : List Piece → ℕ → List Piece → Type 0
 AreNext segments r [] = Unit {0}
 AreNext segments r (p ∷ ps) = (slice_get segments r ≡ Some p) × AreNext segments (r + 1) ps

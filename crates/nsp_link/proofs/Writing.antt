@@ -18,18 +18,18 @@ use Rattle.nsp_link.specs.Link.{IsLink, failed_link, first_ack, piece_of}
 use Rattle.nsp_link.specs.Receiving.{newly_acked, Acknowledges, Received, segment_number, taking_in, stopped, ends_link}
 use Rattle.nsp_link.specs.Sending.{WritesQueued, segment_packet}
 
-pub writes_segment : (v : LinkValue) (messages : List (List ℕ)) (bytes : List ℕ) (place : ℕ) → place < length v.queue
-    → WritesQueued v place (v.acked + 1 + place) bytes → Sends v messages → Writes v messages (Some (v.acked + 1 + place)) v.coming.received bytes
-writes_segment v messages bytes place lt spelled sends =
+pub writes_segment : (v : LinkValue) (messages : List (List ℕ)) (bytes : List ℕ) (index : ℕ) → index < length v.queue
+    → WritesQueued v index (v.acked + 1 + index) bytes → Sends v messages → Writes v messages (Some (v.acked + 1 + index)) v.coming.received bytes
+writes_segment v messages bytes index lt spelled sends =
     let pieces = cut v.setup.seg_size messages in
     let d : Piece = record { first = false; last = false; payload = [] } in
-    let p = get_or v.queue place d in
-    let at : slice_get v.queue place ≡ Some p = slice_get-get_or v.queue place d lt in
-    let long : v.acked + place < length pieces = omega (arith, ap length sends.queue, length-drop v.acked pieces) in
-    let same : get_or pieces (v.acked + place) d ≡ p = sym (get_or-drop v.acked pieces place d) ∙ ap (λ (q : List Piece). get_or q place d) (sym sends.queue) in
-    let back : (v.acked + 1 + place) - 1 ≡ v.acked + place = omega arith in
-    let there : slice_get pieces ((v.acked + 1 + place) - 1) ≡ Some p = rw back (slice_get-get_or pieces (v.acked + place) d long ∙ ap (λ (q : Piece). Some q) same) in
-    (segment_packet v p (v.acked + 1 + place), (p, omega arith, there, refl), spelled p at)
+    let p = get_or v.queue index d in
+    let at : slice_get v.queue index ≡ Some p = slice_get-get_or v.queue index d lt in
+    let long : v.acked + index < length pieces = omega (arith, ap length sends.queue, length-drop v.acked pieces) in
+    let same : get_or pieces (v.acked + index) d ≡ p = sym (get_or-drop v.acked pieces index d) ∙ ap (λ (q : List Piece). get_or q index d) (sym sends.queue) in
+    let back : (v.acked + 1 + index) - 1 ≡ v.acked + index = omega arith in
+    let there : slice_get pieces ((v.acked + 1 + index) - 1) ≡ Some p = rw back (slice_get-get_or pieces (v.acked + index) d long ∙ ap (λ (q : Piece). Some q) same) in
+    (segment_packet v p (v.acked + 1 + index), (p, omega arith, there, refl), spelled p at)
 
 -- what is acknowledged is forgotten
 pub sends_forgotten : (v : LinkValue) (messages : List (List ℕ)) (count : ℕ) → count ≤ length v.queue → Sends v messages → Sends (with_acked v count) messages

@@ -12,7 +12,8 @@ use Rattle.nsp_link.specs.Link.{LinkValue, Stands, IsOfPeer, KeepsEarly, held_af
 abbrev pub IsDue : LinkValue → (size : ℕ) → (messages given : List (List ℕ)) → Packet → Option ℕ → ℕ → Type 0
 IsDue v size messages given p k a = (v.failed ≡ false) × Stands v size messages given × IsOfPeer v size messages p k a
 
--- how many segments are taken once the k-th came: the next one, and all held ones that follow it without a hole
+-- how many segments are taken once the k-th was received: the next one, and all held ones that follow it without a
+-- hole
 abbrev pub taken_after : LinkValue → Option ℕ → ℕ
 taken_after v None = v.coming.received
 taken_after v (Some k) = if k == v.coming.received + 1 then k + length (following k v.held) else v.coming.received

@@ -14,11 +14,11 @@ max_age = 2047
 abbrev pub max_window : ℕ
 max_window = max_age
 
--- the limit on a message's bytes is at least this
+-- the minimum of the limit on a message's bytes
 abbrev pub min_limit : ℕ
 min_limit = 64
 
--- and at most this
+-- and the maximum of it
 abbrev pub max_limit : ℕ
 max_limit = 65535
 

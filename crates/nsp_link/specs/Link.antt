@@ -67,7 +67,7 @@ pub record IsLink (v : LinkValue) : Type 0 where
   pub few_sent : v.acked + length v.queue ≤ max_segments
   pub few_taken : v.coming.received ≤ max_segments
   pub partial : length (unwrap_or v.coming.partial []) ≤ v.setup.max_message
-  -- those that are held lie above the next one, within the window
+  -- the sequence numbers of those that are held are above the next one, within the window
   pub held : AreHeld (v.coming.received + 1) (v.coming.received + 1 + v.setup.window) v.held
 
 -- an end that has failed, otherwise as before
@@ -218,8 +218,8 @@ got_of received (Some k) = if k == received + 1 then Accepted else (if nat_lt re
 abbrev pub KeepsEarly : LinkValue → ℕ → Type 0
 KeepsEarly v k = (v.coming.received + 1 < k) × (k < v.coming.received + 1 + v.setup.window) × AllByRecursion (λ h. h.0 ≢ k) v.held
 
--- What is held once the k-th segment came, which says this: what follows it without a hole is taken with it, and an
--- early one within the window is held, the first copy of it.
+-- What is held once the k-th segment was received, which says this: what follows it without a hole is taken with it,
+-- and an early one within the window is held, the first copy of it.
 abbrev pub held_after : LinkValue → Option ℕ → Piece → List (ℕ × Piece)
 held_after v None p = v.held
 held_after v (Some k) p =
@@ -231,9 +231,9 @@ abbrev pub with_acked : LinkValue → ℕ → LinkValue
 with_acked v count =
     record v { acked = v.acked + count; queue = drop count v.queue; part = part_after v.part (take count v.queue) }
 
--- A packet of a peer, which cuts these messages, none longer than this end takes, by this size: the k-th of their segments
--- or none, with an acknowledgement of the first a of this end's. It isn't stale, and not further ahead than the numbers
--- tell.
+-- A packet of a peer, which cuts these messages, none longer than this end takes, by this size: the k-th of their
+-- segments or none, with an acknowledgement of the first a of this end's. It isn't stale, and not further ahead than
+-- its number identifies.
 pub record IsOfPeer (v : LinkValue) (size : ℕ) (messages : List (List ℕ)) (p : Packet) (k : Option ℕ) (a : ℕ) : Type 0 where
   pub positive : 0 < size
   pub short : AreShort v messages

@@ -76,7 +76,7 @@ Takes old (Segment s) got new =
     × Acknowledges old (first_ack s.ack1 s.ack2) (taking_in old k (piece_of s)) new
 Takes old (DataAck s) got new = (got ≡ AckOnly) × Acknowledges old (first_ack (Some s.ack1) s.ack2) old new
 
--- What an end that hasn't failed does with any packet: what it answers, and what it is afterwards.
+-- What an end that hasn't failed does with any packet: what it returns, and what it is afterwards.
 abbrev pub Received : LinkValue → Packet → Result Got LinkFault → LinkValue → Type 0
 Received old p (Ok got) new = IsBetween old.setup.remote old.setup.local p × Takes old p got new
 Received old p (Err e) new =
@@ -109,9 +109,9 @@ UnrefusedDue old bytes result =
     (size : ℕ) (messages given : List (List ℕ)) (p : Packet) (k : Option ℕ) (a : ℕ)
     → Spells p bytes → IsDue old size messages given p k a → IfSome k (λ n. n ≤ old.coming.received) → IsOk result
 
--- ---- What an end does that holds no segment which is longer than its longest message.
+-- ---- What an end does that holds no segment with more bytes than a message may have.
 
--- an early segment that belongs to no message of this end: it has more bytes than the longest one
+-- an early segment that belongs to no message of this end: it has more bytes than a message may have
 abbrev pub is_oversize : LinkValue → Packet → Bool
 is_oversize v (Segment s) = nat_lt (v.coming.received + 1) (segment_number v s.number) && nat_lt v.setup.max_message (length s.payload)
 is_oversize v (DataAck s) = false
@@ -130,7 +130,7 @@ abbrev pub Bounded : LinkValue → Packet → Result Got LinkFault → LinkValue
 Bounded old p result new =
     ((is_oversize old p ≡ true) × LetsGo old p result new) ⊎ ((is_oversize old p ≡ false) × Received old p result new)
 
--- the bytes are malformed, which changes nothing, or they are a packet, and its numbers and length tell what becomes of it
+-- the bytes are malformed, which changes nothing, or they are a packet, and its numbers and length decide
 abbrev pub BoundedBytes : (old new : LinkValue) → List ℕ → Result Got LinkFault → Type 0
 BoundedBytes old new bytes result =
     ((f : SegFault) × (result ≡ Err (Malformed f)) × HasFault f bytes × (new ≡ old))

@@ -18,8 +18,8 @@ ack_packet_of v = written_ack v.setup.local v.setup.remote v.coming.received
 
 -- if the queue has a segment at this index, the bytes are that segment under this number
 abbrev pub WritesQueued : LinkValue → ℕ → ℕ → List ℕ → Type 0
-WritesQueued v place number bytes =
-    (piece : Piece) → slice_get v.queue place ≡ Some piece → IsSpelling (segment_packet v piece number) bytes
+WritesQueued v index number bytes =
+    (piece : Piece) → slice_get v.queue index ≡ Some piece → IsSpelling (segment_packet v piece number) bytes
 
 -- The next segment was written: it counts as sent, and nothing else changed.
 abbrev pub WritesNext : LinkValue → LinkValue → List ℕ → Type 0

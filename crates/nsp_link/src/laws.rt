@@ -18,7 +18,7 @@ ghost use Rattle.nsp_link.specs.Receiving.{ReceivedBytes, Receives};
 ghost use Rattle.nsp_link.specs.Sending.{queued_link};
 ghost use Rattle.nsp_link.specs.Separation.{IsSegmentNear, IsAckNear};
 
-/// What is said of the messages sent stays true when more are sent, and holds of a new end.
+/// States that what is said of the messages sent stays true when more are sent, and holds of a new end.
 pub fn messages_only_grow()
     ensures carries { (p : Packet) (size : ℕ) (messages more : List (List ℕ))
         (k : Option ℕ) (a : ℕ)
@@ -34,8 +34,8 @@ pub fn messages_only_grow()
     ensures new_sends { (s : LinkSetup) → Sends (new_link s) [] }
 {}
 
-/// What an end is after are whole messages, each once and in order: those that it returned, and then those that
-/// wait, are the first of the messages, as many as are whole in the segments that it took.
+/// States that an end has whole messages, each once and in order: those that it returned, and then those that wait,
+/// are the first of the messages, as many as are whole in the segments that it took.
 pub fn whole_messages_are_taken()
     ensures { (v : LinkValue) (size : ℕ) (messages given : List (List ℕ)) → 0 < size
         → Stands v size messages given
@@ -45,9 +45,9 @@ pub fn whole_messages_are_taken()
         → v.coming.received < length (cut size (take (n + 1) messages))) }
 {}
 
-/// What isn't stale is identified by its 12-bit number. With the counts of a link in order, a segment that was sent
-/// is near the one that the other end wants next, and an acknowledgement is near the count that it is compared
-/// with; and no two that are near have the same number modulo 4,096 (NSP 4.0.0, segment numbers).
+/// States that what isn't stale is identified by its 12-bit number. With the counts of a link in order, a segment that
+/// was sent is near the one that the other end expects next, and an acknowledgement is near the count that it is
+/// compared with; and no two that are near have the same number modulo 4,096 (NSP 4.0.0, segment numbers).
 pub fn distances_separate()
     ensures segment { (from to : LinkValue) (k : ℕ)
         → IsLink from → from.acked ≤ to.coming.received → k ≤ from.sent
@@ -61,8 +61,8 @@ pub fn distances_separate()
         → IsAckNear acked a → IsAckNear acked b → residue a ≡ residue b → a ≡ b }
 {}
 
-/// What a packet does to an end is determined: two outcomes of one call on the same end are equal, and so are the
-/// ends afterwards, out of memory aside; of `receive` where the end hasn't failed, and of `receive_bounded`.
+/// States that what a packet does to an end is determined: two outcomes of one call on the same end are equal, and so
+/// are the ends afterwards, out of memory aside; of `receive` where the end hasn't failed, and of `receive_bounded`.
 pub fn receiving_is_determined()
     ensures any { (old one two : LinkValue) (bytes : List ℕ) (r s : Result TheGot TheFault)
         → ((i : ℕ) → slice_index bytes i < 256) → r ≢ Err NoMemory → s ≢ Err NoMemory
@@ -74,7 +74,7 @@ pub fn receiving_is_determined()
         → Receives old one bytes r → Receives old two bytes s → (r ≡ s) × (one ≡ two) }
 {}
 
-/// What is held, by its numbers alone.
+/// States what is held, by its numbers alone.
 pub fn held_by_number()
     ensures closes { (k : ℕ) (held : List (ℕ × Piece)) → closed_up k (keys_of held)
         ≡ (k + length (following k held), keys_of (drop (length (following k held)) held)) }
@@ -83,8 +83,8 @@ pub fn held_by_number()
         ≡ insert_key nat_cmp (keys_of held) k }
 {}
 
-/// The bytes that wait are those of the messages that were sent and aren't acknowledged whole; they are more by
-/// each message that is sent, and no more by any bytes that come.
+/// States that the bytes that wait are those of the messages that were sent and aren't acknowledged whole; each
+/// message that is sent adds its bytes, and no bytes that are received add any.
 pub fn whole_messages_wait()
     ensures whole { (v : LinkValue) (messages : List (List ℕ)) → 0 < v.setup.seg_size
         → Sends v messages → (left : List (List ℕ))

@@ -7,7 +7,7 @@ ghost use Rattle.nsp_link.specs.Link.{IsSetup, SetupFault, IsLink, new_link, wai
 use crate::fault::LinkFault;
 use crate::incoming::{Incoming, begun_len};
 use crate::piece::Segment;
-use crate::ring::{Ring, free_places};
+use crate::ring::{Ring, free_slots};
 use std::alloc::Global;
 use std::collections::VecDeque;
 use std::marker::Model;
@@ -15,15 +15,15 @@ use std::marker::Model;
 /// The addresses and limits of an end.
 #[derive(Clone, Copy, PartialEq, Eq)]
 pub struct LinkSetup {
-    /// The own address, to which packets have to be sent.
+    /// This end's address, to which packets have to be sent.
     pub local: u16,
-    /// The other end's address, from which they have to come; it may be the own one.
+    /// The other end's address, from which they have to come; both may be the same.
     pub remote: u16,
     /// The bytes of a segment, 1 to 1,400: a message is cut into pieces of this size.
     pub seg_size: usize,
-    /// The segments sent and not acknowledged at most, 1 to 2,047; at most one early segment fewer is held.
+    /// The maximum number of segments sent and not acknowledged, 1 to 2,047; at most one early segment fewer is held.
     pub window: usize,
-    /// The bytes of a message at most, 64 to 65,535, both of one that is sent and of one that is taken.
+    /// The maximum of a message in bytes, 64 to 65,535, both of one that is sent and of one that is taken.
     pub max_message: usize,
 }
 
@@ -34,26 +34,25 @@ pub enum Got {
     Accepted,
     /// Its segment was taken before.
     Repeat,
-    /// Its segment comes after the next one; it is held where the window has a place for it.
+    /// Its segment comes after the next one; it is held where the window has a slot for it.
     Early,
     /// It carries no segment.
     AckOnly,
 }
 
-/// How old a segment or an acknowledgement is at most that its 12-bit number identifies (NSP 4.0.0, segment
-/// numbers).
+/// The maximum age of a segment or an acknowledgement that its 12-bit number identifies (NSP 4.0.0, segment numbers).
 pub const MAX_AGE: u64 = 2047;
 
-/// The bytes of a segment at most.
+/// The maximum of a segment in bytes.
 pub const MAX_SEGMENT: usize = 1400;
 
-/// The segments sent and not acknowledged at most: fewer than half of the 4,096 numbers.
+/// The maximum of a window: fewer than half of the 4,096 numbers.
 pub const MAX_WINDOW: usize = MAX_AGE as usize;
 
-/// The limit on a message lies between this and [`MAX_LIMIT`].
+/// The minimum of the limit on a message, in bytes.
 const MIN_LIMIT: usize = 64;
 
-/// The bytes of a message at most.
+/// The maximum of the limit on a message, in bytes.
 pub const MAX_LIMIT: usize = 65535;
 
 /// One end of an open link (NSP 4.0.0, data segments and their acknowledgement). What it returns is a prefix of
@@ -89,7 +88,7 @@ impl Model for LinkEnd {
 }
 
 impl LinkEnd {
-    /// A new end, which sent and took nothing. `BadSetup` where a limit of the setup isn't in its range; else
+    /// Returns a new end, which sent and took nothing. `BadSetup` where a limit of the setup isn't in its range; else
     /// `NoMemory` alone.
     pub fn new(alloc: Global, setup: LinkSetup) -> Result<LinkEnd, LinkFault>
         ensures ok { IfOk result (λ v. IsSetup setup × (v ≡ new_link setup)) }
@@ -98,7 +97,7 @@ impl LinkEnd {
         if !is_setup(&setup) {
             return Err(LinkFault::BadSetup);
         }
-        let held = free_places(alloc, setup.window)?;
+        let held = free_slots(alloc, setup.window)?;
         Ok(LinkEnd {
             alloc,
             setup,
@@ -118,14 +117,14 @@ impl LinkEnd {
         })
     }
 
-    /// How it was set up.
+    /// Returns how it was set up.
     pub fn setup(&self) -> LinkSetup
         ensures { result ≡ self.now.setup }
     {
         self.setup
     }
 
-    /// The segments that were sent, each counted once, however often it was sent.
+    /// Returns how many segments were sent, each counted once, however often it was sent.
     pub fn sent_count(&self) -> u64
         ensures value { result ≡ self.now.sent }
         ensures valid { IsLink self.now }
@@ -133,7 +132,7 @@ impl LinkEnd {
         self.sent
     }
 
-    /// The segments that were sent and are acknowledged.
+    /// Returns how many segments were sent and are acknowledged.
     pub fn acked_count(&self) -> u64
         ensures value { result ≡ self.now.acked }
         ensures valid { IsLink self.now }
@@ -141,14 +140,14 @@ impl LinkEnd {
         self.acked
     }
 
-    /// Whether a packet showed that the two ends have lost each other.
+    /// Returns whether a packet showed that the two ends have lost each other.
     pub fn has_failed(&self) -> bool
         ensures { result ≡ self.now.failed }
     {
         self.failed
     }
 
-    /// The segments that were taken in order.
+    /// Returns how many segments were taken in order.
     pub fn received_count(&self) -> u64
         ensures value { result ≡ self.now.coming.received }
         ensures valid { IsLink self.now }
@@ -156,7 +155,7 @@ impl LinkEnd {
         self.incoming.received
     }
 
-    /// The segments that were sent and aren't acknowledged: at most the window.
+    /// Returns how many segments were sent and aren't acknowledged: at most the window.
     pub fn unacked(&self) -> usize
         ensures value { result ≡ self.now.sent - self.now.acked }
         ensures small { result ≤ self.now.setup.window }
@@ -165,8 +164,8 @@ impl LinkEnd {
         (self.sent - self.acked) as usize
     }
 
-    /// The bytes of the messages that were sent and aren't acknowledged, the whole message until its last segment
-    /// is acknowledged.
+    /// Returns how many bytes the messages have that were sent and aren't acknowledged; the whole message counts until
+    /// its last segment is acknowledged.
     pub fn waiting_bytes(&self) -> u64
         ensures value { result ≡ waiting_bytes self.now }
         ensures valid { IsLink self.now }
@@ -174,14 +173,14 @@ impl LinkEnd {
         self.waiting
     }
 
-    /// The oldest whole message, which stays.
+    /// Returns the oldest whole message, which stays.
     pub fn peek_message(&self) -> Option<&[u8]>
         ensures { option_copied result ≡ slice_get self.now.coming.inbox 0 }
     {
         self.incoming.inbox.front().map(Vec::as_slice)
     }
 
-    /// The early segments that are held: fewer than the window.
+    /// Returns how many early segments are held: fewer than the window.
     pub fn held_count(&self) -> usize
         ensures value { result ≡ length self.now.held }
         ensures small { result ≤ self.now.setup.window - 1 }
@@ -189,7 +188,7 @@ impl LinkEnd {
         self.early
     }
 
-    /// The bytes of the message whose last segment is still to come; 0 where there is none.
+    /// Returns how many bytes were received of the message whose last segment is still to come; 0 where there is none.
     pub fn partial_len(&self) -> usize
         ensures value { result ≡ length (unwrap_or self.now.coming.partial []) }
         ensures small { result ≤ self.now.setup.max_message }
@@ -198,7 +197,7 @@ impl LinkEnd {
     }
 }
 
-/// Whether each limit of a setup is in its range.
+/// Returns whether each limit of a setup is in its range.
 pub fn is_setup(setup: &LinkSetup) -> bool
     ensures yes { result ≡ true → IsSetup setup.now }
     ensures no { result ≡ false → IsSetup setup.now → ⊥ }

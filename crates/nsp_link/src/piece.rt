@@ -20,7 +20,7 @@ pub(crate) type Segment = Piece<Bytes>;
 pub(crate) type Held = Piece<Vec<u8>>;
 
 impl Piece<Vec<u8>> {
-    /// The piece, with its bytes lent.
+    /// Returns the piece, with its bytes lent.
     pub(crate) fn lent(&self) -> Piece<&[u8]>
         ensures { lent_piece result ≡ held_piece self.now }
     {

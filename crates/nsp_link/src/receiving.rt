@@ -1,4 +1,4 @@
-//! Receiving: packets that come, the segments that they carry, and what they acknowledge.
+//! Receiving: packets, the segments that they carry, and what they acknowledge.
 
 ghost use Rattle.std.specs.Prelude.{◌≡◌, ◌+◌, ◌<◌, ◌≤◌, ◌++◌, [], ◌∷◌, length, drop, take, Ok, Err, Some, None, IfOk, IfErr, OnOk, OnErr, IsTrue, MatchOption, MatchResult, ℕ, List, false};
 ghost use Rattle.nsp_seg.specs.declared.packet.SegFault.{SegFault};
@@ -21,12 +21,12 @@ use crate::ring::{advance, fill, is_free};
 use nsp_seg::{AckField, PacketValue, SegmentFields, Seq12, decode_value};
 use std::collections::VecDeque;
 
-/// A number that is so far ahead of another, or farther, is after it: half of the 4,096 numbers (NSP 4.0.0, segment
-/// numbers).
+/// A number that is this far ahead of another, or farther, is an earlier one: half of the 4,096 numbers (NSP 4.0.0,
+/// segment numbers).
 const HALF_ROUND: u16 = 2048;
 
 impl LinkEnd {
-    /// The oldest whole message, which leaves.
+    /// Removes the oldest whole message and returns it.
     pub fn take_message(&mut self) -> Option<Vec<u8>>
         ensures value { MatchOption result ((self.old.coming.inbox ≡ []) × (self.new ≡ self.old))
             (λ m. HandsOut self.old self.new m.items) }
@@ -39,18 +39,18 @@ impl LinkEnd {
         self.incoming.inbox.pop_front()
     }
 
-    /// Takes a packet from the other end (NSP 4.0.0, data segment message and data acknowledgement message). Its
-    /// first acknowledgement field with qualifier 0 counts and no other; a number that is 2,048 or more ahead of
-    /// the last one acknowledged, modulo 4,096, is after it, and acknowledges nothing. An early segment is held
-    /// where its distance from the next one is below the window, the first copy of it; the segment that closes the
-    /// gap is taken with all that follow it without a hole, or none of them is.
+    /// Takes a packet from the other end (NSP 4.0.0, data segment message and data acknowledgement message). Its first
+    /// acknowledgement field with qualifier 0 counts and no other; a number that is 2,048 or more ahead of the last
+    /// one acknowledged, modulo 4,096, is an earlier one, and acknowledges nothing. An early segment is held where its
+    /// distance from the next one is below the window, the first copy of it; the segment that closes the gap is taken
+    /// with all that follow it without a hole, or none of them is.
     ///
     /// Refused, in this order: `Failed`; `Malformed`; `WrongLink`, where it isn't from the other end to this one;
-    /// `BadSequence`, where it acknowledges what wasn't sent; of the next segment, or of the first at fault of
-    /// those that follow it, `BadSequence`, where a first mark is elsewhere than at the start of a message, or
+    /// `BadSequence`, where it acknowledges what wasn't sent; of the next segment, or of the first at fault of those
+    /// that follow it, `BadSequence`, where a first mark is elsewhere than at the start of a message, or
     /// `MessageTooLong`, above `max_message`; `Exhausted`, where all of these would be more than 2^40 segments;
-    /// `NoMemory`. After `BadSequence` and `MessageTooLong` nothing of the packet was taken and every later call
-    /// that can refuse answers `Failed`; every other refusal changes nothing.
+    /// `NoMemory`. After `BadSequence` and `MessageTooLong` nothing of the packet was taken and every later call that
+    /// can refuse returns `Failed`; every other refusal changes nothing.
     pub fn receive(&mut self, packet: &[u8]) -> Result<Got, LinkFault>
         ensures failed { IsTrue self.old.failed → (result ≡ Err Failed) × (self.new ≡ self.old) }
         // Any packet, by the numbers that it shows.
@@ -80,9 +80,9 @@ impl LinkEnd {
         }
     }
 
-    /// As [`LinkEnd::receive`], save that an early segment with more than `max_message` bytes isn't held: it is
-    /// answered as early, and of its packet the acknowledgement alone is taken. No message that this end takes has
-    /// such a segment, and a peer can't fill the window with them.
+    /// Receives as [`LinkEnd::receive`] does, save that an early segment with more than `max_message` bytes isn't
+    /// held: it is answered as early, and of its packet the acknowledgement alone is taken. No message that this end
+    /// takes has such a segment, and a peer can't fill the window with them.
     pub fn receive_bounded(&mut self, packet: &[u8]) -> Result<Got, LinkFault>
         ensures failed { IsTrue self.old.failed → (result ≡ Err Failed) × (self.new ≡ self.old) }
         // Any packet, by the numbers that it shows, and its length.
@@ -112,7 +112,7 @@ impl LinkEnd {
         }
     }
 
-    /// Takes in a packet that was read, and holds no segment that is longer than any message.
+    /// Takes in a packet that was read, and holds no segment that is longer than a message may be.
     fn receive_fitting(&mut self, packet: &PacketValue<'_>) -> Result<Got, LinkFault>
         ensures { Bounded self.old packet.now result self.new }
     {
@@ -122,7 +122,7 @@ impl LinkEnd {
         }
     }
 
-    /// Whether a segment is early, and longer than any message.
+    /// Returns whether a segment is early, and longer than a message may be.
     fn is_oversize(&self, segment: &SegmentFields<'_>) -> bool
         ensures { result ≡ is_oversize self.now (ASegment segment.now) }
     {
@@ -191,7 +191,7 @@ impl LinkEnd {
         }
     }
 
-    /// Whether a packet is from the other end to this one.
+    /// Checks that a packet is from the other end to this one.
     fn check_address(&self, dst: u16, src: u16) -> Result<(), LinkFault>
         ensures { MatchResult result
             (λ _. (src ≡ self.now.setup.remote) × (dst ≡ self.now.setup.local))
@@ -205,7 +205,7 @@ impl LinkEnd {
         }
     }
 
-    /// How many segments the first plain field acknowledges anew.
+    /// Returns how many segments the first plain field acknowledges anew.
     fn believe(&self, ack1: Option<AckField>, ack2: Option<AckField>) -> Result<usize, LinkFault>
         ensures ok { IfOk result
             (λ count. newly_acked self.now (first_ack ack1 ack2) ≡ Some count) }
@@ -278,38 +278,37 @@ impl LinkEnd {
         Ok(())
     }
 
-    /// Keeps an early segment, this many numbers after the next one, unless it is beyond the window or there
-    /// already.
-    fn keep(&mut self, place: usize, piece: &Piece<&[u8]>) -> Result<(), LinkFault>
-        requires { 0 < place }
+    /// Keeps an early segment, this many numbers after the next one, unless it is beyond the window or kept already.
+    fn keep(&mut self, index: usize, piece: &Piece<&[u8]>) -> Result<(), LinkFault>
+        requires { 0 < index }
         ensures ok { OnOk result (self.new
-            ≡ taking_in self.old (self.old.coming.received + 1 + place) (lent_piece piece.now)) }
+            ≡ taking_in self.old (self.old.coming.received + 1 + index) (lent_piece piece.now)) }
         ensures err { IfErr result (λ e. (e ≡ NoMemory)
-            × KeepsEarly self.old (self.old.coming.received + 1 + place) × (self.new ≡ self.old)) }
+            × KeepsEarly self.old (self.old.coming.received + 1 + index) × (self.new ≡ self.old)) }
     {
-        if is_free(&self.held, place) {
+        if is_free(&self.held, index) {
             let payload = Vec::from_slice(self.alloc, piece.payload)?;
             let held = Piece {
                 payload,
                 first: piece.first,
                 last: piece.last,
             };
-            fill(&mut self.held, place, held);
+            fill(&mut self.held, index, held);
             self.early += 1;
         }
         Ok(())
     }
 }
 
-/// Whether the two ends have lost each other.
+/// Returns whether the fault says that the two ends have lost each other.
 fn ends_link(fault: LinkFault) -> bool
     ensures { result ≡ ends_link fault }
 {
     matches!(fault, LinkFault::BadSequence | LinkFault::MessageTooLong)
 }
 
-/// Drops this many from the front, and returns how many bytes of the message to which the next one belongs are
-/// gone, and how many bytes wait then, where these were this many.
+/// Drops this many segments from the start of the queue. Returns how many bytes of the message to which the next one
+/// belongs are dropped, and how many bytes wait then, by how many these were before.
 fn drop_front(queue: &mut VecDeque<Segment>, part: u64, waiting: u64, count: usize) -> (u64, u64)
     requires few { count ≤ length queue.old.items }
     requires counted { waiting ≡ part + bytes_in (piece_values queue.old.items) }
@@ -333,7 +332,7 @@ fn drop_front(queue: &mut VecDeque<Segment>, part: u64, waiting: u64, count: usi
     (part, waiting)
 }
 
-/// The number of a field that acknowledges segments of this subchannel.
+/// Returns the number of a field that acknowledges segments of this subchannel.
 fn plain_number(ack: Option<AckField>) -> Option<Seq12>
     ensures { result ≡ plain_ack ack }
 {

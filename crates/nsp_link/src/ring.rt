@@ -1,4 +1,4 @@
-//! Places for early segments: the first is that of the number which is wanted next.
+//! Slots for early segments: the first is that of the sequence number that is expected next.
 
 ghost use Rattle.std.specs.Prelude.{◌≡◌, ◌<◌, ◌≤◌, [], ◌∷◌, ◌++◌, ◌+◌, ℕ, Some, None, false, IfOk, IfSome, MatchOption, is_none, length, drop, replicate, slice_get, slice_set};
 ghost use Rattle.nsp_link.specs.Inner.Pieces.{held_from, held_piece, leading};
@@ -9,8 +9,8 @@ use std::alloc::{AllocError, Global};
 
 pub(crate) type Ring = HeapCircularBuffer<Option<Held>>;
 
-/// This many free places.
-pub(crate) fn free_places(alloc: Global, count: usize) -> Result<Ring, AllocError>
+/// Returns a ring of this many free slots.
+pub(crate) fn free_slots(alloc: Global, count: usize) -> Result<Ring, AllocError>
     ensures items { IfOk result (λ r. r.items ≡ replicate count None) }
     ensures capacity { IfOk result (λ r. r.capacity ≡ count) }
     ensures len { IfOk result (λ r. length r.items ≡ count) }
@@ -24,26 +24,26 @@ pub(crate) fn free_places(alloc: Global, count: usize) -> Result<Ring, AllocErro
     Ok(ring)
 }
 
-/// Fills the place.
-pub(crate) fn fill(ring: &mut Ring, place: usize, held: Held)
-    requires { place < length ring.old.items }
-    ensures items { ring.new.items ≡ slice_set ring.old.items place (Some held) }
+/// Fills the slot at an index.
+pub(crate) fn fill(ring: &mut Ring, index: usize, held: Held)
+    requires { index < length ring.old.items }
+    ensures items { ring.new.items ≡ slice_set ring.old.items index (Some held) }
     ensures capacity { ring.new.capacity ≡ ring.old.capacity }
 {
-    if let Some(slot) = ring.get_mut(place) {
+    if let Some(slot) = ring.get_mut(index) {
         *slot = Some(held);
     }
 }
 
-/// Whether the place is there, and free.
-pub(crate) fn is_free(ring: &Ring, place: usize) -> bool
-    ensures { MatchOption (slice_get ring.now.items place) (result ≡ false)
+/// Returns whether there is a slot at an index, and it is free.
+pub(crate) fn is_free(ring: &Ring, index: usize) -> bool
+    ensures { MatchOption (slice_get ring.now.items index) (result ≡ false)
         (λ o. result ≡ is_none o) }
 {
-    ring.get(place).is_some_and(Option::is_none)
+    ring.get(index).is_some_and(Option::is_none)
 }
 
-/// The front places leave, and free ones come after the last.
+/// Removes this many slots from the start, and adds as many free ones after the last.
 pub(crate) fn advance(ring: &mut Ring, count: usize)
     requires full { length ring.old.items ≡ ring.old.capacity }
     requires some { count ≤ length ring.old.items }
@@ -56,14 +56,14 @@ pub(crate) fn advance(ring: &mut Ring, count: usize)
     }
 }
 
-/// The segment at the place, if one is there.
-pub(crate) fn held_at(ring: &Ring, place: usize) -> Option<&Held>
-    ensures there { IfSome result (λ h. place < length ring.now.items) }
-    ensures leads { MatchOption result (leading (drop place ring.now.items) ≡ [])
-        (λ h. leading (drop place ring.now.items)
-        ≡ held_piece h.now ∷ leading (drop (place + 1) ring.now.items)) }
+/// Returns the segment in the slot at an index, if there is one.
+pub(crate) fn held_at(ring: &Ring, index: usize) -> Option<&Held>
+    ensures there { IfSome result (λ h. index < length ring.now.items) }
+    ensures leads { MatchOption result (leading (drop index ring.now.items) ≡ [])
+        (λ h. leading (drop index ring.now.items)
+        ≡ held_piece h.now ∷ leading (drop (index + 1) ring.now.items)) }
 {
-    match ring.get(place) {
+    match ring.get(index) {
         Some(slot) => slot.as_ref(),
         None => None,
     }

@@ -53,9 +53,9 @@ impl LinkEnd {
         }
     }
 
-    /// Queues the segments of all messages, or of none (NSP 4.0.0, data segment message; all or none is own).
-    /// Refused as `send` is, where any message is too long or all their segments are too many; an empty
-    /// list is queued without memory.
+    /// Queues the segments of all messages, or of none (NSP 4.0.0, data segment message; all or none is a choice of
+    /// this implementation). Refused as `send` is, where any message is too long or all their segments are too many;
+    /// an empty list is queued without memory.
     pub fn send_all(&mut self, messages: &[Vec<u8>]) -> Result<(), LinkFault>
         ensures ok { OnOk result (self.new
             ≡ queued_link self.old
@@ -99,7 +99,7 @@ impl LinkEnd {
         }
     }
 
-    /// Whether `send_all` would take the messages, memory aside; refused as there. It takes no memory.
+    /// Checks that `send_all` would take the messages, memory aside; refused as there. It takes no memory.
     #[tactic(auto, using(crate::proofs::Allowed::queueing))]
     pub fn check_messages(&self, messages: &[Vec<u8>]) -> Result<(), LinkFault>
         ensures ok { OnOk result (IsTrue (may_queue self.now (map (λ v. v.items) messages.now))) }
@@ -114,32 +114,32 @@ impl LinkEnd {
         check_all(setup.seg_size, setup.max_message, self.room(), messages)
     }
 
-    /// How many segments may still be queued.
+    /// Returns how many segments may still be queued.
     fn room(&self) -> u64
         ensures { self.now.acked + length self.now.queue + result ≡ max_segments }
     {
         MAX_SEGMENTS - self.acked - (self.queue.len() as u64)
     }
 
-    /// Whether a segment that was never sent waits and the window has room, so that `next_packet` writes one,
+    /// Returns whether a segment that was never sent waits and the window has room, so that `next_packet` writes one,
     /// unless the end has failed.
     pub fn may_send(&self) -> bool
         ensures { result ≡ may_send self.now }
     {
-        let place = self.unacked();
-        place < self.queue.len() && place < self.setup.window
+        let index = self.unacked();
+        index < self.queue.len() && index < self.setup.window
     }
 
-    /// The bytes of the segment at this place of the queue.
-    fn segment_at(&self, place: usize) -> Result<Vec<u8>, LinkFault>
-        requires { place < length self.now.queue }
+    /// Returns the bytes of the packet of the segment at this index of the queue.
+    fn segment_at(&self, index: usize) -> Result<Vec<u8>, LinkFault>
+        requires { index < length self.now.queue }
         ensures ok { IfOk result
-            (λ v. WritesQueued self.now place (self.now.acked + 1 + place) v.items) }
+            (λ v. WritesQueued self.now index (self.now.acked + 1 + index) v.items) }
         ensures carries { IfOk result
-            (λ v. WritesSent self.now (Some (self.now.acked + 1 + place)) v.items) }
+            (λ v. WritesSent self.now (Some (self.now.acked + 1 + index)) v.items) }
         ensures err { IfErr result (λ e. e ≡ NoMemory) }
     {
-        let segment = &self.queue[place];
+        let segment = &self.queue[index];
         let packet = PacketValue::Segment(SegmentFields {
             first: segment.first,
             last: segment.last,
@@ -147,13 +147,13 @@ impl LinkEnd {
             src: self.setup.local,
             ack1: Some(self.acknowledgement()),
             ack2: None,
-            number: Seq12::of(self.acked + 1 + place as u64),
+            number: Seq12::of(self.acked + 1 + index as u64),
             payload: Payload(&segment.payload),
         });
         self.written(&packet)
     }
 
-    /// What every packet acknowledges.
+    /// Returns the acknowledgement field of every packet.
     fn acknowledgement(&self) -> AckField
         ensures { result ≡ acknowledging self.now.coming.received }
     {
@@ -163,7 +163,7 @@ impl LinkEnd {
         }
     }
 
-    /// The packet as it is spelled.
+    /// Returns the bytes of the packet.
     fn written(&self, packet: &PacketValue<'_>) -> Result<Vec<u8>, LinkFault>
         requires { IsWritable packet.now }
         ensures ok { IfOk result (λ v. IsSpelling packet.now v.items) }
@@ -174,9 +174,9 @@ impl LinkEnd {
         Ok(out)
     }
 
-    /// The packet of the next segment that was never sent, or none where none waits or the window is full
-    /// (NSP 4.0.0, data segment message). It acknowledges all segments that were taken. Refused, with nothing
-    /// changed: `Failed`; `NoMemory`, where there is one to send.
+    /// Returns the packet of the next segment that was never sent, or None where none waits or the window is full (NSP
+    /// 4.0.0, data segment message). It acknowledges all segments that were taken. Refused, with nothing changed:
+    /// `Failed`; `NoMemory`, where there is one to send.
     pub fn next_packet(&mut self) -> Result<Option<Vec<u8>>, LinkFault>
         ensures nothing { result ≡ Ok None → (self.new ≡ self.old) × (may_send self.old ≡ false) }
         ensures segment { IfOk result (λ o. IfSome o
@@ -198,8 +198,8 @@ impl LinkEnd {
         Ok(Some(packet))
     }
 
-    /// The packet of the next segment, as `next_packet` writes it, where the end hasn't failed and `may_send` says
-    /// that it may go: neither is looked at again. Fails only if memory is refused, with nothing changed.
+    /// Returns the packet of the next segment, as `next_packet` writes it, where the end hasn't failed and `may_send`
+    /// says that it may be sent: neither is checked again. Fails only if memory is refused, with nothing changed.
     pub fn write_next(&mut self) -> Result<Vec<u8>, LinkFault>
         requires works { self.old.failed ≡ false }
         requires may { IsTrue (may_send self.old) }
@@ -215,30 +215,29 @@ impl LinkEnd {
         Ok(packet)
     }
 
-    /// The packet of a segment that was sent and isn't acknowledged, again: the oldest is at place 0
-    /// (NSP 4.0.0, data segment message). Refused: `Failed`; `NoSuchSegment`, from `unacked()` on;
-    /// `NoMemory`.
-    pub fn resend(&self, place: usize) -> Result<Vec<u8>, LinkFault>
-        ensures segment { IfOk result (λ v. (place < self.now.sent - self.now.acked)
-            × WritesQueued self.now place (self.now.acked + 1 + place) v.items) }
+    /// Retransmits a segment that was sent and isn't acknowledged: returns its packet. The oldest is at index 0 (NSP
+    /// 4.0.0, data segment message). Refused: `Failed`; `NoSuchSegment`, from `unacked()` on; `NoMemory`.
+    pub fn resend(&self, index: usize) -> Result<Vec<u8>, LinkFault>
+        ensures segment { IfOk result (λ v. (index < self.now.sent - self.now.acked)
+            × WritesQueued self.now index (self.now.acked + 1 + index) v.items) }
         ensures carries { IfOk result
-            (λ v. WritesSent self.now (Some (self.now.acked + 1 + place)) v.items) }
+            (λ v. WritesSent self.now (Some (self.now.acked + 1 + index)) v.items) }
         ensures failed { IsTrue self.now.failed → IsErrOf result Failed }
-        ensures missing { self.now.failed ≡ false → self.now.sent - self.now.acked ≤ place
+        ensures missing { self.now.failed ≡ false → self.now.sent - self.now.acked ≤ index
             → IsErrOf result NoSuchSegment }
-        ensures memory { self.now.failed ≡ false → place < self.now.sent - self.now.acked
+        ensures memory { self.now.failed ≡ false → index < self.now.sent - self.now.acked
             → IfErr result (λ e. e ≡ NoMemory) }
     {
         if self.failed {
             return Err(LinkFault::Failed);
         }
-        if place >= self.unacked() {
+        if index >= self.unacked() {
             return Err(LinkFault::NoSuchSegment);
         }
-        self.segment_at(place)
+        self.segment_at(index)
     }
 
-    /// A packet that only acknowledges all segments that were taken, and none that is held (NSP 4.0.0, data
+    /// Returns a packet that only acknowledges all segments that were taken, and none that is held (NSP 4.0.0, data
     /// acknowledgement message). Refused: `Failed`; `NoMemory`.
     pub fn ack_packet(&self) -> Result<Vec<u8>, LinkFault>
         ensures ack { IfOk result (λ v. IsSpelling (ack_packet_of self.now) v.items) }

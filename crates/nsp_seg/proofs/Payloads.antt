@@ -63,7 +63,7 @@ head_few s one h =
 
 -- ---- What the first bytes tell.
 
--- bytes that end before a place are the same where those up to it are
+-- bytes that end before an offset are the same where those up to it are
 same_short : (n : ℕ) (one two : List ℕ) → length one + 1 ≤ n → take n two ≡ take n one → two ≡ one
 same_short zero one two short same = absurd (omega (arith, short))
 same_short (suc n) [] [] short same = refl
@@ -80,21 +80,21 @@ other_ack a one two h same = rw (same_short 11 one two (omega (arith, ap length 
 -- ---- Faults.
 
 -- bytes that are the same up to this many after a front begin with it, and go on the same
-same_front : (n place : ℕ) (front rest two : List ℕ) → place ≡ length front + n → take place two ≡ take place (front ++ rest)
+same_front : (n offset : ℕ) (front rest two : List ℕ) → offset ≡ length front + n → take offset two ≡ take offset (front ++ rest)
     → (other : List ℕ) × (two ≡ front ++ other) × (take n other ≡ take n rest)
-same_front n place [] rest two at same = let e : place ≡ n = omega (arith, at) in (two, refl, rw e at same)
+same_front n offset [] rest two at same = let e : offset ≡ n = omega (arith, at) in (two, refl, rw e at same)
 same_front n zero (x ∷ front) rest two at same = absurd (omega (arith, at))
-same_front n (suc place) (x ∷ front) rest [] at same = absurd cc
-same_front n (suc place) (x ∷ front) rest (y ∷ two) at same =
-    let more = same_front n place front rest two (omega (arith, at)) cc in
+same_front n (suc offset) (x ∷ front) rest [] at same = absurd cc
+same_front n (suc offset) (x ∷ front) rest (y ∷ two) at same =
+    let more = same_front n offset front rest two (omega (arith, at)) cc in
     (more.0, cc (more.1, same), more.2)
 
 -- a fault's front has at most 9 bytes, and two after it tell the fault
 behind : (front rest one two : List ℕ) → length front ≤ 9 → one ≡ front ++ rest → take 11 two ≡ take 11 one
     → (other : List ℕ) × (two ≡ front ++ other) × (take 2 other ≡ take 2 rest)
 behind front rest one two few whole same =
-    let place : ℕ = length front + 2 in
-    same_front 2 place front rest two refl (sym (take-take place 11 two (omega (arith, few))) ∙ ap (take place) same ∙ take-take place 11 one (omega (arith, few)) ∙ ap (take place) whole)
+    let offset : ℕ = length front + 2 in
+    same_front 2 offset front rest two refl (sym (take-take offset 11 two (omega (arith, few))) ∙ ap (take offset) same ∙ take-take offset 11 one (omega (arith, few)) ∙ ap (take offset) whole)
 
 -- what holds of no list of ten or more holds of shorter ones alone
 few : (P : List ℕ → Type 0) → ((a b c d e f g h i j : ℕ) (l : List ℕ) → P (a ∷ b ∷ c ∷ d ∷ e ∷ f ∷ g ∷ h ∷ i ∷ j ∷ l) → ⊥)

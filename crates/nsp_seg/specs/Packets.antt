@@ -19,8 +19,8 @@ use Rattle.nsp_seg.specs.Flags.{flag_kind_of}
 abbrev pub marks : Bool → Bool → ℕ
 marks first last = (if first then 0x20 else 0) + (if last then 0x40 else 0)
 
--- An acknowledgement field: a two-byte number, least byte first, with bit 15 set, the qualifier in bits 12 to 14, and
--- the acknowledged number in bits 0 to 11.
+-- An acknowledgement field: a two-byte number, the lowest byte first, with bit 15 set, the qualifier in bits 12 to 14,
+-- and the acknowledged number in bits 0 to 11.
 abbrev pub ack_bytes : AckField → List ℕ
 ack_bytes a = little_bytes 2 (0x8000 + 0x1000 * a.qual + a.number)
 

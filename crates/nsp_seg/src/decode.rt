@@ -11,7 +11,8 @@ use crate::packet::{
 use crate::seq12::Seq12;
 use byteorder::{ByteOrder, LittleEndian};
 
-/// The two-byte number in front, which is at the offset `at` of the packet, and what follows it.
+/// Returns the two-byte number that the bytes begin with, which is at the offset `at` of the packet, and what follows
+/// it.
 fn take_word(bytes: &[u8], at: usize) -> Result<(u16, &[u8]), SegFault>
     ensures { ReadsPacketAs (λ x. (x.0, x.1.now)) result (read_word at bytes.now) }
 {
@@ -22,7 +23,7 @@ fn take_word(bytes: &[u8], at: usize) -> Result<(u16, &[u8]), SegFault>
     Ok((LittleEndian::read_u16(front), rest))
 }
 
-/// The acknowledgement field that a number with its high bit set is.
+/// Returns the acknowledgement field that a number with its high bit set is.
 fn ack_field(word: u16) -> Option<AckField>
     ensures { result ≡ ack_of word }
 {
@@ -39,7 +40,7 @@ fn ack_field(word: u16) -> Option<AckField>
 /// of a segment.
 type Tail<'a> = (Option<AckField>, Option<AckField>, u16, &'a [u8]);
 
-/// What a segment has from offset 5 on.
+/// Returns what a segment has from offset 5 on.
 #[tactic(auto, unfolding(crate::specs::Inner::Reading::tail_of))]
 fn take_tail(bytes: &[u8]) -> Result<Tail<'_>, SegFault>
     ensures { ReadsPacketAs (λ t. (t.0, t.1, t.2, t.3.now)) result (tail_of bytes.now) }
@@ -59,7 +60,7 @@ fn take_tail(bytes: &[u8]) -> Result<Tail<'_>, SegFault>
     Err(SegFault::BadNumber(9))
 }
 
-/// The segment with this flag byte before these bytes.
+/// Reads the segment with this flag byte before these bytes.
 #[tactic(auto, unfolding(crate::specs::Inner::Reading::read_segment))]
 fn segment(flag: u8, bytes: &[u8]) -> Result<Packet<'_>, SegFault>
     ensures { result ≡ read_segment flag bytes.now }
@@ -82,7 +83,7 @@ fn segment(flag: u8, bytes: &[u8]) -> Result<Packet<'_>, SegFault>
     }))
 }
 
-/// What follows the first field of an acknowledgement, from offset 7 on.
+/// Returns what follows the first field of an acknowledgement, from offset 7 on.
 #[tactic(auto, unfolding(crate::specs::Inner::Reading::second_of))]
 fn second_ack(bytes: &[u8]) -> Result<Option<AckField>, SegFault>
     ensures { ReadsPacketAs (λ a. a) result (second_of bytes.now) }
@@ -96,7 +97,7 @@ fn second_ack(bytes: &[u8]) -> Result<Option<AckField>, SegFault>
     }
 }
 
-/// The data acknowledgement with these bytes after its flag byte.
+/// Reads the data acknowledgement with these bytes after its flag byte.
 #[tactic(auto, unfolding(crate::specs::Inner::Reading::data_ack_of))]
 fn data_ack(bytes: &[u8]) -> Result<Packet<'_>, SegFault>
     ensures { result ≡ data_ack_of bytes.now }
@@ -116,7 +117,7 @@ fn data_ack(bytes: &[u8]) -> Result<Packet<'_>, SegFault>
     }))
 }
 
-/// The packet that the bytes spell, or their fault.
+/// Reads the packet that the bytes spell, or their fault.
 #[tactic(auto, unfolding(crate::specs::Inner::Reading::read_packet))]
 fn packet(bytes: &[u8]) -> Result<Packet<'_>, SegFault>
     ensures { result ≡ read_packet bytes.now }
@@ -131,13 +132,13 @@ fn packet(bytes: &[u8]) -> Result<Packet<'_>, SegFault>
     }
 }
 
-/// The value of the packet that the bytes, all of them, spell, for crates that hold packets as values; as
-/// [`crate::decode_packet`] reads it, which see.
+/// Returns the value of the packet that the bytes, all of them, spell, for crates that hold packets as values. It
+/// reads as [`crate::decode_packet`] does, which see.
 pub fn decode_value(bytes: &[u8]) -> Result<Packet<'_>, SegFault>
     // What is spelled is read, and what is read is spelled.
     ensures only { (p : Packet) → Spells p bytes.now → result ≡ Ok p }
     ensures found { IfOk result (λ p. Spells p bytes.now) }
-    // A fault of the bytes is told, and what is told is a fault of the bytes.
+    // A fault of the bytes is reported, and what is reported is a fault of the bytes.
     ensures fault_found { (f : SegFault) → HasFault f bytes.now → result ≡ Err f }
     ensures fault { IfErr result (λ f. HasFault f bytes.now) }
 {

@@ -50,7 +50,7 @@ fn put_optional_ack(out: &mut Vec<u8>, ack: Option<AckField>)
     }
 }
 
-/// The bytes of an acknowledgement field, 0 where there is none.
+/// Returns how many bytes an acknowledgement field has, 0 where there is none.
 fn optional_len(ack: &Option<AckField>) -> usize
     ensures value { result ≡ length (optional_ack ack.now) }
     ensures small { result ≤ 2 }
@@ -61,7 +61,7 @@ fn optional_len(ack: &Option<AckField>) -> usize
     }
 }
 
-/// The bytes of a packet.
+/// Returns how many bytes a packet has.
 fn packet_len(packet: &Packet<'_>) -> usize
     ensures { result ≡ length (spelling packet.now) }
 {

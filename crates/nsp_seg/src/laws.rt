@@ -5,8 +5,8 @@ ghost use Rattle.nsp_seg.specs.declared.packet.SegFault.{SegFault};
 ghost use Rattle.nsp_seg.specs.Numbers.{residue, distance};
 ghost use Rattle.nsp_seg.specs.Packets.{Packet, Spells, FitsFields, HasFault, spelling};
 
-/// Bytes spell one packet or have one fault, never both; and what is written of a packet whose values fit spells
-/// that packet and no other. So what `encode_packet` appended is read back by `decode_packet`.
+/// States that bytes spell one packet or have one fault, never both, and that what is written of a packet whose values
+/// fit spells that packet and no other. So what `encode_packet` appended is read back by `decode_packet`.
 pub fn packets_are_exact()
     ensures some { (bytes : List ℕ) → ((i : ℕ) → slice_index bytes i < 256)
         → ((p : Packet) × Spells p bytes) ⊎ ((f : SegFault) × HasFault f bytes) }
@@ -19,8 +19,8 @@ pub fn packets_are_exact()
     ensures read_back { (p q : Packet) → FitsFields p → Spells q (spelling p) → q ≡ p }
 {}
 
-/// Numbers that go round: `ahead_of` of two residues is the distance of the whole numbers, and two numbers less
-/// than 4,096 apart with equal residues are equal.
+/// States of numbers that go round that `ahead_of` of two residues is the distance of the whole numbers, and two
+/// numbers less than 4,096 apart with equal residues are equal.
 pub fn residues_separate()
     ensures ahead { (x y : ℕ) → residue (residue x + 4096 - residue y) ≡ distance x y }
     ensures apart { (x y : ℕ) → x < y + 4096 → y < x + 4096 → residue x ≡ residue y → x ≡ y }

@@ -47,7 +47,7 @@ pub enum Packet<'a> {
 }
 
 impl<'a> Packet<'a> {
-    /// The value of the packet. Made into a packet again it has the same fields.
+    /// Returns the value of the packet. Made into a packet again it has the same fields.
     pub fn to_value(&self) -> PacketValue<'a>
         ensures { result ≡ packet_value self.now }
     {
@@ -85,7 +85,7 @@ impl<'a> Packet<'a> {
         }
     }
 
-    /// The packet that has this value.
+    /// Returns the packet that has this value.
     pub fn from_value(value: PacketValue<'a>) -> Packet<'a>
         ensures { packet_value result ≡ value.entry }
     {
@@ -110,14 +110,14 @@ impl<'a> Packet<'a> {
     }
 }
 
-/// The packet that the bytes, all of them, spell; its payload is a part of them. It takes no memory. Bytes that
-/// spell none have one fault, and that is reported (NSP 4.0.0, data segment message and data acknowledgement
+/// Returns the packet that the bytes, all of them, spell; its payload is a part of them. It takes no memory. Bytes
+/// that spell none have one fault, and that is reported (NSP 4.0.0, data segment message and data acknowledgement
 /// message; other messages are not read here).
 pub fn decode_packet(bytes: &[u8]) -> Result<Packet<'_>, SegFault>
     // What is spelled is read, and what is read is spelled.
     ensures only { (p : PacketValue) → Spells p bytes.now → packet_answer_value result ≡ Ok p }
     ensures found { IfOk result (λ p. Spells (packet_value p) bytes.now) }
-    // A fault of the bytes is told, and what is told is a fault of the bytes.
+    // A fault of the bytes is reported, and what is reported is a fault of the bytes.
     ensures fault_found { (f : SegFault) → HasFault f bytes.now → result ≡ Err f }
     ensures fault { IfErr result (λ f. HasFault f bytes.now) }
 {

@@ -19,7 +19,7 @@ pub(crate) const LAST: u8 = 0x40;
 pub(crate) const ACK_FIELD: u16 = 0x8000;
 /// The higher byte of such a number is at least this.
 pub(crate) const ACK_FIELD_HIGH: u8 = 0x80;
-/// What QUAL counts in an acknowledgement field, the number standing below it.
+/// What QUAL counts in an acknowledgement field; the bits below it are the number.
 pub(crate) const QUAL_UNIT: u16 = 0x1000;
 
 /// An acknowledgement field (NSP 4.0.0, data acknowledgement message).
@@ -28,7 +28,7 @@ pub struct AckField {
     /// QUAL, 0 to 7: 0 acknowledges segments of this subchannel, 1 refuses them, 2 and 3 are of the other
     /// subchannel.
     pub qual: u8,
-    /// The last segment that it speaks of.
+    /// The number of the last segment that it acknowledges or refuses.
     pub number: Seq12,
 }
 
@@ -102,11 +102,11 @@ pub enum SegFault {
     /// This first byte is neither that of a data segment nor that of a data acknowledgement.
     #[error("the first byte {0:#04x} is neither that of a data segment nor of a data acknowledgement")]
     NotHere(u8),
-    /// The number at this offset has the wrong highest bit: it is set where a segment's own number has to be, or
-    /// clear where an acknowledgement field has to.
+    /// The number at this offset has the wrong highest bit: it is set where a segment's number has to be, or clear
+    /// where an acknowledgement field has to.
     #[error("the number at byte {0} has the wrong highest bit")]
     BadNumber(usize),
-    /// Memory ran out in writing.
+    /// A writer is out of memory.
     #[error("memory ran out")]
     NoMemory,
 }
@@ -140,7 +140,7 @@ pub enum FlagKind {
     Unknown,
 }
 
-/// What a packet with this first byte is (NSP 4.0.0, message formats).
+/// Returns what a packet with this first byte is (NSP 4.0.0, message formats).
 pub fn flag_kind(flag: u8) -> FlagKind
     ensures { result ≡ flag_kind_of flag }
 {

@@ -9,7 +9,7 @@ use std::marker::Model;
 #[derive(Clone, Copy, PartialEq, Eq)]
 pub struct Seq12(u16);
 
-/// This many numbers of segments there are: they go round at this one (NSP 4.0.0, segment numbers).
+/// How many numbers of segments there are: they go round at this one (NSP 4.0.0, segment numbers).
 pub const MODULUS: u16 = 4096;
 
 impl Model for Seq12 {
@@ -25,7 +25,7 @@ impl Model for Seq12 {
 }
 
 impl Seq12 {
-    /// The number modulo 4,096 (NSP 4.0.0, segment numbers).
+    /// Returns the number modulo 4,096 (NSP 4.0.0, segment numbers).
     #[tactic(auto, unfolding(crate::specs::Numbers::residue))]
     pub fn of(number: u64) -> Seq12
         ensures { result ≡ residue number }
@@ -33,7 +33,7 @@ impl Seq12 {
         Seq12((number % u64::from(MODULUS)) as u16)
     }
 
-    /// The number itself, below 4,096 (NSP 4.0.0, segment numbers).
+    /// Returns the number itself, below 4,096 (NSP 4.0.0, segment numbers).
     pub fn get(self) -> u16
         ensures value { result ≡ self }
         ensures small { result < 4096 }
@@ -41,7 +41,7 @@ impl Seq12 {
         self.0
     }
 
-    /// The number that follows: 0 after 4,095 (NSP 4.0.0, segment numbers).
+    /// Returns the number that follows: 0 after 4,095 (NSP 4.0.0, segment numbers).
     #[tactic(auto, unfolding(crate::specs::Numbers::residue))]
     pub fn after(self) -> Seq12
         ensures { result ≡ residue (self + 1) }
@@ -49,7 +49,7 @@ impl Seq12 {
         Seq12((self.0 + 1) % MODULUS)
     }
 
-    /// How far this number is ahead of the other, going round: this one minus the other, modulo 4,096.
+    /// Returns how far this number is ahead of the other, going round: this one minus the other, modulo 4,096.
     #[tactic(auto, unfolding(crate::specs::Numbers::residue))]
     pub fn ahead_of(self, other: Seq12) -> u16
         ensures ahead { result ≡ residue (self + 4096 - other) }

@@ -1,4 +1,4 @@
-//! Tests of `nsp_seg`. They stand in a crate of their own, since a crate with tests is proved twice.
+//! Tests of `nsp_seg`. They are a separate crate, since a crate with tests is proved twice.
 #![tactic(auto)]
 
 #[cfg(test)]

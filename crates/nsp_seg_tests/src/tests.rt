@@ -18,7 +18,7 @@ fn ack_field(qual: u8, number: u64) -> AckField {
     }
 }
 
-/// The packet that `ONLY_SEGMENT` is.
+/// Returns the packet that `ONLY_SEGMENT` is.
 fn only_segment() -> Packet<'static> {
     Packet::Segment {
         first: true,
@@ -32,7 +32,7 @@ fn only_segment() -> Packet<'static> {
     }
 }
 
-/// The packet that `BOTH_FIELDS` is.
+/// Returns the packet that `BOTH_FIELDS` is.
 fn both_fields() -> Packet<'static> {
     Packet::Segment {
         first: true,
@@ -46,7 +46,7 @@ fn both_fields() -> Packet<'static> {
     }
 }
 
-/// The packet that `ACKNOWLEDGEMENT` is.
+/// Returns the packet that `ACKNOWLEDGEMENT` is.
 fn acknowledgement() -> Packet<'static> {
     Packet::DataAck {
         dst: 0x0102,
@@ -56,7 +56,7 @@ fn acknowledgement() -> Packet<'static> {
     }
 }
 
-/// Whether the bytes are read as the packet.
+/// Returns whether the bytes are read as the packet.
 fn is_read(bytes: &[u8], packet: &Packet) -> bool {
     match decode_packet(bytes) {
         Ok(read) => read == *packet,
@@ -64,7 +64,7 @@ fn is_read(bytes: &[u8], packet: &Packet) -> bool {
     }
 }
 
-/// Whether the bytes are those that are written of the packet that they are.
+/// Returns whether the bytes are those that are written of the packet that they are.
 fn is_written(rt: &impl AllocGlobal, bytes: &[u8]) -> bool {
     let mut out = Vec::new(rt.alloc());
     match decode_packet(bytes) {

@@ -101,9 +101,9 @@ kept_pages s ps f e r all file =
         let cell_at = some_number ps q all (member_is_number ps q member) in
         let n : ℕ = 64 * q + 1 + cell_at.0 in
         let same : page_of n ≡ q = (let lt = cell_at.1 in omega arith) in
-        let place : cell_of n ≡ cell_at.0 = (let lt = cell_at.1 in omega arith) in
+        let index : cell_of n ≡ cell_at.0 = (let lt = cell_at.1 in omega arith) in
         let got : get f.records n ≡ page_cell (at ps q) cell_at.0 =
-        ap (λ g. get g.records n) (sym e) ∙ get-paged ps n r (sized ps all) (omega arith) ∙ ap (λ p. page_cell (at ps p) (cell_of n)) same ∙ ap (page_cell (at ps q)) place in
+        ap (λ g. get g.records n) (sym e) ∙ get-paged ps n r (sized ps all) (omega arith) ∙ ap (λ p. page_cell (at ps p) (cell_of n)) same ∙ ap (page_cell (at ps q)) index in
         subst (λ p. is_member eqb (map page_of (keys f.records)) p ≡ true) same
         (page_is_member (entries f.records) n (subst IsSome (sym got ∙ get_is_at f.records n) cell_at.2))
 

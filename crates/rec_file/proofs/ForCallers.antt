@@ -16,4 +16,4 @@ pub use Rattle.rec_file.proofs.FileLaws.{number_fits, some_of, not_none, wanted,
 pub use Rattle.rec_file.proofs.RecordsLaws.{lowest_from_some, lowest_from_none, highest_of_some, highest_of_none}
 -- a list of numbered values whose numbers rise, a search in it, and an edit of it
 pub use Rattle.rec_file.proofs.Rising.{at, AllAbove, IsRising, find_is_at, sorted_from_rising, rising_from_sorted, same_or_not}
-pub use Rattle.rec_file.proofs.Gaps.{searched, numbers, ordered, at-gap, at-place, at-insert, at-remove, rising-insert, rising-remove, number_at}
+pub use Rattle.rec_file.proofs.Gaps.{searched, numbers, ordered, at-gap, at-index, at-insert, at-remove, rising-insert, rising-remove, number_at}

@@ -1,4 +1,4 @@
--- A binary search among numbered values, and an edit at the place that it finds.
+-- A binary search among numbered values, and an edit at the index that it finds.
 use Rattle.std.proofs.Common.{◌≡◌, ℕ, zero, suc, ◌<◌, ◌≤◌, cond, eqb, List, [], ◌∷◌, length, get_or, map, Some, None, Result, Ok, Err, IfOk, IfErr, slice_get, refl, sym, ap, subst, ◌∙◌, arith, inl, inr}
 use Rattle.std.specs.List.{insert, remove}
 use Rattle.std.specs.List.Sorted.{IsSearchInRange, IsBinarySearchResult, IsNonDecreasingBy}
@@ -83,16 +83,16 @@ module _ {X : Type 0} where
   at-gap (e ∷ es) n zero g = at_below n n (e ∷ es) (all_above_from n (e ∷ es) (λ j lt. g.greater_after j (omega arith) lt)) (omega arith)
   at-gap (e ∷ es) n (suc i) g = let below = g.smaller_before 0 (omega arith) in at_tail e es n (omega arith) ∙ at-gap es n i (gap_tail e es n i g)
 
-  above-place : (x : ℕ) (es : List (ℕ × X)) (i : ℕ) (e : ℕ × X) → AllAbove x es → slice_get es i ≡ Some e → x < e.0
-  above-place x [] i e h is = cc
-  above-place x (y ∷ es) zero e h is = subst (λ p. x < p.0) (same_Some y e is) h.0
-  above-place x (y ∷ es) (suc i) e h is = above-place x es i e h.1 is
+  above-index : (x : ℕ) (es : List (ℕ × X)) (i : ℕ) (e : ℕ × X) → AllAbove x es → slice_get es i ≡ Some e → x < e.0
+  above-index x [] i e h is = cc
+  above-index x (y ∷ es) zero e h is = subst (λ p. x < p.0) (same_Some y e is) h.0
+  above-index x (y ∷ es) (suc i) e h is = above-index x es i e h.1 is
 
-  -- what stands at a place
-  pub at-place : (es : List (ℕ × X)) (i : ℕ) (e : ℕ × X) → IsRising es → slice_get es i ≡ Some e → at es e.0 ≡ Some e.1
-  at-place [] i e r is = cc
-  at-place (x ∷ es) zero e r is = subst (λ p. at (x ∷ es) p.0 ≡ Some p.1) (same_Some x e is) (at_first x es x.0 refl)
-  at-place (x ∷ es) (suc i) e r is = let up = above-place x.0 es i e r.0 is in at_tail x es e.0 (omega arith) ∙ at-place es i e r.1 is
+  -- what stands at an index
+  pub at-index : (es : List (ℕ × X)) (i : ℕ) (e : ℕ × X) → IsRising es → slice_get es i ≡ Some e → at es e.0 ≡ Some e.1
+  at-index [] i e r is = cc
+  at-index (x ∷ es) zero e r is = subst (λ p. at (x ∷ es) p.0 ≡ Some p.1) (same_Some x e is) (at_first x es x.0 refl)
+  at-index (x ∷ es) (suc i) e r is = let up = above-index x.0 es i e r.0 is in at_tail x es e.0 (omega arith) ∙ at-index es i e r.1 is
 
   -- a value more, in its gap
   pub at-insert : (es : List (ℕ × X)) (n i : ℕ) (v : X) → IsGapFor (numbers es) n i → (q : ℕ) → at (insert es i (n, v)) q ≡ cond (eqb q n) (Some v) (at es q)
@@ -124,7 +124,7 @@ module _ {X : Type 0} where
       ]
   at-remove (x ∷ es) (suc i) e r is q =
       let rest = at-remove es i e r.1 is q in
-      let up = above-place x.0 es i e r.0 is in
+      let up = above-index x.0 es i e r.0 is in
       grind (arith, nat_tests)
 
   above-remove : (x : ℕ) (es : List (ℕ × X)) (i : ℕ) → AllAbove x es → AllAbove x (remove es i)
@@ -139,7 +139,7 @@ module _ {X : Type 0} where
   rising-remove (e ∷ es) zero r = r.1
   rising-remove (e ∷ es) (suc i) r = (above-remove e.0 es i r.0, rising-remove es i r.1)
 
-  -- the number at a place
+  -- the number at an index
   pub number_at : (es : List (ℕ × X)) (i : ℕ) (e : ℕ × X) → slice_get es i ≡ Some e → get_or (numbers es) i 0 ≡ e.0
   number_at [] i e is = cc
   number_at (x ∷ es) zero e is = ap (λ p. p.0) (same_Some x e is)

@@ -11,11 +11,11 @@ use Rattle.std.proofs.lemmas.Option.{same_Some}
 use Rattle.slab.specs.Slab.{Slab, get}
 use Rattle.rec_file.specs.Inner.Pages.{Cells, page_cell}
 use Rattle.rec_file.specs.Inner.Sorted.{IsGapFor}
-use Rattle.rec_file.specs.Inner.Places.{group_of, listed, bare, HavePages, IsGroup, ArePageGroups, AreOfGroup, IsLastSlot, Clears, HasEmptied, slot_of, slots_from, with_slot}
+use Rattle.rec_file.specs.Inner.Slots.{group_of, listed, bare, HavePages, IsGroup, ArePageGroups, AreOfGroup, IsLastSlot, Clears, HasEmptied, slot_of, slots_from, with_slot}
 use Rattle.rec_file.proofs.Rising.{at, IsRising, same_or_not, at_first, at_tail}
 use Rattle.rec_file.proofs.Keyed.{lookup_is_at, behind, at-written, is_there, is_elsewhere, value_at, all-written, all-inserted, all-removed, rising-written, rising-inserted, rising-removed}
-use Rattle.rec_file.proofs.Gaps.{numbers, ordered, at-gap, at-place, number_at}
-use Rattle.rec_file.proofs.PlacesLaws.{yes, no, from-listed, rest_of, rising-of, sorted-of, rising-listed, at-listed, in_group, group-at, group-inserted, group-removed, are-written, are-inserted, are-removed, put-in-group, put-new-group, take-in-group, drop-empty}
+use Rattle.rec_file.proofs.Gaps.{numbers, ordered, at-gap, at-index, number_at}
+use Rattle.rec_file.proofs.SlotsLaws.{yes, no, from-listed, rest_of, rising-of, sorted-of, rising-listed, at-listed, in_group, group-at, group-inserted, group-removed, are-written, are-inserted, are-removed, put-in-group, put-new-group, take-in-group, drop-empty}
 
 pub no_items : {A : Type 0} (l : List A) → length l ≤ 0 → l ≡ []
 no_items [] h = refl
@@ -137,14 +137,14 @@ module _ (es : Kept) (holds : Holds es) (m : List (ℕ × ℕ)) (view : listed (
   r : IsRising gs
   r = rising-of gs holds.sorted
 
-  pub places-sorted : is_sorted nat_cmp m ≡ true
-  places-sorted = subst (λ l. is_sorted nat_cmp l ≡ true) view (sorted-of (listed gs) (rising-listed gs r holds.are))
+  pub slots-sorted : is_sorted nat_cmp m ≡ true
+  slots-sorted = subst (λ l. is_sorted nat_cmp l ≡ true) view (sorted-of (listed gs) (rising-listed gs r holds.are))
 
-  at-places : (p : ℕ) → at m p ≡ in_group (at gs (group_of p)) p
-  at-places p = ap (λ l. at l p) (sym view) ∙ at-listed gs r holds.are p
+  at-slots : (p : ℕ) → at m p ≡ in_group (at gs (group_of p)) p
+  at-slots p = ap (λ l. at l p) (sym view) ∙ at-listed gs r holds.are p
 
   pub get-none : (p : ℕ) → lookup (is_at (nat_cmp (group_of p))) es ≡ None → None ≡ slot_of m p
-  get-none p none = sym (lookup_is_at m p ∙ at-places p ∙ ap (λ o. in_group o p) (at-bare es (group_of p) ∙ ap (option_map (λ v. v.items)) (sym (lookup_is_at es (group_of p)) ∙ none)))
+  get-none p none = sym (lookup_is_at m p ∙ at-slots p ∙ ap (λ o. in_group o p) (at-bare es (group_of p) ∙ ap (option_map (λ v. v.items)) (sym (lookup_is_at es (group_of p)) ∙ none)))
 
   module _ (p : ℕ) (v : Vec (ℕ × ℕ)) (is : lookup (is_at (nat_cmp (group_of p))) es ≡ Some v) where
     here : at gs (group_of p) ≡ Some v.items
@@ -157,7 +157,7 @@ module _ (es : Kept) (holds : Holds es) (m : List (ℕ × ℕ)) (view : listed (
     group-sorted = group.sorted
 
     pub get-some : slot_of v.items p ≡ slot_of m p
-    get-some = lookup_is_at v.items p ∙ sym (lookup_is_at m p ∙ at-places p ∙ ap (λ o. in_group o p) here)
+    get-some = lookup_is_at v.items p ∙ sym (lookup_is_at m p ∙ at-slots p ∙ ap (λ o. in_group o p) here)
 
     -- another vector in the group's place
     module _ (w : Vec (ℕ × ℕ)) (es' : Kept) (made : es' ≡ set_value (is_at (nat_cmp (group_of p))) es w) where
@@ -241,15 +241,15 @@ module _ (es : Kept) (holds : Holds es) (m : List (ℕ × ℕ)) (view : listed (
   module _ (p : ℕ) (v : Vec (ℕ × ℕ)) (is : lookup (is_at (nat_cmp (group_of p))) es ≡ Some v) (w : Vec (ℕ × ℕ)) (es' : Kept)
       (made : es' ≡ set_value (is_at (nat_cmp (group_of p))) es w) (pages pages' : Slab Cells) (k : ℕ) where
     abbrev its-page : HasEmptied v.items pages p k → HasEmptied m pages p k
-    its-page e = record { place = e.place; has = sym (get-some p v is) ∙ e.has; cells = e.cells; there = e.there; occupied = e.occupied }
+    its-page e = record { slot = e.slot; has = sym (get-some p v is) ∙ e.has; cells = e.cells; there = e.there; occupied = e.occupied }
 
     pub clear-some : (b : Bool) → Clears v.items w.items pages pages' p k b → w.items ≢ [] → Clears m (listed (bare es')) pages pages' p k b × Holds es'
     clear-some true (e, inl stays) some =
-        let kept = put-same p v is w es' made stays.places in
-        ((its-page e, inl (record { others = stays.others; places = kept.0; written = stays.written })), kept.1)
+        let kept = put-same p v is w es' made stays.slots in
+        ((its-page e, inl (record { others = stays.others; slots = kept.0; written = stays.written })), kept.1)
     clear-some true (e, inr goes) some =
-        let less = take-some p v is w es' made goes.places some in
-        ((its-page e, inr (record { none = goes.none; places = less.0; free = goes.free; fewer = goes.fewer })), less.1)
+        let less = take-some p v is w es' made goes.slots some in
+        ((its-page e, inr (record { none = goes.none; slots = less.0; free = goes.free; fewer = goes.fewer })), less.1)
     clear-some false (none, same, pages_same) some =
         let kept = put-same p v is w es' made same in
         ((subst (λ o. IfSome o (λ i. page_cell (get pages i) k ≡ None)) (get-some p v is) none, kept.0, pages_same), kept.1)
@@ -257,10 +257,10 @@ module _ (es : Kept) (holds : Holds es) (m : List (ℕ × ℕ)) (view : listed (
     -- the group was its page alone
     pub clear-last : (es'' : Kept) → es'' ≡ remove_entry (is_at (nat_cmp (group_of p))) es' → w.items ≡ [] → (b : Bool) → Clears v.items w.items pages pages' p k b
         → Clears m (listed (bare es'')) pages pages' p k b × Holds es''
-    clear-last es'' dropped last true (e, inl stays) = absurd (value_at Some_page gs (group_of p) v.items holds.have (here p v is) (sym stays.places ∙ last))
+    clear-last es'' dropped last true (e, inl stays) = absurd (value_at Some_page gs (group_of p) v.items holds.have (here p v is) (sym stays.slots ∙ last))
     clear-last es'' dropped last true (e, inr goes) =
-        let less = take-last p v is w es' made goes.places es'' dropped last in
-        ((its-page e, inr (record { none = goes.none; places = less.0; free = goes.free; fewer = goes.fewer })), less.1)
+        let less = take-last p v is w es' made goes.slots es'' dropped last in
+        ((its-page e, inr (record { none = goes.none; slots = less.0; free = goes.free; fewer = goes.fewer })), less.1)
     clear-last es'' dropped last false (none, same, pages_same) = absurd (value_at Some_page gs (group_of p) v.items holds.have (here p v is) (sym same ∙ last))
 
   -- the last page is the last of the last group
@@ -272,11 +272,11 @@ module _ (es : Kept) (holds : Holds es) (m : List (ℕ × ℕ)) (view : listed (
     last-page e i at_i end =
         let its = group-at gs g v.items holds.are there in
         let s = rising-of v.items its.sorted in
-        let in_v : at v.items e.0 ≡ Some e.1 = at-place v.items i e s at_i in
+        let in_v : at v.items e.0 ≡ Some e.1 = at-index v.items i e s at_i in
         let own : group_of e.0 ≡ g = own-at g v.items its.own e.0 e.1 in_v in
         record {
-          here = lookup_is_at m e.0 ∙ at-places e.0 ∙ ap (λ o. in_group o e.0) (ap (at gs) own ∙ there) ∙ in_v;
-          none_above = λ j lt. lookup_is_at m j ∙ at-places j ∙ elim (same_or_not (group_of j) g) [
+          here = lookup_is_at m e.0 ∙ at-slots e.0 ∙ ap (λ o. in_group o e.0) (ap (at gs) own ∙ there) ∙ in_v;
+          none_above = λ j lt. lookup_is_at m j ∙ at-slots j ∙ elim (same_or_not (group_of j) g) [
             | inl same ↦ ap (λ o. in_group o j) (ap (at gs) same ∙ there) ∙ at-gap v.items j (i + 1) (past_last v.items s i e at_i end j lt)
             | inr other ↦ ap (λ o. in_group o j) (at-bare es (group_of j) ∙ ap (option_map (λ v. v.items)) (above (group_of j) (higher g e.0 j own lt other)))
           ];

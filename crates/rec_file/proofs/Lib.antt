@@ -10,7 +10,7 @@ pub mod PagedLaws
 pub mod Keyed
 pub mod RelativeLaws
 pub mod PlacedLaws
-pub mod PlacesLaws
+pub mod SlotsLaws
 pub mod SoughtLaws
 pub mod HeldLaws
 pub mod Bodies

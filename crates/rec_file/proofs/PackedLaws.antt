@@ -14,7 +14,7 @@ use Rattle.std.proofs.lemmas.Option.{slice_get_read, slice_get-map}
 use Rattle.rec_file.specs.Inner.Pages.{Cells, cell, MasksCells, cell_bodies, occupied_below, cells_from, cells_of, IsPacked, empty_cells}
 use Rattle.rec_file.proofs.PageLaws.{le_lt, masks-put, masks-replaced, masks-clear, masks_nothing, length_nothing}
 
--- the record of an occupied cell stands at its place
+-- the record of an occupied cell stands at its index
 pub body_there : (cs : Cells) (k : ℕ) → IsSome (cell cs k) → slice_get (cell_bodies cs) (occupied_below cs k) ≡ cell cs k
 body_there [] k h = cc
 body_there (None ∷ cs) zero h = cc
@@ -22,19 +22,19 @@ body_there (Some b ∷ cs) zero h = refl
 body_there (None ∷ cs) (suc k) h = body_there cs k h
 body_there (Some b ∷ cs) (suc k) h = body_there cs k h
 
-pub place_most : (cs : Cells) (k : ℕ) → occupied_below cs k ≤ length (cell_bodies cs)
-place_most [] zero = omega arith
-place_most [] (suc k) = omega arith
-place_most (c ∷ cs) zero = omega arith
-place_most (None ∷ cs) (suc k) = place_most cs k
-place_most (Some b ∷ cs) (suc k) = let r = place_most cs k in omega arith
+pub index_most : (cs : Cells) (k : ℕ) → occupied_below cs k ≤ length (cell_bodies cs)
+index_most [] zero = omega arith
+index_most [] (suc k) = omega arith
+index_most (c ∷ cs) zero = omega arith
+index_most (None ∷ cs) (suc k) = index_most cs k
+index_most (Some b ∷ cs) (suc k) = let r = index_most cs k in omega arith
 
-pub place_within : (cs : Cells) (k : ℕ) → IsSome (cell cs k) → occupied_below cs k < length (cell_bodies cs)
-place_within [] k h = cc
-place_within (None ∷ cs) zero h = cc
-place_within (Some b ∷ cs) zero h = omega arith
-place_within (None ∷ cs) (suc k) h = place_within cs k h
-place_within (Some b ∷ cs) (suc k) h = let r = place_within cs k h in omega arith
+pub index_within : (cs : Cells) (k : ℕ) → IsSome (cell cs k) → occupied_below cs k < length (cell_bodies cs)
+index_within [] k h = cc
+index_within (None ∷ cs) zero h = cc
+index_within (Some b ∷ cs) zero h = omega arith
+index_within (None ∷ cs) (suc k) h = index_within cs k h
+index_within (Some b ∷ cs) (suc k) h = let r = index_within cs k h in omega arith
 
 -- a record more, another record, and a record less
 pub bodies-put : (cs : Cells) (k : ℕ) (b : List ℕ) → k < length cs → cell cs k ≡ None → cell_bodies (set cs k (Some b)) ≡ insert (cell_bodies cs) (occupied_below cs k) b
@@ -64,7 +64,7 @@ map-insert f xs i x = map-append f (take i xs) (x ∷ drop i xs) ∙ sym (rw (ta
 pub map-remove : {X Y : Type 0} (f : X → Y) (xs : List X) (i : ℕ) → map f (remove xs i) ≡ remove (map f xs) i
 map-remove f xs i = map-append f (take i xs) (drop (suc i) xs) ∙ sym (rw (take-map f i xs, drop-map f (suc i) xs) refl)
 
--- a list of the same length takes another's places
+-- a list of the same length takes another's indices
 refilled : {X : Type 0} (xs ws : List X) → length ws ≡ length xs → refill (length xs) xs ws ≡ ws
 refilled [] [] same = refl
 refilled [] (w ∷ ws) same = cc
@@ -108,15 +108,15 @@ closed p = record { fits = p.fits; bits = rw (made p) p.bits; records = rw (made
 
 -- the records as they are kept, each read by f
 module _ {X : Type 0} (f : X → List ℕ) (mask : ℕ) (xs : List X) (cells : Cells) (p : Packs mask (map f xs) cells) (at : ℕ) where
-  pub place_fits : occupied_below cells at ≤ length xs
-  place_fits = let most = place_most cells at in let same = ap length p.records in omega (arith, length-map xs f)
+  pub index_fits : occupied_below cells at ≤ length xs
+  index_fits = let most = index_most cells at in let same = ap length p.records in omega (arith, length-map xs f)
 
-  pub place_inside : IsSome (cell cells at) → occupied_below cells at < length xs
-  place_inside some = let within = place_within cells at some in let same = ap length p.records in omega (arith, length-map xs f)
+  pub index_inside : IsSome (cell cells at) → occupied_below cells at < length xs
+  index_inside some = let within = index_within cells at some in let same = ap length p.records in omega (arith, length-map xs f)
 
   pub found : (x : X) → IsSome (cell cells at) → x ≡ get_or xs (occupied_below cells at) x → Some (f x) ≡ cell cells at
   found x some is =
-      ap (option_map f) (sym (slice_get_read xs (length xs) (occupied_below cells at) x refl (place_inside some) is))
+      ap (option_map f) (sym (slice_get_read xs (length xs) (occupied_below cells at) x refl (index_inside some) is))
       ∙ sym (slice_get-map f xs (occupied_below cells at))
       ∙ ap (λ bodies. slice_get bodies (occupied_below cells at)) p.records ∙ body_there cells at some
 

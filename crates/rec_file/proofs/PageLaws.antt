@@ -112,7 +112,7 @@ module _ {X : Type 0} (mask : ℕ) (cs : List (Option X)) (m : MasksCells mask c
             ∙ ap (bit_at mask) (let e : j ≡ at + (j - at) = omega arith in e) ∙ sym (bit_at-shifted mask at (j - at)) ∙ low.2 (j - at) (omega arith)),
       )
 
-  -- the place of the highest bit is the last occupied cell
+  -- the index of the highest bit is the last occupied cell
   pub last_is : (j : ℕ) → 2 ^ j ≤ mask → mask < 2 * 2 ^ j → j < 64 → IsSome (cell cs j) × ((i : ℕ) → j < i → cell cs i ≡ None)
   last_is j low high within = (
     some_of_bit _ (sym (m j within) ∙ bit_at-top mask j low high),

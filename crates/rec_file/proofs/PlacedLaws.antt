@@ -1,4 +1,4 @@
--- Pages at places of their own: what stands at a number after each edit of the places and the pages.
+-- Pages at slots of their own: what stands at a number after each edit of the slots and the pages.
 use Rattle.std.proofs.Common.{◌≡◌, ℕ, zero, suc, ◌+◌, ◌≢◌, ◌&&◌, get_or, IsSome, cond, eqb, Bool, true, false, List, [], ◌∷◌, length, option_map, Option, Some, None, is_some, set, unwrap_or, refl, sym, ap, subst, ◌∙◌, arith, inl, inr}
 use Rattle.std.specs.Ordering.{nat_cmp, is_le, match_ordering}
 use Rattle.std.specs.declared.cmp.Ordering.TheVariants.{Less, Equal, Greater}
@@ -15,14 +15,14 @@ use Rattle.slab.specs.Slab.{Slab, get, slab_len, with_value, Updates}
 use Rattle.slab.proofs.SlabLemmas.{Updates-with_value}
 use Rattle.rec_file.specs.Inner.Pages.{Cells, pages_at, NoneAt, HaveOwnSlots, empty_cells, put_entry}
 use Rattle.rec_file.proofs.Rising.{at, AllAbove, IsRising, at_tail, at_first, same_or_not}
-use Rattle.rec_file.proofs.PlacesLaws.{rising-of, same-entries}
+use Rattle.rec_file.proofs.SlotsLaws.{rising-of, same-entries}
 use Rattle.rec_file.proofs.Keyed.{at-written, at-inserted, rising-written, rising-inserted, behind, is_there, is_elsewhere, lookup_is_at}
 use Rattle.rec_file.proofs.RelativeLaws.{AllPages}
 
 value_of : (a b : ℕ) → Some a ≡ Some b → a ≡ b
 value_of a b h = cc
 
--- a number's page is the one at its place
+-- a number's page is the one at its slot
 pub at-pages : (kept : ℕ → Option Cells) (es : List (ℕ × ℕ)) (q : ℕ) → at (pages_at kept es) q ≡ option_map (λ i. unwrap_or (kept i) []) (at es q)
 at-pages kept [] q = refl
 at-pages kept (e ∷ es) q = ap (cond (eqb q e.0) (Some (unwrap_or (kept e.1) []))) (at-pages kept es q) ∙ split (eqb q e.0) (at es q)
@@ -49,7 +49,7 @@ behind-pages kept p (e ∷ es) = ap (λ l. cond (is_le (nat_cmp p e.0) && true) 
     split true l = refl
     split false l = refl
 
--- a place that holds no page is none of theirs
+-- a slot that holds no page is none of theirs
 pub fresh : (kept : ℕ → Option Cells) (es : List (ℕ × ℕ)) (i : ℕ) → AllPages (pages_at kept es) → kept i ≡ None → NoneAt i es
 fresh kept [] i all none = tt
 fresh kept (e ∷ es) i all none = (
@@ -64,7 +64,7 @@ none_there (e ∷ es) p i none is = elim (same_or_not p e.0) [
   | inr other ↦ none_there es p i none.1 (sym (at_tail e es p other) ∙ is)
 ]
 
--- the page of a number that has a place is there
+-- the page of a number that has a slot is there
 pub stands : (kept : ℕ → Option Cells) (es : List (ℕ × ℕ)) (p i : ℕ) → AllPages (pages_at kept es) → at es p ≡ Some i → kept i ≡ None → ⊥
 stands kept es p i all is none = none_there es p i (fresh kept es i all none) is
 
@@ -82,7 +82,7 @@ module _ (kept now : ℕ → Option Cells) (i : ℕ) (others : (j : ℕ) → j �
   same_pages (e ∷ es) none =
       ap (λ o. (e.0, unwrap_or o []) ∷ pages_at now es) (others e.1 none.0) ∙ ap (λ l. (e.0, unwrap_or (kept e.1) []) ∷ l) (same_pages es none.1)
 
-  -- another page at a number's place
+  -- another page at a number's slot
   pub written : (cells : Cells) (es : List (ℕ × ℕ)) (p : ℕ) → now i ≡ Some cells → HaveOwnSlots es → at es p ≡ Some i → pages_at now es ≡ set_value (is_at (nat_cmp p)) (pages_at kept es) cells
   written cells [] p new own is = cc
   written cells (e ∷ es) p new own is = elim (same_or_not p e.0) [
@@ -107,7 +107,7 @@ module _ (kept now : ℕ → Option Cells) (i : ℕ) (others : (j : ℕ) → j �
       ∙ same-entries (set_value (is_at (nat_cmp p)) (pages_at kept es) cells) (insert_entry nat_cmp (pages_at kept es) p cells) (rising-written (is_at (nat_cmp p)) (pages_at kept es) cells rp)
       (rising-inserted (pages_at kept es) p cells rp) (λ q. at-written (pages_at kept es) p cells some q ∙ sym (at-inserted (pages_at kept es) p cells q))
 
-  -- a page at a place of its own, under a number more
+  -- a page at a slot of its own, under a number more
   pub inserted : (cells : Cells) (es : List (ℕ × ℕ)) (p : ℕ) → now i ≡ Some cells → NoneAt i es → pages_at now (insert_entry nat_cmp es p i) ≡ insert_entry nat_cmp (pages_at kept es) p cells
   inserted cells [] p new none = ap (λ o. (p, unwrap_or o []) ∷ []) new
   inserted cells (e ∷ es) p new none =
@@ -119,7 +119,7 @@ module _ (kept now : ℕ → Option Cells) (i : ℕ) (others : (j : ℕ) → j �
         | Greater ↦ ap (λ o. (e.0, unwrap_or o []) ∷ pages_at now (insert_entry nat_cmp es p i)) (others e.1 none.0) ∙ ap (λ l. (e.0, unwrap_or (kept e.1) []) ∷ l) (inserted cells es p new none.1)
       ]
 
-  -- a number and its place less
+  -- a number and its slot less
   pub taken : (es : List (ℕ × ℕ)) (p : ℕ) → HaveOwnSlots es → at es p ≡ Some i → pages_at now (remove_entry (is_at (nat_cmp p)) es) ≡ remove_entry (is_at (nat_cmp p)) (pages_at kept es)
   taken [] p own is = cc
   taken (e ∷ es) p own is = elim (same_or_not p e.0) [
@@ -215,7 +215,7 @@ page-removed s s' es now p i old new own is there less same =
 pub own-less : (es now : List (ℕ × ℕ)) (t : ℕ → Bool) → now ≡ remove_entry t es → HaveOwnSlots es → HaveOwnSlots now
 own-less es now t same own = subst HaveOwnSlots (sym same) (own-removed t es own)
 
--- the pages from a number on, by their places
+-- the pages from a number on, by their slots
 none-behind : (i p : ℕ) (es : List (ℕ × ℕ)) → NoneAt i es → NoneAt i (behind p es)
 none-behind i p [] none = tt
 none-behind i p (e ∷ es) none = elim (is_le (nat_cmp p e.0) && true) as (λ b. NoneAt i (cond b (e ∷ behind p es) (behind p es))) [ true ↦ (none.0, none-behind i p es none.1) | false ↦ none-behind i p es none.1 ]

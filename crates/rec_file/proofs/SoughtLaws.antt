@@ -1,4 +1,4 @@
--- What a search in a group finds, and an edit at the place that it finds.
+-- What a search in a group finds, and an edit at the index that it finds.
 use Rattle.std.proofs.Common.{◌≡◌, ℕ, zero, suc, ◌+◌, ◌-◌, ◌<◌, ◌≤◌, cond, eqb, true, false, List, [], ◌∷◌, length, take, drop, get_or, Some, None, is_some, slice_get, refl, sym, ap, subst, ◌∙◌, arith, inl, inr}
 use Rattle.std.specs.List.{insert, remove}
 use Rattle.std.specs.Ordering.{nat_cmp, is_le}
@@ -11,11 +11,11 @@ use Rattle.std.proofs.lemmas.Bool.Decides.{nat_tests}
 use Rattle.std.proofs.lemmas.List.{length-map, length-drop, length-take-le}
 use Rattle.std.proofs.lemmas.Option.{slice_get-get_or, slice_get_read}
 use Rattle.rec_file.specs.Inner.Sorted.{IsInOrder, IsIndexOf, IsGapFor}
-use Rattle.rec_file.specs.Inner.Places.{slot_of, with_slot, slots_from}
+use Rattle.rec_file.specs.Inner.Slots.{slot_of, with_slot, slots_from}
 use Rattle.rec_file.proofs.Rising.{at, IsRising, same_or_not}
 use Rattle.rec_file.proofs.Keyed.{lookup_is_at, at-inserted, rising-inserted, at-removed, rising-removed}
-use Rattle.rec_file.proofs.Gaps.{numbers, ordered, at-gap, at-place, at-insert, at-remove, rising-insert, rising-remove, number_at}
-use Rattle.rec_file.proofs.PlacesLaws.{rising-of, same-entries}
+use Rattle.rec_file.proofs.Gaps.{numbers, ordered, at-gap, at-index, at-insert, at-remove, rising-insert, rising-remove, number_at}
+use Rattle.rec_file.proofs.SlotsLaws.{rising-of, same-entries}
 
 module _ (es : List (ℕ × ℕ)) (sorted : is_sorted nat_cmp es ≡ true) (p i : ℕ) where
   r : IsRising es
@@ -36,16 +36,16 @@ module _ (es : List (ℕ × ℕ)) (sorted : is_sorted nat_cmp es ≡ true) (p i 
     number = sym (number_at es i (get_or es i (0, 0)) entry) ∙ found.same
 
     at-found : at es p ≡ Some (get_or es i (0, 0)).1
-    at-found = subst (λ n. at es n ≡ Some (get_or es i (0, 0)).1) number (at-place es i (get_or es i (0, 0)) r entry)
+    at-found = subst (λ n. at es n ≡ Some (get_or es i (0, 0)).1) number (at-index es i (get_or es i (0, 0)) r entry)
 
-    pub found-place : Some (get_or es i (0, 0)).1 ≡ slot_of es p
-    found-place = sym (lookup_is_at es p ∙ at-found)
+    pub found-slot : Some (get_or es i (0, 0)).1 ≡ slot_of es p
+    found-slot = sym (lookup_is_at es p ∙ at-found)
 
-    pub read-place : (e : ℕ × ℕ) → e ≡ get_or es i e → Some e.1 ≡ slot_of es p
-    read-place e is = let there = slice_get_read es (length es) i e refl within is in sym (lookup_is_at es p ∙ subst (λ n. at es n ≡ Some e.1) (sym (number_at es i e there) ∙ found.same) (at-place es i e r there))
+    pub read-slot : (e : ℕ × ℕ) → e ≡ get_or es i e → Some e.1 ≡ slot_of es p
+    read-slot e is = let there = slice_get_read es (length es) i e refl within is in sym (lookup_is_at es p ∙ subst (λ n. at es n ≡ Some e.1) (sym (number_at es i e there) ∙ found.same) (at-index es i e r there))
 
     pub with-found : (j : ℕ) → es ≡ with_slot es p j
-    with-found j = sym (ap (λ o. cond (is_some o) es (insert_entry nat_cmp es p j)) (sym found-place))
+    with-found j = sym (ap (λ o. cond (is_some o) es (insert_entry nat_cmp es p j)) (sym found-slot))
 
     pub taken-found : remove es i ≡ remove_entry (is_at (nat_cmp p)) es
     taken-found =
@@ -54,16 +54,16 @@ module _ (es : List (ℕ × ℕ)) (sorted : is_sorted nat_cmp es ≡ true) (p i 
 
   -- nothing stands where a gap was found
   module _ (gap : IsGapFor (numbers es) p i) where
-    pub gap-place : None ≡ slot_of es p
-    gap-place = sym (lookup_is_at es p ∙ at-gap es p i gap)
+    pub gap-slot : None ≡ slot_of es p
+    gap-slot = sym (lookup_is_at es p ∙ at-gap es p i gap)
 
     pub with-gap : (j : ℕ) → insert es i (p, j) ≡ with_slot es p j
     with-gap j =
         same-entries (insert es i (p, j)) (insert_entry nat_cmp es p j) (rising-insert es p i j r gap) (rising-inserted es p j r)
         (λ q. at-insert es p i j gap q ∙ sym (at-inserted es p j q))
-        ∙ ap (λ o. cond (is_some o) es (insert_entry nat_cmp es p j)) gap-place
+        ∙ ap (λ o. cond (is_some o) es (insert_entry nat_cmp es p j)) gap-slot
 
--- smaller numbers before a place, and none from it on
+-- smaller numbers before an index, and none from it on
 record Parts (ns : List ℕ) (p i : ℕ) : Type 0 where
   in_range : i ≤ length ns
   before : (j : ℕ) → j < i → get_or ns j 0 < p

@@ -42,8 +42,8 @@ keeps_length file current body =
     not (is_seq file.shape.org) || nat_eq (length body) (length (unwrap_or (option_and_then (get file.records) current) []))
 
 -- the number that a put without a key takes
-abbrev pub free_place : FileVal → StreamVal → ℕ
-free_place file stream = if is_seq file.shape.org then highest_of file.records + 1 else stream.next
+abbrev pub free_number : FileVal → StreamVal → ℕ
+free_number file stream = if is_seq file.shape.org then highest_of file.records + 1 else stream.next
 
 -- The number that an operation is about, 0 where there is none. A get of the next record: the lowest occupied number
 -- from the stream's next on. A put without a key: the number after the highest in a sequential file, and the stream's
@@ -52,7 +52,7 @@ abbrev pub target_number : Operation → FileVal → StreamVal → ℕ
 target_number (get_record Next) file stream = unwrap_or (lowest_from file.records stream.next) 0
 target_number (get_record (Key n)) file stream = n
 target_number (get_record (Rfa n)) file stream = n
-target_number (put_record None body) file stream = free_place file stream
+target_number (put_record None body) file stream = free_number file stream
 target_number (put_record (Some n) body) file stream = n
 target_number (update_record body) file stream = unwrap_or (current_of file stream) 0
 target_number delete_record file stream = unwrap_or (current_of file stream) 0
@@ -78,10 +78,10 @@ refusals_of (get_record (Rfa n)) file stream =
 refusals_of (put_record None body) file stream =
     (not stream.rights.put, NotPermitted)
     ∷ (not (allows_length file.shape (length body)), BadLength)
-    ∷ (out_of_range file.shape (free_place file stream), NumberOutOfRange)
+    ∷ (out_of_range file.shape (free_number file stream), NumberOutOfRange)
     ∷ (
       not (is_seq file.shape.org)
-          && not (is_free_number file (free_place file stream)),
+          && not (is_free_number file (free_number file stream)),
       RecordExists,
     )
     ∷ []

@@ -2,4 +2,4 @@
 pub mod Sorted
 pub mod Numbered
 pub mod Pages
-pub mod Places
+pub mod Slots

@@ -20,7 +20,7 @@ pub enum AnyFile {
 }
 
 impl AnyFile {
-    /// An empty file of the shape's organization, the shape being one that [`Shape::check`] gives. It takes no
+    /// Returns an empty file of the shape's organization, the shape being one that [`Shape::check`] gives. It takes no
     /// memory.
     pub fn new(alloc: Global, shape: Shape) -> AnyFile
         requires { IsTrue (is_shape shape) }

@@ -9,8 +9,9 @@ ghost use Rattle.rec_file.specs.Files.{FileVal, IsFile, lowest_from, highest_of,
 use crate::shapes::Shape;
 use std::alloc::AllocError;
 
-/// What a file does in one walk to the record of a number, so that nobody has to look for it before. [`Stream`]s are made of
-/// these calls; whoever uses a file itself needs none of them, and finds those of [`RecordFile`] simpler.
+/// The calls of a file that find the record of a number and act on it in one walk, so that a caller needn't look for
+/// it before. [`Stream`]s are made of these calls; whoever uses a file itself needs none of them, and finds those of
+/// [`RecordFile`] simpler.
 ///
 /// `insert_if_free` and `replace_if_occupied` alone take memory; where it is refused, nothing has changed.
 ///
@@ -19,7 +20,7 @@ pub trait OneWalk {
     /// The shape and the records.
     ghost value: { Self → FileVal };
 
-    /// The record of the lowest occupied number from this one on, after its number, or None where there is none.
+    /// Returns the lowest occupied number from this one on and its record, or None where there is none.
     fn record_from(&self, number: u32) -> Option<(u32, &[u8])>
         ensures none { IfNone result (lowest_from (value self.now).records number ≡ None) }
         ensures lowest { IfSome result
@@ -29,8 +30,9 @@ pub trait OneWalk {
         ensures within { IfSome result (λ r. r.0 ≤ max_record_number) }
         ensures short { IfSome result (λ r. length r.1.now ≤ max_record) };
 
-    /// Stores a record under a number, in a sequential file under the next one: whether the number was free. Where it
-    /// wasn't, nothing has changed. An error is out of memory: the number is free, and nothing has changed.
+    /// Stores a record under a number, in a sequential file under the next one, and returns whether the number was
+    /// free. Where it wasn't, nothing has changed. An error is out of memory: the number is free, and nothing has
+    /// changed.
     fn insert_if_free(&mut self, number: u32, body: &[u8]) -> Result<bool, AllocError>
         requires above { 1 ≤ number }
         requires within { number ≤ max_number (value self.old).shape }
@@ -45,8 +47,8 @@ pub trait OneWalk {
         ensures err { OnErr result (value self.new ≡ value self.old) }
         ensures wanted { OnErr result (map.get (value self.old).records number ≡ None) };
 
-    /// Stores another record under a number: whether it was occupied. Where it wasn't, nothing has changed. An error is
-    /// out of memory: the number is occupied, and nothing has changed.
+    /// Stores another record under a number, and returns whether it was occupied. Where it wasn't, nothing has
+    /// changed. An error is out of memory: the number is occupied, and nothing has changed.
     fn replace_if_occupied(&mut self, number: u32, body: &[u8]) -> Result<bool, AllocError>
         requires length { IsTrue (allows_length (value self.old).shape (length body.now)) }
         ensures occupied { IfOk result
@@ -57,7 +59,8 @@ pub trait OneWalk {
         ensures err { OnErr result (value self.new ≡ value self.old) }
         ensures wanted { OnErr result (IsSome (map.get (value self.old).records number)) };
 
-    /// Removes the record of a number of a relative file: whether it was occupied. Where it wasn't, nothing has changed.
+    /// Removes the record of a number of a relative file, and returns whether it was occupied. Where it wasn't,
+    /// nothing has changed.
     fn remove_if_occupied(&mut self, number: u32) -> bool
         requires relative { is_seq (value self.old).shape.org ≡ false }
         ensures occupied { result ≡ is_some (map.get (value self.old).records number) }
@@ -71,18 +74,18 @@ pub trait OneWalk {
 ///
 /// `place` and `replace` alone take memory; where it is refused, nothing has changed.
 pub trait RecordFile: OneWalk {
-    /// The shape, which is one that [`Shape::check`] gives. Numbers are 1 to the limit, in a
-    /// sequential file exactly 1 to the highest, and each record has a length that the shape allows.
+    /// Returns the shape, which is one that [`Shape::check`] gives. Numbers are 1 to the limit, in a sequential file
+    /// exactly 1 to the highest, and each record has a length that the shape allows.
     fn shape(&self) -> Shape
         ensures same { result ≡ (Self.value self.now).shape }
         ensures valid { IsFile (Self.value self.now) };
 
-    /// The record of a number, or None where the number is free.
+    /// Returns the record of a number, or None where the number is free.
     fn lookup(&self, number: u32) -> Option<&[u8]>
         ensures same { option_copied result ≡ map.get (Self.value self.now).records number }
         ensures short { IfSome result (λ body. length body.now ≤ max_record) };
 
-    /// The lowest occupied number from this one on, or None where there is none.
+    /// Returns the lowest occupied number from this one on, or None where there is none.
     fn first_from(&self, number: u32) -> Option<u32>
         ensures lowest { result ≡ lowest_from (Self.value self.now).records number }
         ensures within { IfSome result (λ n. n ≤ max_record_number) }
@@ -91,7 +94,7 @@ pub trait RecordFile: OneWalk {
         Some(first)
     }
 
-    /// The highest occupied number, or 0 where the file is empty.
+    /// Returns the highest occupied number, or 0 where the file is empty.
     fn highest(&self) -> u32
         ensures same { result ≡ highest_of (Self.value self.now).records }
         ensures within { result ≤ max_record_number };
@@ -136,8 +139,8 @@ pub trait RecordFile: OneWalk {
     }
 }
 
-/// The record of the lowest occupied number from this one on, after its number: one step through the records of a
-/// file in order. None where there is no such record.
+/// Returns the lowest occupied number from this one on and its record: one step through the records of a file in
+/// order. None where there is no such record.
 pub fn first_record<F: RecordFile>(file: &F, number: u32) -> Option<(u32, &[u8])>
     ensures none { IfNone result (records_from (F.value file.now).records number ≡ []) }
     ensures some { IfSome result (λ r. records_from (F.value file.now).records number

@@ -9,11 +9,11 @@ mod any;
 mod files;
 mod pages;
 mod picks;
-mod places;
 mod refusals;
 mod relative;
 mod sequential;
 mod shapes;
+mod slots;
 mod sorted;
 mod streams;
 

@@ -11,7 +11,7 @@ use std::marker::Model;
 /// How many cells a page has.
 pub(crate) const CELLS: u32 = 64;
 
-/// The page of a number.
+/// Returns the page of a number.
 pub(crate) fn page_of(number: u32) -> u32
     requires { 1 ≤ number }
     ensures { result ≡ page_of number }
@@ -19,7 +19,7 @@ pub(crate) fn page_of(number: u32) -> u32
     (number - 1) / CELLS
 }
 
-/// The cell of a number within its page.
+/// Returns the cell of a number within its page.
 pub(crate) fn cell_of(number: u32) -> usize
     requires { 1 ≤ number }
     ensures same { result ≡ cell_of number }
@@ -49,7 +49,7 @@ impl Model for Page {
 }
 
 impl Page {
-    /// A page with one record. It takes no memory.
+    /// Returns a page with one record. It takes no memory.
     pub(crate) fn with(alloc: Global, at: usize, body: Vec<u8>) -> Page
         requires { at < 64 }
         ensures { result ≡ slice_set empty_cells at (Some body.items) }
@@ -60,7 +60,7 @@ impl Page {
         }
     }
 
-    /// The record of a cell.
+    /// Returns the record of a cell.
     pub(crate) fn get(&self, at: usize) -> Option<&[u8]>
         requires { at < 64 }
         ensures { option_copied result ≡ cell self.now at }
@@ -105,7 +105,7 @@ impl Page {
         self.mask &= !(1u64 << at);
     }
 
-    /// How many cells below this one are occupied: the place of its record.
+    /// Returns how many cells below this one are occupied: the index of its record.
     fn rank(&self, at: usize) -> usize
         requires { at < 64 }
         ensures { result ≡ occupied_below self.now at }
@@ -114,14 +114,14 @@ impl Page {
         below.count_ones() as usize
     }
 
-    /// Whether no cell is occupied.
+    /// Returns whether no cell is occupied.
     pub(crate) fn is_empty(&self) -> bool
         ensures { IsTrue result ↔ ((k : ℕ) → cell self.now k ≡ None) }
     {
         self.mask == 0
     }
 
-    /// The first occupied cell from this one on.
+    /// Returns the first occupied cell from this one on.
     pub(crate) fn first_from(&self, at: usize) -> Option<usize>
         requires { at < 64 }
         ensures none { IfNone result ((k : ℕ) → at ≤ k → cell self.now k ≡ None) }
@@ -135,7 +135,7 @@ impl Page {
         }
     }
 
-    /// The last occupied cell.
+    /// Returns the last occupied cell.
     pub(crate) fn last(&self) -> Option<usize>
         ensures none { IfNone result ((k : ℕ) → cell self.now k ≡ None) }
         ensures some { IfSome result (IsLastIn self.now) }
@@ -148,7 +148,7 @@ impl Page {
     }
 }
 
-/// The number of the first record in the cells of the page with this number, from one on.
+/// Returns the number of the first record in the cells of the page with this number, from one cell on.
 pub(crate) fn first_in(at: u32, page: &Page, from: usize) -> Option<u32>
     requires page { at ≤ last_page }
     requires cell { from < 64 }
@@ -160,7 +160,7 @@ pub(crate) fn first_in(at: u32, page: &Page, from: usize) -> Option<u32>
     Some(CELLS * at + cell as u32 + 1)
 }
 
-/// The number of the last record in the page with this number.
+/// Returns the number of the last record in the page with this number.
 pub(crate) fn last_in(at: u32, page: &Page) -> Option<u32>
     requires { at ≤ last_page }
     ensures none { IfNone result ((k : ℕ) → cell page.now k ≡ None) }

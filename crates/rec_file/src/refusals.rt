@@ -34,7 +34,7 @@ pub enum Refusal {
 }
 
 impl Refusal {
-    /// What is printed of it.
+    /// Returns what is printed of the refusal.
     fn text(self) -> &'static str {
         match self {
             Refusal::NotPermitted => "the stream lacks the right",
@@ -52,8 +52,8 @@ impl Refusal {
     }
 }
 
-/// The number that a key's 1 to 4 bytes spell, the least significant first; refused as BadKey at any other length.
-/// It takes no memory.
+/// Returns the number that a key's 1 to 4 bytes spell, the lowest first; refused as BadKey at any other length. It
+/// takes no memory.
 pub fn key_number(key: &[u8]) -> Result<u32, Refusal>
     ensures { result ≡ number_of_key key.now }
 {

@@ -14,20 +14,20 @@ ghost use Rattle.rec_file.specs.Inner.Pages.{pages_at, page_cell, put_entry, Hav
 
 use crate::files::{OneWalk, RecordFile};
 use crate::pages::{Page, cell_of, first_in, last_in, page_of};
-use crate::places::{Places, Put};
 use crate::shapes::Shape;
+use crate::slots::{Put, Slots};
 use slab::Slab;
 use std::alloc::{AllocError, Global};
 use std::marker::Model;
 
-/// A relative file (in the manner of RMS): each number from 1 to the limit has a record or
-/// none. Number n is in cell `(n - 1) % 64` of page `(n - 1) / 64`; a page is kept while it has
-/// a record, and the places of the pages are kept in the order of their numbers.
+/// A relative file (in the manner of RMS): each number from 1 to the limit has a record or none. Number n is in cell
+/// `(n - 1) % 64` of page `(n - 1) / 64`; a page is kept while it has a record, and the slots of the pages are kept in
+/// the order of the pages' numbers.
 #[derive(Drop)]
 pub struct RelFile {
     shape: Shape,
     alloc: Global,
-    places: Places,
+    slots: Slots,
     pages: Slab<Page>,
 }
 
@@ -46,18 +46,18 @@ impl Model for RelFile {
 
     ghost coded = { file_code };
 
-    ghost view = { λ a. paged_file a.shape (pages_at (get a.pages) a.places) };
+    ghost view = { λ a. paged_file a.shape (pages_at (get a.pages) a.slots) };
 
-    ghost invariant = { λ a. IsFile (paged_file a.shape (pages_at (get a.pages) a.places))
+    ghost invariant = { λ a. IsFile (paged_file a.shape (pages_at (get a.pages) a.slots))
         × (is_seq a.shape.org ≡ false)
-        × (is_sorted nat_cmp (pages_at (get a.pages) a.places) ≡ true)
-        × AllByRecursion IsPage (map (λ p. p.1) (pages_at (get a.pages) a.places))
-        × HaveOwnSlots a.places
-        × (slab_len a.pages ≡ length a.places) };
+        × (is_sorted nat_cmp (pages_at (get a.pages) a.slots) ≡ true)
+        × AllByRecursion IsPage (map (λ p. p.1) (pages_at (get a.pages) a.slots))
+        × HaveOwnSlots a.slots
+        × (slab_len a.pages ≡ length a.slots) };
 }
 
 impl RelFile {
-    /// An empty file of a relative shape that [`Shape::check`] gives. It takes no memory.
+    /// Returns an empty file of a relative shape that [`Shape::check`] gives. It takes no memory.
     pub fn new(alloc: Global, shape: Shape) -> RelFile
         requires valid { IsTrue (is_shape shape) }
         requires relative { is_seq shape.org ≡ false }
@@ -66,19 +66,19 @@ impl RelFile {
         RelFile {
             shape,
             alloc,
-            places: Places::new(alloc),
+            slots: Slots::new(alloc),
             pages: Slab::new(alloc),
         }
     }
 
-    /// How many pages are kept: as many as the occupied numbers n have different values of `(n - 1) / 64`.
+    /// Returns how many pages are kept: as many as the occupied numbers n have different values of `(n - 1) / 64`.
     pub fn page_count(&self) -> usize
         ensures { result ≡ occupied_pages self.now.records }
     {
         self.pages.len()
     }
 
-    /// The lowest occupied number from this one on, and its page.
+    /// Returns the lowest occupied number from this one on, and its page.
     fn spot_from(&self, number: u32) -> Option<(u32, &Page)>
         ensures none { IfNone result (lowest_from self.now.records number ≡ None) }
         ensures spot { IfSome result (λ s. IsSpot self.now number s.0 s.1.now) }
@@ -87,17 +87,17 @@ impl RelFile {
     {
         let least = number.max(1);
         let own = page_of(least);
-        let mut rest = self.places.from(own);
-        let (at, place) = rest.pop_first()?;
-        let Some(page) = self.pages.get(place) else {
+        let mut rest = self.slots.from(own);
+        let (at, slot) = rest.pop_first()?;
+        let Some(page) = self.pages.get(slot) else {
             unreachable!();
         };
         let from = if at == own { cell_of(least) } else { 0 };
         match first_in(at, page, from) {
             Some(first) => Some((first, page)),
             None => {
-                let (at, place) = rest.pop_first()?;
-                let Some(page) = self.pages.get(place) else {
+                let (at, slot) = rest.pop_first()?;
+                let Some(page) = self.pages.get(slot) else {
                     unreachable!();
                 };
                 let Some(first) = first_in(at, page, 0) else {
@@ -109,10 +109,10 @@ impl RelFile {
     }
 }
 
-/// Stores a record in a page that is kept, or else in a new one: whether its cell was empty. An error is a refused
-/// allocation: the cell is empty. Where it wasn't stored nothing has changed.
+/// Stores a record in a page that is kept, or else in a new one, and returns whether its cell was empty. An error is a
+/// refused allocation: the cell is empty. Where the record wasn't stored, nothing has changed.
 fn put_in(
-    places: &mut Places,
+    slots: &mut Slots,
     pages: &mut Slab<Page>,
     alloc: Global,
     at: u32,
@@ -121,24 +121,24 @@ fn put_in(
 ) -> Result<bool, AllocError>
     requires within { cell < 64 }
     requires kept { AllByRecursion IsPage (each (λ p. p.1) (pages_at (get pages.old)
-        places.old)) }
-    requires own { HaveOwnSlots places.old }
-    requires as_many { slab_len pages.old ≡ length places.old }
+        slots.old)) }
+    requires own { HaveOwnSlots slots.old }
+    requires as_many { slab_len pages.old ≡ length slots.old }
     ensures empty { IfOk result (λ empty. empty ≡ is_none (page_cell
-        (lookup (is_at (nat_cmp at)) (pages_at (get pages.old) places.old)) cell)) }
-    ensures ok { IfOk result (λ empty. MatchBool empty (pages_at (get pages.new) places.new
-        ≡ put_entry (pages_at (get pages.old) places.old) at cell body.now)
-        (pages_at (get pages.new) places.new ≡ pages_at (get pages.old) places.old)) }
-    ensures err { OnErr result (pages_at (get pages.new) places.new
-        ≡ pages_at (get pages.old) places.old) }
+        (lookup (is_at (nat_cmp at)) (pages_at (get pages.old) slots.old)) cell)) }
+    ensures ok { IfOk result (λ empty. MatchBool empty (pages_at (get pages.new) slots.new
+        ≡ put_entry (pages_at (get pages.old) slots.old) at cell body.now)
+        (pages_at (get pages.new) slots.new ≡ pages_at (get pages.old) slots.old)) }
+    ensures err { OnErr result (pages_at (get pages.new) slots.new
+        ≡ pages_at (get pages.old) slots.old) }
     ensures wanted { OnErr result (page_cell
-        (lookup (is_at (nat_cmp at)) (pages_at (get pages.old) places.old)) cell ≡ None) }
-    ensures own { HaveOwnSlots places.new }
-    ensures as_many { slab_len pages.new ≡ length places.new }
+        (lookup (is_at (nat_cmp at)) (pages_at (get pages.old) slots.old)) cell ≡ None) }
+    ensures own { HaveOwnSlots slots.new }
+    ensures as_many { slab_len pages.new ≡ length slots.new }
 {
-    match places.put(alloc, at, pages, body)? {
-        Put::Kept(place) => {
-            let Some(page) = pages.get_mut(place) else {
+    match slots.put(alloc, at, pages, body)? {
+        Put::Kept(slot) => {
+            let Some(page) = pages.get_mut(slot) else {
                 unreachable!();
             };
             if page.get(cell).is_some() {
@@ -167,25 +167,18 @@ impl OneWalk for RelFile {
     fn insert_if_free(&mut self, number: u32, body: &[u8]) -> Result<bool, AllocError> {
         let at = page_of(number);
         let cell = cell_of(number);
-        put_in(
-            &mut self.places,
-            &mut self.pages,
-            self.alloc,
-            at,
-            cell,
-            body,
-        )
+        put_in(&mut self.slots, &mut self.pages, self.alloc, at, cell, body)
     }
 
     fn replace_if_occupied(&mut self, number: u32, body: &[u8]) -> Result<bool, AllocError> {
-        let places = &self.places;
+        let slots = &self.slots;
         if number == 0 {
             return Ok(false);
         }
-        let Some(place) = places.get(page_of(number)) else {
+        let Some(slot) = slots.get(page_of(number)) else {
             return Ok(false);
         };
-        let Some(page) = self.pages.get_mut(place) else {
+        let Some(page) = self.pages.get_mut(slot) else {
             unreachable!();
         };
         let cell = cell_of(number);
@@ -197,11 +190,11 @@ impl OneWalk for RelFile {
     }
 
     fn remove_if_occupied(&mut self, number: u32) -> bool {
-        let places = &mut self.places;
+        let slots = &mut self.slots;
         if number == 0 {
             return false;
         }
-        places.clear(page_of(number), cell_of(number), &mut self.pages)
+        slots.clear(page_of(number), cell_of(number), &mut self.pages)
     }
 }
 
@@ -211,22 +204,22 @@ impl RecordFile for RelFile {
     }
 
     fn lookup(&self, number: u32) -> Option<&[u8]> {
-        let places = &self.places;
+        let slots = &self.slots;
         if number == 0 {
             return None;
         }
-        let place = places.get(page_of(number))?;
-        let Some(page) = self.pages.get(place) else {
+        let slot = slots.get(page_of(number))?;
+        let Some(page) = self.pages.get(slot) else {
             unreachable!();
         };
         page.get(cell_of(number))
     }
 
     fn highest(&self) -> u32 {
-        let Some((at, place)) = self.places.last() else {
+        let Some((at, slot)) = self.slots.last() else {
             return 0;
         };
-        let Some(page) = self.pages.get(place) else {
+        let Some(page) = self.pages.get(slot) else {
             unreachable!();
         };
         let Some(highest) = last_in(at, page) else {

@@ -34,7 +34,7 @@ impl Model for SeqFile {
 }
 
 impl SeqFile {
-    /// An empty file of a sequential shape that [`Shape::check`] gives. It takes no memory.
+    /// Returns an empty file of a sequential shape that [`Shape::check`] gives. It takes no memory.
     pub fn new(alloc: Global, shape: Shape) -> SeqFile
         requires valid { IsTrue (is_shape shape) }
         requires sequential { IsTrue (is_seq shape.org) }
@@ -72,7 +72,7 @@ impl OneWalk for SeqFile {
         Ok(true)
     }
 
-    /// No file is sequential and relative.
+    /// Is never called: no file is sequential and relative.
     fn remove_if_occupied(&mut self, _number: u32) -> bool {
         let _ = &self.shape;
         unreachable!()

@@ -2,7 +2,7 @@
 ghost use Rattle.std.specs.Prelude.{◌≡◌, IfSome, IsTrue};
 ghost use Rattle.rec_file.specs.Shapes.{checked_shape, is_shape, max_number, allows_length, is_seq};
 
-/// How the numbers of a file's records are given out (in the manner of RMS).
+/// How a file's records are numbered (in the manner of RMS).
 #[derive(Clone, Copy, Debug, PartialEq, Eq)]
 pub enum Org {
     /// Records are in the order in which they came, numbered 1, 2, 3, .. without a gap.
@@ -16,7 +16,7 @@ pub enum Org {
 pub enum Format {
     /// All records have one length.
     Fixed,
-    /// Each record has a length of its own.
+    /// Records may differ in length.
     Variable,
 }
 
@@ -29,23 +29,23 @@ pub enum Format {
 pub struct Shape {
     pub org: Org,
     pub format: Format,
-    /// Bytes: the length of each record of a fixed file, and the greatest of a variable one, where
-    /// 0 sets none. At most [`MAX_RECORD`].
+    /// Bytes: the length of each record of a fixed file, and the maximum of a variable one, where 0 sets none. At most
+    /// [`MAX_RECORD`].
     pub mrs: u16,
-    /// The greatest number of a relative file, where 0 sets none. At most [`MAX_NUMBER`], and 0 in
-    /// a sequential file.
+    /// The maximum record number of a relative file, where 0 sets none. At most [`MAX_NUMBER`], and 0 in a sequential
+    /// file.
     pub mrn: u32,
 }
 
-/// No record has more bytes.
+/// The maximum of a record in bytes.
 pub const MAX_RECORD: u16 = 32767;
 
-/// No record has a greater number.
+/// The maximum of a record number.
 pub const MAX_NUMBER: u32 = 2147483647;
 
 impl Shape {
-    /// The shape that four attributes name, or None where they name none (DAP 5.6.0, Attributes message; the bounds
-    /// are own).
+    /// Returns the shape that four attributes name, or None where they name none (DAP 5.6.0, Attributes message; the
+    /// bounds are a choice of this implementation).
     ///
     /// `org` is 0 (sequential) or 16 (relative), `rfm` 1 (fixed) or 2 (variable), `mrs` at most [`MAX_RECORD`]
     /// bytes and at least 1 where the format is fixed, and `mrn` at most [`MAX_NUMBER`]; a sequential file holds it
@@ -85,21 +85,21 @@ impl Shape {
         })
     }
 
-    /// Whether the organization is the sequential one.
+    /// Returns whether the organization is the sequential one.
     pub fn is_sequential(&self) -> bool
         ensures { result ≡ is_seq self.now.org }
     {
         self.org == Org::Seq
     }
 
-    /// The greatest number that a record of the file can have: `mrn`, or [`MAX_NUMBER`] where that is 0.
+    /// Returns the maximum record number of the file: `mrn`, or [`MAX_NUMBER`] where that is 0.
     pub fn limit(&self) -> u32
         ensures { result ≡ max_number self.now }
     {
         if self.mrn == 0 { MAX_NUMBER } else { self.mrn }
     }
 
-    /// Whether a record of the file can have this many bytes.
+    /// Returns whether a record of the file can have this many bytes.
     pub fn allows(&self, length: usize) -> bool
         ensures { result ≡ allows_length self.now length }
     {

@@ -1,4 +1,4 @@
-//! A stream: a place in a file, and the operations of a user on it.
+//! A stream: a position in a file, and the operations of a user on it.
 ghost use Rattle.std.specs.Prelude.{◌≡◌, ◌≤◌, ◌+◌, false, length, Some, Ok, Err, IfErr, IfOk, IsTrue, if◌then◌else◌};
 ghost use Rattle.rec_file.specs.declared.refusals.Refusal.TheVariants.{NoCurrent, RecordExists};
 ghost use Rattle.rec_file.specs.Files.{highest_of};
@@ -13,12 +13,12 @@ use crate::refusals::Refusal;
 use crate::shapes::MAX_NUMBER;
 use std::marker::Model;
 
-/// A user's place in a file, and what the user may do (in the manner of RMS): the number from
-/// which the next get searches, from 1 to one above [`MAX_NUMBER`], and perhaps a current record.
+/// A user's position in a file, and what the user may do (in the manner of RMS): the number from which the next get
+/// searches, from 1 to one above [`MAX_NUMBER`], and perhaps a current record.
 ///
-/// An operation answers the number of its record, or the first of its refusals whose condition
-/// holds. Each operation leaves no current record, refused or not, save a get that finds one, and
-/// save out of memory, which comes last and changes nothing.
+/// An operation returns the number of its record, or the first of its refusals whose condition holds. Each operation
+/// leaves no current record, refused or not, save a get that finds one, and save out of memory, which comes last and
+/// changes nothing.
 #[derive(Clone, Copy)]
 pub struct Stream {
     rights: Rights,
@@ -41,7 +41,7 @@ impl Model for Stream {
 }
 
 impl Stream {
-    /// A stream at number 1, with no current record.
+    /// Returns a stream at number 1, with no current record.
     pub fn new(rights: Rights) -> Stream
         ensures { result ≡ record { rights = rights; next = 1; current = None } }
     {
@@ -52,14 +52,14 @@ impl Stream {
         }
     }
 
-    /// What its user may do.
+    /// Returns what its user may do.
     pub fn rights(&self) -> Rights
         ensures { result ≡ self.now.rights }
     {
         self.rights
     }
 
-    /// The number from which the next get searches: 1 to one above [`MAX_NUMBER`].
+    /// Returns the number from which the next get searches: 1 to one above [`MAX_NUMBER`].
     pub fn next(&self) -> u32
         ensures same { result ≡ self.now.next }
         ensures above { 1 ≤ result }
@@ -68,7 +68,7 @@ impl Stream {
         self.next
     }
 
-    /// The next get searches from n on, and no record is current.
+    /// Makes the next get search from n on, with no current record.
     pub fn seek(&mut self, n: u32)
         requires above { 1 ≤ n }
         requires within { n ≤ max_record_number + 1 }
@@ -81,14 +81,14 @@ impl Stream {
         };
     }
 
-    /// The next get searches from 1 on, and no record is current.
+    /// Makes the next get search from 1 on, with no current record.
     pub fn rewind(&mut self)
         ensures { self.new ≡ record self.old { next = 1; current = None } }
     {
         self.seek(1);
     }
 
-    /// No record is current then, and nothing else changes.
+    /// Forgets the current record, and changes nothing else.
     pub fn forget(&mut self)
         ensures { self.new ≡ record self.old { current = None } }
     {
@@ -96,8 +96,8 @@ impl Stream {
         *self = Stream { current, ..*self };
     }
 
-    /// Finds a record. It becomes the current one, and the next get searches after it; a refused get leaves where
-    /// the next one searches. It takes no memory.
+    /// Finds a record. It becomes the current one, and the next get searches after it; a refused get doesn't change
+    /// where the next one searches. It takes no memory.
     ///
     /// Refusals in order: NotPermitted; by `Next` EndOfFile; by `Key` BadAccessMode in a sequential file,
     /// NumberOutOfRange, RecordNotFound; by `Rfa` NumberOutOfRange, RecordNotFound.
@@ -110,8 +110,8 @@ impl Stream {
         Ok(number)
     }
 
-    /// A get that answers the record too, after its number. It takes no memory. Its refusals are those of
-    /// [`Stream::get`].
+    /// Gets a record as [`Stream::get`] does, and returns it too, after its number. It takes no memory. Its refusals
+    /// are those of [`Stream::get`].
     pub fn read<'a, F: RecordFile>(
         &mut self,
         file: &'a F,
@@ -140,7 +140,7 @@ impl Stream {
         }
     }
 
-    /// The record that a get finds, after its number.
+    /// Returns the record that a get finds, after its number.
     fn found<'a, F: RecordFile>(&self, file: &'a F, pick: Pick) -> Result<(u32, &'a [u8]), Refusal>
         ensures refused { IfErr result (λ refusal.
             (act (get_record pick) (F.value file.now) self.now).reply ≡ Err refusal) }
@@ -209,7 +209,7 @@ impl Stream {
         }
     }
 
-    /// The number that a put gives, where it is free.
+    /// Returns the number that a put gives, where it is free.
     fn put_number<F: RecordFile>(
         &self,
         file: &F,
@@ -276,7 +276,7 @@ impl Stream {
         }
     }
 
-    /// The number that an update is about, where it is occupied.
+    /// Returns the number that an update is about, where it is occupied.
     fn updated_number<F: RecordFile>(&self, file: &F, body: &[u8]) -> Result<u32, Refusal>
         ensures refused { IfErr result (λ refusal.
             (act (update_record body.now) (F.value file.now) self.now).reply ≡ Err refusal) }

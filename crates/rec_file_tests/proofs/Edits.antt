@@ -7,10 +7,10 @@ use Rattle.rec_file.specs.Inner.Sorted.{IsGapFor}
 use Rattle.rec_file.proofs.ForCallers.{at, AllAbove, IsRising, same_or_not, numbers, ordered}
 
 module _ {X : Type 0} where
-  above-place : (x : ℕ) (es : List (ℕ × X)) (i : ℕ) (e : ℕ × X) → AllAbove x es → slice_get es i ≡ Some e → x < e.0
-  above-place x [] i e h is = cc
-  above-place x (y ∷ es) zero e h is = subst (λ p. x < p.0) (same_Some y e is) h.0
-  above-place x (y ∷ es) (suc i) e h is = above-place x es i e h.1 is
+  above-index : (x : ℕ) (es : List (ℕ × X)) (i : ℕ) (e : ℕ × X) → AllAbove x es → slice_get es i ≡ Some e → x < e.0
+  above-index x [] i e h is = cc
+  above-index x (y ∷ es) zero e h is = subst (λ p. x < p.0) (same_Some y e is) h.0
+  above-index x (y ∷ es) (suc i) e h is = above-index x es i e h.1 is
 
   -- another value in the place of one
   pub at-set : (es : List (ℕ × X)) (i : ℕ) (e : ℕ × X) (v : X) → IsRising es → slice_get es i ≡ Some e → (q : ℕ) → at (set es i (e.0, v)) q ≡ cond (eqb q e.0) (Some v) (at es q)
@@ -18,7 +18,7 @@ module _ {X : Type 0} where
   at-set (x ∷ es) zero e v r is q = let same : x.0 ≡ e.0 = ap (λ p. p.0) (same_Some x e is) in grind (arith, nat_tests)
   at-set (x ∷ es) (suc i) e v r is q =
       let rest = at-set es i e v r.1 is q in
-      let up = above-place x.0 es i e r.0 is in
+      let up = above-index x.0 es i e r.0 is in
       grind (arith, nat_tests)
 
   above-set : (x : ℕ) (es : List (ℕ × X)) (i : ℕ) (e : ℕ × X) → AllAbove x es → x < e.0 → AllAbove x (set es i e)
@@ -29,7 +29,7 @@ module _ {X : Type 0} where
   pub rising-set : (es : List (ℕ × X)) (i : ℕ) (e : ℕ × X) (v : X) → IsRising es → slice_get es i ≡ Some e → IsRising (set es i (e.0, v))
   rising-set [] i e v r is = tt
   rising-set (x ∷ es) zero e v r is = (subst (λ p. AllAbove p.0 es) (same_Some x e is) r.0, r.1)
-  rising-set (x ∷ es) (suc i) e v r is = (above-set x.0 es i (e.0, v) r.0 (above-place x.0 es i e r.0 is), rising-set es i e v r.1 is)
+  rising-set (x ∷ es) (suc i) e v r is = (above-set x.0 es i (e.0, v) r.0 (above-index x.0 es i e r.0 is), rising-set es i e v r.1 is)
 
   -- a gap for a number is one for each number up to the next
   pub gap_from : (es : List (ℕ × X)) (n i k : ℕ) → IsRising es → IsGapFor (numbers es) n i → n ≤ k → (i < length (numbers es) → k < get_or (numbers es) i 0) → IsGapFor (numbers es) k i

@@ -14,7 +14,7 @@ use Rattle.rec_file.specs.Inner.Sorted.{IsInOrder, IsIndexOf, IsGapFor}
 use Rattle.rec_file.proofs.ForCallers.{at, IsRising, find_is_at, sorted_from_rising, rising_from_sorted, same_or_not}
 use Rattle.rec_file.proofs.ForCallers.{lowest_from_some, lowest_from_none, highest_of_some, highest_of_none}
 use Rattle.rec_file.proofs.ForCallers.{get_stored, get_removed, same_records}
-use Rattle.rec_file.proofs.ForCallers.{searched, numbers, ordered, at-gap, at-place, at-insert, at-remove, rising-insert, rising-remove, number_at}
+use Rattle.rec_file.proofs.ForCallers.{searched, numbers, ordered, at-gap, at-index, at-insert, at-remove, rising-insert, rising-remove, number_at}
 use Rattle.rec_file_tests.proofs.Edits.{at-set, rising-set, gap_from}
 
 true_test : (b : Bool) → b ≡ true → T b
@@ -38,7 +38,7 @@ module _ (s : Shape) (es : List (ℕ × List ℕ)) (f : FileVal) (e : list_file 
   get_is q = ap (λ g. get g.records q) (sym e) ∙ get_pairs es q r
 
   pub here : (i : ℕ) (p : ℕ × List ℕ) → slice_get es i ≡ Some p → Some p.1 ≡ get f.records p.0
-  here i p is = sym (get_is p.0 ∙ at-place es i p r is)
+  here i p is = sym (get_is p.0 ∙ at-index es i p r is)
 
   pub absent : (n i : ℕ) → IsGapFor (numbers es) n i → None ≡ get f.records n
   absent n i g = sym (get_is n ∙ at-gap es n i g)
@@ -48,14 +48,14 @@ module _ (s : Shape) (es : List (ℕ × List ℕ)) (f : FileVal) (e : list_file 
 
   pub first_after : (n i : ℕ) (p : ℕ × List ℕ) → IsGapFor (numbers es) n i → slice_get es i ≡ Some p → Some p.0 ≡ lowest_from f.records n
   first_after n i p g is =
-      let lt : i < length (numbers es) = place_within i p is in
+      let lt : i < length (numbers es) = index_within i p is in
       let up = g.greater_after i (omega arith) lt in
       let same = number_at es i p is in
       sym (lowest_from_some f.records n p.0 (omega arith) (ap is_some (sym (here i p is)))
       (λ j ge below. sym (absent j i (gap_from es n i j r g ge (λ _. omega arith)))))
     where
-      place_within : (i : ℕ) (p : ℕ × List ℕ) → slice_get es i ≡ Some p → i < length (numbers es)
-      place_within i p is = subst (λ n. i < n) (sym (length-map es _)) (slice_get_within es i p is)
+      index_within : (i : ℕ) (p : ℕ × List ℕ) → slice_get es i ≡ Some p → i < length (numbers es)
+      index_within i p is = subst (λ n. i < n) (sym (length-map es _)) (slice_get_within es i p is)
 
   pub no_first : (n i : ℕ) → IsGapFor (numbers es) n i → length es ≤ i → None ≡ lowest_from f.records n
   no_first n i g past = sym (lowest_from_none f.records n (λ j ge. sym (absent j i (gap_from es n i j r g ge (λ lt. let k = length-map es (λ (e : ℕ × List ℕ). e.0) in absurd (omega arith))))))
@@ -122,13 +122,13 @@ gap_of vs n i g = subst (λ ns. IsGapFor ns n i) (pairs_numbers vs) g
 pub read : (vs : List (ℕ × Vec ℕ Global)) (i : ℕ) (v : ℕ × Vec ℕ Global) → i < length vs → v ≡ get_or vs i v → slice_get (pairs vs) i ≡ Some (v.0, v.1.items)
 read vs i v lt is = slice_get-map (λ v. (v.0, v.1.items)) vs i ∙ ap (option_map (λ v. (v.0, v.1.items))) (slice_get_read vs (length vs) i v refl lt is)
 
--- the number of the entry at the place of a number
-pub place_is : (vs : List (ℕ × Vec ℕ Global)) (n i : ℕ) (v : ℕ × Vec ℕ Global) → IsIndexOf (map (λ v. v.0) vs) n i → v ≡ get_or vs i v → v.0 ≡ n
-place_is vs n i v p is =
+-- the number of the entry at the index of a number
+pub index_is : (vs : List (ℕ × Vec ℕ Global)) (n i : ℕ) (v : ℕ × Vec ℕ Global) → IsIndexOf (map (λ v. v.0) vs) n i → v ≡ get_or vs i v → v.0 ≡ n
+index_is vs n i v p is =
     let lt : i < length vs = subst (λ m. i < m) (length-map vs _) p.in_range in
     sym (number_at (pairs vs) i (v.0, v.1.items) (read vs i v lt is)) ∙ ap (λ ns. get_or ns i 0) (sym (pairs_numbers vs)) ∙ p.same
 
--- what stands at the place of a number
+-- what stands at the index of a number
 pub pair_at : (vs : List (ℕ × Vec ℕ Global)) (n i : ℕ) → IsIndexOf (map (λ v. v.0) vs) n i → (body : List ℕ) × (slice_get (pairs vs) i ≡ Some (n, body))
 pair_at [] n i p = absurd (omega (arith, p.in_range))
 pair_at (v ∷ vs) n zero p = (v.1.items, ap (λ k. Some (k, v.1.items)) p.same)
@@ -146,8 +146,8 @@ pairs_length [] = refl
 pairs_length (v ∷ vs) = omega (arith, pairs_length vs)
 
 -- where a search in a file's entries ends
-pub place_found : (vs : List (ℕ × Vec ℕ Global)) (n i : ℕ) → IsRising (pairs vs) → IsSearchInRange (Ok i) (length vs) → IsBinarySearchResult (λ v. nat_cmp v.0 n) vs (Ok i) → IsIndexOf (map (λ v. v.0) vs) n i
-place_found vs n i r within found = (searched (λ (v : ℕ × Vec ℕ Global). v.0) vs (searchable vs r) n (Ok i) within found).found
+pub index_found : (vs : List (ℕ × Vec ℕ Global)) (n i : ℕ) → IsRising (pairs vs) → IsSearchInRange (Ok i) (length vs) → IsBinarySearchResult (λ v. nat_cmp v.0 n) vs (Ok i) → IsIndexOf (map (λ v. v.0) vs) n i
+index_found vs n i r within found = (searched (λ (v : ℕ × Vec ℕ Global). v.0) vs (searchable vs r) n (Ok i) within found).found
 
 pub gap_found : (vs : List (ℕ × Vec ℕ Global)) (n i : ℕ) → IsRising (pairs vs) → IsSearchInRange (Err i) (length vs) → IsBinarySearchResult (λ v. nat_cmp v.0 n) vs (Err i) → IsGapFor (numbers (pairs vs)) n i
 gap_found vs n i r within found = gap_of vs n i (searched (λ (v : ℕ × Vec ℕ Global). v.0) vs (searchable vs r) n (Err i) within found).gap

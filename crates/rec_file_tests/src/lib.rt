@@ -1,4 +1,4 @@
-//! Tests of `rec_file`. They stand in a crate of their own, since a crate with tests is proved twice.
+//! Tests of `rec_file`. They are a separate crate, since a crate with tests is proved twice.
 #![tactic(auto)]
 
 #[cfg(test)]

@@ -1,5 +1,5 @@
-//! What isn't a session: the pages of a relative file, and a list of numbers and records beside which they are tried. The scripts
-//! over each kind of file are the sessions of `crates/sessions/data/files.txt`.
+//! What isn't a session: the pages of a relative file, and a list of numbers and records beside which they are tried.
+//! The scripts over each kind of file are the sessions of `crates/sessions/data/files.txt`.
 
 mod list_file;
 
@@ -37,13 +37,13 @@ const FIRSTS: &[(u32, Option<u32>)] = &[
     (4294967295, None),
 ];
 
-/// Records that are removed, and then the pages, the greatest number, and the first record from 2 on.
+/// Records that are removed, and then the pages, the highest number, and the first record from 2 on.
 const REMOVALS: &[(u32, (usize, u32, Option<u32>))] = &[
     (64, (3, 2147483647, Some(65))),
     (2147483647, (2, 65, Some(65))),
 ];
 
-/// The record of a number is there, and is removed.
+/// Removes the record of a number, which is there.
 fn removes(rt: &impl Abort, file: &mut RelFile, number: u32) {
     assert!(rt; !file.shape().is_sequential());
     assert!(rt; file.lookup(number).is_some());
@@ -51,19 +51,19 @@ fn removes(rt: &impl Abort, file: &mut RelFile, number: u32) {
     assert!(rt; file.lookup(number).is_none());
 }
 
-/// The pages, the greatest number, and the first record from 2 on.
+/// Returns the pages, the highest number, and the first record from 2 on.
 fn sizes(file: &RelFile) -> (usize, u32, Option<u32>) {
     (file.page_count(), file.highest(), file.first_from(2))
 }
 
-/// The first record from each of some numbers on.
+/// Checks the first record from each of some numbers on.
 fn begins_at(rt: &impl Abort, file: &RelFile, firsts: &[(u32, Option<u32>)]) {
     for (from, first) in firsts {
         assert!(rt; file.first_from(*from) == *first, "from {from}");
     }
 }
 
-/// The records are removed, each with what is then left.
+/// Removes the records, and checks after each what is left.
 fn removes_each(rt: &impl Abort, file: &mut RelFile) {
     for (number, left) in REMOVALS {
         removes(rt, file, *number);
@@ -71,7 +71,7 @@ fn removes_each(rt: &impl Abort, file: &mut RelFile) {
     }
 }
 
-/// The records are put under their numbers.
+/// Puts the records under their numbers.
 fn puts_each(rt: &impl Abort, file: &mut RelFile, stream: &mut Stream) {
     for (number, body) in FOUR_PUTS {
         assert!(rt;
@@ -81,7 +81,7 @@ fn puts_each(rt: &impl Abort, file: &mut RelFile, stream: &mut Stream) {
     }
 }
 
-/// Four records are put, found and removed.
+/// Puts, finds and removes four records.
 fn four_records(rt: &impl Abort, file: &mut RelFile) {
     assert!(rt; sizes(file) == (0, 0, None));
     puts_each(rt, file, &mut Stream::new(ALL));
@@ -96,7 +96,7 @@ fn pages_of_four_records(rt: HostRuntime) {
     four_records(&rt, &mut RelFile::new(rt.alloc(), RELATIVE));
 }
 
-/// Two bytes at most, under three numbers.
+/// At most two bytes, under three numbers.
 const SHORT: Shape = Shape {
     org: Org::Rel,
     format: Format::Variable,
@@ -116,7 +116,7 @@ const SHORT_PUTS: &[(Option<u32>, &[u8], Result<u32, Refusal>)] = &[
     (None, b"a", Err(Refusal::RecordExists)),
 ];
 
-/// A file of any kind refuses what its shape doesn't allow.
+/// Checks that a file of any kind refuses what its shape doesn't allow.
 fn keeps_to_its_shape<F: RecordFile>(rt: &impl Abort, file: &mut F) {
     let mut stream = Stream::new(ALL);
     for (number, body, answer) in SHORT_PUTS {
@@ -139,7 +139,7 @@ fn the_greatest_mrn(rt: HostRuntime) {
     assert!(&rt; Shape::check(16, 2, 0, u64::MAX).is_none());
 }
 
-/// A pick of one step: the next record, or the one under the number.
+/// Returns a pick of one step: the next record, or the one under the number.
 fn pick_at(step: u32, number: u32) -> Pick {
     if step % 2 == 0 {
         Pick::Next
@@ -148,7 +148,7 @@ fn pick_at(step: u32, number: u32) -> Pick {
     }
 }
 
-/// What one step of the script answers: a put, or a get and the delete or the update after it.
+/// Does one step of the script, and returns its answers: a put, or a get and the delete or the update after it.
 fn take_step<F: RecordFile>(
     file: &mut F,
     stream: &mut Stream,
@@ -167,14 +167,14 @@ fn take_step<F: RecordFile>(
     (got, Some(changed))
 }
 
-/// Whether the pages answer as the list does for a number.
+/// Returns whether the pages answer as the list does for a number.
 fn is_same(pages: &RelFile, list: &ListFile, number: u32) -> bool {
     pages.first_from(number) == list.first_from(number)
         && pages.lookup(number) == list.lookup(number)
         && first_record(pages, number) == first_record(list, number)
 }
 
-/// How many pages the records of the list take.
+/// Returns how many pages the records of the list take.
 fn count_pages(list: &ListFile) -> usize {
     let mut count = 0usize;
     let mut page = None;

@@ -1,4 +1,4 @@
-//! The suite `asking`: the end that asks, without a link.
+//! The suite `asking`: the client, without a link.
 
 use crate::call::Call;
 use crate::out::Out;
@@ -6,7 +6,7 @@ use crate::playing::Suite;
 use dap_accessing::{Accessing, AskFault, Octets, ReadFault, ReadStep, Request};
 use dap_msg::Configuration;
 
-/// An end that asks, if there is one.
+/// A client, if there is one.
 #[derive(Drop)]
 pub struct Asking {
     pub end: Option<Accessing>,
@@ -22,7 +22,7 @@ fn ask_in_steps(end: &mut Accessing, request: &Request) -> Asked {
     end.ask_prepared(request, prepared)
 }
 
-/// The messages of a request, or why it isn't asked.
+/// Appends the messages of a request, or why it isn't asked.
 fn put_asked(asked: Asked, out: &mut Out) {
     match asked {
         Ok(messages) => out.all(&messages),
@@ -30,7 +30,7 @@ fn put_asked(asked: Asked, out: &mut Out) {
     }
 }
 
-/// The lengths of messages.
+/// Appends the lengths of messages.
 fn put_lengths(messages: &[Vec<u8>], out: &mut Out) {
     out.put("lengths");
     for message in messages.iter() {
@@ -38,7 +38,7 @@ fn put_lengths(messages: &[Vec<u8>], out: &mut Out) {
     }
 }
 
-/// The lengths of the messages of a request, or why it isn't asked.
+/// Appends the lengths of the messages of a request, or why it isn't asked.
 fn put_asked_lengths(asked: Asked, out: &mut Out) {
     match asked {
         Ok(messages) => put_lengths(&messages, out),
@@ -57,7 +57,7 @@ fn ask(end: &mut Accessing, request: &Request, call: &Call, out: &mut Out) {
     }
 }
 
-/// Reads the answer at a place of an NSP message.
+/// Reads the answer at an offset of an NSP message.
 fn read(end: &mut Accessing, message: &[u8], at: usize) -> Result<ReadStep, ReadFault> {
     if at < message.len() {
         end.read(message, at)
@@ -66,7 +66,7 @@ fn read(end: &mut Accessing, message: &[u8], at: usize) -> Result<ReadStep, Read
     }
 }
 
-/// What an answer came to: a report, or that more is to come.
+/// Appends what an answer came to: a report, or that more is to come.
 fn put_step(step: &ReadStep, len: usize, out: &mut Out) {
     match &step.report {
         Some(report) => out.report(report),
@@ -75,7 +75,7 @@ fn put_step(step: &ReadStep, len: usize, out: &mut Out) {
     out.behind(step.next, len);
 }
 
-/// What an answer comes to, or why it isn't read.
+/// Reads an answer, and appends what it comes to, or why it isn't read.
 fn hear(end: &mut Accessing, call: &mut Call, out: &mut Out) {
     let message = call.bytes();
     let at = if call.has_more() { call.size() } else { 0 };
@@ -85,7 +85,7 @@ fn hear(end: &mut Accessing, call: &mut Call, out: &mut Out) {
     }
 }
 
-/// The records that are taken out of a batch.
+/// Takes records out of a batch, and appends them.
 fn take(end: &mut Accessing, out: &mut Out) {
     let records = end.take_records();
     if records.0.is_empty() {
@@ -95,7 +95,7 @@ fn take(end: &mut Accessing, out: &mut Out) {
     out.records(&records.0);
 }
 
-/// A request to open a file with any FAC: `NAME FAC`.
+/// Reads a request to open a file with any FAC: `NAME FAC`.
 fn opening(call: &mut Call) -> Request {
     Request::OpenFile {
         name: Octets(call.bytes()),
@@ -103,7 +103,7 @@ fn opening(call: &mut Call) -> Request {
     }
 }
 
-/// A request to make a file with any FAC: `NAME ORG RFM MRS MRN FAC`.
+/// Reads a request to make a file with any FAC: `NAME ORG RFM MRS MRN FAC`.
 fn making(call: &mut Call) -> Request {
     Request::Create {
         name: Octets(call.bytes()),
@@ -115,7 +115,7 @@ fn making(call: &mut Call) -> Request {
     }
 }
 
-/// A call of an end.
+/// Does a call of an end.
 fn act(end: &mut Accessing, call: &mut Call, out: &mut Out) {
     if call.is("hear") {
         hear(end, call, out);

@@ -21,7 +21,7 @@ pub struct Call {
     is_bad: bool,
 }
 
-/// The bytes that a word spells, in hex, or `-` where there are none.
+/// Returns the bytes that a word spells, in hex, or `-` where there are none.
 fn bytes_of(alloc: Global, word: &str) -> Option<Vec<u8>> {
     if word == "-" {
         return Some(Vec::new(alloc));
@@ -32,7 +32,7 @@ fn bytes_of(alloc: Global, word: &str) -> Option<Vec<u8>> {
     }
 }
 
-/// The request that words say.
+/// Returns the request that words say.
 fn request_of(alloc: Global, words: &str) -> Option<Request> {
     match read_request(Words::of(words.as_bytes())) {
         Some(asked) => asked.to_request(alloc).ok(),
@@ -41,7 +41,7 @@ fn request_of(alloc: Global, words: &str) -> Option<Request> {
 }
 
 impl Call {
-    /// The words of a line.
+    /// Splits a line into its words.
     pub fn new(alloc: Global, line: &str) -> Result<Call, AllocError> {
         let mut words = Vec::new(alloc);
         for word in line.split(' ') {
@@ -56,7 +56,7 @@ impl Call {
         })
     }
 
-    /// Whether the first word is this one.
+    /// Returns whether the first word is this one.
     pub fn is(&self, name: &str) -> bool {
         match self.words.first() {
             Some(word) => word.as_str() == name,
@@ -64,27 +64,27 @@ impl Call {
         }
     }
 
-    /// It is none of the suite's.
+    /// Notes that the call is none of the suite's.
     pub fn refuse(&mut self) {
         self.is_bad = true;
     }
 
-    /// Whether it is none of the suite's, or has words that nothing asked for.
+    /// Returns whether it is none of the suite's, or has words that nothing asked for.
     pub fn is_refused(&self) -> bool {
         self.is_bad || self.has_more()
     }
 
-    /// The allocator.
+    /// Returns the allocator.
     pub fn alloc(&self) -> Global {
         self.alloc
     }
 
-    /// Whether words are left.
+    /// Returns whether words are left.
     pub fn has_more(&self) -> bool {
         self.next < self.words.len()
     }
 
-    /// The next word, or an empty one.
+    /// Takes the next word, or an empty one.
     fn word(&mut self) -> &str {
         let at = self.next;
         self.next = at.saturating_add(1);
@@ -94,7 +94,7 @@ impl Call {
         }
     }
 
-    /// Whether the next word is the one of two.
+    /// Takes the next word, which is one of two, and returns whether it is the first of these.
     pub fn either(&mut self, one: &str, other: &str) -> bool {
         let word = self.word();
         let is_one = word == one;
@@ -104,7 +104,7 @@ impl Call {
         is_one
     }
 
-    /// A decimal number, at most so much.
+    /// Takes a decimal number that is at most this.
     pub fn number(&mut self, most: u32) -> u32
         ensures { result ≤ most }
     {
@@ -117,27 +117,27 @@ impl Call {
         }
     }
 
-    /// A number of one byte.
+    /// Takes a number of one byte.
     pub fn octet(&mut self) -> u8 {
         self.number(255) as u8
     }
 
-    /// A number of two bytes.
+    /// Takes a number of two bytes.
     pub fn short(&mut self) -> u16 {
         self.number(u32::from(u16::MAX)) as u16
     }
 
-    /// A number of four bytes.
+    /// Takes a number of four bytes.
     pub fn long(&mut self) -> u32 {
         self.number(u32::MAX)
     }
 
-    /// A size or a place.
+    /// Takes a size, an index or an offset.
     pub fn size(&mut self) -> usize {
         self.long() as usize
     }
 
-    /// Bytes.
+    /// Takes bytes.
     pub fn bytes(&mut self) -> Vec<u8> {
         let alloc = self.alloc;
         match bytes_of(alloc, self.word()) {
@@ -149,7 +149,7 @@ impl Call {
         }
     }
 
-    /// The bytes of each word that is left.
+    /// Takes the bytes of each word that is left.
     pub fn all_bytes(&mut self) -> Vec<Vec<u8>> {
         let mut all = Vec::new(self.alloc);
         for _ in self.next..self.words.len() {
@@ -161,7 +161,7 @@ impl Call {
         all
     }
 
-    /// The request that the words after the first one say.
+    /// Takes the request that the words after the first one say.
     pub fn request(&mut self) -> Option<Request> {
         let asked = match self.line.split_once(' ') {
             Some((_name, words)) => request_of(self.alloc, words),
@@ -171,14 +171,14 @@ impl Call {
         self.or_refuse(asked)
     }
 
-    /// The request that all words say.
+    /// Takes the request that all words say.
     pub fn whole_request(&mut self) -> Option<Request> {
         let asked = request_of(self.alloc, self.line.as_str());
         self.next = self.words.len();
         self.or_refuse(asked)
     }
 
-    /// A request, if there is one.
+    /// Returns a request, or notes that the call is none of the suite's where there is none.
     fn or_refuse(&mut self, asked: Option<Request>) -> Option<Request> {
         if asked.is_none() {
             self.refuse();
@@ -186,7 +186,7 @@ impl Call {
         asked
     }
 
-    /// An address of a link, in four hex digits.
+    /// Takes an address of a link, in four hex digits.
     fn address(&mut self) -> u16 {
         match self.bytes().as_slice() {
             [high, low] => u16::from_be_bytes([*high, *low]),
@@ -197,7 +197,7 @@ impl Call {
         }
     }
 
-    /// The limits of a link, and its addresses: `SEG WINDOW MOST LOCAL REMOTE`.
+    /// Takes the limits of a link, and its addresses: `SEG WINDOW MOST LOCAL REMOTE`.
     pub fn link_setup(&mut self) -> LinkSetup {
         LinkSetup {
             seg_size: self.size(),
@@ -208,7 +208,7 @@ impl Call {
         }
     }
 
-    /// The buffer of an end, which has at least 64 bytes.
+    /// Takes the buffer of an end, which has at least 64 bytes.
     pub fn buffer(&mut self) -> u16
         ensures { min_buffer ≤ result }
     {
@@ -220,7 +220,7 @@ impl Call {
         bufsiz
     }
 
-    /// The shape that attributes name, `ORG RFM MRS MRN`, if they name one.
+    /// Takes the shape that attributes name, `ORG RFM MRS MRN`, if they name one.
     pub fn shape(&mut self) -> Option<Shape>
         ensures { IfSome result (λ shape. IsTrue (is_shape shape)) }
     {

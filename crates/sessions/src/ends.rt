@@ -14,7 +14,7 @@ pub struct Ending {
     pub asking: Option<AskingEnd>,
 }
 
-/// The sizes of an end's link.
+/// Appends the sizes of an end's link.
 fn put_sizes(link: &LinkEnd, out: &mut Out) {
     out.number("unacked ", link.unacked());
     out.number(" waiting ", link.waiting_bytes());
@@ -25,7 +25,7 @@ fn put_sizes(link: &LinkEnd, out: &mut Out) {
     });
 }
 
-/// After what an end did: the packets that it wrote, and what it reported.
+/// Appends the packets that an end wrote, and what it reported.
 fn put_left(packets: &[Vec<u8>], reports: &[Report], out: &mut Out) {
     out.put(", ");
     out.all(packets);
@@ -35,7 +35,7 @@ fn put_left(packets: &[Vec<u8>], reports: &[Report], out: &mut Out) {
     }
 }
 
-/// A packet comes to an end that serves: `PACKET [MOST]`.
+/// Gives a server a packet: `PACKET [MOST]`.
 fn take_to_serve(end: &mut ServingEnd, call: &mut Call, out: &mut Out) {
     let packet = call.bytes();
     let most = if call.has_more() {
@@ -48,14 +48,14 @@ fn take_to_serve(end: &mut ServingEnd, call: &mut Call, out: &mut Out) {
     put_left(&packets, &[], out);
 }
 
-/// An end that serves goes on.
+/// Lets a server go on.
 fn serve_on(end: &mut ServingEnd, call: &Call, out: &mut Out) {
     let mut packets = Vec::new(call.alloc());
     out.done(end.go_on(u64::MAX, &mut packets));
     put_left(&packets, &[], out);
 }
 
-/// A file is added: `NAME ORG RFM MRS MRN`.
+/// Adds a file: `NAME ORG RFM MRS MRN`.
 fn add(end: &mut ServingEnd, call: &mut Call, out: &mut Out) {
     let name = call.bytes();
     match call.shape() {
@@ -64,7 +64,7 @@ fn add(end: &mut ServingEnd, call: &mut Call, out: &mut Out) {
     }
 }
 
-/// How many messages answer the one that is served, or that there is none.
+/// Serves a message, and appends how many messages answer it, or that there is none.
 fn serve(end: &mut ServingEnd, out: &mut Out) {
     match end.serve() {
         Ok(Some(answers)) => out.number("served ", answers),
@@ -73,7 +73,7 @@ fn serve(end: &mut ServingEnd, out: &mut Out) {
     }
 }
 
-/// Calls of an end that serves which concern its files.
+/// Does a call of a server that concerns its files.
 fn file(end: &mut ServingEnd, call: &mut Call, out: &mut Out) {
     if call.is("add") {
         add(end, call, out);
@@ -87,7 +87,7 @@ fn file(end: &mut ServingEnd, call: &mut Call, out: &mut Out) {
     }
 }
 
-/// Calls of an end that serves which write.
+/// Does a call of a server that writes.
 fn write_served(end: &mut ServingEnd, call: &mut Call, out: &mut Out) {
     if call.is("post") {
         out.number_or(end.post());
@@ -102,7 +102,7 @@ fn write_served(end: &mut ServingEnd, call: &mut Call, out: &mut Out) {
     }
 }
 
-/// Calls of an end that serves.
+/// Does a call of a server.
 fn call_serving(end: &mut ServingEnd, call: &mut Call, out: &mut Out) {
     if call.is("take") {
         take_to_serve(end, call, out);
@@ -121,7 +121,7 @@ fn call_serving(end: &mut ServingEnd, call: &mut Call, out: &mut Out) {
     }
 }
 
-/// A packet comes to an end that asks.
+/// Gives a client a packet.
 fn take_to_read(end: &mut AskingEnd, call: &mut Call, out: &mut Out) {
     let packet = call.bytes();
     let mut packets = Vec::new(call.alloc());
@@ -130,7 +130,7 @@ fn take_to_read(end: &mut AskingEnd, call: &mut Call, out: &mut Out) {
     put_left(&packets, &reports, out);
 }
 
-/// An end that asks goes on.
+/// Lets a client go on.
 fn ask_on(end: &mut AskingEnd, call: &Call, out: &mut Out) {
     let mut packets = Vec::new(call.alloc());
     let mut reports = Vec::new(call.alloc());
@@ -138,7 +138,7 @@ fn ask_on(end: &mut AskingEnd, call: &Call, out: &mut Out) {
     put_left(&packets, &reports, out);
 }
 
-/// What the next message says, or that there is none.
+/// Reads the next message, and appends what it says, or that there is none.
 fn read(end: &mut AskingEnd, out: &mut Out) {
     match end.read() {
         Ok(Heard::Report(report)) => out.report(&report),
@@ -148,14 +148,14 @@ fn read(end: &mut AskingEnd, out: &mut Out) {
     }
 }
 
-/// A request.
+/// Asks a request.
 fn ask(end: &mut AskingEnd, call: &mut Call, out: &mut Out) {
     if let Some(request) = call.request() {
         out.number_or(end.ask(&request));
     }
 }
 
-/// Calls of an end that asks which write.
+/// Does a call of a client that writes.
 fn write_asked(end: &mut AskingEnd, call: &mut Call, out: &mut Out) {
     if call.is("post") {
         out.number_or(end.post());
@@ -170,7 +170,7 @@ fn write_asked(end: &mut AskingEnd, call: &mut Call, out: &mut Out) {
     }
 }
 
-/// Calls of an end that asks.
+/// Does a call of a client.
 fn call_asking(end: &mut AskingEnd, call: &mut Call, out: &mut Out) {
     if call.is("ask") {
         ask(end, call, out);
@@ -191,20 +191,20 @@ fn call_asking(end: &mut AskingEnd, call: &mut Call, out: &mut Out) {
     }
 }
 
-/// A new end that serves: `BUFSIZ LINK`.
+/// Makes a new server: `BUFSIZ LINK`.
 fn serving(call: &mut Call) -> Option<ServingEnd> {
     let bufsiz = call.buffer();
     ServingEnd::new(call.alloc(), bufsiz, call.link_setup()).ok()
 }
 
-/// A new end that asks: `BUFSIZ LINK`.
+/// Makes a new client: `BUFSIZ LINK`.
 fn asking(call: &mut Call) -> Option<AskingEnd> {
     let bufsiz = call.buffer();
     AskingEnd::new(call.alloc(), bufsiz, call.link_setup()).ok()
 }
 
 impl Ending {
-    /// A call of the end that is there.
+    /// Does a call of the end that is there.
     fn act(&mut self, call: &mut Call, out: &mut Out) {
         if let Some(end) = &mut self.serving {
             call_serving(end, call, out);

@@ -29,7 +29,7 @@ pub struct Filing {
     pub here: usize,
 }
 
-/// A new file: any one, or that of its organization.
+/// Makes a new file: any one, or that of its organization.
 fn new_file(alloc: Global, is_any: bool, shape: Shape) -> Kept
     requires { IsTrue (is_shape shape) }
 {
@@ -42,7 +42,7 @@ fn new_file(alloc: Global, is_any: bool, shape: Shape) -> Kept
     }
 }
 
-/// A new file: `any` or `own`, and its attributes.
+/// Makes a new file: `any` or `own`, and its attributes.
 fn make(call: &mut Call, out: &mut Out) -> Option<Kept> {
     let is_any = call.either("any", "own");
     match call.shape() {
@@ -57,7 +57,7 @@ fn make(call: &mut Call, out: &mut Out) -> Option<Kept> {
     }
 }
 
-/// `get`, `put`, `upd` and `del`, in this order, and `-` in the place of each that isn't given.
+/// Reads `get`, `put`, `upd` and `del`, in this order, and `-` in place of each that isn't given.
 fn rights(call: &mut Call) -> Rights {
     Rights {
         get: call.either("get", "-"),
@@ -67,7 +67,7 @@ fn rights(call: &mut Call) -> Rights {
     }
 }
 
-/// Which record is picked.
+/// Returns which record is picked.
 fn pick(by: By) -> Pick {
     match by {
         By::Next => Pick::Next,
@@ -76,7 +76,7 @@ fn pick(by: By) -> Pick {
     }
 }
 
-/// A call of a stream that needs the file.
+/// Does a call of a stream that needs the file.
 fn act<F: RecordFile>(file: &mut F, stream: &mut Stream, asked: &Request, out: &mut Out) {
     match asked {
         Request::Get(by) => out.number_or(stream.get(file, pick(*by))),
@@ -87,7 +87,7 @@ fn act<F: RecordFile>(file: &mut F, stream: &mut Stream, asked: &Request, out: &
     }
 }
 
-/// The first record from a number on.
+/// Appends the first record from a number on.
 fn put_first<F: RecordFile>(file: &F, from: u32, out: &mut Out) {
     match first_record(file, from) {
         Some((found, body)) => {
@@ -99,7 +99,7 @@ fn put_first<F: RecordFile>(file: &F, from: u32, out: &mut Out) {
     }
 }
 
-/// What is read of a file: the record of a number, the first from a number on, or the greatest number.
+/// Appends what is read of a file: the record of a number, the first from a number on, or the highest number.
 fn look<F: RecordFile>(file: &F, call: &mut Call, out: &mut Out) {
     if call.is("highest") {
         out.number("", file.highest());
@@ -110,14 +110,14 @@ fn look<F: RecordFile>(file: &F, call: &mut Call, out: &mut Out) {
     }
 }
 
-/// The stream reads from a number on, where there may be such a record.
+/// Lets the stream read from a number on, where there may be such a record.
 fn seek(stream: &mut Stream, number: u32) {
     if (1..=MAX_NUMBER).contains(&number) {
         stream.seek(number);
     }
 }
 
-/// A call of a stream without the file, and where it then reads.
+/// Does a call of a stream without the file, and appends where it then reads.
 fn move_it(stream: &mut Stream, call: &mut Call, out: &mut Out) {
     if call.is("rewind") {
         stream.rewind();
@@ -129,7 +129,7 @@ fn move_it(stream: &mut Stream, call: &mut Call, out: &mut Out) {
     out.number("at ", stream.next());
 }
 
-/// The word for an organization.
+/// Returns the word for an organization.
 fn org_word(shape: Shape) -> &'static str {
     match shape.org {
         Org::Seq => "seq",
@@ -137,7 +137,7 @@ fn org_word(shape: Shape) -> &'static str {
     }
 }
 
-/// The word for a record format.
+/// Returns the word for a record format.
 fn format_word(shape: Shape) -> &'static str {
     match shape.format {
         Format::Fixed => " fixed ",
@@ -145,7 +145,7 @@ fn format_word(shape: Shape) -> &'static str {
     }
 }
 
-/// A shape, and its greatest number.
+/// Appends a shape, and the maximum record number.
 fn put_shape(shape: Shape, out: &mut Out) {
     out.put(org_word(shape));
     out.put(format_word(shape));
@@ -154,7 +154,7 @@ fn put_shape(shape: Shape, out: &mut Out) {
     out.number(" most ", shape.limit());
 }
 
-/// Calls without a file: what attributes name, whether they allow a length, and the number of a KEY.
+/// Does a call without a file: what attributes name, whether they allow a length, and the number of a KEY.
 fn tell(call: &mut Call, out: &mut Out) {
     if call.is("key") {
         return out.number_or(key_number(&call.bytes()));
@@ -174,7 +174,7 @@ fn tell(call: &mut Call, out: &mut Out) {
 }
 
 impl Filing {
-    /// A new stream.
+    /// Opens a new stream.
     fn open(&mut self, call: &mut Call, out: &mut Out) {
         self.here = self.streams.len();
         if self.streams.push(Stream::new(rights(call))).is_err() {
@@ -183,7 +183,7 @@ impl Filing {
         out.put("open");
     }
 
-    /// A call of the stream without the file.
+    /// Does a call of the stream without the file.
     fn move_here(&mut self, call: &mut Call, out: &mut Out) {
         match self.streams.get_mut(self.here) {
             Some(stream) => move_it(stream, call, out),
@@ -191,7 +191,7 @@ impl Filing {
         }
     }
 
-    /// What a call of the stream that needs the file comes to.
+    /// Does a call of the stream that needs the file, and appends what it comes to.
     fn act(&mut self, asked: &Request, out: &mut Out) {
         let Some(stream) = self.streams.get_mut(self.here) else {
             return out.none();
@@ -204,7 +204,7 @@ impl Filing {
         }
     }
 
-    /// What is read of the file.
+    /// Appends what is read of the file.
     fn look(&self, call: &mut Call, out: &mut Out) {
         match &self.file {
             Some(Kept::Any(file)) => look(file, call, out),

@@ -11,7 +11,7 @@ pub struct Linking {
     pub end: Option<LinkEnd>,
 }
 
-/// A new end.
+/// Makes a new end.
 fn make(call: &mut Call, out: &mut Out) -> Option<LinkEnd> {
     match LinkEnd::new(call.alloc(), call.link_setup()) {
         Ok(end) => {
@@ -25,8 +25,8 @@ fn make(call: &mut Call, out: &mut Out) -> Option<LinkEnd> {
     }
 }
 
-/// The sizes of an end: segments that aren't acknowledged, that were sent and that were taken; bytes of a message that isn't
-/// whole; segments that are held.
+/// Appends the sizes of an end: segments that aren't acknowledged, that were sent and that were taken; bytes of a
+/// message that isn't whole; segments that are held.
 fn put_sizes(end: &LinkEnd, out: &mut Out) {
     out.number("unacked ", end.unacked());
     out.number(" sent ", end.sent_count());
@@ -35,7 +35,7 @@ fn put_sizes(end: &LinkEnd, out: &mut Out) {
     out.number(" held ", end.held_count());
 }
 
-/// This many messages of a byte are sent, and this many packets written.
+/// Sends this many messages of a byte, and writes this many packets.
 fn fill(end: &mut LinkEnd, sent: usize, written: usize) -> Result<(), LinkFault> {
     for _ in 0..sent {
         end.send(b"x")?;
@@ -46,13 +46,14 @@ fn fill(end: &mut LinkEnd, sent: usize, written: usize) -> Result<(), LinkFault>
     Ok(())
 }
 
-/// A message of one segment of this number comes.
+/// Gives the end a message of one segment of this number.
 fn come(end: &mut LinkEnd, number: u16) -> Result<Got, LinkFault> {
     let number = number.to_le_bytes();
     end.receive(&[0x60, 2, 2, 1, 1, 0, 0x80, number[0], number[1]])
 }
 
-/// Messages of one segment come, with the numbers from one up to another: what became of them, where it is the same of all.
+/// Gives the end messages of one segment, with the numbers from one up to another, and appends what became of them,
+/// where it is the same of all.
 fn come_all(end: &mut LinkEnd, first: u16, last: u16, out: &mut Out) {
     let got = come(end, first);
     for number in first.saturating_add(1)..=last {
@@ -63,7 +64,7 @@ fn come_all(end: &mut LinkEnd, first: u16, last: u16, out: &mut Out) {
     out.got(got);
 }
 
-/// Calls that send.
+/// Does a call that sends.
 fn send(end: &mut LinkEnd, call: &mut Call, out: &mut Out) {
     if call.is("send") {
         out.done(end.send(&call.bytes()));
@@ -79,7 +80,7 @@ fn send(end: &mut LinkEnd, call: &mut Call, out: &mut Out) {
     }
 }
 
-/// Calls that write.
+/// Does a call that writes.
 fn write(end: &mut LinkEnd, call: &mut Call, out: &mut Out) {
     if call.is("may-send") {
         out.yes(end.may_send());
@@ -94,7 +95,7 @@ fn write(end: &mut LinkEnd, call: &mut Call, out: &mut Out) {
     }
 }
 
-/// The oldest message is given away.
+/// Takes the oldest message, and appends it.
 fn take_message(end: &mut LinkEnd, out: &mut Out) {
     match end.take_message() {
         Some(message) => out.bytes(&message),
@@ -102,7 +103,7 @@ fn take_message(end: &mut LinkEnd, out: &mut Out) {
     }
 }
 
-/// Calls that take what comes, or tell how an end stands.
+/// Does a call that takes what comes, or appends the state of an end.
 fn take(end: &mut LinkEnd, call: &mut Call, out: &mut Out) {
     if call.is("receive") {
         out.got(end.receive(&call.bytes()));

@@ -56,7 +56,7 @@ fn play_file(alloc: Global, script: &Script, tally: &mut Tally) -> Result<(), Tr
     }
 }
 
-/// Plays the file of a name; whether each line came to what it says.
+/// Plays the file of a name. Returns whether each line came to what it says.
 fn play_named(rt: &HostRuntime, name: &str) -> Result<bool, Trouble> {
     let text = fs::read_to_string(rt, name)?;
     let script = Script::new(rt.alloc(), text.as_str())?;
@@ -65,7 +65,7 @@ fn play_named(rt: &HostRuntime, name: &str) -> Result<bool, Trouble> {
     tally.end()
 }
 
-/// Plays the files of these names, up to one that can't be played: the exit status.
+/// Plays the files of these names, up to one that can't be played. Returns the exit status.
 fn play_each(rt: &HostRuntime) -> io::Result<u8> {
     let mut status = 0;
     for name in std::env::args(rt)?.skip(1) {

@@ -11,7 +11,7 @@ use std::alloc::{AllocError, Global};
 use std::fmt::Display;
 use std::io::Write;
 
-/// The text of what a call comes to, and whether memory was wanting for some of it.
+/// The text of what a call comes to, and whether memory ran out for some of it.
 #[derive(Drop)]
 pub struct Out {
     text: Vec<u8>,
@@ -19,7 +19,7 @@ pub struct Out {
 }
 
 impl Out {
-    /// Nothing yet.
+    /// Creates an empty text.
     pub fn new(alloc: Global) -> Out {
         Out {
             text: Vec::new(alloc),
@@ -27,42 +27,42 @@ impl Out {
         }
     }
 
-    /// The whole text, if memory sufficed.
+    /// Returns the whole text, if memory sufficed.
     pub fn whole(self) -> Option<Vec<u8>> {
         if self.is_short { None } else { Some(self.text) }
     }
 
-    /// Whether something was appended.
+    /// Keeps whether something was appended.
     fn keep(&mut self, appended: Result<(), AllocError>) {
         if appended.is_err() {
             self.is_short = true;
         }
     }
 
-    /// Words.
+    /// Appends words.
     pub fn put(&mut self, words: &str) {
         let appended = push_str(&mut self.text, words);
         self.keep(appended);
     }
 
-    /// A number after a word.
+    /// Appends a number after a word.
     pub fn number<I: Integer>(&mut self, word: &str, number: I) {
         let appended = push_number(&mut self.text, word, number);
         self.keep(appended);
     }
 
-    /// Bytes.
+    /// Appends bytes.
     pub fn bytes(&mut self, bytes: &[u8]) {
         let appended = push_image(&mut self.text, "", bytes);
         self.keep(appended);
     }
 
-    /// There is nothing.
+    /// Appends that there is nothing.
     pub fn none(&mut self) {
         self.put("none");
     }
 
-    /// Bytes, or that there are none.
+    /// Appends bytes, or that there are none.
     pub fn some_bytes(&mut self, bytes: Option<&[u8]>) {
         match bytes {
             Some(bytes) => self.bytes(bytes),
@@ -70,13 +70,13 @@ impl Out {
         }
     }
 
-    /// A report.
+    /// Appends a report.
     pub fn report(&mut self, report: &Report) {
         let appended = push_report(&mut self.text, report);
         self.keep(appended);
     }
 
-    /// Records, each after its number.
+    /// Appends records, each after its number.
     pub fn records(&mut self, records: &[(u64, Octets)]) {
         for record in records {
             self.number(" ", record.0);
@@ -100,7 +100,7 @@ impl Out {
         }
     }
 
-    /// A number, or a refusal.
+    /// Appends a number, or a refusal.
     pub fn number_or<I: Integer, E: Display + Drop>(&mut self, came: Result<I, E>) {
         match came {
             Ok(number) => {
@@ -111,7 +111,7 @@ impl Out {
         }
     }
 
-    /// What became of a packet, or a refusal.
+    /// Appends what became of a packet, or a refusal.
     pub fn got<E: Display + Drop>(&mut self, came: Result<Got, E>) {
         match came {
             Ok(got) => self.put(got_word(got)),
@@ -119,7 +119,7 @@ impl Out {
         }
     }
 
-    /// A packet, or a refusal.
+    /// Appends a packet, or a refusal.
     pub fn packet<E: Display + Drop>(&mut self, came: Result<Vec<u8>, E>) {
         match came {
             Ok(packet) => self.bytes(&packet),
@@ -127,7 +127,7 @@ impl Out {
         }
     }
 
-    /// The next packet, or that there is none, or a refusal.
+    /// Appends the next packet, or that there is none, or a refusal.
     pub fn next_packet<E: Display + Drop>(&mut self, came: Result<Option<Vec<u8>>, E>) {
         match came {
             Ok(Some(packet)) => self.bytes(&packet),
@@ -136,7 +136,7 @@ impl Out {
         }
     }
 
-    /// Packets or messages, or that there are none.
+    /// Appends packets or messages, or that there are none.
     pub fn all(&mut self, all: &[Vec<u8>]) {
         for (at, bytes) in all.iter().enumerate() {
             if at > 0 {
@@ -149,14 +149,14 @@ impl Out {
         }
     }
 
-    /// Where the next message begins, if not after all.
+    /// Appends the offset at which the next message begins, if there is one.
     pub fn behind(&mut self, next: usize, len: usize) {
         if next != len {
             self.number(" next ", next);
         }
     }
 
-    /// All files, in one line.
+    /// Appends all files, in one line.
     pub fn table(&mut self, files: &FileTable) {
         if files.count() == 0 {
             return self.none();
@@ -170,7 +170,7 @@ impl Out {
         }
     }
 
-    /// Yes or no.
+    /// Appends yes or no.
     pub fn yes(&mut self, is_so: bool) {
         self.put(if is_so { "yes" } else { "no" });
     }

@@ -1,7 +1,7 @@
 //! The lines of a file, one after the other.
 //!
-//! Before the first case stand names (`let NAME TEXT`) and parts (`part NAME`), which are lines that cases have in common. In
-//! a call and in what it comes to, a name stands for its text, and `{PIECE*N}` for this many pieces.
+//! Before the first case are names (`let NAME TEXT`) and parts (`part NAME`), which are lines that cases have in
+//! common. In a call and in what it comes to, a name stands for its text, and `{PIECE*N}` for this many pieces.
 
 use crate::call::Call;
 use crate::out::Out;
@@ -10,15 +10,15 @@ use std::alloc::Global;
 use std::collections::BTreeMap;
 use std::io::{Stdout, Write};
 
-/// What stands between a call and what it comes to.
+/// What is between a call and what it comes to.
 const ARROW: &str = " -> ";
 
-/// What stands between the parts before a line and those after it.
+/// What is between the parts before a line and those after it.
 const AROUND: &str = " ... ";
 
 /// What answers the calls of a suite.
 pub trait Suite {
-    /// Nothing was called yet.
+    /// Begins anew: nothing was called yet.
     fn begin(&mut self);
 
     /// Appends what a call comes to.
@@ -46,7 +46,7 @@ pub struct Tally {
     around: Option<usize>,
 }
 
-/// The first word of a line, and what follows it.
+/// Returns the first word of a line, and what follows it.
 fn split(line: &str) -> (&str, &str) {
     match line.split_once(' ') {
         Some(both) => both,
@@ -55,7 +55,7 @@ fn split(line: &str) -> (&str, &str) {
 }
 
 impl Script {
-    /// The lines of a text.
+    /// Reads the lines of a text.
     pub fn new(alloc: Global, text: &str) -> Result<Script, Trouble> {
         let mut script = Script {
             alloc,
@@ -69,7 +69,7 @@ impl Script {
         Ok(script)
     }
 
-    /// The suite that the first line names.
+    /// Returns the suite that the first line names.
     pub fn suite(&self) -> &str {
         match split(self.line(0)) {
             ("suite", name) => name,
@@ -95,14 +95,14 @@ impl Script {
         Ok(())
     }
 
-    /// A part begins after the lines so far.
+    /// Begins a part after the lines so far.
     fn begin_part(&mut self, name: &str) -> Result<(), Trouble> {
         let name = String::from_str(self.alloc, name)?;
         self.parts.insert(name, self.lines.len())?;
         Ok(())
     }
 
-    /// The line at a place.
+    /// Returns the line at an index.
     fn line(&self, at: usize) -> &str {
         match self.lines.get(at) {
             Some(line) => line.as_str(),
@@ -110,7 +110,7 @@ impl Script {
         }
     }
 
-    /// What a word stands for.
+    /// Returns what a word stands for.
     fn named<'a>(&'a self, word: &'a str) -> &'a str {
         match self.names.get(word) {
             Some(text) => text.as_str(),
@@ -118,7 +118,7 @@ impl Script {
         }
     }
 
-    /// A line with what its names stand for.
+    /// Returns a line with what its names stand for.
     fn with_names(&self, line: &str) -> Result<String, Trouble> {
         let mut spelled = String::new(self.alloc);
         for (at, word) in line.split(' ').enumerate() {
@@ -130,7 +130,7 @@ impl Script {
         Ok(spelled)
     }
 
-    /// A line in full.
+    /// Returns a line in full.
     fn spelled(&self, line: &str) -> Result<String, Trouble> {
         let named = self.with_names(line)?;
         let mut spelled = String::new(self.alloc);
@@ -158,7 +158,7 @@ fn push_repeated(spelled: &mut String, part: &str) -> Result<(), Trouble> {
 }
 
 impl Tally {
-    /// Nothing was played of the file of this name.
+    /// Creates a tally of the file of this name, of which nothing was played.
     pub fn new(out: Stdout, name: String) -> Tally {
         Tally {
             out,
@@ -169,13 +169,13 @@ impl Tally {
         }
     }
 
-    /// Prints how many cases there are; whether each line came to what it says.
+    /// Prints how many cases there are. Returns whether each line came to what it says.
     pub fn end(&mut self) -> Result<bool, Trouble> {
         writeln!(self.out, "{}: {} cases", self.name, self.cases)?;
         Ok(!self.differs)
     }
 
-    /// Tells what the line at a place came to.
+    /// Prints what the line at an index came to.
     fn tell(&mut self, at: usize, line: &str, came: &str) -> Result<(), Trouble> {
         self.differs = true;
         let number = at.saturating_add(1);
@@ -183,14 +183,14 @@ impl Tally {
         Ok(())
     }
 
-    /// A case begins.
+    /// Begins a case.
     fn begin(&mut self) {
         self.cases = self.cases.saturating_add(1);
         self.around = None;
     }
 }
 
-/// What a call comes to.
+/// Returns what a call comes to.
 fn came<S: Suite>(script: &Script, suite: &mut S, line: &str) -> Result<Vec<u8>, Trouble> {
     let spelled = script.spelled(line)?;
     let mut call = Call::new(script.alloc, spelled.as_str())?;
@@ -202,7 +202,7 @@ fn came<S: Suite>(script: &Script, suite: &mut S, line: &str) -> Result<Vec<u8>,
     out.whole().ok_or(Trouble::NoMemory)
 }
 
-/// What the line at a place comes to, if not what it says.
+/// Returns what the line at an index comes to, if not what it says.
 fn other<S: Suite>(script: &Script, suite: &mut S, at: usize) -> Result<Option<String>, Trouble> {
     let (line, expected) = script.line(at).split_once(ARROW).ok_or(Trouble::BadLine)?;
     let text = came(script, suite, line)?;
@@ -215,7 +215,7 @@ fn other<S: Suite>(script: &Script, suite: &mut S, at: usize) -> Result<Option<S
     }
 }
 
-/// Plays the call of the line at a place.
+/// Plays the call of the line at an index.
 fn play_call<S: Suite>(
     script: &Script,
     tally: &mut Tally,
@@ -234,7 +234,7 @@ fn play_call<S: Suite>(
     }
 }
 
-/// Plays the lines of a part that begins at a place.
+/// Plays the lines of a part that begins at an index.
 fn play_part<S: Suite>(
     script: &Script,
     tally: &mut Tally,
@@ -251,7 +251,7 @@ fn play_part<S: Suite>(
     Ok(())
 }
 
-/// Plays the parts of these names, which the line at a place says.
+/// Plays the parts of these names, which the line at an index says.
 fn play_parts<S: Suite>(
     script: &Script,
     tally: &mut Tally,
@@ -268,7 +268,7 @@ fn play_parts<S: Suite>(
     Ok(())
 }
 
-/// Plays the call of the line at a place by itself, between the parts that another line names.
+/// Plays the call of the line at an index by itself, between the parts that another line names.
 fn play_between<S: Suite>(
     script: &Script,
     tally: &mut Tally,
@@ -291,7 +291,7 @@ fn play_between<S: Suite>(
     }
 }
 
-/// Plays the line at a place of a case.
+/// Plays the line at an index of a case.
 fn play_line<S: Suite>(
     script: &Script,
     tally: &mut Tally,

@@ -1,4 +1,4 @@
-//! The suite `serving`: the end that holds the files, without a link.
+//! The suite `serving`: the server, without a link.
 
 use crate::call::Call;
 use crate::out::Out;
@@ -6,13 +6,13 @@ use crate::playing::Suite;
 use dap_accessed::{Accessed, Names, NoMemory, Served, ServerSetup, rights_of_fac};
 use dap_msg::Configuration;
 
-/// An end that serves, if there is one.
+/// A server, if there is one.
 #[derive(Drop)]
 pub struct Serving {
     pub end: Option<Accessed>,
 }
 
-/// A server that says what is true of it: its buffer, how it compares names, and the FAC of its link.
+/// Reads a server that says what is true of it: its buffer, how it compares names, and the FAC of its link.
 fn live(call: &mut Call) -> Accessed {
     let setup = ServerSetup {
         identity: Configuration::truthful(call.buffer()),
@@ -22,7 +22,7 @@ fn live(call: &mut Call) -> Accessed {
     Accessed::with_setup(call.alloc(), setup)
 }
 
-/// How names are compared.
+/// Reads how names are compared.
 fn names(call: &mut Call) -> Names {
     if call.either("exact", "folded") {
         Names::Exact
@@ -31,7 +31,7 @@ fn names(call: &mut Call) -> Names {
     }
 }
 
-/// Serves the message at a place.
+/// Serves the message at an offset.
 fn serve_at(end: &mut Accessed, message: &[u8], at: usize) -> Result<Served, NoMemory> {
     if at < message.len() {
         end.serve(message, at)
@@ -40,7 +40,7 @@ fn serve_at(end: &mut Accessed, message: &[u8], at: usize) -> Result<Served, NoM
     }
 }
 
-/// Serves a message: all bytes, or those from a place on.
+/// Serves a message: all bytes, or those from an offset on.
 fn serve(end: &mut Accessed, call: &mut Call, out: &mut Out) {
     let message = call.bytes();
     let at = if call.has_more() { call.size() } else { 0 };
@@ -53,7 +53,7 @@ fn serve(end: &mut Accessed, call: &mut Call, out: &mut Out) {
     }
 }
 
-/// The place of the file of a name.
+/// Appends the index of the file of a name.
 fn find(end: &Accessed, call: &mut Call, out: &mut Out) {
     match end.files().find(&call.bytes()) {
         Some(at) => out.number("", at),
@@ -61,7 +61,7 @@ fn find(end: &Accessed, call: &mut Call, out: &mut Out) {
     }
 }
 
-/// A call of an end.
+/// Does a call of an end.
 fn act(end: &mut Accessed, call: &mut Call, out: &mut Out) {
     if call.is("serve") {
         serve(end, call, out);

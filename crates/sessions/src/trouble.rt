@@ -18,7 +18,7 @@ pub enum Trouble {
 }
 
 impl Trouble {
-    /// The exit status.
+    /// Returns the exit status.
     pub fn status(self) -> u8 {
         match self {
             Trouble::NoMemory => 3,

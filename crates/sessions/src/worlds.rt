@@ -13,7 +13,7 @@ pub struct Worlds {
     pub list: Vec<Request>,
 }
 
-/// One of the ends: `a`, which asks, or `b`, which serves.
+/// Reads one of the ends: `a`, which asks, or `b`, which serves.
 fn end(call: &mut Call) -> End {
     if call.either("a", "b") {
         End::A
@@ -22,7 +22,7 @@ fn end(call: &mut Call) -> End {
     }
 }
 
-/// The event of an end that a call says, as in a schedule.
+/// Reads the event of an end that a call says, as in a schedule.
 fn event_of_end(call: &mut Call) -> Option<Event> {
     let end = end(call);
     if call.is("post") {
@@ -40,7 +40,7 @@ fn event_of_end(call: &mut Call) -> Option<Event> {
     }
 }
 
-/// The event that a call says, as in a schedule.
+/// Reads the event that a call says, as in a schedule.
 fn event(call: &mut Call) -> Option<Event> {
     if call.is("ask") {
         match call.request() {
@@ -56,7 +56,7 @@ fn event(call: &mut Call) -> Option<Event> {
     }
 }
 
-/// The newest packet of an end.
+/// Appends the newest packet of an end.
 fn put_newest(world: &World, end: End, out: &mut Out) {
     match world.wire(end).last() {
         Some(wired) => out.bytes(&wired.packet),
@@ -64,7 +64,7 @@ fn put_newest(world: &World, end: End, out: &mut Out) {
     }
 }
 
-/// A report by its place.
+/// Appends a report by its index.
 fn put_told(world: &World, at: usize, out: &mut Out) {
     match world.reports().get(at) {
         Some(report) => out.report(report),
@@ -72,12 +72,12 @@ fn put_told(world: &World, at: usize, out: &mut Out) {
     }
 }
 
-/// The newest report.
+/// Appends the newest report.
 fn put_newest_report(world: &World, out: &mut Out) {
     put_told(world, world.reports().len().saturating_sub(1), out);
 }
 
-/// The end that writes a packet in an event.
+/// Returns the end that writes a packet in an event.
 fn writing_end(event: &Event) -> End {
     match event {
         Event::Emit(end) | Event::Resend(end, _) | Event::Ack(end) => *end,
@@ -85,7 +85,7 @@ fn writing_end(event: &Event) -> End {
     }
 }
 
-/// What a step says.
+/// Appends what a step says.
 fn put_step(world: &World, writer: End, step: Step, out: &mut Out) {
     match step {
         Step::Asked(count) => out.number("asked ", count),
@@ -105,7 +105,7 @@ fn put_step(world: &World, writer: End, step: Step, out: &mut Out) {
     }
 }
 
-/// An event happens.
+/// Lets an event happen, and appends what it comes to.
 fn happen(world: &mut World, event: &Event, out: &mut Out) {
     match world.apply(event) {
         Ok(step) => put_step(world, writing_end(event), step, out),
@@ -113,7 +113,7 @@ fn happen(world: &mut World, event: &Event, out: &mut Out) {
     }
 }
 
-/// The event that a call says happens.
+/// Lets the event happen that a call says.
 fn happen_so(world: &mut World, call: &mut Call, out: &mut Out) {
     match event(call) {
         Some(event) => happen(world, &event, out),
@@ -129,7 +129,7 @@ fn carry(world: &mut World, from: End, to: End) -> Result<(), WorldFault> {
     Ok(())
 }
 
-/// An event happens as often as it can: how often.
+/// Lets an event happen as often as it can. Returns how often.
 fn happen_all(world: &mut World, event: &Event) -> u32 {
     for count in 0..u32::MAX {
         if world.apply(event).is_err() {
@@ -139,7 +139,7 @@ fn happen_all(world: &mut World, event: &Event) -> u32 {
     u32::MAX
 }
 
-/// A request over a clean network, of one segment each way: how many messages were served and read.
+/// Asks a request over a clean network, of one segment each way. Returns how many messages were served and read.
 fn turn(world: &mut World, request: Request) -> Result<(u32, u32), WorldFault> {
     world.ask(request)?;
     world.apply(&Event::Post(End::A))?;
@@ -150,8 +150,8 @@ fn turn(world: &mut World, request: Request) -> Result<(u32, u32), WorldFault> {
     Ok((served, happen_all(world, &Event::Read)))
 }
 
-/// What a turn came to: the packet of A, how many messages of it were served, the packet of B, how many of it were read, and
-/// the report.
+/// Appends what a turn came to: the packet of A, how many messages of it were served, the packet of B, how many of it
+/// were read, and the report.
 fn put_turn(world: &World, served: u32, read: u32, out: &mut Out) {
     put_newest(world, End::A, out);
     out.number(" served ", served);
@@ -162,7 +162,7 @@ fn put_turn(world: &World, served: u32, read: u32, out: &mut Out) {
     put_newest_report(world, out);
 }
 
-/// A request over a clean network.
+/// Asks a request over a clean network.
 fn take_turn(world: &mut World, request: Request, out: &mut Out) {
     match turn(world, request) {
         Ok((served, read)) => put_turn(world, served, read, out),
@@ -170,7 +170,7 @@ fn take_turn(world: &mut World, request: Request, out: &mut Out) {
     }
 }
 
-/// This many segments of A are written and come to B, with an acknowledgement after each window.
+/// Writes this many segments of A, which come to B, with an acknowledgement after each window.
 fn bring(world: &mut World, segments: usize, window: usize) -> Result<(), WorldFault> {
     for sent in 0..segments {
         carry(world, End::A, End::B)?;
@@ -183,7 +183,7 @@ fn bring(world: &mut World, segments: usize, window: usize) -> Result<(), WorldF
     Ok(())
 }
 
-/// This many segments of A are written.
+/// Writes this many segments of A.
 fn emit(world: &mut World, segments: usize) -> Result<(), WorldFault> {
     for _ in 0..segments {
         world.apply(&Event::Emit(End::A))?;
@@ -191,8 +191,8 @@ fn emit(world: &mut World, segments: usize) -> Result<(), WorldFault> {
     Ok(())
 }
 
-/// Requests that were asked, messages sent by A, served by B and read by A; reports; segments of A that aren't acknowledged,
-/// and those that B took; packets of both.
+/// Appends requests that were asked, messages sent by A, served by B and read by A; reports; segments of A that aren't
+/// acknowledged, and those that B took; packets of both.
 fn put_sizes(world: &World, out: &mut Out) {
     out.number("asked ", world.requests().len());
     out.number(" sent ", world.sent().len());
@@ -205,7 +205,7 @@ fn put_sizes(world: &World, out: &mut Out) {
     out.number(" ", world.wire(End::B).len());
 }
 
-/// The record of the first file under a number.
+/// Appends the record of the first file under a number.
 fn put_record(world: &World, number: u32, out: &mut Out) {
     if world.files().count() == 0 {
         return out.none();
@@ -213,7 +213,7 @@ fn put_record(world: &World, number: u32, out: &mut Out) {
     out.some_bytes(world.files().file(0).lookup(number));
 }
 
-/// A call that tells how a world stands.
+/// Does a call that appends the state of a world.
 fn look(world: &mut World, call: &mut Call, out: &mut Out) {
     if call.is("report") {
         put_told(world, call.size().saturating_sub(1), out);
@@ -234,7 +234,7 @@ fn look(world: &mut World, call: &mut Call, out: &mut Out) {
     }
 }
 
-/// A call of a world: many events at once, or another.
+/// Does a call of a world: many events at once, or another.
 fn act(world: &mut World, call: &mut Call, out: &mut Out) {
     if call.is("turn") {
         if let Some(request) = call.request() {
@@ -254,7 +254,7 @@ fn act(world: &mut World, call: &mut Call, out: &mut Out) {
     }
 }
 
-/// Requests are asked over a clean network, of a fresh world.
+/// Asks requests over a clean network, of a fresh world.
 fn direct(world: &mut World, list: &[Request], call: &mut Call, out: &mut Out) {
     if !world.is_fresh() {
         return call.refuse();
@@ -269,7 +269,7 @@ fn direct(world: &mut World, list: &[Request], call: &mut Call, out: &mut Out) {
     }
 }
 
-/// A new world: `SEG WINDOW BUFA BUFB`.
+/// Makes a new world: `SEG WINDOW BUFA BUFB`.
 fn make(call: &mut Call, out: &mut Out) -> Option<World> {
     let setup = WorldSetup {
         seg_size: call.size(),
@@ -290,7 +290,7 @@ fn make(call: &mut Call, out: &mut Out) -> Option<World> {
 }
 
 impl Worlds {
-    /// A request waits more.
+    /// Adds a request to those that wait.
     fn add(&mut self, call: &mut Call, out: &mut Out) {
         if let Some(request) = call.request() {
             if self.list.push(request).is_err() {
@@ -300,7 +300,7 @@ impl Worlds {
         out.number("", self.list.len());
     }
 
-    /// A call of the world that is there.
+    /// Does a call of the world that is there.
     fn act(&mut self, call: &mut Call, out: &mut Out) {
         match &mut self.world {
             Some(world) if call.is("direct") => direct(world, &self.list, call, out),

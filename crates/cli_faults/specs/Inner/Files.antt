@@ -1,4 +1,4 @@
--- Which files of captured frames their first bytes tell.
+-- Which files of captured frames there are, by their first bytes.
 use Rattle.std.specs.Prelude.{ℕ, List, [], ◌∷◌, Option, Some, None, if◌then◌else◌, bytes_eq}
 use Rattle.std.specs.List.{list_any}
 use Rattle.cli_faults.specs.declared.files.FileKind.{FileKind}
@@ -8,7 +8,8 @@ use Rattle.cli_faults.specs.declared.files.FileKind.TheVariants.{Pcap, Pcapng}
 abbrev pub pcapng : List ℕ
 pcapng = 10 ∷ 13 ∷ 13 ∷ 10 ∷ []
 
--- and how a pcap file does: a1b2c3d4 where its times have microseconds, a1b23c4d where they have nanoseconds, in either order
+-- and how a pcap file does: a1b2c3d4 where its times have microseconds, a1b23c4d where they have nanoseconds, in either
+-- order
 abbrev pub pcaps : List (List ℕ)
 pcaps = (161 ∷ 178 ∷ 195 ∷ 212 ∷ []) ∷ (212 ∷ 195 ∷ 178 ∷ 161 ∷ []) ∷ (161 ∷ 178 ∷ 60 ∷ 77 ∷ []) ∷ (77 ∷ 60 ∷ 178 ∷ 161 ∷ []) ∷ []
 

@@ -19,14 +19,14 @@ use Rattle.dap_accessed.specs.declared.phase.Phase.{Phase}
 use Rattle.dap_accessed.specs.declared.phase.Phase.TheVariants as phases
 use Rattle.dap_accessed.specs.declared.verbs.Verb.{Verb}
 use Rattle.dap_accessed.specs.declared.verbs.Verb.TheVariants as verbs
-use Rattle.dap_accessed.specs.Standing.{Files, index_by, Place, Scene, Effect, enters, Fresh, Ready, Opened, Connected, Store, Stopped}
+use Rattle.dap_accessed.specs.Standing.{Files, index_by, ServerState, Scene, Effect, enters, Fresh, Ready, Opened, Connected, Store, Stopped}
 use Rattle.dap_msg.specs.BothEnds.{no_attributes}
 use Rattle.dap_accessed.specs.Past.{asked_shape, next_ordinal}
 use Rattle.dap_accessed.specs.Accesses.{refuse_access, open_file, create_file}
 use Rattle.dap_accessed.specs.Replies.{bare_status, too_large}
 use Rattle.dap_accessed.specs.Records.{verb_of, Putting, Updating, refused_effect, uncurrent}
 use Rattle.dap_accessed.specs.Transfers.{fetch}
-use Rattle.dap_accessed.specs.Effects.{Turn, Does, Begins, effect_fresh, effect_ready, effect_opened, turn_connected, effect_store, effect_stopped, effect_with}
+use Rattle.dap_accessed.specs.Effects.{Turn, Does, BeginsGroup, effect_fresh, effect_ready, effect_opened, turn_connected, effect_store, effect_stopped, effect_with}
 use Rattle.dap_accessed.specs.Present.{Present, Memory, phase_at, phase_within}
 use Rattle.dap_accessed.specs.Served.{Answered}
 
@@ -45,7 +45,7 @@ plain_memory shape = record { shape = shape; dropping = false; ordinal = 0 }
 abbrev pub store_memory : Option Shape → Bool → ℕ → Memory
 store_memory shape dropping ordinal = record { shape = shape; dropping = dropping; ordinal = ordinal }
 
--- ---- What counts of the past after one group more.
+-- ---- What counts of the past after one more group.
 
 -- in Ready an Attributes message is kept, and an Access uses it up
 abbrev pub shape_next : Option Shape → Item → Option Shape
@@ -64,7 +64,7 @@ abbrev pub ordinal_next : ℕ → Item → ℕ
 ordinal_next ordinal (Whole (Filedata _ _)) = next_ordinal ordinal
 ordinal_next ordinal _ = ordinal
 
-abbrev pub remembers : Memory → Place → Item → List Message → Memory
+abbrev pub remembers : Memory → ServerState → Item → List Message → Memory
 remembers memory Ready item answers = plain_memory (shape_next memory.shape item)
 remembers memory (Store _ _) item answers =
     store_memory memory.shape (drops_next memory.dropping item answers) (ordinal_next memory.ordinal item)
@@ -82,23 +82,23 @@ settles p memory effect =
         limit = effect.scene.limit;
         files = effect.scene.files;
         kept = memory.shape;
-        phase = phase_at effect.place memory;
+        phase = phase_at effect.state memory;
       };
       answers = effect.answers;
     }
 
 -- nothing moves but the phase, without an answer
-abbrev pub begins : Present → Phase → Move
-begins p phase = record { present = record p { phase = phase }; answers = [] }
+abbrev pub begins_group : Present → Phase → Move
+begins_group p phase = record { present = record p { phase = phase }; answers = [] }
 
 -- an item that begins a group, or is one with this effect
-abbrev pub turns : Turn → Present → Memory → Place → Item → Move
-turns (Does effect) p memory place item = settles p (remembers memory place item effect.answers) effect
-turns (Begins begun) p memory place item = begins p (phase_within begun.change begun.opened begun.stream)
+abbrev pub turns : Turn → Present → Memory → ServerState → Item → Move
+turns (Does effect) p memory state item = settles p (remembers memory state item effect.answers) effect
+turns (BeginsGroup begun) p memory state item = begins_group p (phase_within begun.change begun.opened begun.stream)
 
 -- what an item does outside a group of two, where this counts of the past
-abbrev pub turn_by : (own : ServerSetup) → Scene → Memory → Place → Item → Turn
-turn_by own scene memory place (Malformed fault) = Does (enters scene place (bare_status (codes.status_code_for fault.message_type) ∷ []))
+abbrev pub turn_by : (own : ServerSetup) → Scene → Memory → ServerState → Item → Turn
+turn_by own scene memory state (Malformed fault) = Does (enters scene state (bare_status (codes.status_code_for fault.message_type) ∷ []))
 turn_by own scene memory Fresh (Whole message) = Does (effect_fresh own scene message)
 turn_by own scene memory Ready (Whole message) = Does (effect_ready own scene memory.shape message)
 turn_by own scene memory (Opened opened) (Whole message) = Does (effect_opened scene opened message)
@@ -107,8 +107,8 @@ turn_by own scene memory (Store opened stream) (Whole message) =
     Does (effect_store memory.dropping memory.ordinal scene opened stream message)
 turn_by own scene memory (Stopped opened stream) (Whole message) = Does (effect_stopped scene opened stream message)
 
-abbrev pub between : Present → Memory → Place → Item → Move
-between p memory place item = turns (turn_by p.setup (scene_in p) memory place item) p memory place item
+abbrev pub between : Present → Memory → ServerState → Item → Move
+between p memory state item = turns (turn_by p.setup (scene_in p) memory state item) p memory state item
 
 -- a group that is over, outside a Store
 abbrev pub does : Present → Effect → Move
@@ -182,7 +182,7 @@ refuses_large p opened stream = does p (enters (scene_in p) (Connected opened (u
 
 -- the phase after a fetch
 abbrev pub fetched_phase : Present → OpenFile → StreamVal → Phase
-fetched_phase p opened stream = phase_at (fetch (scene_in p) opened stream).place (plain_memory p.kept)
+fetched_phase p opened stream = phase_at (fetch (scene_in p) opened stream).state (plain_memory p.kept)
 
 abbrev pub HasFetched : Present → OpenFile → StreamVal → Vec (Vec ℕ) → Type 0
 HasFetched p opened stream answers = Answered p.limit (fetch (scene_in p) opened stream).answers answers

@@ -20,7 +20,7 @@ use Rattle.dap_accessed.specs.Records.{Putting, Updating, changed, get_pick, put
 use Rattle.dap_accessed.specs.Transfers.{fetch, store_one}
 use Rattle.dap_accessed.specs.Present.{Present}
 use Rattle.dap_accessed.specs.Inner.Written.{IsShortReply, reply_message}
-use Rattle.dap_accessed.specs.Inner.Moves.{Move, begins, creates, does, is_silent, move_in, opens, opens_nothing, scene_in, settles, store_memory}
+use Rattle.dap_accessed.specs.Inner.Moves.{Move, begins_group, creates, does, is_silent, move_in, opens, opens_nothing, scene_in, settles, store_memory}
 use Rattle.dap_accessed.specs.Sessions.{IsOpenIn}
 
 -- one answer, and nothing moves but the phase
@@ -29,7 +29,7 @@ replies p message phase = record { present = record p { phase = phase }; answers
 
 -- what a step leaves, and its answers
 abbrev pub step_move : Step → Present → Move
-step_move (steps.Enter phase) p = begins p phase
+step_move (steps.Enter phase) p = begins_group p phase
 step_move (steps.Reply answer phase) p = replies p (reply_message answer) phase
 step_move (steps.Configure limit) p =
     record { present = record p { limit = limit; phase = phases.Ready }; answers = Config p.setup.identity ∷ [] }
@@ -44,7 +44,7 @@ step_move (steps.Get opened stream control) p =
     does p (record_got (get_pick (the_file p.files opened) stream control) (scene_in p) opened stream)
 step_move (steps.Fetch opened stream) p = does p (fetch (scene_in p) opened stream)
 step_move (steps.Expect opened stream control) p =
-    begins p (phases.PutDue opened stream (put_key (the_file p.files opened) stream control))
+    begins_group p (phases.PutDue opened stream (put_key (the_file p.files opened) stream control))
 step_move (steps.Put opened stream key body) p =
     does p (changed (Putting key) (scene_in p) opened stream body.now)
 step_move (steps.Update opened stream body) p = does p (changed Updating (scene_in p) opened stream body.now)
@@ -78,10 +78,10 @@ is_quiet (steps.Expect opened stream control) = true
 is_quiet step = false
 
 -- an item that is refused ends a group of two
-abbrev pub phase_behind : Phase → Phase
-phase_behind (phases.PutDue opened stream key) = phases.Connected opened stream
-phase_behind (phases.UpdateDue opened stream) = phases.Connected opened stream
-phase_behind phase = phase
+abbrev pub phase_after_refusal : Phase → Phase
+phase_after_refusal (phases.PutDue opened stream key) = phases.Connected opened stream
+phase_after_refusal (phases.UpdateDue opened stream) = phases.Connected opened stream
+phase_after_refusal phase = phase
 
 -- the item does what the step says, and the step can be done
 pub record IsFor (phase : Phase) (item : Item) (step : Step) : Type 0 where
@@ -91,7 +91,7 @@ pub record IsFor (phase : Phase) (item : Item) (step : Step) : Type 0 where
 
 -- it does nothing, but that it ends a group of two, and has a Status with this code
 pub record RefusesItem (phase : Phase) (item : Item) (code : ℕ) : Type 0 where
-  pub moves : (p : Present) → move_in phase p item ≡ replies p (bare_status code) (phase_behind phase)
+  pub moves : (p : Present) → move_in phase p item ≡ replies p (bare_status code) (phase_after_refusal phase)
   pub answered : is_silent phase item ≡ false
 
 -- what the item asks for, or how it is refused
@@ -108,7 +108,7 @@ HasOpen (phases.Dropping o stream ordinal) opened = o ≡ opened
 HasOpen (phases.Stopped o stream) opened = o ≡ opened
 HasOpen phase opened = ⊥
 
--- the phase says nothing of its own of the message
+-- the phase has no rule for the message
 abbrev pub IsCommon : Phase → Message → Type 0
 IsCommon (phases.Opened opened) (Control control) = ⊥
 IsCommon (phases.Connected opened stream) (Control control) = ⊥

@@ -47,15 +47,15 @@ heard_as (heard.Reports done) rest = Reports done rest
 heard_as heard.Unexpected rest = Unexpected
 heard_as (heard.NoMemory pending) rest = Waits
 
--- an answer has its place here: more is waited for, or the report comes
-abbrev pub HasPlace : Pending → Item → Type 0
-HasPlace pending item =
+-- an answer is in sequence here: more is waited for, or the report comes
+abbrev pub IsInSequence : Pending → Item → Type 0
+IsInSequence pending item =
     ((next : Pending) × ((rest : List Item) → gather pending (item ∷ rest) ≡ gather next rest))
     ⊎ ((done : Report) × ((rest : List Item) → gather pending (item ∷ rest) ≡ Reports done rest))
 
--- The answer comes to this; or it has its place and there was no memory for it, and the same is still to come.
+-- The answer comes to this; or it is in sequence and there was no memory for it, and the same is still to come.
 abbrev pub Hears : Pending → Item → Heard → Type 0
-Hears pending item (heard.NoMemory same) = (same ≡ pending) × HasPlace pending item
+Hears pending item (heard.NoMemory same) = (same ≡ pending) × IsInSequence pending item
 Hears pending item result = (rest : List Item) → gather pending (item ∷ rest) ≡ heard_as result rest
 
 -- a record is added to a batch
@@ -76,11 +76,12 @@ HasShortNumbers (Filedata recnum _) = length recnum ≤ 8
 HasShortNumbers (Status status) = length status.recnum ≤ 8
 HasShortNumbers _ = Unit {0}
 
-abbrev pub HasNoPlace : Item → Option Pending → Type 0
-HasNoPlace item None = Unit {0}
-HasNoPlace item (Some p) = (rest : List Item) → gather p (item ∷ rest) ≡ Unexpected
+abbrev pub IsOutOfSequence : Item → Option Pending → Type 0
+IsOutOfSequence item None = Unit {0}
+IsOutOfSequence item (Some p) = (rest : List Item) → gather p (item ∷ rest) ≡ Unexpected
 
--- What the next answer does to an end that works: it waits for more, or reports, or is out of sequence; or there is no memory, and nothing is changed.
+-- What the next answer does to an end that works: it waits for more, or reports, or is out of sequence; or there is no
+-- memory, and nothing is changed.
 abbrev pub HearsNext : Item → ClientState → ClientState → Result (Option Report) ReadFault → Type 0
 HearsNext item old new (Ok None) =
     (p : Pending) × (next : Pending) × (old.pending ≡ Some p) × ((rest : List Item) → gather p (item ∷ rest) ≡ gather next rest)
@@ -88,6 +89,6 @@ HearsNext item old new (Ok None) =
 HearsNext item old new (Ok (Some done)) =
     (p : Pending) × (old.pending ≡ Some p) × ((rest : List Item) → gather p (item ∷ rest) ≡ Reports done rest)
     × (new ≡ record old { phase = phase_next old.phase done; limit = limit_next old.limit done; pending = None })
-HearsNext item old new (Err read_fault.Unexpected) = (new ≡ failed_after old) × HasNoPlace item old.pending
-HearsNext item old new (Err read_fault.NoMemory) = (new ≡ old) × ((p : Pending) × (old.pending ≡ Some p) × HasPlace p item)
+HearsNext item old new (Err read_fault.Unexpected) = (new ≡ failed_after old) × IsOutOfSequence item old.pending
+HearsNext item old new (Err read_fault.NoMemory) = (new ≡ old) × ((p : Pending) × (old.pending ≡ Some p) × IsInSequence p item)
 HearsNext item old new (Err read_fault.Failed) = ⊥

@@ -15,10 +15,10 @@ use Rattle.dap_orders.specs.Orders.{event_of}
 use Rattle.dap_orders.specs.Schedules.{Numbered}
 use Rattle.dap_capture.specs.Played.{IsStepText, event_line, refusal_line, refusal_text}
 
--- these are the bytes of the packet at a place of an end's wire
-pub record IsPacketAt (s : State) (end : End) (place : ℕ) (bytes : List ℕ) : Type 0 where
+-- these are the bytes of the packet at an index of an end's wire
+pub record IsPacketAt (s : State) (end : End) (index : ℕ) (bytes : List ℕ) : Type 0 where
   pub sending : Sending
-  pub written : slice_get (end_of s end).wire place ≡ Some sending
+  pub written : slice_get (end_of s end).wire index ≡ Some sending
   pub packet : IsOnWire s end sending bytes
 
 -- The line of an event that came to this step is added.

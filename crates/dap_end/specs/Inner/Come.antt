@@ -1,4 +1,4 @@
--- Whether a segment came on a link, as code tells.
+-- Whether a segment came on a link, as code returns it.
 use Rattle.std.specs.Prelude.{Bool, false, ◌||◌, nat_lt, length, Option, Some, None}
 use Rattle.dap_end.specs.Ports.{PortValue}
 

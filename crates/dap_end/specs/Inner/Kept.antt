@@ -1,7 +1,7 @@
 -- What is true of every port and of every end.
 use Rattle.std.specs.Prelude.{◌≤◌, ℕ, List, length, All}
 use Rattle.dap_msg.specs.declared.items.Item.{Item}
-use Rattle.dap_msg.specs.Items.{IsPlace}
+use Rattle.dap_msg.specs.Items.{IsOffset}
 use Rattle.nsp_link.specs.Limits.{max_limit}
 use Rattle.nsp_link.specs.Link.{LinkValue, SendsStill}
 use Rattle.dap_end.specs.Ports.{PortValue}
@@ -12,7 +12,7 @@ AreMessages messages = All (λ m. length m ≤ max_limit) messages
 
 pub record IsPort (p : PortValue) : Type 0 where
   -- the next item begins within the oldest NSP message, or that has no bytes
-  pub place : IsPlace p.place (oldest_message p.link.coming.inbox)
+  pub offset : IsOffset p.offset (oldest_message p.link.coming.inbox)
   -- no NSP message that waits is longer than an end may send
   pub short : AreMessages p.outbox
 
@@ -24,7 +24,7 @@ pub record IsSoundEnd {P : Type 0} (IsLeft : List (List ℕ) → P → Type 0) (
 
 -- more messages may have come on a link, and what it sends stays
 pub record LinkMoved (old new : LinkValue) : Type 0 where
-  pub gone : (given : List (List ℕ)) (place : ℕ) (items : List Item)
-      → GoneThrough given old.coming.inbox place items
-      → GoneThrough given new.coming.inbox place items
+  pub gone : (given : List (List ℕ)) (offset : ℕ) (items : List Item)
+      → GoneThrough given old.coming.inbox offset items
+      → GoneThrough given new.coming.inbox offset items
   pub sends : SendsStill old new

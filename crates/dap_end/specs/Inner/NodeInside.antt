@@ -15,18 +15,18 @@ node_code =
     (λ p. record { noted = p.0; ports = p.1 })
     (λ _. refl)
 
--- At each own address the table has the link that has it, or none.
+-- At each local address the table has the link that has it, or none.
 pub record IsTable (table : List (Option ℕ)) (ports : List (Option PortValue)) : Type 0 where
   pub whole : length table ≡ 65536
   pub listed : (link : ℕ) (p : PortValue) → slice_get ports link ≡ Some (Some p) → slice_get table p.link.setup.local ≡ Some (Some link)
   pub there : (local link : ℕ) → slice_get table local ≡ Some (Some link) → (p : PortValue) × (slice_get ports link ≡ Some (Some p)) × (p.link.setup.local ≡ local)
 
--- a table without the own address of a link, where that is there
+-- a table without the local address of a link, where that is there
 abbrev pub unlisted : Option PortValue → List (Option ℕ) → List (Option ℕ)
 unlisted None table = table
 unlisted (Some p) table = set table p.link.setup.local None
 
--- what is true of a node, with the table of its own addresses
+-- what is true of a node, with the table of its local addresses
 pub record IsNode (by_local : List (Option ℕ)) (v : NodeValue) : Type 0 where
   pub links : length v.ports ≡ length v.noted.shared.sessions
   pub ports : (link : ℕ) (p : PortValue) → slice_get v.ports link ≡ Some (Some p) → IsPort p

@@ -13,7 +13,7 @@ use Rattle.dap_end.specs.Ports.{new_port}
 use Rattle.dap_end.specs.Done.{ServingValue, ServerHistory, nothing_yet, nothing_asked}
 use Rattle.dap_end.specs.Serving.{IsAfter}
 use Rattle.dap_end.specs.Asking.{HasAsked}
-use Rattle.dap_end.specs.Writing.{Behind}
+use Rattle.dap_end.specs.Writing.{Extends}
 use Rattle.dap_end.specs.Joined.{Pair}
 
 -- What the end did grew into this.
@@ -21,7 +21,7 @@ pub record Grew (history now : ServerHistory) (old new : ServingValue) : Type 0 
   pub is : IsAfter now new
   pub first : now.first ≡ history.first
   pub items : (more : List Item) × (now.items ≡ history.items ++ more)
-  pub handed : Behind history.handed now.handed (AreShort old.port.link)
+  pub handed : Extends history.handed now.handed (AreShort old.port.link)
   -- what left the link was served
   pub given : now.given ++ new.port.link.coming.inbox ≡ history.given ++ old.port.link.coming.inbox
   pub stands : (size : ℕ) (messages : List (List ℕ))
@@ -51,9 +51,9 @@ pub record AreNew (s t : LinkSetup) (first : Files) (p : Pair) : Type 0 where
   pub serving : IsAfter (nothing_yet first) p.b
   pub none : p ≡ record { a = p.a; b = p.b; from_a = []; from_b = []; requests = []; reports = [] }
 
--- The messages that were served are the first of those that the requests ask, each once and in order; the files are those
--- after them; the answers that were read are the first of the answers to them, and the reports are those that the definition
--- tells of these.
+-- The messages that were served are the first of those that the requests ask, each once and in order; the files are
+-- those after them; the answers that were read are the first of the answers to them, and the reports are those that the
+-- definition gives for these.
 pub record PairHeadline (first : Files) (p : Pair) : Type 0 where
   pub taken : List Message
   pub taken_in_order : (rest : List Message) × (taken ++ rest ≡ Asked p.a.present.identity p.requests)

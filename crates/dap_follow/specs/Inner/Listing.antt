@@ -5,14 +5,14 @@ use Rattle.std.specs.Global.{Vec}
 use Rattle.dap_text.specs.Adding.{Adds}
 use Rattle.dap_listing.specs.Captured.{Spell}
 use Rattle.dap_listing.specs.Messages.{IsMessagesText}
-use Rattle.dap_follow.specs.Streams.{Placed}
+use Rattle.dap_follow.specs.Streams.{Sequenced}
 use Rattle.dap_follow.specs.Joined.{Message, Fragment, is_message, messages, payload, fragments_of}
 use Rattle.dap_follow.specs.Following.{part_line, piece_text, rest_lines, stream_text}
-use Rattle.dap_follow.specs.Inner.Placing.{counted_value}
-use Rattle.dap_follow.specs.declared.places.Counted.{Counted}
+use Rattle.dap_follow.specs.Inner.InOrder.{counted_value}
+use Rattle.dap_follow.specs.declared.segments.Counted.{Counted}
 use Rattle.dap_follow.specs.declared.streams.Stream.{Stream}
 
-abbrev pub values : List Counted → List Placed
+abbrev pub values : List Counted → List Sequenced
 values cs = map counted_value cs
 
 abbrev pub message_heading : Fragment → List ℕ
@@ -21,7 +21,7 @@ message_heading p = piece_text (codes "  message") p
 abbrev pub part_text : Stream → Fragment → List ℕ
 part_text stream p = codes "part" ++ piece_text (stream_text stream) p
 
-abbrev pub segments : Fragment → List Placed
+abbrev pub segments : Fragment → List Sequenced
 segments p = p.head ∷ p.others
 
 -- the digits of the payloads, one after the other
@@ -41,8 +41,8 @@ pub record IsCutOff (all piece others : List Counted) : Type 0 where
 
 -- the lines of messages, end to end
 pub data AreMessageLines (in_words : Bool) : List Message → List ℕ → Type 0 where
-  no_more : AreMessageLines in_words [] []
-  one_more : {m : Message} {others : List Message} (lines rest : List ℕ)
+  no_message_more : AreMessageLines in_words [] []
+  one_message_more : {m : Message} {others : List Message} (lines rest : List ℕ)
       → IsMessagesText in_words (payload m.piece) lines → AreMessageLines in_words others rest
       → AreMessageLines in_words (m ∷ others) (message_heading m.piece ++ lines ++ rest)
 
@@ -68,9 +68,9 @@ pub record ListsPiece (in_words : Bool) (stream : Stream) (packet : ℕ) (p : Fr
   pub rest : Adds old new (part_line stream p)
 
 -- what is listed of a stream was added
-pub record ListsStream (in_words : Bool) (stream : Stream) (ordered : List Placed) (olds news : List (Vec ℕ)) (old new : Vec ℕ) : Type 0 where
+pub record ListsStream (in_words : Bool) (stream : Stream) (ordered : List Sequenced) (olds news : List (Vec ℕ)) (old new : Vec ℕ) : Type 0 where
   pub under : UnderAll in_words (messages ordered) 1 olds news
   pub rest : Adds old new (rest_lines stream (fragments_of ordered))
 
-abbrev pub all_rest_lines : List Stream → List (List Placed) → List ℕ
-all_rest_lines streams ordered = flat_map (λ (stream, placed). rest_lines stream (fragments_of placed)) (zip streams ordered)
+abbrev pub all_rest_lines : List Stream → List (List Sequenced) → List ℕ
+all_rest_lines streams ordered = flat_map (λ (stream, sequenced). rest_lines stream (fragments_of sequenced)) (zip streams ordered)

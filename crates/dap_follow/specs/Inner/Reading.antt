@@ -43,10 +43,10 @@ pub record ReadsInput (in_words : Bool) (input : List ℕ) (r : Reading) : Type 
   pub clean : faults_from packet_limit 1 input ≡ []
   pub reads : ReadsPackets in_words (frames packet_limit input) packets r
 
--- memory ran out, or it is the first fault
+-- it is out of memory, or it is the first fault
 abbrev pub WantsOrFirst : List ℕ → CaptureFault → Type 0
 WantsOrFirst input fault = (fault ≡ NoMemory) ⊎ IsFirst (faults_from packet_limit 1 input) fault
 
--- it is the first fault, or memory ran out where there is none
+-- it is the first fault, or out of memory where there is none
 abbrev pub FirstThenWants : List ℕ → CaptureFault → Type 0
 FirstThenWants input fault = ((fault ≡ NoMemory) × (faults_from packet_limit 1 input ≡ [])) ⊎ IsFirst (faults_from packet_limit 1 input) fault

@@ -1,4 +1,4 @@
--- Lines that are taken off the start of bytes after which others may follow.
+-- Lines that are cut off the start of bytes, after which others may follow.
 use Rattle.std.specs.Prelude.{◌≡◌, ◌++◌, ℕ, Bool, List}
 use Rattle.linewise.specs.Cuts.{MayFollow}
 use Rattle.dap_listing.specs.Listing.{captures, faults_from, line_limit, CaptureLines}
@@ -7,7 +7,7 @@ use Rattle.linewise.specs.Firsts.{IsFirst}
 use Rattle.linewise.specs.declared.fault.CaptureFault.{CaptureFault}
 use Rattle.dap_listing.specs.declared.listing.Listed.{Listed}
 
--- whatever may follow, the faults are those of the rest
+-- whatever may follow, the faults are those of the suffix
 abbrev pub FaultsGoOn : ℕ → Bool → ℕ → List ℕ → ℕ → List ℕ → Type 0
 FaultsGoOn limit is_last number bytes later rest =
     (follow : List ℕ) → MayFollow is_last follow → faults_from limit number (bytes ++ follow) ≡ faults_from limit later (rest ++ follow)
@@ -17,8 +17,8 @@ abbrev pub IsFirstFault : ℕ → Bool → ℕ → List ℕ → CaptureFault →
 IsFirstFault limit is_last number bytes fault =
     (follow : List ℕ) → MayFollow is_last follow → IsFirst (faults_from limit number (bytes ++ follow)) fault
 
--- Whatever may follow: where the text was the start of a listing that continued with the bytes, it is one now that goes
--- on with the rest.
+-- Whatever may follow: where the text was the start of a listing that continued with the bytes, it is one now that
+-- continues with the suffix.
 abbrev pub ListingGoesOn : Listed → Bool → ℕ → List ℕ → List ℕ → ℕ → List ℕ → List ℕ → Type 0
 ListingGoesOn listed is_last number bytes old later rest new =
     (start : ℕ) (all : List Capture) (follow : List ℕ) → MayFollow is_last follow

@@ -13,11 +13,11 @@ abbrev pub front_of : ℕ → ℕ
 front_of count = min 32 count
 
 -- a payload's digits end the digits, after at most this many bytes
-abbrev pub IsBehind : List ℕ → ℕ → Result CapturedPacket SegFault → Type 0
-IsBehind digits known (Ok (Segment c)) =
+abbrev pub IsPayloadSuffix : List ℕ → ℕ → Result CapturedPacket SegFault → Type 0
+IsPayloadSuffix digits known (Ok (Segment c)) =
     (head : ℕ) × (head ≤ known) × (2 * head + length c.digits.now ≡ length digits) × (c.digits.now ≡ drop (2 * head) digits)
-IsBehind digits known (Ok (DataAck ack)) = Unit {0}
-IsBehind digits known (Err fault) = Unit {0}
+IsPayloadSuffix digits known (Ok (DataAck ack)) = Unit {0}
+IsPayloadSuffix digits known (Err fault) = Unit {0}
 
 -- the message with another record, where it is one of a record
 abbrev pub with_other_record : Message → List ℕ → Message
@@ -28,7 +28,7 @@ abbrev pub item_with_record : Item → List ℕ → Item
 item_with_record (Whole m) body = Whole (with_other_record m body)
 item_with_record (Malformed fault) body = Malformed fault
 
--- how many bytes of a record are its last
+-- how many bytes at the end of a message are its record
 abbrev pub message_record_size : Message → ℕ
 message_record_size (Filedata recnum payload) = length payload
 message_record_size m = 0

@@ -1,4 +1,4 @@
--- How far a listing came.
+-- A listing under way: what is listed so far.
 use Rattle.std.specs.Prelude.{◌≡◌, ◌<◌, ◌+◌, ◌++◌, ◌⊎◌, ⊤, ℕ, false, List, length, Option, Some, None, Result, Ok, Err}
 use Rattle.std.specs.Global.{Vec}
 use Rattle.linewise.specs.Talks.{max_line}
@@ -9,7 +9,7 @@ use Rattle.linewise.specs.declared.fault.CaptureFault.TheVariants.{BadLine, TooL
 use Rattle.dap_listing.specs.declared.listing.Progress.{Progress}
 use Rattle.dap_listing.specs.declared.listing.Listed.{Listed}
 
--- the listing of an input, of which the rest is still to be listed
+-- the listing of an input, of which this suffix is still to be listed
 pub record IsUnderWay (listed : Listed) (input rest : List ℕ) (progress : Progress) : Type 0 where
   pub faults : faults_from (line_limit listed) 1 input ≡ faults_from (line_limit listed) progress.at rest
   pub listing : progress.wants ≡ false → (more : List ℕ) → CaptureLines listed progress.number (captures (line_limit listed) rest) more
@@ -26,12 +26,12 @@ StandsAt listed count None unread bytes progress = ⊤
 abbrev pub IsListing : Listed → List ℕ → List ℕ → Type 0
 IsListing listed input text = CaptureLines listed 1 (captures (line_limit listed) input) text
 
--- The input was read to its end. No line is at fault, and the text is the listing, unless memory ran out for it.
+-- The input was read to its end. No line is at fault, and the text is the listing, unless it is out of memory.
 abbrev pub IsAllListed : Listed → List ℕ → Progress → Type 0
 IsAllListed listed input progress =
     IsTextOf (faults_from (line_limit listed) 1 input) (λ text. progress.wants ≡ false → IsListing listed input text) input progress.text.items
 
--- a fault that is told of an input
+-- a fault that is reported of an input
 abbrev pub IsInputFault : Listed → List ℕ → CaptureFault → Type 0
 IsInputFault listed input (BadLine number) = HasLineFault (faults_from (line_limit listed) 1 input) input (BadLine number)
 IsInputFault listed input TooLarge =
@@ -41,7 +41,7 @@ IsInputFault listed input ReadFailed = Unit {0}
 IsInputFault listed input NoMemory = Unit {0}
 IsInputFault listed input WriteFailed = ⊥
 
--- what a listing of the input answers before it is written
+-- what a listing of the input returns before it is written
 abbrev pub TextGives : Listed → List ℕ → Result (Vec ℕ) CaptureFault → Type 0
 TextGives listed input (Ok text) = IsTextOf (faults_from (line_limit listed) 1 input) (IsListing listed input) input text.items
 TextGives listed input (Err fault) = IsInputFault listed input fault

@@ -10,6 +10,6 @@ use Rattle.dap_live.specs.Sending.{AllAgain}
 abbrev pub AddsAgain : LinkValue → Vec ℕ → Vec ℕ → Type 0
 AddsAgain link old new = (packets : List (List ℕ)) × AllAgain link packets × Adds old new (packets_text packets)
 
-abbrev pub AddsOneAgain : LinkValue → (place : ℕ) → Vec ℕ → Vec ℕ → Type 0
-AddsOneAgain link place old new =
-    (bytes : List ℕ) × WritesSent link (Some (link.acked + 1 + place)) bytes × Adds old new (packet_text bytes)
+abbrev pub AddsOneAgain : LinkValue → (index : ℕ) → Vec ℕ → Vec ℕ → Type 0
+AddsOneAgain link index old new =
+    (bytes : List ℕ) × WritesSent link (Some (link.acked + 1 + index)) bytes × Adds old new (packet_text bytes)

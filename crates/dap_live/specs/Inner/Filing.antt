@@ -28,7 +28,7 @@ pub record HasNoBytes (own : ServerSetup) (links : ℕ) (usual : LinkSetup) (mos
   pub used : node.used ≡ replicate links false
   pub given : node.given ≡ None
 
--- a file of a shape is added while no link is used, or it is told why not
+-- a file of a shape is added while no link is used, or the reason why not is reported
 abbrev pub AddsShapedTo : Node → (name : List ℕ) → Shape → Node → List ℕ → Became → Type 0
 AddsShapedTo old name shape new text became =
     DoneOr (λ became. became) (GivesFile name shape old new)

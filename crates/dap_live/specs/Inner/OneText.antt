@@ -15,7 +15,7 @@ AreSameAsking one other =
     (one.end ≡ other.end) × (one.setup ≡ other.setup) × (one.reports.items ≡ other.reports.items) × (one.told ≡ other.told)
     × (one.is_each ≡ other.is_each) × HasDone one.end
 
--- some history left what a link of a node stands before, and the link sends some messages
+-- some history left what is before a link of a node, and the link sends some messages
 abbrev pub HasCarried : NodeLinkValue → Type 0
 HasCarried v = (first : Files) × (events : List Event) × SharedAfter first events v.present.shared × HasSent v.port.link
 

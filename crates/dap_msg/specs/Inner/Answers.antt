@@ -1,4 +1,4 @@
--- The messages that an end answers with have a spelling, and all but a record have a short one.
+-- The messages of responses have a spelling, and all but a record have a short one.
 use Rattle.std.specs.Prelude.{ℕ, ◌^◌, ◌<◌, ◌≤◌, List, length}
 use Rattle.dap_msg.specs.Message.{Message, Configuration, StatusFields, Ack, Config, Status}
 use Rattle.dap_msg.specs.Fitting.{FieldsFit}
@@ -10,7 +10,7 @@ pub record IsShortAnswer (m : Message) : Type 0 where
   pub fits : Fits m
   pub short : length (canon m) ≤ min_buffer
 
--- What an end answers has a spelling.
+-- Each message of a response has a spelling.
 pub record AnswersFit : Type 0 where
   pub config : (bufsiz : ℕ) → bufsiz < 2 ^ 16 → IsShortAnswer (config_of bufsiz)
   pub identity : (own : Configuration) → FieldsFit (Config own) → IsShortAnswer (Config own)

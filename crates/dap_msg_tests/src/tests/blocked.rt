@@ -29,7 +29,7 @@ const ROWS: &[Row] = &[
     // Messages are joined within the limit.
     (11, &[PUT, DATA], &[PUT_AND_DATA]),
     (11, &[PUT, DATA, ACKNOWLEDGE], &[PUT_AND_DATA, ACKNOWLEDGE]),
-    // One past the limit stands alone.
+    // One past the limit is alone.
     (
         64,
         &[EIGHTEEN, EIGHTEEN, EIGHTEEN, EIGHTEEN, ENDED],
@@ -67,7 +67,7 @@ fn messages_are_joined(rt: HostRuntime) -> Result<(), Fail> {
     Ok(())
 }
 
-/// Acknowledges that are written in their places, each with its limit.
+/// Appends Acknowledges, each within its limit, which are written where they are to be.
 fn written(rt: &(impl AllocGlobal + Abort), limits: &[usize]) -> Result<Vec<Vec<u8>>, MsgFault> {
     assert!(rt; fits_value(&MessageValue::Ack));
     let mut list = Vec::new(rt.alloc());

@@ -1,6 +1,6 @@
 //! The numbers of codes, and what both ends say of limits.
 
-use dap_msg::codes::{REASON_BAD_KEY, REASON_FILE_EXISTS, invalid, out_of_place, unsupported};
+use dap_msg::codes::{REASON_BAD_KEY, REASON_FILE_EXISTS, invalid, out_of_sequence, unsupported};
 use dap_msg::{
     MAX_MESSAGE, MessageValue, encoded_len, fits_value, is_too_small, limit_of, number_of,
 };
@@ -8,7 +8,7 @@ use dap_msg::{
 #[test]
 fn codes_by_the_type_of_a_message(rt: HostRuntime) {
     assert!(rt; (unsupported(3), unsupported(4)) == (0x20c0, 0x2100));
-    assert!(rt; (invalid(1), invalid(7), out_of_place(4)) == (0x9040, 0x91c0, 0xa004));
+    assert!(rt; (invalid(1), invalid(7), out_of_sequence(4)) == (0x9040, 0x91c0, 0xa004));
     assert!(rt; (REASON_FILE_EXISTS, REASON_BAD_KEY) == (1, 12));
 }
 
@@ -25,7 +25,7 @@ fn limits_and_numbers(rt: HostRuntime) {
     assert!(rt; length(&MessageValue::complete_with(2)) == Some(5));
 }
 
-/// How many bytes the message has, where it fits.
+/// Returns how many bytes the message has, where it fits.
 fn length(message: &MessageValue<'_>) -> Option<usize> {
     if fits_value(message) {
         Some(encoded_len(message))

@@ -15,7 +15,7 @@ fn fault_of(input: &[u8]) -> Option<(FaultKind, u8, usize, u16)> {
     }
 }
 
-/// Bytes, and the fault: its kind, the message's type, its place, and the code that answers it.
+/// Bytes, and the fault: its kind, the message's type, its offset, and the code that answers it.
 const FAULTS: &[(&[u8], (FaultKind, u8, usize, u16))] = &[
     // Of each kind.
     (&[], (Truncated, 0, 0, 0x8000)),

@@ -1,4 +1,4 @@
-//! What stands at the places of an NSP message.
+//! What is at offsets of an NSP message.
 
 use dap_msg::{ControlFields, FaultKind, Item, MessageValue, MsgFault, item_at};
 
@@ -24,7 +24,7 @@ const NO_TYPE: MsgFault = MsgFault {
     offset: 0,
 };
 
-/// What stands at a place.
+/// What is at an offset.
 #[derive(Clone, Copy)]
 enum Found {
     Get,
@@ -40,7 +40,7 @@ fn item_of(found: Found) -> Item<'static> {
     }
 }
 
-/// Bytes, a place in them, what stands there, and where it ends.
+/// Bytes, an offset in them, what is there, and where it ends.
 const ITEMS: &[(&[u8], usize, Found, usize)] = &[
     // A message after another.
     (&[4, 2, 3, 1, 1, 0, 6, 2, 0], 0, Found::Get, 6),

@@ -1,10 +1,10 @@
-//! The greatest value of each field that has a limit, and the one above it.
+//! The maximum value of each field that has a limit, and the one above it.
 
 use bitflags::Flags;
 use dap_msg::{Attributes, Bytes, FileAccess, Message, MessageValue, fits};
 use std::test::Fail;
 
-/// The greatest values of extensible fields of 2 to 12 bytes.
+/// The maximum values of extensible fields of 2 to 12 bytes.
 const EX_2: u16 = 16383;
 
 const EX_3: u32 = 2097151;
@@ -46,7 +46,7 @@ const RECORDS: &[(&[u8], usize, bool)] = &[
     (&[1; 9], 0, false),
 ];
 
-/// Whether a message with so much of a record fits.
+/// Returns whether a message with this many bytes of a record fits.
 fn fits_record(recnum: &[u8], record: &[u8], length: usize) -> Option<bool> {
     let payload = record.get(..length)?;
     Some(fits(&data(recnum, payload)))
@@ -72,7 +72,7 @@ const OTHERS: &[(u8, usize, bool)] = &[
     (10, 65536, false),
 ];
 
-/// Whether a message of no known layout with so much of an operand fits.
+/// Returns whether a message of no known layout with this many bytes of an operand fits.
 fn fits_other(number: u8, operand: &[u8], length: usize) -> Option<bool> {
     let body = operand.get(..length)?;
     Some(fits(&Message::Other { number, body }))
@@ -205,7 +205,7 @@ fn of_attributes(rt: HostRuntime) {
     }
 }
 
-/// Whether Attributes with these values fit as the row says.
+/// Returns whether Attributes with these values fit as the row says.
 fn attributes_are_so(row: AttributesRow) -> bool {
     let (datatype, rat, alq, mrn, runsys, fop, dev, sdc, hbk, ebk, sbn, good) = row;
     let attributes = Attributes {
@@ -330,7 +330,7 @@ fn the_operations_of_a_file(rt: HostRuntime) {
     assert!(rt; operations(FileAccess::of_fac(0x10a)) == (true, true, false, false));
 }
 
-/// Whether a file's records may be read, replaced, put and deleted.
+/// Returns whether a file's records may be read, replaced, put and deleted.
 fn operations(access: FileAccess) -> (bool, bool, bool, bool) {
     (
         access.allows_get(),

@@ -8,7 +8,7 @@ use std::alloc::Global;
 use std::process::Abort;
 use std::test::Fail;
 
-/// Whether the message is at the start of the bytes, and has this many of them.
+/// Returns whether the message is at the start of the bytes, and has this many of them.
 fn is_read(bytes: &[u8], message: &Message<'_>, len: usize) -> bool {
     match decode(bytes) {
         Ok((read, end)) => read == *message && end == len,
@@ -16,7 +16,7 @@ fn is_read(bytes: &[u8], message: &Message<'_>, len: usize) -> bool {
     }
 }
 
-/// Whether the message is written as these bytes, and read back from them, whatever follows.
+/// Returns whether the message is written as these bytes, and read back from them, whatever follows.
 fn is_written(alloc: Global, message: &Message<'_>, bytes: &[u8]) -> Result<bool, MsgFault> {
     if !fits(message) {
         return Ok(false);
@@ -30,7 +30,7 @@ fn is_written(alloc: Global, message: &Message<'_>, bytes: &[u8]) -> Result<bool
     Ok(is_so && is_read(&out, message, bytes.len()))
 }
 
-/// The message is written as these bytes, and read back from them, whatever follows.
+/// Checks that the message is written as these bytes, and read back from them, whatever follows.
 fn check(rt: &(impl AllocGlobal + Abort), message: Message<'_>, bytes: &[u8]) -> Result<(), Fail> {
     let so = is_written(rt.alloc(), &message, bytes)?;
     assert!(rt; so, "{bytes:?}");
@@ -223,7 +223,7 @@ fn file_data(rt: HostRuntime) -> Result<(), Fail> {
     check(&rt, message, &[8, 2, 2, 0, 0x41])
 }
 
-/// How many bytes a record of this many is written in, whether they begin so, and whether they are read back.
+/// Returns how many bytes a record of this many is written in, whether they begin so, and whether they are read back.
 fn written(alloc: Global, record: &[u8], begin: &[u8]) -> Result<(usize, bool, bool), MsgFault> {
     let message = Message::Filedata {
         recnum: &[],
@@ -238,7 +238,7 @@ fn written(alloc: Global, record: &[u8], begin: &[u8]) -> Result<(usize, bool, b
     Ok((out.len(), out.starts_with(begin), is_read))
 }
 
-/// Records, the front of the message of each, and its length.
+/// Records, the prefix of the message of each, and its length.
 const LONG: &[(&[u8], &[u8], usize)] = &[
     (&[0x41; 254], &[8, 2, 0xff], 258),
     (&[0x41; 255], &[8, 6, 0, 1], 260),

@@ -9,7 +9,7 @@ use Rattle.dap_text.specs.Tables.{format_text, org_text}
 abbrev pub sizes_text : (mrs mrn : ℕ) → List ℕ
 sizes_text mrs mrn = concat (codes " " ∷ decimal mrs ∷ codes " " ∷ decimal mrn ∷ [])
 
--- what is told of a file's shape
+-- what is printed of a file's shape
 abbrev pub shape_text : Shape → List ℕ
 shape_text shape =
     concat (codes " " ∷ org_text shape.org ∷ codes " " ∷ format_text shape.format ∷ sizes_text shape.mrs shape.mrn ∷ [])

@@ -3,14 +3,14 @@ use Rattle.std.specs.Prelude.{◌≡◌, ◌⊎◌, ⊤, ℕ, ◌+◌, ◌/◌, 
 use Rattle.std.specs.List.{AllByRecursion, filter, flat_map}
 use Rattle.dap_listing.specs.Captured.{Spell, digit_bytes}
 use Rattle.dap_listing.specs.declared.captured.CapturedSegment.{CapturedSegment}
-use Rattle.dap_follow.specs.Streams.{Placed}
+use Rattle.dap_follow.specs.Streams.{Sequenced}
 use Rattle.dap_follow.specs.Joined.{Fragment, is_message, latest, payload, fragments_of, tail}
-use Rattle.dap_follow.specs.Segments.{numbered_segment, placed_at}
+use Rattle.dap_follow.specs.Segments.{numbered_segment, sequenced_at}
 use Rattle.dap_watch.specs.Watched.{whole_with}
 use Rattle.dap_watch.specs.Inner.Pieces.{IsPut, Rises, all_segments, glue}
-use Rattle.dap_watch.specs.declared.places.Kept.{Kept}
-use Rattle.dap_watch.specs.declared.places.Places.{Places}
-use Rattle.dap_watch.specs.declared.places.Whole.{Whole}
+use Rattle.dap_watch.specs.declared.kept.Kept.{Kept}
+use Rattle.dap_watch.specs.declared.kept.KeptSegments.{KeptSegments}
+use Rattle.dap_watch.specs.declared.kept.Whole.{Whole}
 
 -- ---- one of the program
 
@@ -22,10 +22,10 @@ kept_digits k = flat_map (λ payload. payload) k.payloads.items
 abbrev pub do_join : Kept → Kept → Bool
 do_join a b = (b.from == a.to + 1) && (if a.listed then b.listed else (not b.listed && not a.last && not b.first))
 
--- a segment in its place
-pub record IsSegment (place : ℕ) (c : CapturedSegment) (k : Kept) : Type 0 where
-  pub from : k.from ≡ place
-  pub to : k.to ≡ place
+-- a segment under its sequence number
+pub record IsSegment (sequence : ℕ) (c : CapturedSegment) (k : Kept) : Type 0 where
+  pub from : k.from ≡ sequence
+  pub to : k.to ≡ sequence
   pub first : k.first ≡ c.first
   pub last : k.last ≡ c.last
   pub listed : k.listed ≡ false
@@ -40,19 +40,19 @@ pub record IsAbsorbed (one other joined : Kept) : Type 0 where
   pub listed : joined.listed ≡ one.listed
   pub digits : kept_digits joined ≡ kept_digits one ++ kept_digits other
 
--- a place of the number near the highest place
+-- a sequence number with this 12-bit number, near the highest one
 abbrev pub IsNear : ℕ → ℕ → ℕ → Type 0
-IsNear highest number place = (highest ≤ place + 2047) × (place ≤ highest + 2048) × (place % 4096 ≡ number)
+IsNear highest number sequence = (highest ≤ sequence + 2047) × (sequence ≤ highest + 2048) × (sequence % 4096 ≡ number)
 
 -- each ends before those after it do
 abbrev pub Ascends : List Kept → Type 0
 Ascends [] = ⊤
 Ascends (k ∷ others) = AllByRecursion (λ other. k.to < other.to) others × Ascends others
 
--- the place is in the first of those that don't end below it
+-- the sequence number is in the first of those that don't end below it
 abbrev pub is_taken : ℕ → List Kept → Bool
-is_taken place [] = false
-is_taken place (k ∷ others) = nat_le k.from place
+is_taken sequence [] = false
+is_taken sequence (k ∷ others) = nat_le k.from sequence
 
 -- ---- neighbours
 
@@ -62,8 +62,8 @@ IsApart piece [] = ⊤
 IsApart piece (k ∷ others) = do_join piece k ≡ false
 
 -- the last of these isn't joined
-abbrev pub IsBehindApart : List Kept → Kept → Type 0
-IsBehindApart front piece = (others : List Kept) (k : Kept) → front ≡ others ++ k ∷ [] → do_join k piece ≡ false
+abbrev pub IsLastApart : List Kept → Kept → Type 0
+IsLastApart front piece = (others : List Kept) (k : Kept) → front ≡ others ++ k ∷ [] → do_join k piece ≡ false
 
 -- the next one is joined, or isn't in a row
 abbrev pub AbsorbsAfter : ℕ → List Kept → Kept → List Kept → Kept → Type 0
@@ -75,22 +75,22 @@ AbsorbsAfter index old piece new joined =
 -- the one before
 abbrev pub AbsorbsBefore : ℕ → List Kept → Kept → ℕ → List Kept → Kept → Type 0
 AbsorbsBefore index old piece now new joined =
-    ((new ≡ old) × (now ≡ index) × (joined ≡ piece) × IsBehindApart (take index old) piece)
+    ((new ≡ old) × (now ≡ index) × (joined ≡ piece) × IsLastApart (take index old) piece)
     ⊎ ((before : Kept) × (others : List Kept) × (take index old ≡ others ++ before ∷ []) × (new ≡ others ++ drop index old) × (now ≡ length others)
     × (do_join before piece ≡ true) × IsAbsorbed before piece joined)
 
 -- ---- what it stands for
 
--- messages one after another without a gap, from one place to another
+-- messages one after another without a gap, from one sequence number to another
 abbrev pub AreListed : ℕ → ℕ → List Fragment → Type 0
 AreListed from to [] = ⊥
-AreListed from to (m ∷ []) = (is_message m ≡ true) × (m.head.place ≡ from) × ((tail m).place ≡ to)
-AreListed from to (m ∷ n ∷ ms) = (is_message m ≡ true) × (m.head.place ≡ from) × AreListed ((tail m).place + 1) to (n ∷ ms)
+AreListed from to (m ∷ []) = (is_message m ≡ true) × (m.head.sequence ≡ from) × ((tail m).sequence ≡ to)
+AreListed from to (m ∷ n ∷ ms) = (is_message m ≡ true) × (m.head.sequence ≡ from) × AreListed ((tail m).sequence + 1) to (n ∷ ms)
 
 -- a piece of a stream
 pub record IsOpen (k : Kept) (p : Fragment) : Type 0 where
-  pub from : k.from ≡ p.head.place
-  pub to : k.to ≡ (tail p).place
+  pub from : k.from ≡ p.head.sequence
+  pub to : k.to ≡ (tail p).sequence
   pub first : k.first ≡ p.head.first
   pub last : k.last ≡ (tail p).last
   pub listed : k.listed ≡ false
@@ -113,18 +113,18 @@ KeepsPieces ps (k ∷ ks) =
 
 -- ---- one between others
 
--- It took the neighbours that it joins: what was before it, its own and what was after it are now these. Where it isn't listed, no
--- message became of it or was lost but in the middle.
+-- It took the neighbours that it joins: the pieces before it, its pieces and those after it are now these. Where it
+-- isn't listed, no message became of it or was lost but in the middle.
 pub record Regroups (xs ys zs : List Fragment) (piece : Kept) (front : List Kept) (joined : Kept) (back : List Kept) : Type 0 where
   pub before : List Fragment
   pub these : List Fragment
-  pub behind : List Fragment
+  pub those_after : List Fragment
   pub front_keeps : KeepsPieces before front
   pub holds : HoldsPieces joined these
-  pub back_keeps : KeepsPieces behind back
-  pub all : glue xs (glue ys zs) ≡ before ++ (these ++ behind)
+  pub back_keeps : KeepsPieces those_after back
+  pub all : glue xs (glue ys zs) ≡ before ++ (these ++ those_after)
   pub kind : joined.listed ≡ piece.listed
-  pub messages : piece.listed ≡ false → (filter is_message before ≡ filter is_message xs) × (filter is_message behind ≡ filter is_message zs)
+  pub messages : piece.listed ≡ false → (filter is_message before ≡ filter is_message xs) × (filter is_message those_after ≡ filter is_message zs)
   pub later : latest (all_segments ys) ≤ latest (all_segments these)
 
 -- so it does whatever stands for all
@@ -138,19 +138,19 @@ pub record Lists (index : ℕ) (old : List Kept) (message : Kept) (new : List Ke
   pub from : whole.from ≡ message.from
   pub to : whole.to ≡ message.to
   pub digits_are : digits ≡ kept_digits message
-  pub keeps : (xs zs : List Fragment) (m : Fragment) → is_message m ≡ true → message.from ≡ m.head.place → message.to ≡ (tail m).place
+  pub keeps : (xs zs : List Fragment) (m : Fragment) → is_message m ≡ true → message.from ≡ m.head.sequence → message.to ≡ (tail m).sequence
       → KeepsPieces xs (take index old) → KeepsPieces zs (drop index old)
       → KeepsPieces (xs ++ m ∷ zs) new
 
--- the place and the digits of a message
+-- the sequence numbers and the digits of a message
 pub record IsWholeMessage (digits : List ℕ) (w : Whole) (m : Fragment) : Type 0 where
   pub message : is_message m ≡ true
-  pub from : w.from ≡ m.head.place
-  pub to : w.to ≡ (tail m).place
+  pub from : w.from ≡ m.head.sequence
+  pub to : w.to ≡ (tail m).sequence
   pub bytes : digit_bytes digits ≡ payload m
   pub spelled : Spell digits (length digits / 2)
 
--- it is a message, and told; or it is none
+-- it is a message, and returned; or it is none
 abbrev pub IsListedPiece : List ℕ → Option Whole → Fragment → Type 0
 IsListedPiece digits None m = is_message m ≡ false
 IsListedPiece digits (Some w) m = IsWholeMessage digits w m
@@ -159,11 +159,11 @@ IsListedPiece digits (Some w) m = IsWholeMessage digits w m
 pub record Settles (xs ys zs : List Fragment) (new : List Kept) (digits : List ℕ) (found : Option Whole) : Type 0 where
   pub before : List Fragment
   pub piece : Fragment
-  pub behind : List Fragment
-  pub all : glue xs (glue ys zs) ≡ before ++ piece ∷ behind
-  pub keeps : KeepsPieces (before ++ piece ∷ behind) new
+  pub those_after : List Fragment
+  pub all : glue xs (glue ys zs) ≡ before ++ piece ∷ those_after
+  pub keeps : KeepsPieces (before ++ piece ∷ those_after) new
   pub told : IsListedPiece digits found piece
-  pub messages : (filter is_message before ≡ filter is_message xs) × (filter is_message behind ≡ filter is_message zs)
+  pub messages : (filter is_message before ≡ filter is_message xs) × (filter is_message those_after ≡ filter is_message zs)
   pub later : latest (all_segments ys) ≤ latest (piece.head ∷ piece.others)
 
 abbrev pub Puts : ℕ → List Kept → Kept → List Kept → List ℕ → Option Whole → Type 0
@@ -174,30 +174,30 @@ Puts index old segment new digits found =
 -- ---- a stream
 
 -- what is kept of a stream with these segments in order, all of packets below a number
-pub record KeepsPlaces (packet : ℕ) (ordered : List Placed) (p : Places) : Type 0 where
+pub record KeepsSequenced (packet : ℕ) (ordered : List Sequenced) (p : KeptSegments) : Type 0 where
   pub keeps : KeepsPieces (fragments_of ordered) p.kept.items
   pub rises : Rises ordered
   pub numbered : AllByRecursion (λ s. s.packet < packet) ordered
   pub low : 4096 ≤ p.highest
 
--- the messages that are whole with the packet: none, or the one that is told
+-- the messages that are whole with the packet: none, or the one that is returned
 abbrev pub AreTold : ℕ → List ℕ → Option Whole → List Fragment → Type 0
 AreTold packet digits None ms = ms ≡ []
 AreTold packet digits (Some w) ms = (m : Fragment) × (ms ≡ m ∷ []) × (whole_with m ≡ packet) × IsWholeMessage digits w m
 
--- the segment of a packet was put in its place, and messages became whole with it
-pub record Found (packet : ℕ) (c : CapturedSegment) (ordered : List Placed) (old new : Places) (digits : List ℕ) (found : Option Whole) : Type 0 where
-  pub place : ℕ
-  pub near : IsNear old.highest c.number place
-  pub highest : new.highest ≡ max old.highest place
-  pub later : List Placed
-  pub put : IsPut ordered (placed_at place (numbered_segment packet c)) later
+-- the segment of a packet was put under its sequence number, and messages became whole with it
+pub record Found (packet : ℕ) (c : CapturedSegment) (ordered : List Sequenced) (old new : KeptSegments) (digits : List ℕ) (found : Option Whole) : Type 0 where
+  pub sequence : ℕ
+  pub near : IsNear old.highest c.number sequence
+  pub highest : new.highest ≡ max old.highest sequence
+  pub later : List Sequenced
+  pub put : IsPut ordered (sequenced_at sequence (numbered_segment packet c)) later
   pub keeps : KeepsPieces (fragments_of later) new.kept.items
   pub ms : List Fragment
   pub added : (front back : List Fragment) × (filter is_message (fragments_of ordered) ≡ front ++ back) × (filter is_message (fragments_of later) ≡ front ++ (ms ++ back))
   pub told : AreTold packet digits found ms
 
-abbrev pub Finds : CapturedSegment → Places → Places → List ℕ → Option Whole → Type 0
+abbrev pub Finds : CapturedSegment → KeptSegments → KeptSegments → List ℕ → Option Whole → Type 0
 Finds c old new digits found =
-    (ordered : List Placed) (packet : ℕ) → KeepsPlaces packet ordered old → old.highest < 2 ^ 62
+    (ordered : List Sequenced) (packet : ℕ) → KeepsSequenced packet ordered old → old.highest < 2 ^ 62
     → Found packet c ordered old new digits found

@@ -1,11 +1,11 @@
 -- Pieces of one stream, end to end.
 use Rattle.std.specs.Prelude.{◌≡◌, ◌⊎◌, ⊤, ◌<◌, List, [], ◌∷◌, ◌++◌, if◌then◌else◌}
 use Rattle.std.specs.List.{AllByRecursion, flat_map}
-use Rattle.dap_follow.specs.Streams.{Placed}
+use Rattle.dap_follow.specs.Streams.{Sequenced}
 use Rattle.dap_follow.specs.Joined.{Fragment, joins, tail}
 
 -- the segments of pieces, in order
-abbrev pub all_segments : List Fragment → List Placed
+abbrev pub all_segments : List Fragment → List Sequenced
 all_segments ps = flat_map (λ p. p.head ∷ p.others) ps
 
 -- a piece and the next one as one
@@ -20,13 +20,13 @@ glue (p ∷ []) (y ∷ ys) = if joins (tail p) y.head then merged p y ∷ ys els
 glue (p ∷ q ∷ ps) ys = p ∷ glue (q ∷ ps) ys
 
 -- each sequence number is below those after it
-abbrev pub Rises : List Placed → Type 0
+abbrev pub Rises : List Sequenced → Type 0
 Rises [] = ⊤
-Rises (s ∷ others) = AllByRecursion (λ other. s.place < other.place) others × Rises others
+Rises (s ∷ others) = AllByRecursion (λ other. s.sequence < other.sequence) others × Rises others
 
--- A segment stands in the place already, or it is put between those below and those above.
-abbrev pub IsPut : List Placed → Placed → List Placed → Type 0
+-- A segment has the sequence number already, or it is put between those below and those above.
+abbrev pub IsPut : List Sequenced → Sequenced → List Sequenced → Type 0
 IsPut old s new =
-    ((new ≡ old) × (front back : List Placed) × (other : Placed) × (old ≡ front ++ other ∷ back) × (other.place ≡ s.place))
-    ⊎ ((front back : List Placed) × (old ≡ front ++ back) × (new ≡ front ++ s ∷ back)
-    × AllByRecursion (λ other. other.place < s.place) front × AllByRecursion (λ other. s.place < other.place) back)
+    ((new ≡ old) × (front back : List Sequenced) × (other : Sequenced) × (old ≡ front ++ other ∷ back) × (other.sequence ≡ s.sequence))
+    ⊎ ((front back : List Sequenced) × (old ≡ front ++ back) × (new ≡ front ++ s ∷ back)
+    × AllByRecursion (λ other. other.sequence < s.sequence) front × AllByRecursion (λ other. s.sequence < other.sequence) back)

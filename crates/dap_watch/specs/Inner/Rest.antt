@@ -6,8 +6,8 @@ use Rattle.dap_text.specs.Text.{line_feed}
 use Rattle.dap_follow.specs.Following.{range_text, stream_text}
 use Rattle.dap_follow.specs.declared.streams.Stream.{Stream}
 use Rattle.dap_watch.specs.Inner.Kept.{kept_digits}
-use Rattle.dap_watch.specs.declared.places.Kept.{Kept}
-use Rattle.dap_watch.specs.declared.places.Places.{Places}
+use Rattle.dap_watch.specs.declared.kept.Kept.{Kept}
+use Rattle.dap_watch.specs.declared.kept.KeptSegments.{KeptSegments}
 
 -- ` len=N`: a number of bytes
 abbrev pub count_text : ℕ → List ℕ
@@ -26,5 +26,5 @@ abbrev pub kept_rest : Stream → List Kept → List ℕ
 kept_rest stream [] = []
 kept_rest stream (k ∷ others) = kept_part stream k ++ kept_gap stream k others ++ kept_rest stream others
 
-abbrev pub all_kept_rest : List Stream → List Places → List ℕ
-all_kept_rest keys places = flat_map (λ (stream, p). kept_rest stream p.kept.items) (zip keys places)
+abbrev pub all_kept_rest : List Stream → List KeptSegments → List ℕ
+all_kept_rest keys by_stream = flat_map (λ (stream, p). kept_rest stream p.kept.items) (zip keys by_stream)

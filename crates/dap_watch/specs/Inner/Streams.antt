@@ -1,50 +1,50 @@
 -- What is kept of the streams of a capture.
 use Rattle.std.specs.Prelude.{◌≡◌, ◌⊎◌, ⊤, ℕ, ◌+◌, ◌*◌, ◌≤◌, ◌<◌, true, false, List, [], ◌∷◌, ◌++◌, length, map, Option}
 use Rattle.std.specs.List.{IsDistinct, flat_map, list_any}
-use Rattle.dap_follow.specs.Streams.{ArePlaced, Captured, Placed, at, came_in, is_same, streams}
+use Rattle.dap_follow.specs.Streams.{AreSequenced, Captured, Sequenced, at, came_in, is_same, streams}
 use Rattle.dap_follow.specs.Joined.{Message, Fragment, fragment_message, messages}
 use Rattle.dap_follow.specs.Segments.{NumberedSegment, HasStreamAt, highest_in}
 use Rattle.dap_follow.specs.declared.streams.Stream.{Stream}
-use Rattle.dap_watch.specs.Inner.Kept.{AreTold, KeepsPlaces}
-use Rattle.dap_watch.specs.declared.places.Places.{Places}
-use Rattle.dap_watch.specs.declared.places.Whole.{Whole}
+use Rattle.dap_watch.specs.Inner.Kept.{AreTold, KeepsSequenced}
+use Rattle.dap_watch.specs.declared.kept.KeptSegments.{KeptSegments}
+use Rattle.dap_watch.specs.declared.kept.Whole.{Whole}
 use Rattle.dap_watch.specs.declared.streams.Streams.{Streams}
 
 -- the segments of a stream of some packets, of which there is a first, in order, and what is kept of them
-pub record KeepsStreamOrdered (packets : List Captured) (stream : Stream) (ordered : List Placed) (p : Places) : Type 0 where
+pub record KeepsStreamOrdered (packets : List Captured) (stream : Stream) (ordered : List Sequenced) (p : KeptSegments) : Type 0 where
   pub first : NumberedSegment
   pub others : List NumberedSegment
   pub are : came_in stream packets ≡ first ∷ others
-  pub placed : List Placed
-  pub are_placed : ArePlaced (first.1.number + 4096) (first ∷ others) placed
-  pub same : (place : ℕ) → at place ordered ≡ at place placed
-  pub highest : p.highest ≡ highest_in (first.1.number + 4096) placed
-  pub keeps : KeepsPlaces (1 + length packets) ordered p
+  pub sequenced : List Sequenced
+  pub are_sequenced : AreSequenced (first.1.number + 4096) (first ∷ others) sequenced
+  pub same : (sequence : ℕ) → at sequence ordered ≡ at sequence sequenced
+  pub highest : p.highest ≡ highest_in (first.1.number + 4096) sequenced
+  pub keeps : KeepsSequenced (1 + length packets) ordered p
   pub most : p.highest ≤ 8192 + 2048 * length packets
 
 -- those of each stream
-abbrev pub KeepsEachOrdered : List Captured → List Stream → List (List Placed) → List Places
+abbrev pub KeepsEachOrdered : List Captured → List Stream → List (List Sequenced) → List KeptSegments
     → Type 0
 KeepsEachOrdered packets [] [] [] = ⊤
-KeepsEachOrdered packets (s ∷ keys) (o ∷ orders) (p ∷ places) = KeepsStreamOrdered packets s o p × KeepsEachOrdered packets keys orders places
+KeepsEachOrdered packets (s ∷ keys) (o ∷ orders) (p ∷ by_stream) = KeepsStreamOrdered packets s o p × KeepsEachOrdered packets keys orders by_stream
 KeepsEachOrdered packets _ _ _ = ⊥
 
 -- the streams of packets, and the segments of each
-pub record KeepsAllOrdered (packets : List Captured) (ordered : List (List Placed)) (s : Streams) : Type 0 where
+pub record KeepsAllOrdered (packets : List Captured) (ordered : List (List Sequenced)) (s : Streams) : Type 0 where
   pub names : s.names.keys ≡ streams packets
-  pub each : KeepsEachOrdered packets s.names.keys ordered s.places.items
+  pub each : KeepsEachOrdered packets s.names.keys ordered s.by_stream.items
 
--- a stream has a place among the others, in which nothing stands yet where it is new
+-- a stream has an index among the others; where the stream is new, no segment of it is kept yet
 pub record IsIndexedStream (stream : Stream) (number : ℕ) (old new : Streams)
     (index : ℕ) : Type 0 where
   pub small : number < 4096
   pub distinct : IsDistinct is_same new.names.keys
   pub has : HasStreamAt stream index new.names.keys
-  pub case : ((list_any (is_same stream) old.names.keys ≡ true) × (new.names.keys ≡ old.names.keys) × (new.places.items ≡ old.places.items))
+  pub case : ((list_any (is_same stream) old.names.keys ≡ true) × (new.names.keys ≡ old.names.keys) × (new.by_stream.items ≡ old.by_stream.items))
       ⊎ ((list_any (is_same stream) old.names.keys ≡ false) × (new.names.keys ≡ old.names.keys ++ stream ∷ [])
-      × (p : Places) × (new.places.items ≡ old.places.items ++ p ∷ []) × (p.highest ≡ number + 4096) × (p.kept.items ≡ []))
+      × (p : KeptSegments) × (new.by_stream.items ≡ old.by_stream.items ++ p ∷ []) × (p.highest ≡ number + 4096) × (p.kept.items ≡ []))
 
--- messages were added that are whole with a packet: none, or the one that is told
+-- messages were added that are whole with a packet: none, or the one that is returned
 pub record AreAdded (packet : ℕ) (digits : List ℕ) (found : Option Whole) (old new : List Message) : Type 0 where
   pub front : List Message
   pub back : List Message
@@ -54,7 +54,7 @@ pub record AreAdded (packet : ℕ) (digits : List ℕ) (found : Option Whole) (o
   pub told : AreTold packet digits found ms
 
 -- with one packet more
-pub record Grows (packets : List Captured) (packet : Captured) (ordered : List (List Placed)) (new : Streams) (digits : List ℕ) (found : Option Whole) : Type 0 where
-  pub later : List (List Placed)
+pub record Grows (packets : List Captured) (packet : Captured) (ordered : List (List Sequenced)) (new : Streams) (digits : List ℕ) (found : Option Whole) : Type 0 where
+  pub later : List (List Sequenced)
   pub keeps : KeepsAllOrdered (packets ++ packet ∷ []) later new
   pub added : AreAdded (1 + length packets) digits found (flat_map messages ordered) (flat_map messages later)

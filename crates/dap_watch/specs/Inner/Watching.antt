@@ -3,7 +3,7 @@ use Rattle.std.specs.Prelude.{◌≡◌, ◌⊎◌, ⊤, ℕ, ◌+◌, ◌^◌, 
 use Rattle.std.specs.List.{AllByRecursion, AllZip, concat, enumerate_from, flat_map}
 use Rattle.dap_listing.specs.Lines.{Capture, line_of}
 use Rattle.dap_listing.specs.Listing.{packet_limit}
-use Rattle.dap_follow.specs.Streams.{Captured, Placed}
+use Rattle.dap_follow.specs.Streams.{Captured, Sequenced}
 use Rattle.dap_follow.specs.Joined.{Message, Fragment, fragment_message, messages}
 use Rattle.dap_meanings.specs.Frames.{frame_words}
 use Rattle.dap_follow.specs.Following.{IsCaptured, IsMessageText, IsFollowedPacketText, frame_of}
@@ -15,8 +15,8 @@ use Rattle.dap_watch.specs.declared.streams.Streams.{Streams}
 use Rattle.dap_watch.specs.declared.watching.Watching.{Watching}
 
 -- a packet more, and the texts of the messages that are whole with it
-pub record TellsPacket (in_words : Bool) (packets : List Captured) (packet : Captured) (ordered : List (List Placed)) (new : Streams) (old_text new_text : List ℕ) : Type 0 where
-  pub later : List (List Placed)
+pub record TellsPacket (in_words : Bool) (packets : List Captured) (packet : Captured) (ordered : List (List Sequenced)) (new : Streams) (old_text new_text : List ℕ) : Type 0 where
+  pub later : List (List Sequenced)
   pub keeps : KeepsAllOrdered (packets ++ packet ∷ []) later new
   pub front : List Message
   pub back : List Message
@@ -28,10 +28,10 @@ pub record TellsPacket (in_words : Bool) (packets : List Captured) (packet : Cap
   pub are : AllZip (IsMessageText in_words) ms texts
   pub added : new_text ≡ old_text ++ concat texts
 
--- what the lines so far came to; the frames are those of all packets
+-- what is kept after the lines so far; the frames are those of all packets
 pub record Watches (in_words : Bool) (frames : List (List (List ℕ))) (captured : List Capture) (written : List ℕ) (w : Watching) : Type 0 where
   pub packets : List Captured
-  pub ordered : List (List Placed)
+  pub ordered : List (List Sequenced)
   pub texts : List (List ℕ)
   pub are_seen : AllZip IsCaptured captured packets
   pub are_texts : AllZip (IsFollowedPacketText in_words frames (flat_map messages ordered)) (enumerate_from 1 packets) texts
@@ -41,13 +41,13 @@ pub record Watches (in_words : Bool) (frames : List (List (List ℕ))) (captured
   pub most : length packets ≤ 2 ^ 50
   pub keeps : KeepsAllOrdered packets ordered w.streams
 
--- no line came yet
+-- no line was read yet
 pub record Starts (w : Watching) : Type 0 where
   pub packets : w.packets ≡ 0
   pub before : w.before.items ≡ []
   pub watches : (frames : List (List (List ℕ))) → Watches w.in_words frames [] [] w
 
--- a captured packet more, of which the line directly before it tells the frame
+-- one more captured packet, whose frame the line directly before it describes
 abbrev pub WatchesPacket : Capture → Watching → Watching → List ℕ → Type 0
 WatchesPacket capture old new text =
     (new.packets ≡ old.packets + 1) × (new.before.items ≡ [])
@@ -55,7 +55,7 @@ WatchesPacket capture old new text =
     → frame_of frames (old.packets + 1) ≡ frame_words old.before.items → Watches in_words frames captured written old
     → Watches in_words frames (captured ++ capture ∷ []) (written ++ text) new)
 
--- a line without a packet: what is kept then tells its frame, if it tells one
+-- a line without a packet: what is kept then has the words of the frame that it describes, if it describes one
 pub record PassesBy (line : List ℕ) (old new : Watching) : Type 0 where
   pub words : new.in_words ≡ old.in_words
   pub packets : new.packets ≡ old.packets
@@ -77,4 +77,4 @@ waiting w = None
 
 -- and come in one piece
 abbrev pub no_pieces : Watching → ⊤ → List (List ℕ)
-no_pieces w place = []
+no_pieces w cursor = []

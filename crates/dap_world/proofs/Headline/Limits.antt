@@ -23,13 +23,13 @@ use Rattle.std.specs.Prelude.{◌==◌, take_while, drop}
 use Rattle.std.specs.List.{prefix_len}
 use Rattle.dap_msg.specs.Codes as codes
 use Rattle.dap_accessed.specs.Replies.{bare_status}
-use Rattle.dap_accessed.specs.Standing.{index_by, the_file, Place, Fresh, Ready, Opened, Connected, Store, Stopped, Group, Standing, Scene, Effect, enters, start}
+use Rattle.dap_accessed.specs.Standing.{index_by, the_file, ServerState, Fresh, Ready, Opened, Connected, Store, Stopped, Group, Standing, Scene, Effect, enters, start}
 use Rattle.dap_accessed.specs.Past.{asked_shape, kept_attributes, is_dropping}
 use Rattle.dap_accessed.specs.Accesses.{rights_to_create, rights_to_open, make_file, open_file, create_file, access_file, end_stream, complete}
 use Rattle.dap_accessed.specs.Records.{verb_of, get_pick, got, record_got, Change, Putting, Updating, changed, fits_limit, at_number}
 use Rattle.dap_accessed.specs.Transfers.{fetch, fetch_ends, continue_fetch}
 use Rattle.dap_msg.specs.BothEnds.{is_too_small}
-use Rattle.dap_accessed.specs.Effects.{Begun, Turn, Does, Begins, control_opened, control_connected, turn_in, turn_of, effect_with}
+use Rattle.dap_accessed.specs.Effects.{Begun, Turn, Does, BeginsGroup, control_opened, control_connected, turn_in, turn_of, effect_with}
 use Rattle.dap_accessed.specs.Groups.{Grouped, stands_after}
 use Rattle.dap_accessed.proofs.ForCallers.{cut-more, next_group, more_after}
 
@@ -42,7 +42,7 @@ module _ (P : ℕ → Type 0) where
   -- what it leaves, if it is a group
   abbrev In : Turn → Type 0
   In (Does effect) = P effect.scene.limit
-  In (Begins begun) = Unit {0}
+  In (BeginsGroup begun) = Unit {0}
 
   module _ (scene : Scene) (p : P scene.limit) where
     of-either : (b : Bool) (one two : Effect) → P one.scene.limit → P two.scene.limit → P (if b then one else two).scene.limit
@@ -67,7 +67,7 @@ module _ (P : ℕ → Type 0) where
         of-either (a.func == codes.accfunc.opening) _ _ (of-open own a.fac found)
         (of-either (a.func == codes.accfunc.creating) _ _ (of-create own a.name a.fac found shape) p)
 
-    of-end : (o : OpenFile) (place : Place) → P (end_stream scene o place).scene.limit
+    of-end : (o : OpenFile) (state : ServerState) → P (end_stream scene o state).scene.limit
     of-end o Fresh = p
     of-end o Ready = p
     of-end o (Opened _) = p
@@ -75,10 +75,10 @@ module _ (P : ℕ → Type 0) where
     of-end o (Store _ _) = p
     of-end o (Stopped _ _) = p
 
-    of-complete : (func : ℕ) (o : OpenFile) (place : Place) → P (complete func scene o place).scene.limit
-    of-complete func o place =
+    of-complete : (func : ℕ) (o : OpenFile) (state : ServerState) → P (complete func scene o state).scene.limit
+    of-complete func o state =
         of-either (func == codes.cmpfunc.close) _ _ p
-        (of-either (func == codes.cmpfunc.purge) _ _ p (of-either (func == codes.cmpfunc.end_of_stream) _ _ (of-end o place) (of-either (func == codes.cmpfunc.skip) _ _ p p)))
+        (of-either (func == codes.cmpfunc.purge) _ _ p (of-either (func == codes.cmpfunc.end_of_stream) _ _ (of-end o state) (of-either (func == codes.cmpfunc.skip) _ _ p p)))
 
     of-got : (reply : Result ℕ Refusal) (o : OpenFile) (before after : StreamVal) → P (got reply scene o before after).scene.limit
     of-got (Err refusal) o before after = p
@@ -125,7 +125,7 @@ module _ (P : ℕ → Type 0) where
     of-config own true bufsiz q = p
     of-config own false bufsiz q = q
 
-    of-message : (own : ServerSetup) (past : List Group) (place : Place) (m : Message) → Fits (Whole m) → In (turn_in own scene past place m)
+    of-message : (own : ServerSetup) (past : List Group) (state : ServerState) (m : Message) → Fits (Whole m) → In (turn_in own scene past state m)
     of-message own past Fresh (Config c) q = of-config own (is_too_small c.bufsiz) c.bufsiz q
     of-message own past Fresh m q = p
     of-message own past Ready (Access a) q = of-access own a (asked_shape (kept_attributes past))
@@ -144,9 +144,9 @@ module _ (P : ℕ → Type 0) where
     of-message own past (Stopped o s) (Accomp c) q = of-complete c.func o (Stopped o s)
     of-message own past (Stopped o s) m q = p
 
-    of-item : (own : ServerSetup) (past : List Group) (place : Place) (item : Item) → Fits item → In (turn_of own (record { scene = scene; place = place; past = past }) item)
-    of-item own past place (Malformed fault) q = p
-    of-item own past place (Whole m) q = of-message own past place m q
+    of-item : (own : ServerSetup) (past : List Group) (state : ServerState) (item : Item) → Fits item → In (turn_of own (record { scene = scene; state = state; past = past }) item)
+    of-item own past state (Malformed fault) q = p
+    of-item own past state (Whole m) q = of-message own past state m q
 
     of-second : (change : Change) (o : OpenFile) (s : StreamVal) (item : Item) → P (effect_with change scene o s item).scene.limit
     of-second change o s (Malformed fault) = p
@@ -155,10 +155,10 @@ module _ (P : ℕ → Type 0) where
 
   of-next : (s : Standing) (item : Item) (t : Turn) → P s.scene.limit → In t → P (next_group s item t).standing.scene.limit
   of-next s item (Does effect) p q = q
-  of-next s item (Begins begun) p q = p
+  of-next s item (BeginsGroup begun) p q = p
 
   of-one : (own : ServerSetup) (s : Standing) (b : Option Begun) (item : Item) → P s.scene.limit → Fits item → P (more_after own s b item).standing.scene.limit
-  of-one own s None item p q = of-next s item (turn_of own s item) p (of-item s.scene p own s.past s.place item q)
+  of-one own s None item p q = of-next s item (turn_of own s item) p (of-item s.scene p own s.past s.state item q)
   of-one own s (Some b) item p q = of-second s.scene p b.change b.opened b.stream item
 
   abbrev pub AllFit : List Item → Type 0

@@ -15,7 +15,7 @@ joined-append a b = flat_map-append canon a b
 pub joined-one : (a : List Message) (m : Message) → blocked_bytes (a ++ m ∷ []) ≡ blocked_bytes a ++ canon m
 joined-one a m = joined-append a (m ∷ []) ∙ ap (λ (l : List ℕ). blocked_bytes a ++ l) (append-nil (canon m))
 
--- the message stands at its place
+-- the message stands at its offset
 pub at_item : (begun more : List Message) (m : Message) → Fits m → ItemAt (blocked_bytes (begun ++ m ∷ more)) (length (blocked_bytes begun)) (Whole m) (length (blocked_bytes begun) + length (canon m))
 at_item begun more m fits =
     subst (λ (l : List ℕ). ItemAt l (length (blocked_bytes begun)) (Whole m) (length (blocked_bytes begun) + length (canon m))) (sym (joined-append begun (m ∷ more)))

@@ -16,7 +16,7 @@ use Rattle.dap_end.specs.Histories.{AreFull}
 use Rattle.dap_world.specs.Inner.Splitting.{SplitsOne}
 use Rattle.dap_world.proofs.Headline.Reading.{at_item, fit_at, ends_at, bytes_at, joined-one}
 
--- the item that was read at the place is the only one there
+-- the item that was read at the offset is the only one there
 abbrev pub IsOnly : List ℕ → ℕ → Item → ℕ → Type 0
 IsOnly bytes at found next = (item : Item) (n : ℕ) → ItemAt bytes at item n → (item ≡ found) × (n ≡ next)
 
@@ -26,16 +26,16 @@ only_item bytes at item next fits here = λ other n there. one_item bytes at ite
 -- where a message begins, it is what is read
 pub one_there : (bytes : List ℕ) (at next : ℕ) (found : Item) (begun more : List Message) (m : Message) → AllFit (begun ++ m ∷ more) → bytes ≡ blocked_bytes (begun ++ m ∷ more) → at ≡ length (blocked_bytes begun)
     → IsOnly bytes at found next → (Whole m ≡ found) × (length (blocked_bytes begun) + length (canon m) ≡ next)
-one_there bytes at next found begun more m fit is place only =
+one_there bytes at next found begun more m fit is offset only =
     only (Whole m) (length (blocked_bytes begun) + length (canon m))
-    (subst (λ (n : ℕ). ItemAt bytes n (Whole m) (length (blocked_bytes begun) + length (canon m))) (sym place)
+    (subst (λ (n : ℕ). ItemAt bytes n (Whole m) (length (blocked_bytes begun) + length (canon m))) (sym offset)
     (subst (λ (l : List ℕ). ItemAt l (length (blocked_bytes begun)) (Whole m) (length (blocked_bytes begun) + length (canon m))) (sym is) (at_item begun more m (fit_at begun more m fit))))
 
 pub body_there : (bytes : List ℕ) (at next : ℕ) (begun more : List Message) (m : Message) → bytes ≡ blocked_bytes (begun ++ m ∷ more) → at ≡ length (blocked_bytes begun) → length (blocked_bytes begun) + length (canon m) ≡ next
     → take (next - at) (drop at bytes) ≡ canon m
-body_there bytes at next begun more m is place goes =
+body_there bytes at next begun more m is offset goes =
     let n : next - at ≡ length (canon m) = omega arith in
-    ap (λ (k : ℕ). take k (drop at bytes)) n ∙ ap (λ (k : ℕ). take (length (canon m)) (drop k bytes)) place
+    ap (λ (k : ℕ). take k (drop at bytes)) n ∙ ap (λ (k : ℕ). take (length (canon m)) (drop k bytes)) offset
     ∙ ap (λ (l : List ℕ). take (length (canon m)) (drop (length (blocked_bytes begun)) l)) is ∙ bytes_at begun more m
 
 -- a message has bytes
@@ -48,7 +48,7 @@ none_more (m ∷ more) fit e = absurd (omega (arith, e, some_bytes m fit.0, leng
 
 -- ---- Splitting.
 
--- of any messages that were joined into the bytes, those before the place are added, and one is left
+-- of any messages that were joined into the bytes, those before the offset are added, and one is left
 abbrev pub SplitSoFar : List ℕ → ℕ → List (List ℕ) → List (List ℕ) → Type 0
 SplitSoFar bytes at old out =
     (packet : NspMessage) → packet ≢ [] → AllFit packet → bytes ≡ blocked_bytes packet →

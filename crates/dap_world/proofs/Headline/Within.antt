@@ -8,7 +8,7 @@ use Rattle.dap_msg.specs.declared.items.Item.TheVariants.{Whole}
 use Rattle.dap_msg.specs.BothEnds.{complete_with, message_limit, plain_identity}
 use Rattle.dap_accessed.specs.Setup.{plain_setup}
 use Rattle.dap_msg.proofs.ForCallers.{answers_fit}
-use Rattle.dap_accessed.specs.Standing.{Place}
+use Rattle.dap_accessed.specs.Standing.{ServerState}
 use Rattle.dap_accessed.specs.Standing as at
 use Rattle.dap_world.specs.Plain.{stands_after, Asked, messages_of, IsAdmissible}
 use Rattle.dap_accessing.specs.Request.{Request}
@@ -88,19 +88,19 @@ module _ (own_a own_b : ℕ) (a : IsBufsiz own_a) (b : IsBufsiz own_b) where
   fresh-within request.Hello e = hello-within
   fresh-within r e = cc
 
-  in-phase : (phase : Phase) (place : Place) (limit_b limit_a : ℕ) (r : Request) → AgreeAt (plain_identity own_a) (plain_setup own_b) phase place limit_b limit_a → phase_fits phase r ≡ true → AreSendable limit_a (messages_of own_a r) → AreWithin own_b (messages_of own_a r)
-  in-phase Fresh place limit_b limit_a r h e s = fresh-within r e
+  in-phase : (phase : Phase) (state : ServerState) (limit_b limit_a : ℕ) (r : Request) → AgreeAt (plain_identity own_a) (plain_setup own_b) phase state limit_b limit_a → phase_fits phase r ≡ true → AreSendable limit_a (messages_of own_a r) → AreWithin own_b (messages_of own_a r)
+  in-phase Fresh state limit_b limit_a r h e s = fresh-within r e
   in-phase Ready at.Ready limit_b limit_a r h e s = all-within limit_a own_b (messages_of own_a r) h.1 s
   in-phase Opened (at.Opened o) limit_b limit_a r h e s = all-within limit_a own_b (messages_of own_a r) h.1 s
   in-phase Connected (at.Connected o t) limit_b limit_a r h e s = all-within limit_a own_b (messages_of own_a r) h.1 s
   in-phase Stopped (at.Stopped o t) limit_b limit_a r h e s = all-within limit_a own_b (messages_of own_a r) h.1 s
-  in-phase Ready place limit_b limit_a r h e s = absurd h
-  in-phase Opened place limit_b limit_a r h e s = absurd h
-  in-phase Connected place limit_b limit_a r h e s = absurd h
-  in-phase Stopped place limit_b limit_a r h e s = absurd h
+  in-phase Ready state limit_b limit_a r h e s = absurd h
+  in-phase Opened state limit_b limit_a r h e s = absurd h
+  in-phase Connected state limit_b limit_a r h e s = absurd h
+  in-phase Stopped state limit_b limit_a r h e s = absurd h
 
   pub messages-within : (rs : List Request) → AreAdmissible own_a own_b [] rs → (r : Request) → IsAdmissible own_a rs (map Whole (request_answers own_a own_b rs)) r → AreWithin own_b (messages_of own_a r)
   messages-within rs m r h =
       let s = (stands_after own_b [] (items_of own_a rs)).standing in
       let reports = reports_of own_a own_b rs in
-      in-phase (phase_after reports) s.place s.scene.limit (limit_after reports) r (both-agree own_a own_b a b rs m).places (fits-where r (phase_after reports) h.1) h.2
+      in-phase (phase_after reports) s.state s.scene.limit (limit_after reports) r (both-agree own_a own_b a b rs m).states (fits-where r (phase_after reports) h.1) h.2

@@ -113,7 +113,7 @@ pub record Next (from to : SideValue) (packets : List NspMessage) (count : ℕ) 
   pub split : take from.posted packets ≡ gone ++ (begun ++ m ∷ more) ∷ rest
   pub bytes_are : bytes ≡ blocked_bytes (begun ++ m ∷ more)
   pub handled : count ≡ length (messages_in gone) + length begun
-  pub behind : to.place ≡ length (blocked_bytes begun)
+  pub offset_is : to.offset ≡ length (blocked_bytes begun)
   pub way : IsWay from to.link handed (all_joined gone)
   pub fit : AllFit (begun ++ m ∷ more)
   pub next : slice_get (messages_in (arrived from.link.setup.seg_size to.link.coming.received (take from.posted packets))) count ≡ Some m
@@ -210,7 +210,7 @@ module _ (from to : SideValue) (packets : List NspMessage) (count : ℕ) (h : Is
         split = split';
         bytes_are = w.bytes_are ∙ ap blocked_bytes o.split;
         handled = h.among.handled;
-        behind = h.among.behind;
+        offset_is = h.among.offset_is;
         way = h.way;
         fit = subst AllFit o.split (front_fit w.p (messages_in w.after) fits);
         next = ap (λ (l : List NspMessage). slice_get (messages_in l) count) (came_whole ∙ all)
@@ -235,7 +235,7 @@ module _ (from to : SideValue) (packets : List NspMessage) (count : ℕ) (h : Is
 
 -- ---- A message was handled.
 
--- the place moves on, or, at its end, the NSP message leaves the link
+-- the offset moves on, or, at its end, the NSP message leaves the link
 abbrev pub handled_side : SideValue → (bytes : List ℕ) (later : List (List ℕ)) → (next : ℕ) → SideValue
 handled_side s bytes later next = side_of (gone_on (port_of s) bytes later next) s.posted s.wire
 
@@ -273,7 +273,7 @@ told_by_more from to packets count bytes later next told handed posted handed_ar
         split = split ∙ sym (append_assoc gone (p ∷ []) rest);
         handled = let one = ap length (in_append gone (p ∷ []) ∙ ap (λ (l : List Message). messages_in gone ++ l) (append-nil p)) in
             omega (arith, one, handled, length-append (messages_in gone) p, length-append begun (m ∷ []));
-        behind = refl;
+        offset_is = refl;
         stays = inl refl;
       };
       way = subst (λ (l : List (List ℕ)). IsWay from (with_inbox to.link later) handed l) (ap (λ (b : List ℕ). all_joined gone ++ b ∷ []) bytes_are ∙ sym (map-append blocked_bytes gone (p ∷ [])))
@@ -296,7 +296,7 @@ told_by_more from to packets count bytes later next told handed posted handed_ar
         rest = (begun ++ m ∷ m' ∷ more) ∷ rest;
         split = split;
         handled = omega (arith, handled, length-append begun (m ∷ []));
-        behind = sym goes ∙ sym (length-append (blocked_bytes begun) (canon m)) ∙ ap length (sym (joined-one begun m));
+        offset_is = sym goes ∙ sym (length-append (blocked_bytes begun) (canon m)) ∙ ap length (sym (joined-one begun m));
         stays = inr (m', more, rest, ap (λ (l : NspMessage). l ∷ rest) (sym (append_assoc begun (m ∷ []) (m' ∷ more))));
       };
       way = way;

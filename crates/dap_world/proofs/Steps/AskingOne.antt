@@ -14,7 +14,7 @@ use Rattle.dap_msg.specs.BothEnds.{plain_identity}
 use Rattle.dap_msg.specs.declared.message.Configuration.{Configuration}
 use Rattle.dap_accessed.specs.Setup.{plain_setup}
 use Rattle.dap_accessed.specs.Standing as at
-use Rattle.dap_accessed.specs.Standing.{Place}
+use Rattle.dap_accessed.specs.Standing.{ServerState}
 use Rattle.dap_world.specs.Plain.{stands_after, Asked, messages_of, IsAdmissible, IsRefused}
 use Rattle.dap_accessing.specs.Present as accessing
 use Rattle.dap_accessing.specs.Asked as asked_by
@@ -67,17 +67,17 @@ fresh-blocked : (own_a limit own_b : ℕ) (r : Request) → phase_fits Fresh r �
 fresh-blocked own_a limit own_b request.Hello e = refl
 fresh-blocked own_a limit own_b r e = cc
 
-pub same-blocked : (own_a own_b : ℕ) (phase : Phase) (place : Place) (limit_b limit_a : ℕ) (r : Request) → AgreeAt (plain_identity own_a) (plain_setup own_b) phase place limit_b limit_a → phase_fits phase r ≡ true
+pub same-blocked : (own_a own_b : ℕ) (phase : Phase) (state : ServerState) (limit_b limit_a : ℕ) (r : Request) → AgreeAt (plain_identity own_a) (plain_setup own_b) phase state limit_b limit_a → phase_fits phase r ≡ true
     → Blocked limit_a (messages_of own_a r) ≡ Blocked own_b (messages_of own_a r)
-same-blocked own_a own_b Fresh place limit_b limit_a r h e = fresh-blocked own_a limit_a own_b r e
+same-blocked own_a own_b Fresh state limit_b limit_a r h e = fresh-blocked own_a limit_a own_b r e
 same-blocked own_a own_b Ready at.Ready limit_b limit_a r h e = ap (λ (l : ℕ). Blocked l (messages_of own_a r)) h.1
 same-blocked own_a own_b Opened (at.Opened o) limit_b limit_a r h e = ap (λ (l : ℕ). Blocked l (messages_of own_a r)) h.1
 same-blocked own_a own_b Connected (at.Connected o t) limit_b limit_a r h e = ap (λ (l : ℕ). Blocked l (messages_of own_a r)) h.1
 same-blocked own_a own_b Stopped (at.Stopped o t) limit_b limit_a r h e = ap (λ (l : ℕ). Blocked l (messages_of own_a r)) h.1
-same-blocked own_a own_b Ready place limit_b limit_a r h e = absurd h
-same-blocked own_a own_b Opened place limit_b limit_a r h e = absurd h
-same-blocked own_a own_b Connected place limit_b limit_a r h e = absurd h
-same-blocked own_a own_b Stopped place limit_b limit_a r h e = absurd h
+same-blocked own_a own_b Ready state limit_b limit_a r h e = absurd h
+same-blocked own_a own_b Opened state limit_b limit_a r h e = absurd h
+same-blocked own_a own_b Connected state limit_b limit_a r h e = absurd h
+same-blocked own_a own_b Stopped state limit_b limit_a r h e = absurd h
 
 -- what is asked is blocked by B's buffer
 asking_is : (s : State) (r : Request) → IsWorld s → IsAdmissible s.own_a s.requests (answers_read s) r → asking_of s r ≡ Blocked s.own_b (messages_of s.own_a r)
@@ -89,7 +89,7 @@ asking_is s r h m =
     let reports = reports_of s.own_a s.own_b s.requests in
     let same : reported s ≡ reports = ap (Told s.requests) all in
     ap (λ (l : List Report). Blocked (limit_after l) (messages_of s.own_a r)) same
-    ∙ same-blocked s.own_a s.own_b (phase_after reports) standing.place standing.scene.limit (limit_after reports) r agree.places (ap (λ (l : List Report). phase_fits (phase_after l) r) (sym same) ∙ fits-where r (phase_after (reported s)) m.1)
+    ∙ same-blocked s.own_a s.own_b (phase_after reports) standing.state standing.scene.limit (limit_after reports) r agree.states (ap (λ (l : List Report). phase_fits (phase_after l) r) (sym same) ∙ fits-where r (phase_after (reported s)) m.1)
 
 -- ---- None is too long.
 
@@ -105,7 +105,7 @@ request-blocked own_a own_b a b rs all = λ r m.
     let agree = both-agree own_a own_b a b rs all in
     let standing = (stands_after own_b [] (items_of own_a rs)).standing in
     let reports = reports_of own_a own_b rs in
-    subst (λ (l : List NspMessage). AllAtMost own_b (all_joined l)) (sym (same-blocked own_a own_b (phase_after reports) standing.place standing.scene.limit (limit_after reports) r agree.places (fits-where r (phase_after reports) m.1)))
+    subst (λ (l : List NspMessage). AllAtMost own_b (all_joined l)) (sym (same-blocked own_a own_b (phase_after reports) standing.state standing.scene.limit (limit_after reports) r agree.states (fits-where r (phase_after reports) m.1)))
     (blocked-within own_b own_b (messages_of own_a r) (omega arith) (messages-within own_a own_b a b rs all r m))
 
 -- ---- No report comes of a request alone.
@@ -173,7 +173,7 @@ module _ (p : Parts) (h : AreParts p) (r : Request) (m : IsAdmissible p.accessin
         limit = h.limit;
         most = h.most;
         from_a = subst (λ (l : List NspMessage). IsCarried (record p.a { outbox = outbox }) p.b l p.served) (sym (asked-more p.accessing.own p.accessed.own p.requests r))
-            (told_more p.a p.b (asked_messages p) block p.served p.a.link.coming.inbox p.a.place outbox more h.from_a refl more_is fit short);
+            (told_more p.a p.b (asked_messages p) block p.served p.a.link.coming.inbox p.a.offset outbox more h.from_a refl more_is fit short);
         from_b = subst (λ (l : List NspMessage). IsCarried p.b (record p.a { outbox = outbox }) l p.read) (sym answers_same) h.from_b;
         sent_is = h.sent_is ∙ ap (λ (x : State). map canon (sent_by x.a)) (sym state);
         reports_is = h.reports_is ∙ sym (same_told p.requests (answers_read s) p.accessing r h.asking.1.asking m.0) ∙ ap reported (sym state);

@@ -17,10 +17,10 @@ use Rattle.dap_world.proofs.Steps.Counting.{counted, segments-first}
 use Rattle.dap_world.proofs.Headline.Splits.{some_bytes}
 use Rattle.dap_world.proofs.Steps.Ways.{same_writes, told_with}
 
--- the sending end moved its place, and has other messages to send
-moved_way : (from : SideValue) (to : LinkValue) (messages given : List (List ℕ)) (inbox : List (List ℕ)) (place : ℕ) (outbox : List (List ℕ)) → IsWay from to messages given
-    → IsWay (record from { link = with_inbox from.link inbox; place = place; outbox = outbox }) to messages given
-moved_way from to messages given inbox place outbox way =
+-- the sending end moved its offset, and has other messages to send
+moved_way : (from : SideValue) (to : LinkValue) (messages given : List (List ℕ)) (inbox : List (List ℕ)) (offset : ℕ) (outbox : List (List ℕ)) → IsWay from to messages given
+    → IsWay (record from { link = with_inbox from.link inbox; offset = offset; outbox = outbox }) to messages given
+moved_way from to messages given inbox offset outbox way =
     record {
       size = way.size;
       running = way.running;
@@ -38,17 +38,17 @@ moved_way from to messages given inbox place outbox way =
 pub handed_same : (from to : SideValue) (packets block : List NspMessage) (count : ℕ) → IsCarried from to packets count → take from.posted (packets ++ block) ≡ take from.posted packets
 handed_same from to packets block count h = let n = counted from.posted h.handed from.outbox packets h.posted h.bytes in take-append-le from.posted packets block (omega arith)
 
--- the sending end has more to send, and moved its place
-pub told_more : (from to : SideValue) (packets block : List NspMessage) (count : ℕ) (inbox : List (List ℕ)) (place : ℕ) (outbox more : List (List ℕ)) → IsCarried from to packets count
+-- the sending end has more to send, and moved its offset
+pub told_more : (from to : SideValue) (packets block : List NspMessage) (count : ℕ) (inbox : List (List ℕ)) (offset : ℕ) (outbox more : List (List ℕ)) → IsCarried from to packets count
     → outbox ≡ from.outbox ++ more → more ≡ all_joined block → AllFit (messages_in block) → AreWithinLimit from.link.setup.max_message more
-    → IsCarried (record from { link = with_inbox from.link inbox; place = place; outbox = outbox }) to (packets ++ block) count
-told_more from to packets block count inbox place outbox more h outbox_is more_is fit short =
+    → IsCarried (record from { link = with_inbox from.link inbox; offset = offset; outbox = outbox }) to (packets ++ block) count
+told_more from to packets block count inbox offset outbox more h outbox_is more_is fit short =
     record {
       handed = h.handed;
       posted = h.posted;
       gone = h.gone;
-      among = subst (λ (l : List NspMessage). IsAmong l count to.place h.gone) (sym (handed_same from to packets block count h)) h.among;
-      way = moved_way from to.link h.handed _ inbox place outbox h.way;
+      among = subst (λ (l : List NspMessage). IsAmong l count to.offset h.gone) (sym (handed_same from to packets block count h)) h.among;
+      way = moved_way from to.link h.handed _ inbox offset outbox h.way;
       bytes = ap (λ (l : List (List ℕ)). h.handed ++ l) outbox_is ∙ sym (append_assoc h.handed from.outbox more) ∙ ap (λ (l : List (List ℕ)). l ++ more) h.bytes
           ∙ ap (λ (l : List (List ℕ)). all_joined packets ++ l) more_is ∙ sym (map-append blocked_bytes packets block);
       fit = subst AllFit (sym (in_append packets block)) (fit-both (messages_in packets) (messages_in block) h.fit fit);
@@ -60,10 +60,10 @@ pub all_short : (limit most : ℕ) (list : List (List ℕ)) → limit ≤ most �
 all_short limit most [] le h = λ k d lt. absurd (omega arith)
 all_short limit most (x ∷ list) le h = All-cons (λ m. length m ≤ most) x list (omega (arith, le, h.0)) (all_short limit most list le h.1)
 
--- the sending end moved its place
-pub told_moved : (from to : SideValue) (packets : List NspMessage) (count : ℕ) (inbox : List (List ℕ)) (place : ℕ) → IsCarried from to packets count
-    → IsCarried (record from { link = with_inbox from.link inbox; place = place }) to packets count
-told_moved from to packets count inbox place h = told_with h (moved_way from to.link h.handed _ inbox place from.outbox h.way)
+-- the sending end moved its offset
+pub told_moved : (from to : SideValue) (packets : List NspMessage) (count : ℕ) (inbox : List (List ℕ)) (offset : ℕ) → IsCarried from to packets count
+    → IsCarried (record from { link = with_inbox from.link inbox; offset = offset }) to packets count
+told_moved from to packets count inbox offset h = told_with h (moved_way from to.link h.handed _ inbox offset from.outbox h.way)
 
 -- ---- No more messages than segments, and than bytes.
 

@@ -41,7 +41,7 @@ told_none s end h =
       handed = [];
       posted = refl;
       gone = [];
-      among = record { begun = []; rest = []; split = refl; handled = refl; behind = refl; stays = inl refl };
+      among = record { begun = []; rest = []; split = refl; handled = refl; offset_is = refl; stays = inl refl };
       way = record {
         size = omega (arith, h.some);
         running = refl;

@@ -131,8 +131,8 @@ posts p end more h some room =
     (omega arith, omega arith, ap (λ (k : ℕ). step.Posted k) (sym n), sym (state_posted p end more h))
 
 -- messages that were handled among the first NSP messages, when more are passed on
-among_more : (n m : ℕ) (packets : List NspMessage) (count place : ℕ) (gone : List NspMessage) → n ≤ m → IsAmong (take n packets) count place gone → IsAmong (take m packets) count place gone
-among_more n m packets count place gone le h =
+among_more : (n m : ℕ) (packets : List NspMessage) (count offset : ℕ) (gone : List NspMessage) → n ≤ m → IsAmong (take n packets) count offset gone → IsAmong (take m packets) count offset gone
+among_more n m packets count offset gone le h =
     let split : take m packets ≡ gone ++ (h.rest ++ drop n (take m packets)) =
     sym (take-append-drop n (take m packets)) ∙ ap (λ (l : List NspMessage). l ++ drop n (take m packets)) (shorter n m packets le ∙ h.split) ∙ append_assoc gone h.rest (drop n (take m packets)) in
     record {
@@ -140,7 +140,7 @@ among_more n m packets count place gone le h =
       rest = h.rest ++ drop n (take m packets);
       split = split;
       handled = h.handled;
-      behind = h.behind;
+      offset_is = h.offset_is;
       stays = elim h.stays [
         | inl none ↦ inl none
         | inr some ↦ inr (some.0, some.1, some.2 ++ drop n (take m packets), ap (λ (l : List NspMessage). l ++ drop n (take m packets)) some.3)
@@ -157,7 +157,7 @@ told_posted packets count from to h short room =
       handed = h.handed ++ from.outbox;
       posted = omega (arith, h.posted, length-append h.handed from.outbox);
       gone = h.gone;
-      among = among_more from.posted (from.posted + length from.outbox) packets count to.place h.gone (omega arith) h.among;
+      among = among_more from.posted (from.posted + length from.outbox) packets count to.offset h.gone (omega arith) h.among;
       way = way_posted from to.link h.handed (all_joined h.gone) h.way short room;
       bytes = append-nil (h.handed ++ from.outbox) ∙ h.bytes;
       fit = h.fit;

@@ -13,9 +13,9 @@ use Rattle.dap_world.specs.Inner.Sides.{WroteWired}
 
 pub wrote_put : (v : LinkValue) (old mid new : List Wired) (w : Wired) (k : Option ℕ) (answer : Step) → mid ≡ old → new ≡ mid ++ w ∷ [] → answer ≡ step.Packet (length mid)
     → w.segment ≡ k → w.acks ≡ v.coming.received → WritesSent v k w.packet.items → WroteWired v old new k answer
-wrote_put v old mid new w k answer same wire place segment acks writes =
+wrote_put v old mid new w k answer same wire index segment acks writes =
     record {
-      place = place ∙ ap (λ (l : List Wired). step.Packet (length l)) same;
+      index = index ∙ ap (λ (l : List Wired). step.Packet (length l)) same;
       wired = w;
       wire = wire ∙ ap (λ (l : List Wired). l ++ w ∷ []) same;
       segment = segment;

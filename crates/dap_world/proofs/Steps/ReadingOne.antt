@@ -76,8 +76,8 @@ world-read : (p : Parts) (m : Message) → AreParts p → next_to_read (state_of
 world-read p m h next = kept-step (state_of p) (with_read (state_of p)) event.Read (told_by (state_of p) (with_read (state_of p))) (reads p m next) h.world
 
 -- it isn't unexpected
-has_place : (p : Parts) (m : Message) → AreParts p → next_to_read (state_of p) ≡ Some m → is_unexpected p.requests (answers_read (state_of p)) (Whole m) ≢ true
-has_place p m h next =
+is_in_sequence : (p : Parts) (m : Message) → AreParts p → next_to_read (state_of p) ≡ Some m → is_unexpected p.requests (answers_read (state_of p)) (Whole m) ≢ true
+is_in_sequence p m h next =
     let front = read-front (with_read (state_of p)) (world-read p m h next) in
     none-unexpected p.accessing.own p.accessed.own h.world.own_a h.world.own_b p.requests h.world.admissible (answers_read (state_of p)) front.0 (Whole m)
     (sym (append_assoc (answers_read (state_of p)) (Whole m ∷ []) front.0) ∙ ap (λ (l : List Item). l ++ front.0) (sym (read-more p m h next)) ∙ front.1)
@@ -112,16 +112,16 @@ reads_later p h some = (may_read p.a.link.coming.inbox refl some, refl)
     may_read [] e some = let none : ⊥ = omega arith in absurd none
     may_read (bytes ∷ later) e some = let n = next_answer p bytes later h e in (_, _, reads p n.m (next_read p bytes h n), told_takes_some (state_of p) (with_read (state_of p)))
 
--- the answer has its place, so that it was refused for memory
+-- the answer is in sequence, so that it was refused for memory
 same_present : (p : Parts) (new : accessing.ClientState) (bytes : List ℕ) (later : List (List ℕ)) (f : ReadFault) → AreParts p → p.a.link.coming.inbox ≡ bytes ∷ later → AreBytes bytes
-    → ReadRefused bytes p.a.place p.accessing new f → new ≡ p.accessing
+    → ReadRefused bytes p.a.offset p.accessing new f → new ≡ p.accessing
 same_present p new bytes later read_fault.Failed h came fits refused = refused.1
 same_present p new bytes later read_fault.NoMemory h came fits refused = refused.1
 same_present p new bytes later read_fault.Unexpected h came fits refused =
     let there = refused.3 in
     let n = next_answer p bytes later h came in
-    let one = one_there bytes p.a.place there.1 there.0 n.begun n.more n.m n.fit n.bytes_are n.behind (only_item bytes p.a.place there.0 there.1 fits there.2) in
-    absurd (has_place p n.m h (next_read p bytes h n)
+    let one = one_there bytes p.a.offset there.1 there.0 n.begun n.more n.m n.fit n.bytes_are n.offset_is (only_item bytes p.a.offset there.0 there.1 fits there.2) in
+    absurd (is_in_sequence p n.m h (next_read p bytes h n)
     (ap (λ (i : Item). is_unexpected p.requests (answers_read (state_of p)) i) one.0 ∙ there.3 p.requests (answers_read (state_of p)) h.asking.1.asking))
 
 pub not_read : (p : Parts) (v : AskingValue) (f : ReadFault) (reports : List Report) → AreParts p → AreBytes (oldest_message p.a.link.coming.inbox) → ReadNone (asking_end p) v f → reports ≡ p.reports
@@ -153,7 +153,7 @@ read_so p v report reports h o kept =
     let x = next_answer p o.one.bytes o.one.later h o.one.came in
     let m = x.m in
     let next = next_read p o.one.bytes h x in
-    let one = one_there o.one.bytes p.a.place o.one.next o.one.item x.begun x.more m x.fit x.bytes_are x.behind (only_item o.one.bytes p.a.place o.one.item o.one.next o.one.fits o.one.reads) in
+    let one = one_there o.one.bytes p.a.offset o.one.next o.one.item x.begun x.more m x.fit x.bytes_are x.offset_is (only_item o.one.bytes p.a.offset o.one.item o.one.next o.one.fits o.one.reads) in
     let t = handled_side p.a o.one.bytes o.one.later o.one.next in
     let own : v.present ≡ as_client p v.present = client_is p v h o.own o.identity in
     let q = record p { a = t; accessing = as_client p v.present; reports = reports; read = p.read + 1 } in
@@ -176,7 +176,7 @@ read_so p v report reports h o kept =
       alike = h.alike;
       limit = h.limit;
       most = h.most;
-      from_a = told_moved p.a p.b (asked_messages p) p.served t.link.coming.inbox t.place h.from_a;
+      from_a = told_moved p.a p.b (asked_messages p) p.served t.link.coming.inbox t.offset h.from_a;
       from_b = handled_one p.b p.a (answers p) p.read o.one.bytes o.one.later o.one.next h.from_b x o.one.came one.1;
       sent_is = h.sent_is;
       reports_is = kept ∙ ap (λ (l : List Report). l ++ option_to_list report) h.reports_is ∙ sym adds;

@@ -104,10 +104,10 @@ module _ (p : Parts) (h : AreParts p) (m : Message) (next : next_to_serve (state
   block : List NspMessage
   block = answer_to p.accessed.own [] (served_items p) (Whole m)
 
-  abbrev q_of : (inbox : List (List ℕ)) (place : ℕ) (outbox : List (List ℕ)) → accessed.Present → Parts
-  q_of inbox place outbox after =
+  abbrev q_of : (inbox : List (List ℕ)) (offset : ℕ) (outbox : List (List ℕ)) → accessed.Present → Parts
+  q_of inbox offset outbox after =
       record p {
-        b = record p.b { link = with_inbox p.b.link inbox; place = place; outbox = outbox };
+        b = record p.b { link = with_inbox p.b.link inbox; offset = offset; outbox = outbox };
         accessed = as_server p after;
         served = p.served + 1;
       }
@@ -128,8 +128,8 @@ module _ (p : Parts) (h : AreParts p) (m : Message) (next : next_to_serve (state
   none_waits : drop p.b.posted (answers p) ≡ []
   none_waits = drop_all p.b.posted (answers p) (omega (arith, all_handed))
 
-  state_served : (inbox : List (List ℕ)) (place : ℕ) (outbox : List (List ℕ)) (after : accessed.Present) → state_of (q_of inbox place outbox after) ≡ served_one (state_of p) m
-  state_served inbox place outbox after =
+  state_served : (inbox : List (List ℕ)) (offset : ℕ) (outbox : List (List ℕ)) (after : accessed.Present) → state_of (q_of inbox offset outbox after) ≡ served_one (state_of p) m
+  state_served inbox offset outbox after =
       let s = state_of p in
       let b = answer_to p.accessed.own [] (served_items p) (Whole m) in
       ap (λ (l : List NspMessage). record s { b = end_state p.b l; served = p.served + 1 }) answers_are
@@ -152,16 +152,16 @@ module _ (p : Parts) (h : AreParts p) (m : Message) (next : next_to_serve (state
       (answers-blocked p.accessing.own p.accessed.own h.world.own_a h.world.own_b p.requests (map Whole (served_by_b s)) (map Whole front.0) (Whole m)
       (sym (map-append Whole (served_by_b s) (m ∷ front.0)) ∙ ap (map Whole) (sym (append_assoc (served_by_b s) (m ∷ []) front.0) ∙ all)))
 
-  parts_served : (bytes : List ℕ) (later outbox : List (List ℕ)) (next_place : ℕ) (after : accessed.Present) (n : Next p.a p.b (asked_messages p) p.served bytes)
-      → n.m ≡ m → p.b.link.coming.inbox ≡ bytes ∷ later → length (blocked_bytes n.begun) + length (canon n.m) ≡ next_place
+  parts_served : (bytes : List ℕ) (later outbox : List (List ℕ)) (next_offset : ℕ) (after : accessed.Present) (n : Next p.a p.b (asked_messages p) p.served bytes)
+      → n.m ≡ m → p.b.link.coming.inbox ≡ bytes ∷ later → length (blocked_bytes n.begun) + length (canon n.m) ≡ next_offset
       → outbox ≡ all_joined (answer_to p.accessed.own [] (map Whole (served_by_b (state_of p))) (Whole m)) → AllFit (added p.accessed.own [] (map Whole (served_by_b (state_of p))) (Whole m))
-      → (let s = handled_side p.b bytes later next_place in
-      IsServedAll (serving_end (q_of s.link.coming.inbox s.place outbox after)) (map Whole (served_by_b (state_of p)) ++ Whole m ∷ []) → AreParts (q_of s.link.coming.inbox s.place outbox after))
+      → (let s = handled_side p.b bytes later next_offset in
+      IsServedAll (serving_end (q_of s.link.coming.inbox s.offset outbox after)) (map Whole (served_by_b (state_of p)) ++ Whole m ∷ []) → AreParts (q_of s.link.coming.inbox s.offset outbox after))
   unfolding reported
-  parts_served bytes later outbox next_place after n same inbox goes outbox_is fit serving =
-      let s = handled_side p.b bytes later next_place in
-      let q = q_of s.link.coming.inbox s.place outbox after in
-      let state = state_served s.link.coming.inbox s.place outbox after in
+  parts_served bytes later outbox next_offset after n same inbox goes outbox_is fit serving =
+      let s = handled_side p.b bytes later next_offset in
+      let q = q_of s.link.coming.inbox s.offset outbox after in
+      let state = state_served s.link.coming.inbox s.offset outbox after in
       let world = kept-step (state_of p) (served_one (state_of p) m) event.Serve (step.Served (length (answering (state_of p) m))) serves h.world in
       let taken : served_by_b (served_one (state_of p) m) ≡ served_by_b (state_of p) ++ m ∷ [] = taken-more (state_of p) m next in
       let b = answer_to p.accessed.own [] (served_items p) (Whole m) in
@@ -178,9 +178,9 @@ module _ (p : Parts) (h : AreParts p) (m : Message) (next : next_to_serve (state
         alike = h.alike;
         limit = h.limit;
         most = h.most;
-        from_a = handled_one p.a p.b (asked_messages p) p.served bytes later next_place h.from_a n inbox goes;
+        from_a = handled_one p.a p.b (asked_messages p) p.served bytes later next_offset h.from_a n inbox goes;
         from_b = subst (λ (l : List NspMessage). IsCarried q.b p.a l p.read) (sym answers_are)
-            (told_more p.b p.a (answers p) b p.read s.link.coming.inbox s.place outbox outbox h.from_b (ap (λ (l : List (List ℕ)). l ++ outbox) (sym idle)) block_is fit_block short);
+            (told_more p.b p.a (answers p) b p.read s.link.coming.inbox s.offset outbox outbox h.from_b (ap (λ (l : List (List ℕ)). l ++ outbox) (sym idle)) block_is fit_block short);
         sent_is = h.sent_is;
         reports_is = h.reports_is ∙ ap (Told p.requests) (sym read) ∙ ap reported (sym state);
         asking = subst (λ (x : State). IsAskedAll (asking_end p) p.requests (answers_read x)) (sym state)
@@ -263,18 +263,18 @@ unfolding Steps
 served_step p v n h o =
     let x = next_of p o.one.bytes o.one.later h o.one.came in
     let m = x.m in
-    let one = one_there o.one.bytes p.b.place o.one.next o.one.item x.begun x.more m x.fit x.bytes_are x.behind (only_item o.one.bytes p.b.place o.one.item o.one.next o.one.fits o.one.reads) in
+    let one = one_there o.one.bytes p.b.offset o.one.next o.one.item x.begun x.more m x.fit x.bytes_are x.offset_is (only_item o.one.bytes p.b.offset o.one.item o.one.next o.one.fits o.one.reads) in
     let t = handled_side p.b o.one.bytes o.one.later o.one.next in
     let outbox = v.port.outbox in
     let own = own_is p v n h o m one.0 in
     let is = outbox_is p v n h o m one.0 in
-    let q = q_of p h m x.next o.idle t.link.coming.inbox t.place outbox v.present in
+    let q = q_of p h m x.next o.idle t.link.coming.inbox t.offset outbox v.present in
     let serving : IsServedAll (serving_end q) (map Whole (served_by_b (state_of p)) ++ Whole m ∷ []) =
     (now p v n h o m one.0, subst (λ (port : PortValue). IsAfter (now p v n h o m one.0) (record { port = port; present = as_server p v.present })) o.port (is_after p v n h o m one.0)) in
     let parts : AreParts q = parts_served p h m x.next o.idle o.one.bytes o.one.later outbox o.one.next v.present x refl o.one.came one.1 is (added_fit p v n h o m one.0) serving in
     let count : length (answering (state_of p) m) ≡ n = sym (length-map (answering (state_of p) m) blocked_bytes) ∙ ap length (sym is) ∙ sym o.count in
     let went : Steps (state_of p) event.Serve (step.Served n) (state_of q) =
-    subst (λ (y : State). Steps (state_of p) event.Serve (step.Served n) y) (sym (state_served p h m x.next o.idle t.link.coming.inbox t.place outbox v.present))
+    subst (λ (y : State). Steps (state_of p) event.Serve (step.Served n) y) (sym (state_served p h m x.next o.idle t.link.coming.inbox t.offset outbox v.present))
     (subst (λ (k : ℕ). Steps (state_of p) event.Serve (step.Served k) (served_one (state_of p) m)) count (serves p h m x.next o.idle)) in
     subst (λ (port : PortValue). AreThen p event.Serve (record p { b = side_of port p.b.posted p.b.wire; accessed = v.present; served = p.served + 1 }) (Ok (step.Served n))) (sym o.port)
     (subst (λ (y : accessed.Present). AreThen p event.Serve (record p { b = record t { outbox = outbox }; accessed = y; served = p.served + 1 }) (Ok (step.Served n))) (sym own) (parts, went))

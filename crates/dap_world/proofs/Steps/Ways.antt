@@ -106,8 +106,8 @@ still_way from v w messages given same way =
 -- ---- What is told of a direction.
 
 -- it is told of another way
-pub told_with : {n place most count : ℕ} {outbox : List (List ℕ)} {packets : List NspMessage} {Way Now : List (List ℕ) → List (List ℕ) → Type 0}
-    → (h : IsToldBy n place most outbox packets count Way) → Now h.handed (all_joined h.gone) → IsToldBy n place most outbox packets count Now
+pub told_with : {n offset most count : ℕ} {outbox : List (List ℕ)} {packets : List NspMessage} {Way Now : List (List ℕ) → List (List ℕ) → Type 0}
+    → (h : IsToldBy n offset most outbox packets count Way) → Now h.handed (all_joined h.gone) → IsToldBy n offset most outbox packets count Now
 told_with h way = record { handed = h.handed; posted = h.posted; gone = h.gone; among = h.among; way = way; bytes = h.bytes; fit = h.fit; short = h.short }
 
 module _ (packets : List NspMessage) (count : ℕ) (from to : SideValue) (h : IsCarried from to packets count) where
@@ -119,7 +119,7 @@ module _ (packets : List NspMessage) (count : ℕ) (from to : SideValue) (h : Is
 
   pub told_gives : (v : LinkValue) (k : Option ℕ) (a : ℕ) → Delivered from.link v k a → Sends v h.handed → IsCarried (record from { link = v }) to packets count
   told_gives v k a d sends =
-      subst (λ (most : ℕ). IsToldBy from.posted to.place most from.outbox packets count (IsWay (record from { link = v }) to.link)) (sym (ap (λ (s : LinkSetup). s.max_message) d.setup))
+      subst (λ (most : ℕ). IsToldBy from.posted to.offset most from.outbox packets count (IsWay (record from { link = v }) to.link)) (sym (ap (λ (s : LinkSetup). s.max_message) d.setup))
       (told_with h (gives from v to.link h.handed _ k a h.way d sends))
 
   pub told_takes : (v : LinkValue) → ((messages given : List (List ℕ)) → IsWay from to.link messages given → IsWay from v messages given) → IsCarried from (record to { link = v }) packets count

@@ -94,8 +94,8 @@ gone_whole (packet ∷ gone) rest begun count full handled stays =
     let fits : nat_le (length packet) count ≡ true = le-leb (length packet) count (omega (arith, handled, all)) in
     rw fits (ap (λ (l : List NspMessage). packet ∷ l) (gone_whole gone rest begun (count - length packet) full.1 (omega (arith, handled, all)) stays))
 
-among_whole : (packets : List NspMessage) (count place : ℕ) (gone : List NspMessage) → AreFull packets → IsAmong packets count place gone → gone ≡ whole_among count packets
-among_whole packets count place gone full h =
+among_whole : (packets : List NspMessage) (count offset : ℕ) (gone : List NspMessage) → AreFull packets → IsAmong packets count offset gone → gone ≡ whole_among count packets
+among_whole packets count offset gone full h =
     sym (gone_whole gone h.rest h.begun count (subst AreFull h.split full) h.handled h.stays) ∙ ap (whole_among count) (sym h.split)
 
 -- the link stands after what was passed on, and gave away what was processed
@@ -103,7 +103,7 @@ stands_shown : (from to : SideValue) (packets : List NspMessage) (count size : �
     → Stands to.link size (all_joined (take from.posted packets)) (all_joined (whole_among count (take from.posted packets)))
 stands_shown from to packets count size full same h =
     let handed = handed-bytes from.posted h.handed from.outbox packets h.posted h.bytes in
-    subst (λ (g : List NspMessage). Stands to.link size (all_joined (take from.posted packets)) (all_joined g)) (among_whole (take from.posted packets) count to.place h.gone full h.among)
+    subst (λ (g : List NspMessage). Stands to.link size (all_joined (take from.posted packets)) (all_joined g)) (among_whole (take from.posted packets) count to.offset h.gone full h.among)
     (subst (λ (l : List (List ℕ)). Stands to.link size l (all_joined h.gone)) handed
     (subst (λ (n : ℕ). Stands to.link n h.handed (all_joined h.gone)) same h.way.stands))
 

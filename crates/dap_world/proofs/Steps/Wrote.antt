@@ -56,9 +56,9 @@ wrote_at : (p : Parts) (end : End) (sent : ℕ) (w : Wired) → w.acks ≡ (side
 wrote_at p A sent w acks = ap (λ (e : EndState). with_end (state_of p) A e) (wrote_is p.a (asked_messages p) sent w acks)
 wrote_at p B sent w acks = ap (λ (e : EndState). with_end (state_of p) B e) (wrote_is p.b (answers p) sent w acks)
 
-place_is : (p : Parts) (end : End) → length (end_of (state_of p) end).wire ≡ length (side p end).wire
-place_is p A = length-map p.a.wire sending_of
-place_is p B = length-map p.b.wire sending_of
+index_is : (p : Parts) (end : End) → length (end_of (state_of p) end).wire ≡ length (side p end).wire
+index_is p A = length-map p.a.wire sending_of
+index_is p B = length-map p.b.wire sending_of
 
 -- the parts stay parts
 parts_wrote : (p : Parts) (end : End) (sent : ℕ) (w : Wired) → AreParts p → ((messages : List (List ℕ)) → Sends (side p end).link messages → Writes (side p end).link messages w.segment w.acks w.packet.items)
@@ -165,7 +165,7 @@ one_more p end e sent k s answer h is w still steps =
     let wrote_so : is_now k ≡ state_of (with_side p end new) = ap is_now (sym w.segment) ∙ wrote_at p end sent w.wired w.acks in
     let went : Steps (state_of p) e answer (state_of (with_side p end new)) =
     subst (λ (x : State). Steps (state_of p) e answer x) wrote_so
-    (subst (λ (x : Step). Steps (state_of p) e x (is_now k)) (ap (λ (n : ℕ). step.Packet n) (place_is p end) ∙ sym w.place) steps) in
+    (subst (λ (x : Step). Steps (state_of p) e x (is_now k)) (ap (λ (n : ℕ). step.Packet n) (index_is p end) ∙ sym w.index) steps) in
     let carries : (messages : List (List ℕ)) → Sends (side p end).link messages → Writes (side p end).link messages w.wired.segment w.wired.acks w.wired.packet.items =
     λ messages sends. subst (λ (k : Option ℕ). Writes (side p end).link messages k w.wired.acks w.wired.packet.items) (sym w.segment)
     (subst (λ (n : ℕ). Writes (side p end).link messages k n w.wired.packet.items) (sym w.acks) (w.writes messages sends)) in

@@ -127,11 +127,11 @@ deliver_unacked mid new end j answer step = ap (λ (e : EndState). e.sent - e.ac
 abbrev first_sent : State → End → Sending
 first_sent s end = record { segment = Some ((end_of s end).sent + 1); acks = (end_of s end).taken }
 
-there_first : (old mid : State) (end : End) (place : ℕ) (answer : Step) → Steps old (event.Emit end) answer mid → place ≡ length (end_of old end).wire → slice_get (end_of mid (other_end (other_end end))).wire place ≡ Some (first_sent old end)
+there_first : (old mid : State) (end : End) (index : ℕ) (answer : Step) → Steps old (event.Emit end) answer mid → index ≡ length (end_of old end).wire → slice_get (end_of mid (other_end (other_end end))).wire index ≡ Some (first_sent old end)
 unfolding Steps
-there_first old mid end place answer step at =
-    ap (λ (e : End). slice_get (end_of mid e).wire place) (twice end) ∙ ap (λ (e : EndState). slice_get e.wire place) (now_at old mid end _ step.2)
-    ∙ at_last (end_of old end).wire place (first_sent old end) at
+there_first old mid end index answer step at =
+    ap (λ (e : End). slice_get (end_of mid e).wire index) (twice end) ∙ ap (λ (e : EndState). slice_get e.wire index) (now_at old mid end _ step.2)
+    ∙ at_last (end_of old end).wire index (first_sent old end) at
 
 pub emit_refused : (old new : State) (end : End) (f : WorldFault) → MayEmit old end → Went old (event.Emit end) (Err f) new → (f ≡ fault.NoMemory) × RanTo old new
 unfolding Steps RefusesEvent
@@ -152,28 +152,28 @@ fresh_first old mid end answer h step =
     ap (λ (e : EndState). is_stale e (first_sent old end)) (other_still old mid end _ step.2)
     ∙ rw (le-ltb ((end_of old end).sent + 1 + 2047) (to.taken + 1) (omega (arith, c.taken_sent)), le-ltb ((end_of old end).taken + 2047) to.acked (omega (arith, b.acked_taken))) refl
 
-pub first_refused : (old mid new : State) (end : End) (place : ℕ) (answer : Step) (f : WorldFault) → IsWorld old → IsWorld mid → Steps old (event.Emit end) answer mid → place ≡ length (end_of old end).wire
-    → Went mid (event.Deliver (other_end end) place) (Err f) new → (f ≡ fault.NoMemory) × RanTo old new
+pub first_refused : (old mid new : State) (end : End) (index : ℕ) (answer : Step) (f : WorldFault) → IsWorld old → IsWorld mid → Steps old (event.Emit end) answer mid → index ≡ length (end_of old end).wire
+    → Went mid (event.Deliver (other_end end) index) (Err f) new → (f ≡ fault.NoMemory) × RanTo old new
 unfolding Steps RefusesEvent
-first_refused old mid new end place answer fault.NoMemory h w step at went = (refl, (1, subst (λ (s : State). RanBy old s 1) (sym went.1) (ran_one old mid (event.Emit end) answer tt step)))
-first_refused old mid new end place answer fault.NoSuchPacket h w step at went = let there = there_first old mid end place answer step at in let none = went.0 in absurd cc
-first_refused old mid new end place answer fault.Stale h w step at went =
-    let same : went.0.0 ≡ first_sent old end = is_same went.0.0 (first_sent old end) _ went.0.1 (there_first old mid end place answer step at) in
+first_refused old mid new end index answer fault.NoMemory h w step at went = (refl, (1, subst (λ (s : State). RanBy old s 1) (sym went.1) (ran_one old mid (event.Emit end) answer tt step)))
+first_refused old mid new end index answer fault.NoSuchPacket h w step at went = let there = there_first old mid end index answer step at in let none = went.0 in absurd cc
+first_refused old mid new end index answer fault.Stale h w step at went =
+    let same : went.0.0 ≡ first_sent old end = is_same went.0.0 (first_sent old end) _ went.0.1 (there_first old mid end index answer step at) in
     let stale : is_stale (end_of mid (other_end end)) (first_sent old end) ≡ true = subst (λ (p : Sending). is_stale (end_of mid (other_end end)) p ≡ true) same went.0.2 in
     let young = fresh_first old mid end answer h step in absurd cc
-first_refused old mid new end place answer fault.NothingToDo h w step at went = absurd went.0
-first_refused old mid new end place answer (fault.Ask g) h w step at went = absurd went.0
-first_refused old mid new end place answer fault.Exhausted h w step at went = absurd went.0
-first_refused old mid new end place answer fault.BadSetup h w step at went = absurd went.0
+first_refused old mid new end index answer fault.NothingToDo h w step at went = absurd went.0
+first_refused old mid new end index answer (fault.Ask g) h w step at went = absurd went.0
+first_refused old mid new end index answer fault.Exhausted h w step at went = absurd went.0
+first_refused old mid new end index answer fault.BadSetup h w step at went = absurd went.0
 
 -- all that was sent was taken
-pub arrived_all : (old mid new : State) (end : End) (place : ℕ) (one two : Step) → IsWorld old → IsWorld mid → unacked old end ≡ 0 → Steps old (event.Emit end) one mid → place ≡ length (end_of old end).wire
-    → Steps mid (event.Deliver (other_end end) place) two new → (end_of new end).sent ≤ (end_of new (other_end end)).taken
+pub arrived_all : (old mid new : State) (end : End) (index : ℕ) (one two : Step) → IsWorld old → IsWorld mid → unacked old end ≡ 0 → Steps old (event.Emit end) one mid → index ≡ length (end_of old end).wire
+    → Steps mid (event.Deliver (other_end end) index) two new → (end_of new end).sent ≤ (end_of new (other_end end)).taken
 unfolding Steps
-arrived_all old mid new end place one two h w none first at second =
+arrived_all old mid new end index one two h w none first at second =
     let count = (end_of old end).sent in
     let to = end_of mid (other_end end) in
-    let same : second.0 ≡ first_sent old end = is_same second.0 (first_sent old end) _ second.1.0 (there_first old mid end place one first at) in
+    let same : second.0 ≡ first_sent old end = is_same second.0 (first_sent old end) _ second.1.0 (there_first old mid end index one first at) in
     let is = second.3 ∙ ap (λ (p : Sending). with_end mid (other_end end) (delivered true to p)) same in
     let sent : (end_of mid end).sent ≡ count + 1 = (emit_sent old mid end one first).0 in
     let taken = ap (λ (e : EndState). e.taken) (other_still old mid end _ first.2) in
@@ -183,16 +183,16 @@ arrived_all old mid new end place one two h w none first at second =
 
 -- ---- Together.
 
-pub brought_one : (old mid came new : State) (end : End) (place : ℕ) (one two : Step) → IsWorld mid → Steps old (event.Emit end) one mid → Steps mid (event.Deliver (other_end end) place) two came
+pub brought_one : (old mid came new : State) (end : End) (index : ℕ) (one two : Step) → IsWorld mid → Steps old (event.Emit end) one mid → Steps mid (event.Deliver (other_end end) index) two came
     → RanBy came new 2 → unacked new end ≡ 0 → SameBut came new → ((e : End) → (end_of new e).sent ≡ (end_of came e).sent) → Brought old new end 1
 unfolding Steps
-brought_one old mid came new end place one two w first second ran done same sent =
+brought_one old mid came new end index one two w first second ran done same sent =
     let counts = emit_sent old mid end one first in
     record {
-      ran = ran_both old came new 2 2 (ran_both old mid came 1 1 (ran_one old mid (event.Emit end) one tt first) (ran_one mid came (event.Deliver (other_end end) place) two tt second)) ran;
-      same = same_both old came new (same_both old mid came (same_emit old mid end one first) (same_deliver mid came (other_end end) place two w second)) same;
-      sent = sent end ∙ deliver_sent mid came (other_end end) end place two second ∙ counts.0;
-      back = sent (other_end end) ∙ deliver_sent mid came (other_end end) (other_end end) place two second ∙ counts.1;
+      ran = ran_both old came new 2 2 (ran_both old mid came 1 1 (ran_one old mid (event.Emit end) one tt first) (ran_one mid came (event.Deliver (other_end end) index) two tt second)) ran;
+      same = same_both old came new (same_both old mid came (same_emit old mid end one first) (same_deliver mid came (other_end end) index two w second)) same;
+      sent = sent end ∙ deliver_sent mid came (other_end end) end index two second ∙ counts.0;
+      back = sent (other_end end) ∙ deliver_sent mid came (other_end end) (other_end end) index two second ∙ counts.1;
       done = done;
     }
 

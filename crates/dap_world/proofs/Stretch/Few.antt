@@ -32,12 +32,12 @@ pub one_due : (p : Parts) → AreParts p → IsOneDue (state_of p)
 unfolding reported
 one_due p h = h.asking.1.asking.alone
 
--- each answer had its place
+-- no answer was out of sequence
 not_wrong : (d : Due) (p : Option Pending) → FitsDue d p → d ≢ Wrong
 not_wrong NothingDue p h = λ e. cc
 not_wrong (AnswersDue r so_far) p h = λ e. cc
 not_wrong Wrong None h = absurd h
 not_wrong Wrong (Some p) h = absurd h
 
-pub in_place : (p : Parts) → AreParts p → due_after (state_of p).requests (answers_read (state_of p)) ≢ Wrong
-in_place p h = not_wrong (due_after p.requests (answers_read (state_of p))) p.accessing.pending h.asking.1.asking.pending
+pub none_out_of_sequence : (p : Parts) → AreParts p → due_after (state_of p).requests (answers_read (state_of p)) ≢ Wrong
+none_out_of_sequence p h = not_wrong (due_after p.requests (answers_read (state_of p))) p.accessing.pending h.asking.1.asking.pending

@@ -111,7 +111,7 @@ took taken sent held keep k n early is le there =
       | inr apart ↦ rw (ne_eqb k (taken + 1) apart) (omega (arith, is, le, apart))
     ]
 
--- the packet at the next place is the one that carries the next segment
+-- the packet at the next index is the one that carries the next segment
 next_at : (old now : State) (end : End) (first last j : ℕ) → AllCame old now end (j - first) → AreThere old end first (last - first) → first ≤ j → j < last
     → slice_get (end_of now (other_end (other_end end))).wire j ≡ Some (again old end (j - first))
 next_at old now end first last j h there le lt =
@@ -178,8 +178,8 @@ alone s end = record { segment = None; acks = (end_of s (other_end end)).taken }
 abbrev WroteAck : (old mid : State) → End → Type 0
 WroteAck old mid end = mid ≡ with_end old (other_end end) (wrote (end_of old (other_end end)) (end_of old (other_end end)).sent None)
 
-acked_wire : (old mid : State) (end : End) (place : ℕ) → WroteAck old mid end → place ≡ length (end_of old (other_end end)).wire → slice_get (end_of mid (other_end end)).wire place ≡ Some (alone old end)
-acked_wire old mid end place is at = ap (λ (e : EndState). slice_get e.wire place) (now_at old mid (other_end end) _ is) ∙ at_last (end_of old (other_end end)).wire place (alone old end) at
+acked_wire : (old mid : State) (end : End) (index : ℕ) → WroteAck old mid end → index ≡ length (end_of old (other_end end)).wire → slice_get (end_of mid (other_end end)).wire index ≡ Some (alone old end)
+acked_wire old mid end index is at = ap (λ (e : EndState). slice_get e.wire index) (now_at old mid (other_end end) _ is) ∙ at_last (end_of old (other_end end)).wire index (alone old end) at
 
 acked_all : (old mid new : State) (end : End) (keep : Bool) → IsWorld old → (end_of old end).sent ≤ (end_of old (other_end end)).taken → WroteAck old mid end
     → new ≡ with_end mid end (delivered keep (end_of mid end) (alone old end)) → unacked new end ≡ 0
@@ -199,13 +199,13 @@ ack_wrote old mid end answer step = step.1
 pub ack_unacked : (old mid : State) (end : End) (answer : Step) → AckStep old end answer mid → unacked mid end ≡ unacked old end
 ack_unacked old mid end answer step = ap (λ (e : EndState). e.sent - e.acked) (still_at old mid end _ (ack_wrote old mid end answer step))
 
-pub acknowledged_all : (old mid new : State) (end : End) (place : ℕ) (one two : Step) → IsWorld old → (end_of old end).sent ≤ (end_of old (other_end end)).taken → place ≡ length (end_of old (other_end end)).wire
-    → Steps old (event.Ack (other_end end)) one mid → Steps mid (event.Deliver end place) two new → RanBy old new 2 × (unacked new end ≡ 0)
+pub acknowledged_all : (old mid new : State) (end : End) (index : ℕ) (one two : Step) → IsWorld old → (end_of old end).sent ≤ (end_of old (other_end end)).taken → index ≡ length (end_of old (other_end end)).wire
+    → Steps old (event.Ack (other_end end)) one mid → Steps mid (event.Deliver end index) two new → RanBy old new 2 × (unacked new end ≡ 0)
 unfolding Steps
-acknowledged_all old mid new end place one two world all at first second =
+acknowledged_all old mid new end index one two world all at first second =
     let is = ack_wrote old mid end one first in
-    let same : second.0 ≡ alone old end = is_same second.0 (alone old end) _ second.1.0 (acked_wire old mid end place is at) in (
-      ran_both old mid new 1 1 (ran_one old mid (event.Ack (other_end end)) one tt first) (ran_one mid new (event.Deliver end place) two tt second),
+    let same : second.0 ≡ alone old end = is_same second.0 (alone old end) _ second.1.0 (acked_wire old mid end index is at) in (
+      ran_both old mid new 1 1 (ran_one old mid (event.Ack (other_end end)) one tt first) (ran_one mid new (event.Deliver end index) two tt second),
       acked_all old mid new end true world all is (second.3 ∙ ap (λ (p : Sending). with_end mid end (delivered true (end_of mid end) p)) same),
     )
 
@@ -224,34 +224,34 @@ ack_refused old new end (fault.Ask g) went = absurd went.0
 ack_refused old new end fault.Exhausted went = absurd went.0
 ack_refused old new end fault.BadSetup went = absurd went.0
 
-pub back_refused : (old mid new : State) (end : End) (place : ℕ) (one : Step) (f : WorldFault) → IsWorld old → place ≡ length (end_of old (other_end end)).wire → Steps old (event.Ack (other_end end)) one mid
-    → Went mid (event.Deliver end place) (Err f) new → (f ≡ fault.NoMemory) × RanTo old new
+pub back_refused : (old mid new : State) (end : End) (index : ℕ) (one : Step) (f : WorldFault) → IsWorld old → index ≡ length (end_of old (other_end end)).wire → Steps old (event.Ack (other_end end)) one mid
+    → Went mid (event.Deliver end index) (Err f) new → (f ≡ fault.NoMemory) × RanTo old new
 unfolding Steps RefusesEvent
-back_refused old mid new end place one fault.NoMemory world at first went = (refl, (1, subst (λ (s : State). RanBy old s 1) (sym went.1) (ran_one old mid (event.Ack (other_end end)) one tt first)))
-back_refused old mid new end place one fault.NoSuchPacket world at first went =
-    let there = acked_wire old mid end place (ack_wrote old mid end one first) at in let none = went.0 in absurd cc
-back_refused old mid new end place one fault.Stale world at first went =
+back_refused old mid new end index one fault.NoMemory world at first went = (refl, (1, subst (λ (s : State). RanBy old s 1) (sym went.1) (ran_one old mid (event.Ack (other_end end)) one tt first)))
+back_refused old mid new end index one fault.NoSuchPacket world at first went =
+    let there = acked_wire old mid end index (ack_wrote old mid end one first) at in let none = went.0 in absurd cc
+back_refused old mid new end index one fault.Stale world at first went =
     let is = ack_wrote old mid end one first in
-    let same : went.0.0 ≡ alone old end = is_same went.0.0 (alone old end) _ went.0.1 (acked_wire old mid end place is at) in
+    let same : went.0.0 ≡ alone old end = is_same went.0.0 (alone old end) _ went.0.1 (acked_wire old mid end index is at) in
     let stale : is_stale (end_of mid end) (alone old end) ≡ true = subst (λ (p : Sending). is_stale (end_of mid end) p ≡ true) same went.0.2 in
     let young = fresh_alone old mid end world is in absurd cc
-back_refused old mid new end place one fault.NothingToDo world at first went = absurd went.0
-back_refused old mid new end place one (fault.Ask g) world at first went = absurd went.0
-back_refused old mid new end place one fault.Exhausted world at first went = absurd went.0
-back_refused old mid new end place one fault.BadSetup world at first went = absurd went.0
+back_refused old mid new end index one fault.NothingToDo world at first went = absurd went.0
+back_refused old mid new end index one (fault.Ask g) world at first went = absurd went.0
+back_refused old mid new end index one fault.Exhausted world at first went = absurd went.0
+back_refused old mid new end index one fault.BadSetup world at first went = absurd went.0
 
 -- ---- All of it.
 
 -- the segments that were written again stand on the wire
 pub there_again : (old mid : State) (end : End) (first last count : ℕ) → AllResent old mid end count → first ≡ length (end_of old end).wire → last - first ≡ count → AreThere mid end first (last - first)
-there_again old mid end first last count h at is = λ i lt. at_place old mid end first i count h at (omega arith)
+there_again old mid end first last count h at is = λ i lt. at_index old mid end first i count h at (omega arith)
   where
     behind : (xs ys : List Sending) (n i : ℕ) (y : Sending) → n ≡ length xs → slice_get ys i ≡ Some y → slice_get (xs ++ ys) (n + i) ≡ Some y
     behind [] ys n i y e at = let goes : n + i ≡ i = omega arith in ap (slice_get ys) goes ∙ at
     behind (x ∷ xs) ys n i y e at = let goes : n + i ≡ suc (length xs + i) = omega arith in ap (slice_get (x ∷ (xs ++ ys))) goes ∙ behind xs ys (length xs) i y refl at
 
-    at_place : (old mid : State) (end : End) (first i count : ℕ) → AllResent old mid end count → first ≡ length (end_of old end).wire → i < count → slice_get (end_of mid end).wire (first + i) ≡ Some (again mid end i)
-    at_place old mid end first i count h at lt =
+    at_index : (old mid : State) (end : End) (first i count : ℕ) → AllResent old mid end count → first ≡ length (end_of old end).wire → i < count → slice_get (end_of mid end).wire (first + i) ≡ Some (again mid end i)
+    at_index old mid end first i count h at lt =
         subst (λ (e : EndState). slice_get e.wire (first + i) ≡ Some (record { segment = Some (e.acked + 1 + i); acks = e.taken })) (sym (now_at old mid end _ h.wrote))
         (behind (end_of old end).wire h.more first i (again old end i) at (h.each i lt))
 

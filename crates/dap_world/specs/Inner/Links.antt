@@ -10,8 +10,8 @@ use Rattle.dap_world.specs.Machine.{State, end_of, other_end}
 use Rattle.dap_world.specs.Links.{left_link}
 use Rattle.dap_world.specs.Wires.{end_address, sending_of, IsOnWire}
 
--- The link is this end's: its counts, its segments, what it has of the other end's and the early ones that it holds are those
--- of the machine.
+-- The link is this end's: its counts, its segments, what it has of the other end's and the early ones that it holds are
+-- those of the machine.
 pub record IsLinkOf (s : State) (end : End) (v : LinkValue) : Type 0 where
   pub local : v.setup.local ≡ end_address end
   pub remote : v.setup.remote ≡ end_address (other_end end)

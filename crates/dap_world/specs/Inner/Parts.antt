@@ -33,7 +33,7 @@ pub record Parts : Type 0 where
   pub accessing : accessing.ClientState
   pub accessed : accessed.Present
   pub requests : List Request
-  pub sent : List (List ℕ)  -- the DAP messages in what A handed over
+  pub sent : List (List ℕ)  -- the DAP messages in what A passed to its link
   pub served : ℕ  -- how many of them B served
   pub reports : List Report
   pub read : ℕ  -- the answers that A read
@@ -49,7 +49,7 @@ asked_packets own_a own_b (request ∷ requests) = Blocked own_b (messages_of ow
 abbrev pub answer_packets : (own : ℕ) → (before items : List Item) → List NspMessage
 answer_packets own before items = answers_to (plain_setup own) [] before items
 
--- the messages that B served, as its number tells
+-- the messages that B served, by their number
 abbrev pub served_items : Parts → List Item
 served_items p = map Whole (take p.served (Asked p.accessing.own p.requests))
 
@@ -121,23 +121,23 @@ pub record AreAlike (s t : LinkSetup) : Type 0 where
   pub window : s.window ≡ t.window
   pub limit : s.max_message ≡ t.max_message
 
--- Of the first messages in NSP messages this many were handled: all those of some NSP messages, which left the link, and
--- the first of the next one, which stays while one of it is left; the place is after these.
-pub record IsAmong (packets : List NspMessage) (count place : ℕ) (gone : List NspMessage) : Type 0 where
+-- Of the first messages in NSP messages this many were processed: all those of some NSP messages, which left the link,
+-- and the first of the next one, which stays while one of it is left; the offset is after these.
+pub record IsAmong (packets : List NspMessage) (count offset : ℕ) (gone : List NspMessage) : Type 0 where
   pub begun : List Message
   pub rest : List NspMessage
   pub split : packets ≡ gone ++ rest
   pub handled : count ≡ length (messages_in gone) + length begun
-  pub behind : place ≡ length (blocked_bytes begun)
+  pub offset_is : offset ≡ length (blocked_bytes begun)
   pub stays : (begun ≡ []) ⊎ ((m : Message) × (more : List Message) × (later : List NspMessage) × (rest ≡ (begun ++ m ∷ more) ∷ later))
 
 -- One direction: the bytes are those of the NSP messages, the messages have a spelling, and the link of the other end
 -- gave away those NSP messages of which every message was handled.
-pub record IsToldBy (count_posted place most : ℕ) (outbox : List (List ℕ)) (packets : List NspMessage) (count : ℕ) (Way : (messages given : List (List ℕ)) → Type 0) : Type 0 where
+pub record IsToldBy (count_posted offset most : ℕ) (outbox : List (List ℕ)) (packets : List NspMessage) (count : ℕ) (Way : (messages given : List (List ℕ)) → Type 0) : Type 0 where
   pub handed : List (List ℕ)
   pub posted : count_posted ≡ length handed
   pub gone : List NspMessage
-  pub among : IsAmong (take count_posted packets) count place gone
+  pub among : IsAmong (take count_posted packets) count offset gone
   pub way : Way handed (all_joined gone)
   pub bytes : handed ++ outbox ≡ all_joined packets
   pub fit : AllFit (messages_in packets)
@@ -145,7 +145,7 @@ pub record IsToldBy (count_posted place most : ℕ) (outbox : List (List ℕ)) (
   pub short : AreWithinLimit most outbox
 
 abbrev pub IsCarried : (from to : SideValue) → List NspMessage → (count : ℕ) → Type 0
-IsCarried from to packets count = IsToldBy from.posted to.place from.link.setup.max_message from.outbox packets count (IsWay from to.link)
+IsCarried from to packets count = IsToldBy from.posted to.offset from.link.setup.max_message from.outbox packets count (IsWay from to.link)
 
 pub record AreParts (p : Parts) : Type 0 where
   pub world : IsWorld (state_of p)

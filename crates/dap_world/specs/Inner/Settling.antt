@@ -28,7 +28,7 @@ moved old new = record old { acked = new.acked; taken = new.taken; held = new.he
 abbrev pub SendsNothing : (old new : State) → Type 0
 SendsNothing old new = new ≡ record old { a = moved old.a new.a; b = moved old.b new.b }
 
--- What the links' own events leave alone: all but the counts, the wires and what is held.
+-- What events of the links leave alone: all but the counts, the wires and what is held.
 pub record SameBut (old new : State) : Type 0 where
   pub seg_size : new.seg_size ≡ old.seg_size
   pub window : new.window ≡ old.window
@@ -59,7 +59,7 @@ pub record AllResent (old new : State) (end : End) (count : ℕ) : Type 0 where
   pub long : length more ≡ count
   pub each : (i : ℕ) → i < count → slice_get more i ≡ Some (record { segment = Some ((end_of old end).acked + 1 + i); acks = (end_of old end).taken })
 
--- of these packets of the end, from a place on, the i-th carries the i-th segment that isn't acknowledged
+-- of these packets of the end, from an index on, the i-th carries the i-th segment that isn't acknowledged
 abbrev pub AreThere : State → End → (first count : ℕ) → Type 0
 AreThere s end first count =
     (i : ℕ) → i < count → slice_get (end_of s end).wire (first + i) ≡ Some (record { segment = Some ((end_of s end).acked + 1 + i); acks = (end_of s end).taken })

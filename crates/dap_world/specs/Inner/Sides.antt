@@ -18,23 +18,24 @@ use Rattle.dap_events.specs.declared.event.Step.TheVariants as step
 use Rattle.dap_events.specs.declared.event.WorldFault.{WorldFault}
 use Rattle.dap_events.specs.declared.event.WorldFault.TheVariants as fault
 
--- an end's port, how many NSP messages it handed to its link, and the packets that it wrote
+-- an end's port, how many NSP messages it passed to its link, and the packets that it wrote
 pub record SideValue : Type 0 where
   pub link : LinkValue
   pub outbox : List (List ℕ)
   pub posted : ℕ
   pub wire : List Wired
-  pub place : ℕ
+  pub offset : ℕ
 
 abbrev pub side_of : PortValue → (posted : ℕ) → List Wired → SideValue
-side_of port posted wire = record { link = port.link; outbox = port.outbox; posted = posted; wire = wire; place = port.place }
+side_of port posted wire = record { link = port.link; outbox = port.outbox; posted = posted; wire = wire; offset = port.offset }
 
 abbrev pub port_of : SideValue → PortValue
-port_of s = record { link = s.link; outbox = s.outbox; place = s.place }
+port_of s = record { link = s.link; outbox = s.outbox; offset = s.offset }
 
--- A packet was written after the others. It carries the k-th segment of what was passed on, or none, and what was taken.
+-- A packet was written after the others. It carries the k-th segment of what was passed on, or none, and what was
+-- taken.
 pub record WroteWired (v : LinkValue) (old new : List Wired) (k : Option ℕ) (answer : Step) : Type 0 where
-  pub place : answer ≡ step.Packet (length old)
+  pub index : answer ≡ step.Packet (length old)
   pub wired : Wired
   pub wire : new ≡ old ++ wired ∷ []
   pub segment : wired.segment ≡ k

@@ -16,7 +16,7 @@ use Rattle.dap_events.specs.declared.event.Step.TheVariants as step
 use Rattle.dap_events.specs.declared.event.WorldFault.{WorldFault}
 use Rattle.dap_events.specs.declared.event.WorldFault.TheVariants as fault
 
--- The messages are those handed to the one link; the other stands after some of their segments and gave away these.
+-- The messages are those passed to the one link; the other received some of their segments and gave away these.
 pub record IsWay (from : SideValue) (to : LinkValue) (messages given : List (List ℕ)) : Type 0 where
   pub size : 0 < from.link.setup.seg_size
   pub running : from.link.failed ≡ false

@@ -12,7 +12,7 @@ abbrev pub AreWithin : ℕ → List Message → Type 0
 AreWithin limit [] = Unit {0}
 AreWithin limit (m ∷ messages) = (length (canon m) ≤ limit) × AreWithin limit messages
 
--- after any front of what the accessed end is sent, it takes for its peer's limit no more than the peer has
+-- after any prefix of what the server is sent, the limit that it knows of its peer is no more than the peer's BUFSIZ
 abbrev pub LimitWithin : (own_a own_b : ℕ) → List Request → Type 0
 LimitWithin own_a own_b requests =
     (front back : List Item) → front ++ back ≡ items_of own_a requests → limit_for own_b [] front ≤ own_a

@@ -10,7 +10,7 @@ use Rattle.dap_world.specs.Machine.{State, EndState, Sending, served_by_b, arriv
 
 -- ---- Each direction.
 
--- the counts of a direction stand in order, within the window and the segments there are
+-- the counts of a direction are in order, within the window and the segments there are
 pub record CountsInOrder (window there sent acked taken : ℕ) : Type 0 where
   pub acked_taken : acked ≤ taken
   pub taken_sent : taken ≤ sent

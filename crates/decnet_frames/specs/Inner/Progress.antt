@@ -19,7 +19,7 @@ abbrev pub ends_all : Option Ends → List Record → Option Ends
 ends_all ends [] = ends
 ends_all ends (r ∷ records) = ends_all (ends_after ends r) records
 
--- how many there are
+-- how many captured frames there are, after a count of earlier ones
 abbrev pub count_all : ℕ → List Record → ℕ
 count_all count [] = count
 count_all count (r ∷ records) = count_all (clamped (count + 1)) records

@@ -24,8 +24,8 @@ HoldsMore old new more = (read : List ℕ) → HoldsLine old read → HoldsLine 
 abbrev pub without_end : List ℕ → List ℕ
 without_end line = if ends_with_byte 10 line then strip_last 13 (strip_last 10 line) else strip_last 10 line
 
--- Some bytes were taken of the reader, and are kept so. They go no further than the first line feed, and to it, or to the
--- end, where the line is done.
+-- Some bytes were taken of the reader, and are kept so. They go no further than the first line feed, and to it, or to
+-- the end, where the line is done.
 pub record Passes (unread left : Option (List ℕ)) (old new : Line) (done : Bool) : Type 0 where
   pub bytes : List ℕ
   pub taken : Consumes unread left bytes

@@ -4,7 +4,7 @@ use Rattle.std.specs.List.{list_any, concat}
 use Rattle.std.specs.Io.KnownBytes.{Appends, Keeps, IsAtEnd}
 use Rattle.std.specs.Io.BufRead.{first_line, drop_through}
 use Rattle.linewise.specs.Output.{WritesFront}
-use Rattle.linewise.specs.Talks.{Answering, AnswersLine, Begins, ComesIn, IsUnbroken, SaysTo, Talked, is_bad}
+use Rattle.linewise.specs.Talks.{Answering, AnswersLine, BeginsAnswer, ComesIn, IsUnbroken, SaysTo, Talked, is_bad}
 use Rattle.linewise.specs.declared.talking.Became.{Became}
 use Rattle.linewise.specs.declared.talking.Answer.{Answer}
 use Rattle.linewise.specs.declared.talking.Answer.TheVariants.{Whole, Begun}
@@ -17,12 +17,12 @@ use Rattle.linewise.specs.declared.fault.CaptureFault.TheVariants.{ReadFailed, W
 abbrev pub BeginsLine : {E P : Type 0} → Answering E → (E → Option ℕ) → (E → P → List (List ℕ)) → E → List ℕ → E → List ℕ → Option (Answer P) → Type 0
 BeginsLine answered waiting pieces old line new text None = AnswersLine answered waiting old line new text None
 BeginsLine answered waiting pieces old line new text (Some answer) =
-    Begins (λ o l n t b. AnswersLine answered waiting o l n t (Some b)) pieces old line new text answer
+    BeginsAnswer (λ o l n t b. AnswersLine answered waiting o l n t (Some b)) pieces old line new text answer
 
 -- the text of an answer that began so, and what became of the line
 abbrev pub Completes : {P : Type 0} → (P → List (List ℕ)) → List ℕ → Answer P → List ℕ → Became → Type 0
 Completes pieces text (Whole became) whole came = (whole ≡ text) × (came ≡ became)
-Completes pieces text (Begun place) whole came = (more : List ℕ) × ComesIn (pieces place) more came × (whole ≡ text ++ more)
+Completes pieces text (Begun cursor) whole came = (more : List ℕ) × ComesIn (pieces cursor) more came × (whole ≡ text ++ more)
 
 -- The first pieces of an answer are written after its first text, but for the text that comes next;
 -- these are left after that.

@@ -54,7 +54,7 @@ end_line_by name own other =
     ∷ number (codes "window") (codes "8") 1 max_window ∷ number (codes "buffer") (codes "1024") min_buffer max_nsp_message
     ∷ number (codes "ostype") (codes "18") 0 255 ∷ number (codes "filesys") (codes "13") 0 255 ∷ option (codes "syscap") (codes "2001c3466") ∷ [])
 
--- a command with the option that only the end that serves has
+-- a command with the option that only the server has
 abbrev pub HasWaiting : Command → Command → Type 0
 HasWaiting before =
     Becomes before (with_rule (app_of before) (number (codes "waiting") (codes "1048576") min_waiting max_waiting))
@@ -81,7 +81,7 @@ serve_line_by =
     (number (codes "links") (codes "1") 1 max_links))
     (option (codes "names") (codes "exact"))
 
--- a command that is the command line of the end that serves
+-- a command that is the command line of the server
 pub record IsServeLine (command : Command) : Type 0 where
   pub app : app_of command ≡ serve_line_by
   pub local : (out-Command command).has_globals ≡ false
@@ -107,7 +107,7 @@ pub record IsDapliveLine (command : Command) : Type 0 where
   pub local : (out-Command command).has_globals ≡ false
   pub required : (out-Command command).subcommand_required ≡ true
 
--- an end's buffer has room for any message of a fixed length, and its SYSCAP has a place in a Configuration
+-- an end's buffer has room for any message of a fixed length, and its SYSCAP fits into a Configuration
 abbrev pub HasBufferRoom : Task → Type 0
 HasBufferRoom (End options) = (min_buffer ≤ options.buffer) × (options.syscap < 2 ^ 84)
 HasBufferRoom (Follow in_words) = Unit {0}

@@ -20,7 +20,7 @@ read_of Abilities = syscap_of
 read_of Comparing = λ text. option_map (λ folded. 0) (folded_of text)
 read_of Nowhere = λ text. None
 
--- it is the value of its option; of nodes, it may be any; where there is no place for it, the words give it
+-- it is the value of its option; of nodes, it may be any; where none is allowed, the words give one
 abbrev pub IsValue : Digits → List Row → (option text : Text) → Type 0
 IsValue Node rows option text = Unit {0}
 IsValue Nowhere rows option text = IsTrue (has_value option rows) × IfSome (first_of option rows) (λ value. value ≡ text)

@@ -1,4 +1,4 @@
--- Segments that were taken in aside, and what there is once they follow what there was.
+-- Segments that were taken in separately, and the state after they are joined to what was there before.
 use Rattle.std.specs.Prelude.{ℕ, List, [], ◌∷◌, ◌++◌, Option, Some, None, unwrap_or, option_map}
 use Rattle.nsp_link.specs.Coming.{Coming}
 
@@ -7,12 +7,12 @@ abbrev pub first_message : List (List ℕ) → Option (List ℕ) → Option (Lis
 first_message [] partial = partial
 first_message (m ∷ ms) partial = Some m
 
--- this body in the place of that one
+-- this body in place of that one
 abbrev pub with_oldest : List ℕ → ℕ → List (List ℕ) → Option (List ℕ) → Coming
 with_oldest body received [] partial = record { received = received; partial = Some body; inbox = [] }
 with_oldest body received (m ∷ ms) partial = record { received = received; partial = partial; inbox = body ∷ ms }
 
--- the first message that was taken in aside goes on with the one that was begun
+-- the first message that was taken in separately continues the one that was begun
 abbrev pub going_on : Option (List ℕ) → Coming → Coming
 going_on None aside = aside
 going_on (Some body) aside = with_oldest (body ++ unwrap_or (first_message aside.inbox aside.partial) []) aside.received aside.inbox aside.partial
@@ -23,6 +23,6 @@ coming_after inbox aside = record { received = aside.received; partial = aside.p
 abbrev pub with_begun : Coming → Coming → Coming
 with_begun before aside = coming_after before.inbox (going_on before.partial aside)
 
--- what is taken in aside begins without the bytes and messages that stand
+-- what is taken in separately begins without the bytes and messages that are there
 abbrev pub emptied_of : Coming → Coming
 emptied_of before = record { received = before.received; partial = option_map (λ body. []) before.partial; inbox = [] }

@@ -1,4 +1,4 @@
--- What the fields of a link end stand for.
+-- The value of a link end's fields.
 use Rattle.std.specs.Prelude.{Some, None, ◌≡◌, ◌≤◌, ◌+◌, ◌*◌, length, slice_get}
 use Rattle.nsp_link.specs.declared.link.LinkEnd.TheInside.{Inside}
 use Rattle.nsp_link.specs.Limits.{max_limit}
@@ -17,14 +17,14 @@ link_view a = record {
   failed = a.failed;
 }
 
--- What holds of the fields: a place for each number of the window, that of the next one is free, and the
+-- What holds of the fields: there is a slot for each number of the window, that of the next one is free, and the
 -- filled ones are counted.
 pub record IsLinkInside (a : Inside) : Type 0 where
   pub link : IsLink (link_view a)
-  pub places : length a.held.items ≡ a.setup.window
+  pub slots : length a.held.items ≡ a.setup.window
   pub capacity : a.held.capacity ≡ a.setup.window
   pub free : slice_get a.held.items 0 ≡ Some None
   pub counted : a.early ≡ length (held_from (a.incoming.received + 1) a.held.items)
-  -- the bytes that wait are counted; of each segment, acknowledged or not, there are no more than of the longest message
+  -- the bytes that wait are counted; of each segment, acknowledged or not, there are no more than a message may have
   pub waiting : a.waiting ≡ waiting_bytes (link_view a)
   pub few_bytes : a.waiting ≤ max_limit * (a.acked + length a.queue.items)

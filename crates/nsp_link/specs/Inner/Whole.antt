@@ -3,7 +3,7 @@ use Rattle.std.specs.Prelude.{◌≡◌, ℕ, ◌+◌, ◌-◌, ◌*◌, ◌<◌
 use Rattle.nsp_link.specs.Cutting.{cut}
 use Rattle.nsp_link.specs.Coming.{Coming, nothing_came, with_all_taken}
 
--- The first segments of these messages, taken one after another, come to what there is, and what was returned before it.
+-- The first segments of these messages, taken one after another, make what there is, and what was returned before it.
 abbrev pub HasTaken : Coming → ℕ → (messages given : List (List ℕ)) → Type 0
 HasTaken c size messages given = with_all_taken nothing_came (take c.received (cut size messages)) ≡ record c { inbox = given ++ c.inbox }
 
@@ -20,7 +20,7 @@ begun_bytes size messages r n =
     let over = r - length (cut size (take n messages)) in
     if over == 0 then None else Some (take (size * over) (slice_index_or messages n []))
 
--- Of these messages a receiving end has taken segments: those before `inbox` were given out, those in it are whole, and
+-- Of these messages a receiving end has taken segments: those before `inbox` were returned, those in it are whole, and
 -- of the next one `partial` has the first bytes.
 pub record HasWhole (c : Coming) (size : ℕ) (messages given : List (List ℕ)) : Type 0 where
   pub count : ℕ

@@ -17,7 +17,7 @@ abbrev pub ReadsPacketAs : {X Y : Type 0} → (X → Y) → Result X SegFault �
 ReadsPacketAs view (Ok x) read = read ≡ Ok (view x)
 ReadsPacketAs view (Err e) read = read ≡ Err e
 
--- a two-byte number, which stands at this offset, and what follows it
+-- the two-byte number at this offset, and what follows it
 abbrev pub read_word : ℕ → List ℕ → Result (ℕ × List ℕ) SegFault
 read_word at [] = Err (Truncated at)
 read_word at (low ∷ []) = Err (Truncated at)

@@ -62,7 +62,7 @@ numbered_cells n (Some body ∷ cs) = (n, body) ∷ numbered_cells (n + 1) cs
 abbrev pub cell_of : ℕ → ℕ
 cell_of n = (n - 1) % 64
 
--- no record stands in a page above it
+-- no record is in a page above it
 abbrev pub last_page : ℕ
 last_page = page_of max_record_number
 
@@ -74,22 +74,22 @@ paged (p ∷ ps) = numbered_cells (64 * p.0 + 1) p.1 ++ paged ps
 abbrev pub paged_file : Shape → List (ℕ × Cells) → FileVal
 paged_file shape pages = record { shape = shape; records = from_entries (paged pages) }
 
--- numbered places, and the pages that stand there
+-- the pages of a list of page numbers and slots, with their numbers
 abbrev pub pages_at : (ℕ → Option Cells) → List (ℕ × ℕ) → List (ℕ × Cells)
 pages_at kept [] = []
 pages_at kept (e ∷ es) = (e.0, unwrap_or (kept e.1) []) ∷ pages_at kept es
 
--- none of them is this place
+-- none of them has this slot
 abbrev pub NoneAt : ℕ → List (ℕ × ℕ) → Type 0
-NoneAt place [] = Unit {0}
-NoneAt place (e ∷ es) = (e.1 ≢ place) × NoneAt place es
+NoneAt slot [] = Unit {0}
+NoneAt slot (e ∷ es) = (e.1 ≢ slot) × NoneAt slot es
 
--- no two are the same place
+-- no two have the same slot
 abbrev pub HaveOwnSlots : List (ℕ × ℕ) → Type 0
 HaveOwnSlots [] = Unit {0}
 HaveOwnSlots (e ∷ es) = NoneAt e.1 es × HaveOwnSlots es
 
--- the record of a number, through its page and cell: what a reader may take for the meaning of pages
+-- the record of a number, by its page and cell: what a reader may take for the meaning of pages
 abbrev pub page_cell : Option Cells → ℕ → Option (List ℕ)
 page_cell None k = None
 page_cell (Some cells) k = cell cells k
@@ -116,12 +116,12 @@ pub record IsLastIn (cells : Cells) (k : ℕ) : Type 0 where
 abbrev pub empty_cells : Cells
 empty_cells = replicate 64 None
 
--- pages with a record more, in one that is there or else in a new one
+-- the pages with a record added, in one that is there or else in a new one
 abbrev pub put_entry : List (ℕ × Cells) → ℕ → ℕ → List ℕ → List (ℕ × Cells)
 put_entry pages at k body =
     insert_entry nat_cmp pages at (slice_set (unwrap_or (lookup (is_at (nat_cmp at)) pages) empty_cells) k (Some body))
 
--- the lowest number from one on, and the page where it stands
+-- the lowest occupied number from one on, and the page where its record is
 pub record IsSpot (f : FileVal) (n m : ℕ) (cells : Cells) : Type 0 where
   pub above : 1 ≤ m
   pub lowest : lowest_from f.records n ≡ Some m

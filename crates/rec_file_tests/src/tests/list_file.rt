@@ -1,5 +1,5 @@
-//! Relative files as a list of numbers and records, in the order of the numbers: the plain form beside which the pages are
-//! tried.
+//! Relative files as a list of numbers and records, in the order of the numbers: the plain form beside which the pages
+//! are tried.
 
 ghost use Rattle.std.specs.Prelude.{◌≡◌, false, length, IsTrue};
 ghost use Rattle.std.specs.FinMap as map;
@@ -38,7 +38,7 @@ impl Model for ListFile {
         × (is_sorted nat_cmp (map (λ e. (e.0, e.1.items)) a.entries.items) ≡ true) };
 }
 
-/// The index of a number among the entries, or that at which it is missing.
+/// Returns the index of a number among the entries, or that at which it is missing.
 fn search(entries: &[(u32, Vec<u8>)], number: u32) -> Result<usize, usize>
     ensures within { IsSearchInRange result (length entries.now) }
     ensures found { IsBinarySearchResult (λ e. nat_cmp e.0 number) entries.now result }
@@ -47,7 +47,7 @@ fn search(entries: &[(u32, Vec<u8>)], number: u32) -> Result<usize, usize>
 }
 
 impl ListFile {
-    /// An empty file.
+    /// Creates an empty file.
     pub fn new(alloc: Global, shape: Shape) -> ListFile
         requires valid { IsTrue (is_shape shape) }
         requires relative { is_seq shape.org ≡ false }

@@ -4,7 +4,7 @@ use Rattle.dap_end.proofs.Going.{next_items}
 use Rattle.dap_end.proofs.laws.asking_ends_stand.Goals as goal
 
 pub returns-clause-front : goal.returns-clause-front
-returns-clause-front c = λ past v h. here_front past.given v.port.link.coming.inbox v.port.place past.answers h.gone
+returns-clause-front c = λ past v h. here_front past.given v.port.link.coming.inbox v.port.offset past.answers h.gone
 
 pub returns-clause-asked : goal.returns-clause-asked
 returns-clause-asked c = λ past request old new n h a. asked_past request old new n a past h
@@ -19,4 +19,4 @@ pub returns-clause-rest : goal.returns-clause-rest
 returns-clause-rest c = λ old new reports on. (let g = read_grows old new reports on in (g.own, g.outbox, g.link))
 
 pub returns-clause-next : goal.returns-clause-next
-returns-clause-next c = λ past v bytes later rest h came r. next_items past.given v.port.link.coming.inbox later bytes v.port.place past.answers rest came h.gone r
+returns-clause-next c = λ past v bytes later rest h came r. next_items past.given v.port.link.coming.inbox later bytes v.port.offset past.answers rest came h.gone r

@@ -11,7 +11,7 @@ pub returns-clause-files : goal.returns-clause-files
 returns-clause-files c = λ past v h. ap (λ (p : Present). p.files) h.serving
 
 pub returns-clause-front : goal.returns-clause-front
-returns-clause-front c = λ past v h. here_front past.given v.port.link.coming.inbox v.port.place past.items h.gone
+returns-clause-front c = λ past v h. here_front past.given v.port.link.coming.inbox v.port.offset past.items h.gone
 
 pub returns-clause-joined : goal.returns-clause-joined
 returns-clause-joined c = λ own first items. answers_from own first [] items
@@ -26,4 +26,4 @@ pub returns-clause-rest : goal.returns-clause-rest
 returns-clause-rest c = λ most old new on. (let g = turn_grew most old new on in (g.own, g.link))
 
 pub returns-clause-next : goal.returns-clause-next
-returns-clause-next c = λ past v bytes later rest h came r. next_items past.given v.port.link.coming.inbox later bytes v.port.place past.items rest came h.gone r
+returns-clause-next c = λ past v bytes later rest h came r. next_items past.given v.port.link.coming.inbox later bytes v.port.offset past.items rest came h.gone r

@@ -1,10 +1,10 @@
 use Rattle.std.proofs.Common.{rules}
-use Rattle.dap_end.specs.By.{begins, end_with}
+use Rattle.dap_end.specs.By.{no_turn, end_with}
 use Rattle.dap_end.proofs.Did.{turn_falls, turns_end, turns_fail, turns_more}
 use Rattle.dap_end.proofs.turns.serve_all.Goals as goal
 
 pub loop-init : goal.loop-init
-loop-init g c = record { turns = begins; kept = c.requires.kept; link = c.requires.link }
+loop-init g c = record { turns = no_turn; kept = c.requires.kept; link = c.requires.link }
 
 pub loop-preserved : goal.loop-preserved
 loop-preserved g c =

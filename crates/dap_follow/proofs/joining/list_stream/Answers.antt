@@ -1,11 +1,11 @@
 use Rattle.std.proofs.Common.{arith, ◌≡◌, ◌<◌, ◌+◌, ◌-◌, ℕ, List, [], length, length-drop, length-take, take, drop, refl, sym, subst}
 use Rattle.std.proofs.lemmas.List.{take_all}
-use Rattle.dap_follow.specs.declared.places.Counted.{Counted}
+use Rattle.dap_follow.specs.declared.segments.Counted.{Counted}
 use Rattle.dap_follow.proofs.JoiningLemmas.{under_none}
 use Rattle.dap_follow.proofs.StreamLemmas.{listed_more, packet_high, packet_low, piece_good}
 use Rattle.dap_follow.proofs.joining.list_stream.Goals as goal
 
--- from a place to the end
+-- from an index to the end
 to_end : (o : List Counted) (a : ℕ) → take (length o - a) (drop a o) ≡ drop a o
 to_end o a = take_all (length o - a) (drop a o) (omega (arith, length-drop a o))
 

@@ -1,7 +1,7 @@
 use Rattle.std.proofs.Common.{◌≡◌, ◌≤◌, ◌<◌, ◌+◌, ◌-◌, ℕ, true, length, get_or}
 use Rattle.dap_follow.specs.Joined.{joins}
-use Rattle.dap_follow.specs.Inner.Placing.{counted_value}
-use Rattle.dap_follow.specs.declared.places.Counted.{Counted}
+use Rattle.dap_follow.specs.Inner.InOrder.{counted_value}
+use Rattle.dap_follow.specs.declared.segments.Counted.{Counted}
 use Rattle.dap_follow.proofs.joining.piece_len.Given as goal
 
 abbrev pub invariant-loop-end : goal.invariant-loop-end

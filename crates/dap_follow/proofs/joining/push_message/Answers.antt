@@ -2,7 +2,7 @@ use Rattle.std.proofs.Common.{arith, ◌≡◌, ◌/◌, ◌++◌, ℕ, List, le
 use Rattle.std.specs.Prelude.{codes}
 use Rattle.std.proofs.lemmas.Result.{on_ok_weaker}
 use Rattle.dap_listing.specs.Captured.{Spell, digit_bytes}
-use Rattle.dap_follow.specs.Streams.{Placed}
+use Rattle.dap_follow.specs.Streams.{Sequenced}
 use Rattle.dap_follow.specs.Joined.{payload, tail}
 use Rattle.dap_follow.specs.Following.{length_text, range_text}
 use Rattle.dap_follow.specs.Inner.Listing.{payload_digits, message_heading}
@@ -28,11 +28,11 @@ returns c =
     let carries = payload_is piece p c.requires.spelled is in
     let lines = rw (ap digit_bytes same ∙ carries.0) at added in
     let count : length (payload p) ≡ c.len-count.result / 2 = omega (arith, carries.2, ap length same, c.deref.ensures.len, c.len-count.ensures) in
-    let from : c.ends.result.0.now.place ≡ p.head.place = ap (λ (s : Placed). s.place) (c.ends.ensures.first p is) in
-    let to : c.ends.result.1.now.place ≡ (tail p).place = ap (λ (s : Placed). s.place) (c.ends.ensures.last p is) in
-    let range : t2 ≡ t1 ++ range_text p.head.place (tail p).place = c.in_ok-push_range.ensures ∙ ap (λ (a : ℕ). t1 ++ range_text a c.ends.result.1.now.place) from ∙ ap (λ (b : ℕ). t1 ++ range_text p.head.place b) to in
+    let from : c.ends.result.0.now.sequence ≡ p.head.sequence = ap (λ (s : Sequenced). s.sequence) (c.ends.ensures.first p is) in
+    let to : c.ends.result.1.now.sequence ≡ (tail p).sequence = ap (λ (s : Sequenced). s.sequence) (c.ends.ensures.last p is) in
+    let range : t2 ≡ t1 ++ range_text p.head.sequence (tail p).sequence = c.in_ok-push_range.ensures ∙ ap (λ (a : ℕ). t1 ++ range_text a c.ends.result.1.now.sequence) from ∙ ap (λ (b : ℕ). t1 ++ range_text p.head.sequence b) to in
     let long : t3 ≡ t2 ++ length_text (payload p) = c.in_ok-push_length.ensures (payload p) count in
-    let head : t3 ≡ t0 ++ message_heading p = appended_twice t0 t1 t3 (codes "  message") (range_text p.head.place (tail p).place ++ length_text (payload p)) c.in_ok-push_str.ensures.added
-    (appended_twice t1 t2 t3 (range_text p.head.place (tail p).place) (length_text (payload p)) range long) in
+    let head : t3 ≡ t0 ++ message_heading p = appended_twice t0 t1 t3 (codes "  message") (range_text p.head.sequence (tail p).sequence ++ length_text (payload p)) c.in_ok-push_str.ensures.added
+    (appended_twice t1 t2 t3 (range_text p.head.sequence (tail p).sequence) (length_text (payload p)) range long) in
     (message_heading p ++ lines.0, (lines.0, lines.1, refl), appended_twice t0 t3 c.push_messages.new.text.items (message_heading p) lines.0 head lines.2))
     c.push_messages.ensures

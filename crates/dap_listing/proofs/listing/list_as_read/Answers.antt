@@ -1,7 +1,7 @@
 use Rattle.std.proofs.Common.{rules, ap, ◌∙◌, arith, true, ◌≡◌, ◌==◌, ◌+◌, ◌-◌, ◌++◌, drop, length, length-append, length-take-le, take}
 use Rattle.dap_listing.specs.Listing.{line_limit}
 use Rattle.dap_listing.proofs.ProgressLemmas.{at_end, first_fault, length_end, line_unwritten, none_left, stands_read, stands_taken, stands_whole}
-use Rattle.linewise.proofs.ForCallers.{ok_apart, taken_behind, taken_more, taken_none, up_behind}
+use Rattle.linewise.proofs.ForCallers.{ok_apart, taken_more, taken_none, takes_then, takes_up_to_then}
 use Rattle.dap_listing.proofs.listing.list_as_read.Goals as goal
 
 pub returns-in-Err-take_lines-clause-fault : goal.returns-in-Err-take_lines-clause-fault
@@ -32,52 +32,52 @@ returns-then-is_last-clause-whole g c =
     stands_whole c.args.listed c.read_some.new.count _ _ left c.take_lines.new.progress now (end last) (none_left all c.in-Ok-take_lines.left (took.last last)) read.small
 
 pub returns-in_err-came-clause-taken : goal.returns-in_err-came-clause-taken
-returns-in_err-came-clause-taken g c = taken_behind c.chunks.count _ _ _ c.chunks.invariant.taken c.read_some.ensures.taken
+returns-in_err-came-clause-taken g c = takes_then c.chunks.count _ _ _ c.chunks.invariant.taken c.read_some.ensures.taken
 
 pub returns-in_err-extend_from_slice-clause-taken :
     goal.returns-in_err-extend_from_slice-clause-taken
-returns-in_err-extend_from_slice-clause-taken g c = taken_behind c.chunks.count _ _ _ c.chunks.invariant.taken c.read_some.ensures.taken
+returns-in_err-extend_from_slice-clause-taken g c = takes_then c.chunks.count _ _ _ c.chunks.invariant.taken c.read_some.ensures.taken
 
 pub returns-in_err-skip_unread-in-Err-take_lines-clause-taken : goal.returns-in_err-skip_unread-in-Err-take_lines-clause-taken
 returns-in_err-skip_unread-in-Err-take_lines-clause-taken g c =
     let read = c.in_ok-came.ensures in
     let came = take c.in_ok-came.came c.read_some.new.chunk in
     let counted : c.chunks.count + length came ≡ c.read_some.new.count = omega (arith, read.count, length-take-le c.in_ok-came.came c.read_some.new.chunk read.came) in
-    taken_behind c.read_some.new.count _ _ _ (taken_more c.chunks.count c.read_some.new.count _ _ _ came c.chunks.invariant.taken read.bytes counted) c.skip_unread.ensures.taken
+    takes_then c.read_some.new.count _ _ _ (taken_more c.chunks.count c.read_some.new.count _ _ _ came c.chunks.invariant.taken read.bytes counted) c.skip_unread.ensures.taken
 
 pub returns-in-Err-take_lines-clause-taken : goal.returns-in-Err-take_lines-clause-taken
 returns-in-Err-take_lines-clause-taken g c =
     let read = c.in_ok-came.ensures in
     let came = take c.in_ok-came.came c.read_some.new.chunk in
     let counted : c.chunks.count + length came ≡ c.read_some.new.count = omega (arith, read.count, length-take-le c.in_ok-came.came c.read_some.new.chunk read.came) in
-    taken_behind c.read_some.new.count _ _ _ (taken_more c.chunks.count c.read_some.new.count _ _ _ came c.chunks.invariant.taken read.bytes counted) c.skip_unread.ensures.taken
+    takes_then c.read_some.new.count _ _ _ (taken_more c.chunks.count c.read_some.new.count _ _ _ came c.chunks.invariant.taken read.bytes counted) c.skip_unread.ensures.taken
 
 pub returns-then-is_last-clause-taken : goal.returns-then-is_last-clause-taken
-returns-then-is_last-clause-taken g c = taken_behind c.chunks.count _ _ _ c.chunks.invariant.taken c.read_some.ensures.taken
+returns-then-is_last-clause-taken g c = takes_then c.chunks.count _ _ _ c.chunks.invariant.taken c.read_some.ensures.taken
 
 pub returns-in_err-came-clause-within : goal.returns-in_err-came-clause-within
-returns-in_err-came-clause-within g c small = up_behind c.chunks.count _ _ _ c.chunks.invariant.taken (c.read_some.ensures.within (λ is. small (search rules)))
+returns-in_err-came-clause-within g c small = takes_up_to_then c.chunks.count _ _ _ c.chunks.invariant.taken (c.read_some.ensures.within (λ is. small (search rules)))
 
 pub returns-in_err-extend_from_slice-clause-within :
     goal.returns-in_err-extend_from_slice-clause-within
-returns-in_err-extend_from_slice-clause-within g c small = up_behind c.chunks.count _ _ _ c.chunks.invariant.taken (c.read_some.ensures.within (ok_apart c.read_some.result c.in_ok-came.came _ (search rules)))
+returns-in_err-extend_from_slice-clause-within g c small = takes_up_to_then c.chunks.count _ _ _ c.chunks.invariant.taken (c.read_some.ensures.within (ok_apart c.read_some.result c.in_ok-came.came _ (search rules)))
 
 pub returns-in_err-skip_unread-in-Err-take_lines-clause-within : goal.returns-in_err-skip_unread-in-Err-take_lines-clause-within
 returns-in_err-skip_unread-in-Err-take_lines-clause-within g c small =
     let read = c.in_ok-came.ensures in
     let came = take c.in_ok-came.came c.read_some.new.chunk in
     let counted : c.chunks.count + length came ≡ c.read_some.new.count = omega (arith, read.count, length-take-le c.in_ok-came.came c.read_some.new.chunk read.came) in
-    up_behind c.read_some.new.count _ _ _ (taken_more c.chunks.count c.read_some.new.count _ _ _ came c.chunks.invariant.taken read.bytes counted) (c.skip_unread.ensures.within (λ is. small (search rules)))
+    takes_up_to_then c.read_some.new.count _ _ _ (taken_more c.chunks.count c.read_some.new.count _ _ _ came c.chunks.invariant.taken read.bytes counted) (c.skip_unread.ensures.within (λ is. small (search rules)))
 
 pub returns-in-Err-take_lines-clause-within : goal.returns-in-Err-take_lines-clause-within
 returns-in-Err-take_lines-clause-within g c small =
     let read = c.in_ok-came.ensures in
     let came = take c.in_ok-came.came c.read_some.new.chunk in
     let counted : c.chunks.count + length came ≡ c.read_some.new.count = omega (arith, read.count, length-take-le c.in_ok-came.came c.read_some.new.chunk read.came) in
-    up_behind c.read_some.new.count _ _ _ (taken_more c.chunks.count c.read_some.new.count _ _ _ came c.chunks.invariant.taken read.bytes counted) (c.skip_unread.ensures.within (ok_apart c.skip_unread.result c.in_ok-skip_unread-in-Err-take_lines.field-0 _ (search rules)))
+    takes_up_to_then c.read_some.new.count _ _ _ (taken_more c.chunks.count c.read_some.new.count _ _ _ came c.chunks.invariant.taken read.bytes counted) (c.skip_unread.ensures.within (ok_apart c.skip_unread.result c.in_ok-skip_unread-in-Err-take_lines.field-0 _ (search rules)))
 
 pub returns-then-is_last-clause-within : goal.returns-then-is_last-clause-within
-returns-then-is_last-clause-within g c small = up_behind c.chunks.count _ _ _ c.chunks.invariant.taken (c.read_some.ensures.within (ok_apart c.read_some.result c.in_ok-came.came _ (search rules)))
+returns-then-is_last-clause-within g c small = takes_up_to_then c.chunks.count _ _ _ c.chunks.invariant.taken (c.read_some.ensures.within (ok_apart c.read_some.result c.in_ok-came.came _ (search rules)))
 
 pub chunks-init : goal.chunks-init
 chunks-init g c = record {

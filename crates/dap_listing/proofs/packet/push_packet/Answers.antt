@@ -8,7 +8,7 @@ use Rattle.dap_listing.specs.Inner.Messages.{SegmentMessages}
 use Rattle.dap_listing.proofs.MessageLemmas.{appended_twice}
 use Rattle.dap_listing.specs.Captured.{HasDigits, Spell, digit_bytes, seen_value, segment_fields}
 use Rattle.dap_listing.specs.declared.captured.CapturedPacket.{CapturedPacket}
-use Rattle.dap_listing.specs.Inner.Decoding.{IsBehind, front_of}
+use Rattle.dap_listing.specs.Inner.Decoding.{IsPayloadSuffix, front_of}
 use Rattle.dap_listing.proofs.DigitLemmas.{count_of}
 use Rattle.dap_listing.proofs.PacketLemmas.{rest_decoded}
 use Rattle.dap_listing.proofs.packet.push_packet.Goals as goal
@@ -21,12 +21,12 @@ push_whole-requires-clause-decoded c =
     let known : ℕ = front_of (length room) in
     let payload = c.in-Ok-Segment.line.digits.now in
     let spell : Spell digits (length room) = (c.requires.0, omega (arith, c.requires.1, seen.size)) in
-    let behind = subst (IsBehind digits known) (c.in-Ok-Segment.is ∙ ap Ok c.in-Ok-Segment.field-0-is) seen.behind in
-    let head : ℕ = behind.0 in
-    let same : head ≡ length room - length payload / 2 = omega (arith, behind.2, spell.1) in
+    let suffix = subst (IsPayloadSuffix digits known) (c.in-Ok-Segment.is ∙ ap Ok c.in-Ok-Segment.field-0-is) seen.suffix in
+    let head : ℕ = suffix.0 in
+    let same : head ≡ length room - length payload / 2 = omega (arith, suffix.2, spell.1) in
     let rest : take (length digits - 2 * head) (drop (2 * head) digits) ≡ payload =
-    take_all (length digits - 2 * head) (drop (2 * head) digits) (omega (arith, length-drop (2 * head) digits)) ∙ sym behind.3 in
-    let decoded = rest_decoded digits room known head spell (omega (arith, behind.2, spell.1)) (omega arith) seen.decoded in
+    take_all (length digits - 2 * head) (drop (2 * head) digits) (omega (arith, length-drop (2 * head) digits)) ∙ sym suffix.3 in
+    let decoded = rest_decoded digits room known head spell (omega (arith, suffix.2, spell.1)) (omega arith) seen.decoded in
     let same_known : known ≡ c.min-known.result = sym c.min-known.ensures in
     subst (λ (n : ℕ). (i : ℕ) → 0 ≤ i → i < n - (length room - length payload / 2) → get_or (take (length room - (length room - length payload / 2)) (drop (length room - length payload / 2) room)) i 0 ≡ get_or (digit_bytes payload) i 0) same_known
     (subst (λ (k : ℕ). (i : ℕ) → 0 ≤ i → i < known - k → get_or (take (length room - k) (drop k room)) i 0 ≡ get_or (digit_bytes payload) i 0) same

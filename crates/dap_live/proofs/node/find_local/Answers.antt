@@ -1,5 +1,5 @@
 use Rattle.dap_end.specs.Node.{has_local}
-use Rattle.dap_live.proofs.Places.{local-some, there, within}
+use Rattle.dap_live.proofs.Indices.{local-some, there, within}
 use Rattle.dap_live.proofs.node.find_local.Goals as goal
 
 pub returns-clause-there : goal.returns-clause-there

@@ -1,6 +1,6 @@
 use Rattle.std.proofs.Common.{sym, ◌∙◌}
 use Rattle.dap_end.specs.Node.{is_between}
-use Rattle.dap_live.proofs.Places.{at, between-some}
+use Rattle.dap_live.proofs.Indices.{at, between-some}
 use Rattle.dap_live.proofs.node.find_of.Goals as goal
 
 pub returns-in-Some-clause-there : goal.returns-in-Some-clause-there

@@ -1,5 +1,5 @@
 use Rattle.std.proofs.Common.{◌≡◌, ◌⊎◌, ◌∙◌, sym, subst, List, ℕ}
-use Rattle.dap_live.specs.Inner.NodeReaching.{Done}
+use Rattle.dap_live.specs.Inner.NodeReaching.{IsDoneWithText}
 use Rattle.dap_live.specs.Node.{TakesOn, TakesPacketBy}
 use Rattle.dap_live.proofs.NodeLemmas.{reaches-by, reaches-one}
 use Rattle.dap_live.proofs.ResultLemmas.{err_from}
@@ -19,4 +19,4 @@ returns-clause-err c =
     let bytes : c.deref-in-None.result.now ≡ c.args.digits.now = c.deref-in-None.ensures.value ∙ c.in_ok-bytes.ensures in
     err_from c.take_of.result c.take_of.ensures.err
     (λ why. reaches-by old new c.args.digits.now (sym c.in-None.is ∙ c.find_one.ensures.found)
-    (subst (λ (b : List ℕ). (new ≡ old) ⊎ Done (TakesPacketBy old b new)) bytes why))
+    (subst (λ (b : List ℕ). (new ≡ old) ⊎ IsDoneWithText (TakesPacketBy old b new)) bytes why))

@@ -3,9 +3,9 @@ use Rattle.dap_live.proofs.AgainLemmas.{adds_one}
 use Rattle.dap_end.proofs.ForCallers.{segments_more}
 use Rattle.dap_live.proofs.sending.push_again.Goals as goal
 
-pub loop-place-preserved : goal.loop-place-preserved
-loop-place-preserved c =
-    let (packets, again, count, text) = c.loop-place.invariant in
+pub loop-index-preserved : goal.loop-index-preserved
+loop-index-preserved c =
+    let (packets, again, count, text) = c.loop-index.invariant in
     let (bytes, writes, adds) = c.in_ok-push_one_again.ensures in (
       packets ++ bytes ∷ [],
       segments_more _ _ packets bytes again (rw (sym count) at writes),

@@ -1,4 +1,4 @@
-use Rattle.dap_msg.proofs.Places.{have_items, same_items}
+use Rattle.dap_msg.proofs.Offsets.{have_items, same_items}
 use Rattle.dap_msg.proofs.laws.has_items.Goals as goal
 
 pub returns-clause-some : goal.returns-clause-some

@@ -1,4 +1,4 @@
-use Rattle.dap_msg.proofs.Places.{are_items}
+use Rattle.dap_msg.proofs.Offsets.{are_items}
 use Rattle.dap_msg.proofs.laws.lists_messages.Goals as goal
 
 pub returns : goal.returns

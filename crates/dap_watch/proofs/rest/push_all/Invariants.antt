@@ -4,8 +4,8 @@ use Rattle.dap_watch.proofs.rest.push_all.Given as goal
 
 -- the text so far and what is left of the others are all
 abbrev pub invariant-loop-at : goal.invariant-loop-at
-invariant-loop-at l = l.text.items ++ all_kept_rest (drop l.at l.streams.names.keys) (drop l.at l.streams.places.items)
-    ≡ l.initial.text.items ++ all_kept_rest l.streams.names.keys l.streams.places.items
+invariant-loop-at l = l.text.items ++ all_kept_rest (drop l.at l.streams.names.keys) (drop l.at l.streams.by_stream.items)
+    ≡ l.initial.text.items ++ all_kept_rest l.streams.names.keys l.streams.by_stream.items
 
 abbrev pub decreases-loop-at : goal.decreases-loop-at
-decreases-loop-at l = length l.streams.places.items - l.at
+decreases-loop-at l = length l.streams.by_stream.items - l.at

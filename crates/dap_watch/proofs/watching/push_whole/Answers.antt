@@ -18,9 +18,9 @@ returns c =
     (λ added m w.
     let lines = rw w.bytes at added in
     let size : length (payload m) ≡ length digits / 2 = ap (λ (l : List ℕ). length l) (sym w.bytes) ∙ count_of digits (length digits / 2) c.requires in
-    let range : t2 ≡ t1 ++ range_text m.head.place (tail m).place = c.in_ok-push_range.ensures ∙ ap (λ (a : ℕ). t1 ++ range_text a c.args.whole.to) w.from ∙ ap (λ (b : ℕ). t1 ++ range_text m.head.place b) w.to in
+    let range : t2 ≡ t1 ++ range_text m.head.sequence (tail m).sequence = c.in_ok-push_range.ensures ∙ ap (λ (a : ℕ). t1 ++ range_text a c.args.whole.to) w.from ∙ ap (λ (b : ℕ). t1 ++ range_text m.head.sequence b) w.to in
     let long : t3 ≡ t2 ++ length_text (payload m) = c.in_ok-push_length.ensures (payload m) size in
-    let head : t3 ≡ t0 ++ piece_text (codes "  message") m = appended_twice t0 t1 t3 (codes "  message") (range_text m.head.place (tail m).place ++ length_text (payload m)) c.in_ok-push_str.ensures.added
-    (appended_twice t1 t2 t3 (range_text m.head.place (tail m).place) (length_text (payload m)) range long) in
+    let head : t3 ≡ t0 ++ piece_text (codes "  message") m = appended_twice t0 t1 t3 (codes "  message") (range_text m.head.sequence (tail m).sequence ++ length_text (payload m)) c.in_ok-push_str.ensures.added
+    (appended_twice t1 t2 t3 (range_text m.head.sequence (tail m).sequence) (length_text (payload m)) range long) in
     (piece_text (codes "  message") m ++ lines.0, (lines.0, lines.1, refl), appended_twice t0 t3 c.push_messages.new.text.items (piece_text (codes "  message") m) lines.0 head lines.2))
     c.push_messages.ensures

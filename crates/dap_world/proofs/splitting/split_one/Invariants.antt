@@ -6,7 +6,7 @@ use Rattle.dap_world.proofs.splitting.split_one.Given as goal
 
 abbrev pub invariant-items : goal.invariant-items
 invariant-items l = record {
-  place : (l.at < length l.message) ⊎ (l.at ≡ 0);
+  offset : (l.at < length l.message) ⊎ (l.at ≡ 0);
   so_far : SplitSoFar l.message l.at (bodies l.initial.out.items) (bodies l.out.items);
 }
 

@@ -2,7 +2,7 @@ use Rattle.std.proofs.Common.{◌≡◌, ◌+◌, length, drop, refl, ap, arith,
 use Rattle.nsp_link.specs.Cutting.{Piece}
 use Rattle.nsp_link.specs.Coming.{Coming, FitsNext, with_taken, Misfits}
 use Rattle.nsp_link.specs.Inner.Pieces.{coming_of, leading, held_piece, lent_piece, run_in, IsBegun}
-use Rattle.nsp_link.proofs.Placing.{if_err_and}
+use Rattle.nsp_link.proofs.Queued.{if_err_and}
 use Rattle.nsp_link.proofs.Runs.{looked_first, looked_more, looked_all, misfits_first, misfits_more}
 use Rattle.nsp_link.proofs.incoming.check_run.Goals as goal
 

@@ -16,8 +16,8 @@ loop-held-init c =
 pub take-requires-in-Some : goal.take-requires-in-Some
 take-requires-in-Some c = omega (arith, ap length c.in-Some.ensures.leads, c.loop-held.invariant.few)
 
-pub overflow_add-place : goal.overflow_add-place
-overflow_add-place c = omega (arith, c.in-Some.ensures.there, c.requires.window)
+pub overflow_add-index : goal.overflow_add-index
+overflow_add-index c = omega (arith, c.in-Some.ensures.there, c.requires.window)
 
 pub loop-held-smaller : goal.loop-held-smaller
 loop-held-smaller c = omega (arith, c.in-Some.ensures.there)
@@ -31,8 +31,8 @@ loop-held-preserved c =
     let is : coming_of c.take-in-Some.new.incoming ≡ with_taken now (held_piece h) = c.in_ok-take-2.ensures.ok ∙ ap (with_taken now) c.lent.ensures in
     record {
       few = omega (arith, ap length leads, c.loop-held.invariant.few, ap (λ (x : Coming). x.received) is);
-      taken = rw is (sym (taken_more now (leading (drop c.loop-held.place items)) (leading (drop (c.loop-held.place + 1) items)) (held_piece h) leads) ∙ c.loop-held.invariant.taken);
+      taken = rw is (sym (taken_more now (leading (drop c.loop-held.index items)) (leading (drop (c.loop-held.index + 1) items)) (held_piece h) leads) ∙ c.loop-held.invariant.taken);
     }
 
 pub returns : goal.returns
-returns c = sym (none_taken (coming_of c.loop-held.aside) (leading (drop c.loop-held.place c.args.ring.now.items)) c.in_default.ensures.leads) ∙ c.loop-held.invariant.taken
+returns c = sym (none_taken (coming_of c.loop-held.aside) (leading (drop c.loop-held.index c.args.ring.now.items)) c.in_default.ensures.leads) ∙ c.loop-held.invariant.taken

@@ -41,13 +41,13 @@ at_number-requires-clause-above c =
 pub loop-number-smaller : goal.loop-number-smaller
 loop-number-smaller c = omega (arith, ap length c.in-Some.ensures.some)
 
-pub returns-then-filedata_len-from-clause-place : goal.returns-then-filedata_len-from-clause-place
-returns-then-filedata_len-from-clause-place c =
+pub returns-then-filedata_len-from-clause-phase : goal.returns-then-filedata_len-from-clause-phase
+returns-then-filedata_len-from-clause-phase c =
     let limit : c.self.inside.limit ≡ c.args.self.now.limit = ap (λ (p : SessionValue). p.limit) c.self.view_is in
     let file = c.file-file.ensures in
     let large : c.args.self.now.limit < length (canon (filedata_of (c.in-Some.number, c.in-Some.body.now))) = omega (arith, filedata_size (c.in-Some.number, c.in-Some.body.now), c.if-filedata_len-from.true, c.filedata_len.ensures, c.from.ensures, limit) in
     ap (phases.Stopped c.args.opened) c.at_number.ensures
-    ∙ sym (ap (λ (e : Effect). phase_at e.place (plain_memory c.args.self.now.kept)) (stops_there (scene_in (with_files c.args.files.now c.args.self.now)) c.args.opened c.args.stream (any_value c.file-file.result.now) c.loop-number.next c.loop-number.answers
+    ∙ sym (ap (λ (e : Effect). phase_at e.state (plain_memory c.args.self.now.kept)) (stops_there (scene_in (with_files c.args.files.now c.args.self.now)) c.args.opened c.args.stream (any_value c.file-file.result.now) c.loop-number.next c.loop-number.answers
     (c.in-Some.number, c.in-Some.body.now) (records_from (any_value c.file-file.result.now).records (c.in-Some.number + 1)) file c.loop-number.invariant c.in-Some.ensures.some (lt-leb _ _ large)))
 
 pub returns-then-filedata_len-from-clause-answers : goal.returns-then-filedata_len-from-clause-answers
@@ -62,11 +62,11 @@ returns-then-filedata_len-from-clause-answers c =
     (subst (λ (l : ℕ). Answered l (map filedata_of given ++ too_large ∷ []) c.append.new.answers) limit
     (subst (λ (m : Message). Answered c.self.inside.limit (map filedata_of given ++ m ∷ []) c.append.new.answers) c.too_large.ensures.message (c.in_ok-append.ensures (map filedata_of given) (subst (λ (l : ℕ). Answered l (map filedata_of given) c.loop-number.answers) (sym limit) c.loop-number.invariant.answered))))
 
-pub returns-clause-place : goal.returns-clause-place
-returns-clause-place c =
+pub returns-clause-phase : goal.returns-clause-phase
+returns-clause-phase c =
     let file = c.file-file.ensures in
     ap (phases.Connected c.args.opened) c.at_number-2.ensures
-    ∙ sym (ap (λ (e : Effect). phase_at e.place (plain_memory c.args.self.now.kept)) (ends_there (scene_in (with_files c.args.files.now c.args.self.now)) c.args.opened c.args.stream (any_value c.file-file.result.now) c.loop-number.next c.loop-number.answers
+    ∙ sym (ap (λ (e : Effect). phase_at e.state (plain_memory c.args.self.now.kept)) (ends_there (scene_in (with_files c.args.files.now c.args.self.now)) c.args.opened c.args.stream (any_value c.file-file.result.now) c.loop-number.next c.loop-number.answers
     file c.loop-number.invariant c.in_default.ensures.none))
 
 pub returns-clause-answers : goal.returns-clause-answers

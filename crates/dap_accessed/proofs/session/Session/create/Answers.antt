@@ -5,4 +5,4 @@ use Rattle.dap_accessed.proofs.session.Session.create.Goals as goal
 
 pub make-requires-clause-new : goal.make-requires-clause-new
 make-requires-clause-new c =
-    none_exact c.self.inside.setup.names c.args.name.now c.args.files.now (sym c.find_by.ensures.place ∙ none_of c.find_by.result (sym c.is_some.ensures ∙ c.if-is_some.false))
+    none_exact c.self.inside.setup.names c.args.name.now c.args.files.now (sym c.find_by.ensures.index ∙ none_of c.find_by.result (sym c.is_some.ensures ∙ c.if-is_some.false))

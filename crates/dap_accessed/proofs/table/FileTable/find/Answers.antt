@@ -8,8 +8,8 @@ use Rattle.dap_accessed.proofs.Entries.{Entry, view}
 use Rattle.dap_accessed.proofs.Tables.{position-alike}
 use Rattle.dap_accessed.proofs.table.FileTable.find.Goals as goal
 
-pub returns-clause-place : goal.returns-clause-place
-returns-clause-place c =
+pub returns-clause-index : goal.returns-clause-index
+returns-clause-index c =
     let name = c.args.name.now in
     c.get_index_of.ensures.index
     ∙ sym (position-alike view (λ (e : Entry). e.0) (λ (f : List ℕ × FileVal). bytes_eq f.0 name) (λ (k : Vec ℕ). bytes_eq name k.items)

@@ -17,7 +17,7 @@ as-many removed new held is = ap (λ (l : List SessionValue). length l) is ∙ l
 pub returns-then-is_held-clause-refused : goal.returns-then-is_held-clause-refused
 returns-then-is_held-clause-refused c =
     let v : SharedValue = record { own = c.self.inside.setup.identity.bufsiz; setup = c.self.inside.setup; files = c.self.inside.files; sessions = c.self.inside.sessions.items } in
-    let found : index_by v.setup.names c.args.name.now v.files ≡ Some c.in-Some.removed = sym c.find_by.ensures.place ∙ c.in-Some.is in
+    let found : index_by v.setup.names c.args.name.now v.files ≡ Some c.in-Some.removed = sym c.find_by.ensures.index ∙ c.in-Some.is in
     let held : c.is_held.result ≡ is_held c.in-Some.removed v.sessions = c.is_held.ensures ∙ ap (is_held c.in-Some.removed) c.deref.ensures.value in
     subst (λ (w : SharedValue). AtFile c.args.name.now w (λ at. is_held at w.sessions ≡ true)) c.self.view_is (c.in-Some.removed, found, sym held ∙ c.if-is_held.true)
 
@@ -32,7 +32,7 @@ invariant_of-self c =
 pub returns-clause-drops : goal.returns-clause-drops
 returns-clause-drops c =
     let v : SharedValue = record { own = c.self.inside.setup.identity.bufsiz; setup = c.self.inside.setup; files = c.self.inside.files; sessions = c.self.inside.sessions.items } in
-    let found : index_by v.setup.names c.args.name.now v.files ≡ Some c.in-Some.removed = sym c.find_by.ensures.place ∙ c.in-Some.is in
+    let found : index_by v.setup.names c.args.name.now v.files ≡ Some c.in-Some.removed = sym c.find_by.ensures.index ∙ c.in-Some.is in
     let held : c.is_held.result ≡ is_held c.in-Some.removed v.sessions = c.is_held.ensures ∙ ap (is_held c.in-Some.removed) c.deref.ensures.value in
     let moves = moved c.in-Some.removed c.move_up.new.sessions c.deref_mut.result.now c.self.inside.sessions.items c.move_up.ensures c.deref_mut.ensures.value in
     subst (λ (w : SharedValue). AtFile c.args.name.now w (λ at. SharedDrops at w (record v { files = c.remove.new.self; sessions = (with_items c.self.inside.sessions c.move_up.new.sessions).items }))) c.self.view_is (

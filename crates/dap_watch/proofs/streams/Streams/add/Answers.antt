@@ -7,7 +7,7 @@ pub returns-clause-grows : goal.returns-clause-grows
 returns-clause-grows c =
     if_ok_weaker c.add.result
     (λ found finds packets ordered few k.
-    grows packets c.args.way c.args.segment.now ordered c.args.self.now c.place_of.new.self _ c.in_ok-index.index c.add.new.self c.index_mut.result.now c.add.new.digits.items found k
-    (c.in_ok-index.ensures.indexed (lengths packets c.args.self.now.names.keys ordered c.args.self.now.places.items k.each)) c.index_mut.ensures.value refl refl
+    grows packets c.args.way c.args.segment.now ordered c.args.self.now c.stream_index.new.self _ c.in_ok-index.index c.add.new.self c.index_mut.result.now c.add.new.digits.items found k
+    (c.in_ok-index.ensures.indexed (lengths packets c.args.self.now.names.keys ordered c.args.self.now.by_stream.items k.each)) c.index_mut.ensures.value refl refl
     (λ o keeps most. finds o (1 + length packets) keeps (omega (arith, most, few))))
     c.add.ensures.found

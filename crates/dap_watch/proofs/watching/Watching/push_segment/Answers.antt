@@ -3,7 +3,7 @@ use Rattle.std.proofs.lemmas.Result.{on_ok_weaker}
 use Rattle.dap_follow.specs.Segments.{captured_segment}
 use Rattle.dap_watch.specs.Inner.Kept.{IsWholeMessage}
 use Rattle.dap_watch.specs.Inner.Streams.{Grows}
-use Rattle.dap_watch.specs.declared.places.Whole.{Whole}
+use Rattle.dap_watch.specs.declared.kept.Whole.{Whole}
 use Rattle.dap_watch.proofs.WatchLemmas.{tells_message}
 use Rattle.dap_watch.proofs.watching.Watching.push_segment.Goals as goal
 

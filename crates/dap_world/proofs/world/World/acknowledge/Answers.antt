@@ -12,15 +12,15 @@ use Rattle.dap_world.proofs.world.World.acknowledge.Goals as goal
 
 pub returns-in-Ok-step-clause-ok : goal.returns-in-Ok-step-clause-ok
 returns-in-Ok-step-clause-ok c =
-    let shown = c.wire-place.result.now in
-    let at = wire_length c.args.self.now _ shown (subst (λ (e : End). map sending_of shown ≡ (end_of c.args.self.now e).wire) c.other_end.ensures c.wire-place.ensures.sendings) in
+    let shown = c.wire-index.result.now in
+    let at = wire_length c.args.self.now _ shown (subst (λ (e : End). map sending_of shown ≡ (end_of c.args.self.now e).wire) c.other_end.ensures c.wire-index.ensures.sendings) in
     let first = subst (λ (e : End). Steps c.args.self.now (event.Ack e) c.in-Ok._step c.step.new.self) c.other_end-2.ensures c.in-Ok.ensures.went in
     acknowledged_all c.args.self.now c.step.new.self c.step-2.new.self c.args.end (length shown) c.in-Ok._step c.in-Ok-step._step c.requires.world c.requires.taken at first c.in-Ok-step.ensures.went
 
 pub returns-clause-err : goal.returns-clause-err
 returns-clause-err c =
-    let shown = c.wire-place.result.now in
-    let at = wire_length c.args.self.now _ shown (subst (λ (e : End). map sending_of shown ≡ (end_of c.args.self.now e).wire) c.other_end.ensures c.wire-place.ensures.sendings) in
+    let shown = c.wire-index.result.now in
+    let at = wire_length c.args.self.now _ shown (subst (λ (e : End). map sending_of shown ≡ (end_of c.args.self.now e).wire) c.other_end.ensures c.wire-index.ensures.sendings) in
     let first = subst (λ (e : End). Steps c.args.self.now (event.Ack e) c.in-Ok._step c.step.new.self) c.other_end-2.ensures c.in-Ok.ensures.went in
     back_refused c.args.self.now c.step.new.self c.step-2.new.self c.args.end (length shown) c.in-Ok._step c.in-Err-step.fault c.requires.world at first c.in-Err-step.ensures.went
 

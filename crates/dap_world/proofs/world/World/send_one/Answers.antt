@@ -18,22 +18,22 @@ returns-in-Err-clause-err c = emit_refused c.args.self.now c.step.new.self c.arg
 
 pub returns-in-Err-step-clause-err : goal.returns-in-Err-step-clause-err
 returns-in-Err-step-clause-err c =
-    let at = wire_length c.args.self.now c.args.end c.wire-place.result.now c.wire-place.ensures.sendings in
-    first_refused c.args.self.now c.step.new.self c.step-2.new.self c.args.end (length c.wire-place.result.now) c.in-Ok._step c.in-Err-step.fault c.requires.world c.in-Ok.ensures.world c.in-Ok.ensures.went at
-    (subst (λ (e : End). Went c.step.new.self (event.Deliver e (length c.wire-place.result.now)) (Err c.in-Err-step.fault) c.step-2.new.self) c.other_end.ensures c.in-Err-step.ensures.went)
+    let at = wire_length c.args.self.now c.args.end c.wire-index.result.now c.wire-index.ensures.sendings in
+    first_refused c.args.self.now c.step.new.self c.step-2.new.self c.args.end (length c.wire-index.result.now) c.in-Ok._step c.in-Err-step.fault c.requires.world c.in-Ok.ensures.world c.in-Ok.ensures.went at
+    (subst (λ (e : End). Went c.step.new.self (event.Deliver e (length c.wire-index.result.now)) (Err c.in-Err-step.fault) c.step-2.new.self) c.other_end.ensures c.in-Err-step.ensures.went)
 
 pub acknowledge-requires-clause-taken : goal.acknowledge-requires-clause-taken
 acknowledge-requires-clause-taken c =
-    let at = wire_length c.args.self.now c.args.end c.wire-place.result.now c.wire-place.ensures.sendings in
-    arrived_all c.args.self.now c.step.new.self c.step-2.new.self c.args.end (length c.wire-place.result.now) c.in-Ok._step c.in-Ok-step._step c.requires.world c.in-Ok.ensures.world c.requires.settled c.in-Ok.ensures.went at
-    (subst (λ (e : End). Steps c.step.new.self (event.Deliver e (length c.wire-place.result.now)) c.in-Ok-step._step c.step-2.new.self) c.other_end.ensures c.in-Ok-step.ensures.went)
+    let at = wire_length c.args.self.now c.args.end c.wire-index.result.now c.wire-index.ensures.sendings in
+    arrived_all c.args.self.now c.step.new.self c.step-2.new.self c.args.end (length c.wire-index.result.now) c.in-Ok._step c.in-Ok-step._step c.requires.world c.in-Ok.ensures.world c.requires.settled c.in-Ok.ensures.went at
+    (subst (λ (e : End). Steps c.step.new.self (event.Deliver e (length c.wire-index.result.now)) c.in-Ok-step._step c.step-2.new.self) c.other_end.ensures c.in-Ok-step.ensures.went)
 
 pub returns-in-Ok-acknowledge-clause-ok : goal.returns-in-Ok-acknowledge-clause-ok
 returns-in-Ok-acknowledge-clause-ok c =
     let done = c.in-Ok-acknowledge.ensures.ok in
     let rest = c.acknowledge.ensures.rest in (
-      brought_one c.args.self.now c.step.new.self c.step-2.new.self c.acknowledge.new.self c.args.end (length c.wire-place.result.now) c.in-Ok._step c.in-Ok-step._step c.in-Ok.ensures.world c.in-Ok.ensures.went
-          (subst (λ (e : End). Steps c.step.new.self (event.Deliver e (length c.wire-place.result.now)) c.in-Ok-step._step c.step-2.new.self) c.other_end.ensures c.in-Ok-step.ensures.went)
+      brought_one c.args.self.now c.step.new.self c.step-2.new.self c.acknowledge.new.self c.args.end (length c.wire-index.result.now) c.in-Ok._step c.in-Ok-step._step c.in-Ok.ensures.world c.in-Ok.ensures.went
+          (subst (λ (e : End). Steps c.step.new.self (event.Deliver e (length c.wire-index.result.now)) c.in-Ok-step._step c.step-2.new.self) c.other_end.ensures c.in-Ok-step.ensures.went)
           done.0 done.1 rest.same rest.sent,
       c.in-Ok-acknowledge.ensures.world,
     )
@@ -41,13 +41,13 @@ returns-in-Ok-acknowledge-clause-ok c =
 pub returns-in-Err-acknowledge-clause-err : goal.returns-in-Err-acknowledge-clause-err
 returns-in-Err-acknowledge-clause-err c =
     let err = c.in-Err-acknowledge.ensures.err in
-    let second = subst (λ (e : End). Steps c.step.new.self (event.Deliver e (length c.wire-place.result.now)) c.in-Ok-step._step c.step-2.new.self) c.other_end.ensures c.in-Ok-step.ensures.went in (
+    let second = subst (λ (e : End). Steps c.step.new.self (event.Deliver e (length c.wire-index.result.now)) c.in-Ok-step._step c.step-2.new.self) c.other_end.ensures c.in-Ok-step.ensures.went in (
       err.0,
       (
         2 + err.1.0,
         ran_both c.args.self.now c.step-2.new.self c.acknowledge.new.self 2 err.1.0
             (ran_both c.args.self.now c.step.new.self c.step-2.new.self 1 1 (ran_one c.args.self.now c.step.new.self (event.Emit c.args.end) c.in-Ok._step tt c.in-Ok.ensures.went)
-            (ran_one c.step.new.self c.step-2.new.self (event.Deliver (other_end c.args.end) (length c.wire-place.result.now)) c.in-Ok-step._step tt second)) err.1.1,
+            (ran_one c.step.new.self c.step-2.new.self (event.Deliver (other_end c.args.end) (length c.wire-index.result.now)) c.in-Ok-step._step tt second)) err.1.1,
       ),
     )
 
@@ -83,7 +83,7 @@ returns-in-Err-step-clause-left c =
 
 pub returns-in-Err-acknowledge-clause-left : goal.returns-in-Err-acknowledge-clause-left
 returns-in-Err-acknowledge-clause-left c =
-    let at = length c.wire-place.result.now in
+    let at = length c.wire-index.result.now in
     let second = subst (λ (e : End). Steps c.step.new.self (event.Deliver e at) c.in-Ok-step._step c.step-2.new.self) c.other_end.ensures c.in-Ok-step.ensures.went in
     let same = deliver_unacked c.step.new.self c.step-2.new.self c.args.end at c.in-Ok-step._step second in
     λ empty. omega (

@@ -2,7 +2,7 @@ use Rattle.std.proofs.Common.{refl, rules}
 use Rattle.std.specs.Prelude.{IfOk}
 use Rattle.nsp_link.specs.Link.{IsSpelling}
 use Rattle.nsp_link.specs.Sending.{ack_packet_of}
-use Rattle.nsp_link.proofs.Placing.{if_ok_map}
+use Rattle.nsp_link.proofs.Queued.{if_ok_map}
 use Rattle.nsp_link.proofs.link.LinkEnd.ack_packet.Goals as goal
 
 pub returns-clause-carries : goal.returns-clause-carries

@@ -9,32 +9,32 @@ use Rattle.nsp_link.specs.Receiving.{taking_in}
 use Rattle.nsp_link.specs.Inner.View.{link_view}
 use Rattle.nsp_link.proofs.Held.{is_free_read, is_taken_read, beyond, there, held_end, held_few, length-held_put}
 use Rattle.nsp_link.proofs.Keeping.{kept_filled, kept_there, kept_beyond, keeps_free}
-use Rattle.nsp_link.proofs.Placing.{if_err_and}
+use Rattle.nsp_link.proofs.Queued.{if_err_and}
 use Rattle.nsp_link.proofs.link.LinkEnd.keep.Goals as goal
 
 pub returns-in_err-payload-clause-err : goal.returns-in_err-payload-clause-err
 returns-in_err-payload-clause-err c =
     let items = c.self.inside.held.items in
-    let at = is_free_read items c.args.place c.is_free.result c.is_free.ensures c.if-is_free.true in
+    let at = is_free_read items c.args.index c.is_free.result c.is_free.ensures c.if-is_free.true in
     let v = link_view c.self.inside in
-    let keeps = keeps_free v items refl c.args.place c.requires c.self.invariant.places at in
-    let now-keeps : KeepsEarly c.args.self.now (c.args.self.now.coming.received + 1 + c.args.place) = subst (λ (w : LinkValue). KeepsEarly w (w.coming.received + 1 + c.args.place)) c.self.view_is keeps in
+    let keeps = keeps_free v items refl c.args.index c.requires c.self.invariant.slots at in
+    let now-keeps : KeepsEarly c.args.self.now (c.args.self.now.coming.received + 1 + c.args.index) = subst (λ (w : LinkValue). KeepsEarly w (w.coming.received + 1 + c.args.index)) c.self.view_is keeps in
     if_err_and c.from_residual.result _ _ c.from_residual.ensures.1 (λ e is. (is, now-keeps, refl))
 
 pub fill-requires : goal.fill-requires
-fill-requires c = slice_get_within c.self.inside.held.items c.args.place None (is_free_read c.self.inside.held.items c.args.place c.is_free.result c.is_free.ensures c.if-is_free.true)
+fill-requires c = slice_get_within c.self.inside.held.items c.args.index None (is_free_read c.self.inside.held.items c.args.index c.is_free.result c.is_free.ensures c.if-is_free.true)
 
 pub invariant_of-self : goal.invariant_of-self
 invariant_of-self c =
     let items = c.self.inside.held.items in
     let link = c.self.invariant.link in
     let r = c.self.inside.incoming.received in
-    let long : length c.fill.new.ring.items ≡ c.self.inside.setup.window = ap length c.fill.ensures.items ∙ length-set items c.args.place _ ∙ c.self.invariant.places in
-    let at = is_free_read items c.args.place c.is_free.result c.is_free.ensures c.if-is_free.true in
+    let long : length c.fill.new.ring.items ≡ c.self.inside.setup.window = ap length c.fill.ensures.items ∙ length-set items c.args.index _ ∙ c.self.invariant.slots in
+    let at = is_free_read items c.args.index c.is_free.result c.is_free.ensures c.if-is_free.true in
     let put = ap (λ (xs : List (Option Held)). length (held_from (r + 1) xs)) c.fill.ensures.items in
     let h : Held = record { first = c.args.piece.now.first; last = c.args.piece.now.last; payload = c.in_ok-payload.payload } in
-    let filled = length-held_put (r + 1) c.args.place items h at in
-    let front : slice_get c.fill.new.ring.items 0 ≡ Some None = ap (λ (xs : List (Option Held)). slice_get xs 0) c.fill.ensures.items ∙ slice_get-set_other items c.args.place 0 _ (λ e. omega (arith, c.requires)) ∙ c.self.invariant.free in
+    let filled = length-held_put (r + 1) c.args.index items h at in
+    let front : slice_get c.fill.new.ring.items 0 ≡ Some None = ap (λ (xs : List (Option Held)). slice_get xs 0) c.fill.ensures.items ∙ slice_get-set_other items c.args.index 0 _ (λ e. omega (arith, c.requires)) ∙ c.self.invariant.free in
     record {
       link = record {
         setup = link.setup;
@@ -46,7 +46,7 @@ invariant_of-self c =
         partial = link.partial;
         held = held_end (r + 1) (r + 1 + c.self.inside.setup.window) c.fill.new.ring.items front (omega (arith, long));
       };
-      places = long;
+      slots = long;
       capacity = c.fill.ensures.capacity ∙ c.self.invariant.capacity;
       free = front;
       counted = omega (arith, c.self.invariant.counted, put, filled);
@@ -58,23 +58,23 @@ pub returns-in_ok-payload-clause-ok : goal.returns-in_ok-payload-clause-ok
 returns-in_ok-payload-clause-ok c =
     let items = c.self.inside.held.items in
     let v = link_view c.self.inside in
-    let at = is_free_read items c.args.place c.is_free.result c.is_free.ensures c.if-is_free.true in
+    let at = is_free_read items c.args.index c.is_free.result c.is_free.ensures c.if-is_free.true in
     let h : Held = record { first = c.args.piece.now.first; last = c.args.piece.now.last; payload = c.in_ok-payload.payload } in
     let p = lent_piece c.args.piece.now in
-    let filled = kept_filled v items refl c.args.place c.requires c.self.invariant.places h p at (ap (λ (bytes : List ℕ). record p { payload = bytes }) c.in_ok-payload.ensures.items) in
+    let filled = kept_filled v items refl c.args.index c.requires c.self.invariant.slots h p at (ap (λ (bytes : List ℕ). record p { payload = bytes }) c.in_ok-payload.ensures.items) in
     ap (λ (xs : List (Option Held)). record v { held = held_from (v.coming.received + 1) xs }) c.fill.ensures.items ∙ filled
-    ∙ ap (λ (w : LinkValue). taking_in w (w.coming.received + 1 + c.args.place) p) c.self.view_is
+    ∙ ap (λ (w : LinkValue). taking_in w (w.coming.received + 1 + c.args.index) p) c.self.view_is
 
 pub returns-else-is_free-clause-ok : goal.returns-else-is_free-clause-ok
 returns-else-is_free-clause-ok c =
     let items = c.self.inside.held.items in
     let v = link_view c.self.inside in
     let p = lent_piece c.args.piece.now in
-    let same : v ≡ taking_in v (v.coming.received + 1 + c.args.place) p = elim (is_taken_read items c.args.place c.is_free.result c.is_free.ensures c.if-is_free.false) [
-      | beyond at ↦ kept_beyond v items refl c.args.place c.requires c.self.invariant.places p at
-      | there h at ↦ kept_there v items refl c.args.place c.requires c.self.invariant.places h p at
+    let same : v ≡ taking_in v (v.coming.received + 1 + c.args.index) p = elim (is_taken_read items c.args.index c.is_free.result c.is_free.ensures c.if-is_free.false) [
+      | beyond at ↦ kept_beyond v items refl c.args.index c.requires c.self.invariant.slots p at
+      | there h at ↦ kept_there v items refl c.args.index c.requires c.self.invariant.slots h p at
     ] in
-    sym c.self.view_is ∙ same ∙ ap (λ (w : LinkValue). taking_in w (w.coming.received + 1 + c.args.place) p) c.self.view_is
+    sym c.self.view_is ∙ same ∙ ap (λ (w : LinkValue). taking_in w (w.coming.received + 1 + c.args.index) p) c.self.view_is
 
 pub overflow_add-self : goal.overflow_add-self
 overflow_add-self c =

@@ -23,7 +23,7 @@ invariant_of-result c =
         partial = omega arith;
         held = held_end 1 (1 + setup.window) c.in_ok-held.held.items front (omega (arith, c.in_ok-held.ensures.len));
       };
-      places = c.in_ok-held.ensures.len;
+      slots = c.in_ok-held.ensures.len;
       capacity = c.in_ok-held.ensures.capacity;
       free = front;
       counted = ap length (sym (c.in_ok-held.ensures.none 1));

@@ -35,7 +35,7 @@ invariant_of-self c =
         partial = link.partial;
         held = link.held;
       };
-      places = c.self.invariant.places;
+      slots = c.self.invariant.slots;
       capacity = c.self.invariant.capacity;
       free = c.self.invariant.free;
       counted = c.self.invariant.counted;

@@ -8,7 +8,7 @@ use Rattle.nsp_link.specs.Inner.View.{link_view}
 use Rattle.nsp_link.proofs.Taking.{received-all}
 use Rattle.nsp_link.proofs.Held.{ring_fewer, ring_free, ring_long, held_end, length-ring_closed, follows_held}
 use Rattle.nsp_link.proofs.Runs.{fit_short}
-use Rattle.nsp_link.proofs.Placing.{if_err_and}
+use Rattle.nsp_link.proofs.Queued.{if_err_and}
 use Rattle.nsp_link.proofs.Keeping.{run_fit, run_refuses, closed_is, coming_link}
 use Rattle.nsp_link.proofs.link.LinkEnd.take_next.Goals as goal
 
@@ -22,7 +22,7 @@ invariant_of-self-2 c =
     let m = c.in_ok-count.count in
     let r = c.take_run.new.incoming.received in
     let le = ring_fewer m items c.self.invariant.free c.in_ok-count.ensures.count in
-    let long : length c.advance.new.ring.items ≡ c.self.inside.setup.window = ap length c.advance.ensures.items ∙ ring_long m items le ∙ c.self.invariant.places in
+    let long : length c.advance.new.ring.items ≡ c.self.inside.setup.window = ap length c.advance.ensures.items ∙ ring_long m items le ∙ c.self.invariant.slots in
     let front : slice_get c.advance.new.ring.items 0 ≡ Some None = ap (λ (xs : List (Option Held)). slice_get xs 0) c.advance.ensures.items ∙ ring_free m items c.self.invariant.free c.in_ok-count.ensures.count in
     let on = ap (λ (x : Coming). x.received) c.in_ok-count.ensures.taken ∙ received-all (coming_of c.self.inside.incoming) (_ ∷ leading (drop 1 items)) in
     let left : length (held_from (r + 1) c.advance.new.ring.items) + length (leading (drop 1 items)) ≡ length (held_from (c.self.inside.incoming.received + 1) items) = ap (λ (xs : List (Option Held)). length (held_from (r + 1) xs) + length (leading (drop 1 items))) c.advance.ensures.items ∙ length-ring_closed (c.self.inside.incoming.received + 1) (r + 1) m items c.self.invariant.free c.in_ok-count.ensures.count in
@@ -37,7 +37,7 @@ invariant_of-self-2 c =
         partial = subst (λ (x : Coming). length (unwrap_or x.partial []) ≤ c.self.inside.setup.max_message) (sym c.in_ok-count.ensures.taken) (fit_short c.self.inside.setup.max_message (coming_of c.self.inside.incoming) (run_in (lent_piece c.args.piece.now) items) c.in_ok-count.ensures.fit link.partial);
         held = held_end (r + 1) (r + 1 + c.self.inside.setup.window) c.advance.new.ring.items front (omega (arith, long));
       };
-      places = long;
+      slots = long;
       capacity = c.advance.ensures.capacity ∙ c.self.invariant.capacity;
       free = front;
       counted = omega (arith, c.self.invariant.counted, left, c.in_ok-count.ensures.count, on);

@@ -5,7 +5,7 @@ use Rattle.rec_file.specs.declared.shapes.Shape.{Shape}
 use Rattle.rec_file.specs.Shapes.{is_seq}
 use Rattle.rec_file.specs.Files.{FileVal, IsFile, removed}
 use Rattle.rec_file.specs.Inner.Pages.{Cells, HaveOwnSlots, cell_of, page_cell, pages_at}
-use Rattle.rec_file.specs.Inner.Places.{Clears, HasEmptied, slot_of}
+use Rattle.rec_file.specs.Inner.Slots.{Clears, HasEmptied, slot_of}
 use Rattle.rec_file.specs.Pages.{page_of}
 use Rattle.std.specs.FinMap as map
 use Rattle.rec_file.proofs.FileLaws.{IsFile-removed}
@@ -17,7 +17,7 @@ use Rattle.rec_file.proofs.relative.RelFileOneWalk.remove_if_occupied.Goals as g
 
 module _ (s : Shape) (pages pages' : Slab Cells) (es es' : List (ℕ × ℕ)) (f : FileVal) (h : HoldsFile s (pages_at (get pages) es) f) (n : ℕ) (least : 1 ≤ n) where
   its : (e : HasEmptied es pages (page_of n) (cell_of n)) → at (pages_at (get pages) es) (page_of n) ≡ Some e.cells
-  its e = its-page (get pages) es _ e.place e.cells (sym (lookup_is_at es _) ∙ e.has) e.there
+  its e = its-page (get pages) es _ e.slot e.cells (sym (lookup_is_at es _) ∙ e.has) e.there
 
   -- whether the number had a record
   occupied : (b : Bool) → Clears es es' pages pages' (page_of n) (cell_of n) b → b ≡ is_some (map.get f.records n)
@@ -38,22 +38,22 @@ module _ (s : Shape) (pages pages' : Slab Cells) (es es' : List (ℕ × ℕ)) (f
       subst (λ p. HoldsFile s (pages_at (get p) es') f) (sym pages_same) (subst (λ l. HoldsFile s (pages_at (get pages) l) f) (sym same) h)
   after own true (e, inl stays) =
       subst (λ ps. HoldsFile s ps (removed f n))
-      (sym (ap (λ p. pages_at (get p) es') stays.written ∙ ap (pages_at (get (with_value pages e.place (set e.cells (cell_of n) None)))) stays.places ∙ page-written pages es _ e.place e.cells _ _ own e.has e.there refl))
+      (sym (ap (λ p. pages_at (get p) es') stays.written ∙ ap (pages_at (get (with_value pages e.slot (set e.cells (cell_of n) None)))) stays.slots ∙ page-written pages es _ e.slot e.cells _ _ own e.has e.there refl))
       (clear_in_page _ _ f h n e.cells least (its e) stays.others)
   after own true (e, inr goes) =
-      subst (λ ps. HoldsFile s ps (removed f n)) (sym (page-removed pages pages' es es' _ e.place e.cells _ own e.has e.there goes.free goes.places)) (drop_page _ _ f h n e.cells least (its e) goes.none)
+      subst (λ ps. HoldsFile s ps (removed f n)) (sym (page-removed pages pages' es es' _ e.slot e.cells _ own e.has e.there goes.free goes.slots)) (drop_page _ _ f h n e.cells least (its e) goes.none)
 
-  -- the pages that are left have places of their own
+  -- the pages that are left have slots of their own
   kept : HaveOwnSlots es → slab_len pages ≡ length es → (b : Bool) → Clears es es' pages pages' (page_of n) (cell_of n) b → HaveOwnSlots es' × (slab_len pages' ≡ length es')
   kept own many false (none, same, pages_same) = (subst HaveOwnSlots (sym same) own, ap slab_len pages_same ∙ many ∙ sym (ap length same))
   kept own many true (e, inl stays) =
-      (subst HaveOwnSlots (sym stays.places) own, ap slab_len stays.written ∙ len-written pages e.place e.cells (set e.cells (cell_of n) None) e.there ∙ many ∙ sym (ap length stays.places))
+      (subst HaveOwnSlots (sym stays.slots) own, ap slab_len stays.written ∙ len-written pages e.slot e.cells (set e.cells (cell_of n) None) e.there ∙ many ∙ sym (ap length stays.slots))
   kept own many true (e, inr goes) =
       let fewer = goes.fewer in
-      let as_many = len-written pages e.place e.cells (set e.cells (cell_of n) None) e.there ∙ many in
-      let places = ap length goes.places in
-      let gone = length-removed es (page_of n) e.place (sym (lookup_is_at es _) ∙ e.has) in
-      (own-less es es' _ goes.places own, omega (arith, fewer, as_many, places, gone))
+      let as_many = len-written pages e.slot e.cells (set e.cells (cell_of n) None) e.there ∙ many in
+      let slots = ap length goes.slots in
+      let gone = length-removed es (page_of n) e.slot (sym (lookup_is_at es _) ∙ e.has) in
+      (own-less es es' _ goes.slots own, omega (arith, fewer, as_many, slots, gone))
 
   whole : (b : Bool) → IsFile f → is_seq f.shape.org ≡ false → IsFile (cond b (removed f n) f)
   whole true file rel = IsFile-removed f n file rel
@@ -64,41 +64,41 @@ told true x f n is = is
 told false x f n is = is
 
 pub returns-then-number-eq0-clause-occupied : goal.returns-then-number-eq0-clause-occupied
-returns-then-number-eq0-clause-occupied c = rw c.if-number-eq0.true (ap is_some (zero_is_none _ _ c.args.self.now (held c.self.inside.shape (pages_at (get c.self.inside.pages) c.self.inside.places) c.args.self.now c.self.view_is c.self.invariant.2 c.self.invariant.3)))
+returns-then-number-eq0-clause-occupied c = rw c.if-number-eq0.true (ap is_some (zero_is_none _ _ c.args.self.now (held c.self.inside.shape (pages_at (get c.self.inside.pages) c.self.inside.slots) c.args.self.now c.self.view_is c.self.invariant.2 c.self.invariant.3)))
 
 pub clear-requires-clause-stands : goal.clear-requires-clause-stands
-clear-requires-clause-stands c = by (slot_of c.self.inside.places c.page_of.result) refl
+clear-requires-clause-stands c = by (slot_of c.self.inside.slots c.page_of.result) refl
   where
-    some : (i : ℕ) (o : Option Cells) → slot_of c.self.inside.places c.page_of.result ≡ Some i → get c.self.inside.pages i ≡ o → IsSome o
-    some i None has none = absurd (stands (get c.self.inside.pages) c.self.inside.places _ i c.self.invariant.3 (sym (lookup_is_at c.self.inside.places _) ∙ has) none)
+    some : (i : ℕ) (o : Option Cells) → slot_of c.self.inside.slots c.page_of.result ≡ Some i → get c.self.inside.pages i ≡ o → IsSome o
+    some i None has none = absurd (stands (get c.self.inside.pages) c.self.inside.slots _ i c.self.invariant.3 (sym (lookup_is_at c.self.inside.slots _) ∙ has) none)
     some i (Some cells) has there = refl
 
-    by : (o : Option ℕ) → slot_of c.self.inside.places c.page_of.result ≡ o → IfSome o (λ i. IsSome (get c.self.inside.pages i))
+    by : (o : Option ℕ) → slot_of c.self.inside.slots c.page_of.result ≡ o → IfSome o (λ i. IsSome (get c.self.inside.pages i))
     by None has = tt
     by (Some i) has = some i (get c.self.inside.pages i) has refl
 
 pub invariant_of-self-2 : goal.invariant_of-self-2
 invariant_of-self-2 c =
-    let h = held c.self.inside.shape (pages_at (get c.self.inside.pages) c.self.inside.places) c.args.self.now c.self.view_is c.self.invariant.2 c.self.invariant.3 in
+    let h = held c.self.inside.shape (pages_at (get c.self.inside.pages) c.self.inside.slots) c.args.self.now c.self.view_is c.self.invariant.2 c.self.invariant.3 in
     let least : 1 ≤ c.args.number = omega (arith, c.if-number-eq0.false) in
-    let clears : Clears c.self.inside.places c.clear.new.self c.self.inside.pages c.clear.new.pages (page_of c.args.number) (cell_of c.args.number) c.clear.result =
+    let clears : Clears c.self.inside.slots c.clear.new.self c.self.inside.pages c.clear.new.pages (page_of c.args.number) (cell_of c.args.number) c.clear.result =
     rw (sym c.page_of.ensures, sym c.cell_of.ensures.same) c.clear.ensures in
-    let now = after c.self.inside.shape c.self.inside.pages c.clear.new.pages c.self.inside.places c.clear.new.self c.args.self.now h c.args.number least c.self.invariant.4 c.clear.result clears in
-    let places = kept c.self.inside.shape c.self.inside.pages c.clear.new.pages c.self.inside.places c.clear.new.self c.args.self.now h c.args.number least c.self.invariant.4 c.self.invariant.5 c.clear.result clears in
-    let file = whole c.self.inside.shape c.self.inside.pages c.clear.new.pages c.self.inside.places c.clear.new.self c.args.self.now h c.args.number least c.clear.result (subst IsFile c.self.view_is c.self.invariant.0) c.requires.relative in
-    (subst IsFile (sym now.same) file, c.self.invariant.1, now.sorted, now.all, places.0, places.1)
+    let now = after c.self.inside.shape c.self.inside.pages c.clear.new.pages c.self.inside.slots c.clear.new.self c.args.self.now h c.args.number least c.self.invariant.4 c.clear.result clears in
+    let slots = kept c.self.inside.shape c.self.inside.pages c.clear.new.pages c.self.inside.slots c.clear.new.self c.args.self.now h c.args.number least c.self.invariant.4 c.self.invariant.5 c.clear.result clears in
+    let file = whole c.self.inside.shape c.self.inside.pages c.clear.new.pages c.self.inside.slots c.clear.new.self c.args.self.now h c.args.number least c.clear.result (subst IsFile c.self.view_is c.self.invariant.0) c.requires.relative in
+    (subst IsFile (sym now.same) file, c.self.invariant.1, now.sorted, now.all, slots.0, slots.1)
 
 pub returns-clause-occupied : goal.returns-clause-occupied
 returns-clause-occupied c =
-    let h = held c.self.inside.shape (pages_at (get c.self.inside.pages) c.self.inside.places) c.args.self.now c.self.view_is c.self.invariant.2 c.self.invariant.3 in
-    let clears : Clears c.self.inside.places c.clear.new.self c.self.inside.pages c.clear.new.pages (page_of c.args.number) (cell_of c.args.number) c.clear.result =
+    let h = held c.self.inside.shape (pages_at (get c.self.inside.pages) c.self.inside.slots) c.args.self.now c.self.view_is c.self.invariant.2 c.self.invariant.3 in
+    let clears : Clears c.self.inside.slots c.clear.new.self c.self.inside.pages c.clear.new.pages (page_of c.args.number) (cell_of c.args.number) c.clear.result =
     rw (sym c.page_of.ensures, sym c.cell_of.ensures.same) c.clear.ensures in
-    occupied c.self.inside.shape c.self.inside.pages c.clear.new.pages c.self.inside.places c.clear.new.self c.args.self.now h c.args.number (omega (arith, c.if-number-eq0.false)) c.clear.result clears
+    occupied c.self.inside.shape c.self.inside.pages c.clear.new.pages c.self.inside.slots c.clear.new.self c.args.self.now h c.args.number (omega (arith, c.if-number-eq0.false)) c.clear.result clears
 
 pub returns-clause-ok : goal.returns-clause-ok
 returns-clause-ok c =
-    let h = held c.self.inside.shape (pages_at (get c.self.inside.pages) c.self.inside.places) c.args.self.now c.self.view_is c.self.invariant.2 c.self.invariant.3 in
-    let clears : Clears c.self.inside.places c.clear.new.self c.self.inside.pages c.clear.new.pages (page_of c.args.number) (cell_of c.args.number) c.clear.result =
+    let h = held c.self.inside.shape (pages_at (get c.self.inside.pages) c.self.inside.slots) c.args.self.now c.self.view_is c.self.invariant.2 c.self.invariant.3 in
+    let clears : Clears c.self.inside.slots c.clear.new.self c.self.inside.pages c.clear.new.pages (page_of c.args.number) (cell_of c.args.number) c.clear.result =
     rw (sym c.page_of.ensures, sym c.cell_of.ensures.same) c.clear.ensures in
     told c.clear.result _ c.args.self.now c.args.number
-    (after c.self.inside.shape c.self.inside.pages c.clear.new.pages c.self.inside.places c.clear.new.self c.args.self.now h c.args.number (omega (arith, c.if-number-eq0.false)) c.self.invariant.4 c.clear.result clears).same
+    (after c.self.inside.shape c.self.inside.pages c.clear.new.pages c.self.inside.slots c.clear.new.self c.args.self.now h c.args.number (omega (arith, c.if-number-eq0.false)) c.self.invariant.4 c.clear.result clears).same

@@ -2,7 +2,7 @@ use Rattle.std.proofs.Common.{is_none, sym, ap, subst}
 use Rattle.rec_file.specs.Files.{IsFile}
 use Rattle.rec_file.proofs.ForCallers.{IsFile-placed, not_none, rising-insert, some_of, wanted}
 use Rattle.rec_file_tests.proofs.Edits.{map_insert}
-use Rattle.rec_file_tests.proofs.ListLaws.{rising_test, test_rising, pairs, place_found, gap_found, pair_at, here, absent, placed}
+use Rattle.rec_file_tests.proofs.ListLaws.{rising_test, test_rising, pairs, index_found, gap_found, pair_at, here, absent, placed}
 use Rattle.rec_file_tests.proofs.tests.list_file.ListFileOneWalk.insert_if_free.Goals as goal
 
 pub returns-in_err-body-in-Err-clause-wanted : goal.returns-in_err-body-in-Err-clause-wanted
@@ -35,7 +35,7 @@ pub returns-in-Ok-clause-free : goal.returns-in-Ok-clause-free
 returns-in-Ok-clause-free c =
     let vs = c.self.inside.entries.items in
     let rise = rising_test (pairs vs) c.self.invariant.2 in
-    let found = place_found vs c.args.number c.in-Ok.field-0 rise (rw c.deref.ensures.value at c.in-Ok.ensures.within) (rw c.deref.ensures.value at c.in-Ok.ensures.found) in
+    let found = index_found vs c.args.number c.in-Ok.field-0 rise (rw c.deref.ensures.value at c.in-Ok.ensures.within) (rw c.deref.ensures.value at c.in-Ok.ensures.found) in
     let pair = pair_at vs c.args.number c.in-Ok.field-0 found in
     not_none _ (some_of c.args.self.now c.args.number pair.0 (here _ _ c.args.self.now c.self.view_is rise c.in-Ok.field-0 (c.args.number, pair.0) pair.1))
 

@@ -2,14 +2,14 @@ use Rattle.std.proofs.Common.{sym, subst, arith}
 use Rattle.std.proofs.lemmas.List.{length-map}
 use Rattle.rec_file.specs.Files.{IsFile}
 use Rattle.rec_file.proofs.ForCallers.{body_fits, number_fits, some_of}
-use Rattle.rec_file_tests.proofs.ListLaws.{rising_test, pairs, pairs_length, place_found, gap_found, pair_at, place_is, read, here, first_here, first_after, no_first}
+use Rattle.rec_file_tests.proofs.ListLaws.{rising_test, pairs, pairs_length, index_found, gap_found, pair_at, index_is, read, here, first_here, first_after, no_first}
 use Rattle.rec_file_tests.proofs.tests.list_file.ListFileOneWalk.record_from.Goals as goal
 
 pub returns-in-Ok-clause-lowest : goal.returns-in-Ok-clause-lowest
 returns-in-Ok-clause-lowest c =
     let vs = c.self.inside.entries.items in
     let rise = rising_test (pairs vs) c.self.invariant.2 in
-    let found = place_found vs c.args.number c.in-Ok.at rise (rw c.deref.ensures.value at c.in-Ok.ensures.within) (rw c.deref.ensures.value at c.in-Ok.ensures.found) in
+    let found = index_found vs c.args.number c.in-Ok.at rise (rw c.deref.ensures.value at c.in-Ok.ensures.within) (rw c.deref.ensures.value at c.in-Ok.ensures.found) in
     let pair = pair_at vs c.args.number c.in-Ok.at found in
     sym (first_here _ _ c.args.self.now c.self.view_is rise c.in-Ok.at (c.args.number, pair.0) pair.1)
 
@@ -17,16 +17,16 @@ pub returns-in-Ok-clause-same : goal.returns-in-Ok-clause-same
 returns-in-Ok-clause-same c =
     let vs = c.self.inside.entries.items in
     let rise = rising_test (pairs vs) c.self.invariant.2 in
-    let found = place_found vs c.args.number c.in-Ok.at rise (rw c.deref.ensures.value at c.in-Ok.ensures.within) (rw c.deref.ensures.value at c.in-Ok.ensures.found) in
+    let found = index_found vs c.args.number c.in-Ok.at rise (rw c.deref.ensures.value at c.in-Ok.ensures.within) (rw c.deref.ensures.value at c.in-Ok.ensures.found) in
     let read_is = read vs c.in-Ok.at c.index.result.now (omega (arith, found.in_range, length-map vs (λ v. v.0))) c.index.ensures in
-    let number = place_is vs c.args.number c.in-Ok.at c.index.result.now found c.index.ensures in
+    let number = index_is vs c.args.number c.in-Ok.at c.index.result.now found c.index.ensures in
     sym (rw (c.as_slice.ensures.value, ← number) (here _ _ c.args.self.now c.self.view_is rise c.in-Ok.at _ read_is))
 
 pub returns-in-Ok-clause-within : goal.returns-in-Ok-clause-within
 returns-in-Ok-clause-within c =
     let vs = c.self.inside.entries.items in
     let rise = rising_test (pairs vs) c.self.invariant.2 in
-    let found = place_found vs c.args.number c.in-Ok.at rise (rw c.deref.ensures.value at c.in-Ok.ensures.within) (rw c.deref.ensures.value at c.in-Ok.ensures.found) in
+    let found = index_found vs c.args.number c.in-Ok.at rise (rw c.deref.ensures.value at c.in-Ok.ensures.within) (rw c.deref.ensures.value at c.in-Ok.ensures.found) in
     let pair = pair_at vs c.args.number c.in-Ok.at found in
     number_fits c.args.self.now c.args.number (subst IsFile c.self.view_is c.self.invariant.0) (some_of c.args.self.now c.args.number pair.0 (here _ _ c.args.self.now c.self.view_is rise c.in-Ok.at (c.args.number, pair.0) pair.1))
 

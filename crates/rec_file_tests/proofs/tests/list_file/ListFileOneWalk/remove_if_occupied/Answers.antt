@@ -2,14 +2,14 @@ use Rattle.std.proofs.Common.{is_some, sym, ap, subst}
 use Rattle.rec_file.specs.Files.{IsFile}
 use Rattle.rec_file.proofs.ForCallers.{IsFile-removed, rising-remove, some_of}
 use Rattle.rec_file_tests.proofs.Edits.{map_remove}
-use Rattle.rec_file_tests.proofs.ListLaws.{rising_test, test_rising, pairs, place_found, gap_found, pair_at, here, absent, less}
+use Rattle.rec_file_tests.proofs.ListLaws.{rising_test, test_rising, pairs, index_found, gap_found, pair_at, here, absent, less}
 use Rattle.rec_file_tests.proofs.tests.list_file.ListFileOneWalk.remove_if_occupied.Goals as goal
 
 pub invariant_of-self : goal.invariant_of-self
 invariant_of-self c =
     let vs = c.self.inside.entries.items in
     let rise = rising_test (pairs vs) c.self.invariant.2 in
-    let found = place_found vs c.args.number c.in-Ok.at rise (rw c.deref.ensures.value at c.in-Ok.ensures.within) (rw c.deref.ensures.value at c.in-Ok.ensures.found) in
+    let found = index_found vs c.args.number c.in-Ok.at rise (rw c.deref.ensures.value at c.in-Ok.ensures.within) (rw c.deref.ensures.value at c.in-Ok.ensures.found) in
     let pair = pair_at vs c.args.number c.in-Ok.at found in
     let file = less _ _ c.args.self.now c.self.view_is rise c.in-Ok.at (c.args.number, pair.0) pair.1 in
     rw (c.remove.ensures.items, map_remove) (
@@ -22,7 +22,7 @@ pub returns-in-Ok-clause-occupied : goal.returns-in-Ok-clause-occupied
 returns-in-Ok-clause-occupied c =
     let vs = c.self.inside.entries.items in
     let rise = rising_test (pairs vs) c.self.invariant.2 in
-    let found = place_found vs c.args.number c.in-Ok.at rise (rw c.deref.ensures.value at c.in-Ok.ensures.within) (rw c.deref.ensures.value at c.in-Ok.ensures.found) in
+    let found = index_found vs c.args.number c.in-Ok.at rise (rw c.deref.ensures.value at c.in-Ok.ensures.within) (rw c.deref.ensures.value at c.in-Ok.ensures.found) in
     let pair = pair_at vs c.args.number c.in-Ok.at found in
     sym (some_of c.args.self.now c.args.number pair.0 (here _ _ c.args.self.now c.self.view_is rise c.in-Ok.at (c.args.number, pair.0) pair.1))
 
@@ -30,7 +30,7 @@ pub returns-in-Ok-clause-ok : goal.returns-in-Ok-clause-ok
 returns-in-Ok-clause-ok c =
     let vs = c.self.inside.entries.items in
     let rise = rising_test (pairs vs) c.self.invariant.2 in
-    let found = place_found vs c.args.number c.in-Ok.at rise (rw c.deref.ensures.value at c.in-Ok.ensures.within) (rw c.deref.ensures.value at c.in-Ok.ensures.found) in
+    let found = index_found vs c.args.number c.in-Ok.at rise (rw c.deref.ensures.value at c.in-Ok.ensures.within) (rw c.deref.ensures.value at c.in-Ok.ensures.found) in
     let pair = pair_at vs c.args.number c.in-Ok.at found in
     let file = less _ _ c.args.self.now c.self.view_is rise c.in-Ok.at (c.args.number, pair.0) pair.1 in
     rw (c.remove.ensures.items, map_remove) file

@@ -3,14 +3,14 @@ use Rattle.std.proofs.lemmas.List.{length-map, map-set}
 use Rattle.rec_file.specs.Files.{IsFile}
 use Rattle.rec_file.proofs.ForCallers.{IsFile-replaced, some_of, wanted}
 use Rattle.rec_file_tests.proofs.Edits.{rising-set}
-use Rattle.rec_file_tests.proofs.ListLaws.{rising_test, test_rising, pairs, place_found, gap_found, pair_at, place_is, read, here, absent, set_is}
+use Rattle.rec_file_tests.proofs.ListLaws.{rising_test, test_rising, pairs, index_found, gap_found, pair_at, index_is, read, here, absent, set_is}
 use Rattle.rec_file_tests.proofs.tests.list_file.ListFileOneWalk.replace_if_occupied.Goals as goal
 
 pub returns-in_err-body-in-Ok-clause-wanted : goal.returns-in_err-body-in-Ok-clause-wanted
 returns-in_err-body-in-Ok-clause-wanted c =
     let vs = c.self.inside.entries.items in
     let rise = rising_test (pairs vs) c.self.invariant.2 in
-    let found = place_found vs c.args.number c.in-Ok.at rise (rw c.deref.ensures.value at c.in-Ok.ensures.within) (rw c.deref.ensures.value at c.in-Ok.ensures.found) in
+    let found = index_found vs c.args.number c.in-Ok.at rise (rw c.deref.ensures.value at c.in-Ok.ensures.within) (rw c.deref.ensures.value at c.in-Ok.ensures.found) in
     let pair = pair_at vs c.args.number c.in-Ok.at found in
     wanted _ (some_of c.args.self.now c.args.number pair.0 (here _ _ c.args.self.now c.self.view_is rise c.in-Ok.at (c.args.number, pair.0) pair.1))
 
@@ -18,9 +18,9 @@ pub invariant_of-self : goal.invariant_of-self
 invariant_of-self c =
     let vs = c.self.inside.entries.items in
     let rise = rising_test (pairs vs) c.self.invariant.2 in
-    let found = place_found vs c.args.number c.in-Ok.at rise (rw c.deref.ensures.value at c.in-Ok.ensures.within) (rw c.deref.ensures.value at c.in-Ok.ensures.found) in
+    let found = index_found vs c.args.number c.in-Ok.at rise (rw c.deref.ensures.value at c.in-Ok.ensures.within) (rw c.deref.ensures.value at c.in-Ok.ensures.found) in
     let pair = pair_at vs c.args.number c.in-Ok.at found in
-    let number = place_is vs c.args.number c.in-Ok.at c.index_mut.result.now found c.index_mut.ensures.value in
+    let number = index_is vs c.args.number c.in-Ok.at c.index_mut.result.now found c.index_mut.ensures.value in
     let here_is : slice_get (pairs vs) c.in-Ok.at ≡ Some (c.args.number, c.index_mut.result.now.1.items) =
     subst (λ n. slice_get (pairs vs) c.in-Ok.at ≡ Some (n, c.index_mut.result.now.1.items)) number
     (read vs c.in-Ok.at c.index_mut.result.now (omega (arith, found.in_range, length-map vs (λ v. v.0))) c.index_mut.ensures.value) in
@@ -35,7 +35,7 @@ pub returns-in_ok-body-in-Ok-clause-occupied : goal.returns-in_ok-body-in-Ok-cla
 returns-in_ok-body-in-Ok-clause-occupied c =
     let vs = c.self.inside.entries.items in
     let rise = rising_test (pairs vs) c.self.invariant.2 in
-    let found = place_found vs c.args.number c.in-Ok.at rise (rw c.deref.ensures.value at c.in-Ok.ensures.within) (rw c.deref.ensures.value at c.in-Ok.ensures.found) in
+    let found = index_found vs c.args.number c.in-Ok.at rise (rw c.deref.ensures.value at c.in-Ok.ensures.within) (rw c.deref.ensures.value at c.in-Ok.ensures.found) in
     let pair = pair_at vs c.args.number c.in-Ok.at found in
     sym (some_of c.args.self.now c.args.number pair.0 (here _ _ c.args.self.now c.self.view_is rise c.in-Ok.at (c.args.number, pair.0) pair.1))
 
@@ -43,8 +43,8 @@ pub returns-in_ok-body-in-Ok-clause-ok : goal.returns-in_ok-body-in-Ok-clause-ok
 returns-in_ok-body-in-Ok-clause-ok c =
     let vs = c.self.inside.entries.items in
     let rise = rising_test (pairs vs) c.self.invariant.2 in
-    let found = place_found vs c.args.number c.in-Ok.at rise (rw c.deref.ensures.value at c.in-Ok.ensures.within) (rw c.deref.ensures.value at c.in-Ok.ensures.found) in
-    let number = place_is vs c.args.number c.in-Ok.at c.index_mut.result.now found c.index_mut.ensures.value in
+    let found = index_found vs c.args.number c.in-Ok.at rise (rw c.deref.ensures.value at c.in-Ok.ensures.within) (rw c.deref.ensures.value at c.in-Ok.ensures.found) in
+    let number = index_is vs c.args.number c.in-Ok.at c.index_mut.result.now found c.index_mut.ensures.value in
     let here_is : slice_get (pairs vs) c.in-Ok.at ≡ Some (c.args.number, c.index_mut.result.now.1.items) =
     subst (λ n. slice_get (pairs vs) c.in-Ok.at ≡ Some (n, c.index_mut.result.now.1.items)) number
     (read vs c.in-Ok.at c.index_mut.result.now (omega (arith, found.in_range, length-map vs (λ v. v.0))) c.index_mut.ensures.value) in
