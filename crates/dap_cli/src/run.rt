@@ -2,27 +2,26 @@
 ghost use Rattle.std.specs.Prelude.{◌≡◌, ◌≢◌, ◌⊎◌, ◌∷◌, ℕ, List, [], IfSome, map, string_bytes};
 ghost use Rattle.std.specs.Io.KnownBytes.{Keeps};
 ghost use Rattle.clap.specs.Words.{fault_of};
-ghost use Rattle.cli_faults.specs.Mistakes.{AreMistakes};
+ghost use Rattle.linewise.specs.Mistakes.{AreMistakes};
 ghost use Rattle.dap_words.specs.Choosing.{Chooses, dapnsp, word_of};
 ghost use Rattle.dap_words.specs.declared.choice.Choice.{Choice};
 ghost use Rattle.dap_cli.specs.Run.{CommandGives, RunGives};
 
 use clap::error::ErrorKind;
-use cli_faults::{Fronted, Reading, finish_reading, refuse};
 use dap_capture::{CaptureFault, Outcome, messages, schedule, show};
 use dap_words::{Choice, read_words};
-use linewise::finish;
+use linewise::{Fronted, LineCommand, finish, finish_reading, refuse};
 use std::alloc::Global;
 use std::io::{Read, Write};
 
 /// Returns what errors in the lines of a command name.
-fn reading(choice: Choice) -> Reading {
+fn line_command(choice: Choice) -> LineCommand {
     let (command, lines) = match choice {
         Choice::Show => ("show", "a capture"),
         Choice::Msg => ("msg", "a capture"),
         Choice::Run => ("run", "a schedule"),
     };
-    Reading {
+    LineCommand {
         program: "dapnsp",
         command,
         lines,
@@ -62,7 +61,7 @@ fn run_choice<R: Read, W: Write, E: Write>(
     let mut lines = Fronted::new(reader);
     let outcome = run_lines(alloc, choice, &mut lines, writer);
     if helps {
-        finish_reading(reading(choice), lines.front(), outcome, error_writer)
+        finish_reading(line_command(choice), lines.front(), outcome, error_writer)
     } else {
         finish(outcome, error_writer)
     }

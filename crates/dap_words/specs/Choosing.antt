@@ -2,7 +2,7 @@
 use Rattle.std.specs.Prelude.{◌≡◌, [], ◌∷◌, List, codes, Some, option_map}
 use Rattle.std.specs.List.{fold}
 use Rattle.clap.specs.Words.{App, Text, new_app, with_subcommand, subcommand_of}
-use Rattle.cli_faults.specs.Programs.{new_program}
+use Rattle.linewise.specs.Programs.{new_program}
 use Rattle.dap_words.specs.declared.choice.Choice.{Choice}
 use Rattle.dap_words.specs.declared.choice.Choice.TheVariants.{Show, Msg, Run}
 

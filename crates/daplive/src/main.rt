@@ -1,8 +1,7 @@
 //! The program `daplive`: one end of a DECnet file access, over lines; listings of captures, and the packets in capture files.
 #![tactic(auto)]
 
-use cli_faults::{ErrorOutput, Output, exit_status};
-use linewise::{Outcome, finish, write_text};
+use linewise::{ErrorOutput, Outcome, Output, exit_status, finish, write_text};
 use live_cli::run_words;
 use std::cell::Cell;
 use std::io::{BufReader, BufWriter, ErrorKind};

@@ -10,3 +10,5 @@ pub use Rattle.linewise.proofs.SliceLemmas.{slice_from}
 pub use Rattle.linewise.proofs.LineLemmas.{end_of_end}
 -- what was taken of a reader so far, and with what is taken after it
 pub use Rattle.linewise.proofs.InputLemmas.{HasTaken, ok_apart, taken_more, taken_none, takes_then, takes_up_to_then}
+-- what an error of `clap` is, from the kinds that the words can give
+pub use Rattle.linewise.proofs.ErrorLemmas.{only_memory, memory_or_help, memory_or_mistake}

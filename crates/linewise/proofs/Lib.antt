@@ -8,3 +8,5 @@ pub mod SliceLemmas
 pub mod OneText
 pub mod ForCallers
 mod TalkLemmas
+mod FrontLemmas
+pub mod ErrorLemmas

@@ -1,12 +1,12 @@
 -- What a command over a whole input does.
-use Rattle.std.specs.Prelude.{◌≡◌, ◌≢◌, OnErr, ℕ, ◌+◌, ◌<◌, ◌≤◌, List, [], length, slice_get, Option, Some, IfSome, Result, Ok, Err, ◌⊎◌}
+use Rattle.std.specs.Prelude.{◌≡◌, ◌≢◌, OnErr, ℕ, ◌+◌, ◌<◌, ◌≤◌, List, [], length, slice_get, Option, Some, Result, Ok, Err, ◌⊎◌}
 use Rattle.std.specs.Io.KnownBytes.{Appends, Consumes, Keeps}
 use Rattle.linewise.specs.Talks.{max_line}
 use Rattle.linewise.specs.Output.{WritesFront}
 use Rattle.linewise.specs.declared.fault.Outcome.{Outcome}
 use Rattle.linewise.specs.declared.fault.Outcome.TheVariants.{Good, Stopped}
 use Rattle.linewise.specs.declared.fault.CaptureFault.{CaptureFault}
-use Rattle.linewise.specs.declared.fault.CaptureFault.TheVariants.{BadLine, TooLarge, ReadFailed, WriteFailed, NoMemory}
+use Rattle.linewise.specs.declared.fault.CaptureFault.TheVariants.{BadLine, TooLarge, WriteFailed}
 
 -- A prefix of the reader's known bytes is read: at most one byte more than an input may have (16,777,216).
 abbrev pub TakesWithinLimit : Option (List ℕ) → Option (List ℕ) → Type 0

@@ -1,17 +1,26 @@
-//! Texts in and out of a program: lines, inputs that have a limit, what is written, and the fault and the exit status
-//! of a run; and a program that answers lines, each before it reads the next.
+//! Texts in and out of a program: lines, inputs that have a limit, what is written, what is reported of wrong arguments
+//! and bad lines, and the exit status; and a program that answers lines, each before it reads the next.
 #![tactic(auto)]
 
 mod fault;
+mod files;
+mod front;
 mod input;
 mod lines;
 mod output;
+mod pipe;
 mod reading;
+mod refusing;
 mod talking;
+mod telling;
 
 pub use fault::{CaptureFault, Outcome, finish};
+pub use front::Fronted;
 pub use input::{CHUNK, MAX_INPUT, read_input, read_some, skip_unread};
 pub use lines::{cut_line, find_byte, is_skipped, next_line};
 pub use output::write_text;
+pub use pipe::{CLOSED_PIPE, ErrorOutput, Output, exit_status};
 pub use reading::MAX_LINE;
+pub use refusing::refuse;
 pub use talking::{Answer, Answers, Became, talk};
+pub use telling::{LineCommand, finish_reading};

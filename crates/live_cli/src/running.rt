@@ -3,7 +3,7 @@
 ghost use Rattle.std.specs.Prelude.{◌≡◌, ◌≢◌, ◌≤◌, ◌<◌, ◌^◌, ◌⊎◌, ◌∷◌, ℕ, List, [], false, true, IfSome, None, Some, codes, if◌then◌else◌, map, string_bytes};
 ghost use Rattle.std.specs.Io.KnownBytes.{Keeps};
 ghost use Rattle.clap.specs.Words.{fault_of};
-ghost use Rattle.cli_faults.specs.Mistakes.{AreMistakes};
+ghost use Rattle.linewise.specs.Mistakes.{AreMistakes};
 ghost use Rattle.dap_accessed.specs.Setup.{IsServerSetup};
 ghost use Rattle.dap_msg.specs.BothEnds.{min_buffer};
 ghost use Rattle.dap_msg.specs.Fitting.{FieldsFit};
@@ -17,14 +17,13 @@ ghost use Rattle.live_cli.specs.Words.{daplive, task_of, usual};
 
 use crate::words::{Misspelt, Options, Role, Task, read_words};
 use clap::error::ErrorKind;
-use cli_faults::{Fronted, Reading, finish_reading, refuse};
 use dap_accessed::{ALL_RIGHTS, Names, ServerSetup};
 use dap_follow::follow;
 use dap_live::{Asking, Node};
 use dap_msg::Configuration;
 use dap_watch::watch;
 use decnet_frames::{Counts, Ends, FramesFault, list_frames};
-use linewise::{Answers, talk};
+use linewise::{Answers, Fronted, LineCommand, finish_reading, refuse, talk};
 use nsp_link::{LinkFault, LinkSetup, MAX_LIMIT};
 use std::alloc::Global;
 use std::fmt::Display;
@@ -188,7 +187,7 @@ pub fn run_options<R: BufRead, W: Write, E: Write>(
 }
 
 /// What is said of the lines of the listing.
-const FOLLOWING: Reading = Reading {
+const FOLLOWING: LineCommand = LineCommand {
     program: "daplive",
     command: "follow",
     lines: "a capture",

@@ -1,5 +1,5 @@
 -- A record file as a value: a shape, and a finite map from numbers to records.
-use Rattle.std.specs.Prelude.{ℕ, ◌≤◌, nat_le, List, length, filter, slice_get, unwrap_or, Option, None, IsSome, IsTrue, IfSome}
+use Rattle.std.specs.Prelude.{ℕ, ◌≤◌, ◌+◌, nat_le, nat_eq, Bool, not, ◌&&◌, ◌||◌, List, length, filter, slice_get, unwrap_or, Option, None, is_none, is_some, IsSome, IsTrue, IfSome}
 use Rattle.std.specs.List.{last_or}
 use Rattle.std.specs.Ordering.{nat_cmp}
 use Rattle.std.specs.FinMap.{FinMap, get, keys, entries, insert, remove}
@@ -43,3 +43,20 @@ stored file n body = record file { records = insert file.records n body }
 -- the file with nothing under n
 abbrev pub removed : FileVal → ℕ → FileVal
 removed file n = record file { records = remove file.records n }
+
+-- whether n is a number for a new record: 1 to the limit, and in a sequential file the next one
+abbrev pub takes_number : FileVal → ℕ → Bool
+takes_number file n =
+    nat_le 1 n && nat_le n (max_number file.shape) && (not (is_seq file.shape.org) || nat_eq n (highest_of file.records + 1))
+
+-- whether a new record of this length may stand under n
+abbrev pub may_place : FileVal → ℕ → ℕ → Bool
+may_place file n size = takes_number file n && allows_length file.shape size && is_none (get file.records n)
+
+-- whether the record under n may become another of this length
+abbrev pub may_replace : FileVal → ℕ → ℕ → Bool
+may_replace file n size = allows_length file.shape size && is_some (get file.records n)
+
+-- whether the record under n may go, which no record of a sequential file may
+abbrev pub may_remove : FileVal → ℕ → Bool
+may_remove file n = not (is_seq file.shape.org) && is_some (get file.records n)

@@ -4,7 +4,7 @@ ghost use Rattle.std.specs.Option.{option_copied};
 ghost use Rattle.std.specs.FinMap as map;
 ghost use Rattle.rec_file.specs.Shapes.{max_number, allows_length, is_seq};
 ghost use Rattle.rec_file.specs.Limits.{max_record_number, max_record};
-ghost use Rattle.rec_file.specs.Files.{FileVal, IsFile, lowest_from, highest_of, records_from, stored, removed};
+ghost use Rattle.rec_file.specs.Files.{FileVal, IsFile, lowest_from, highest_of, records_from, stored, removed, may_place, may_replace, may_remove};
 
 use crate::shapes::Shape;
 use std::alloc::AllocError;
@@ -99,43 +99,47 @@ pub trait RecordFile: OneWalk {
         ensures same { result ≡ highest_of (Self.value self.now).records }
         ensures within { result ≤ max_record_number };
 
-    /// Stores a record under a free number, in a sequential file under the next one. An error is
-    /// out of memory: nothing has changed.
+    /// Stores a record under a free number within the limit, in a sequential file under the next one, of a length that
+    /// the shape allows. Elsewhere nothing changes. An error is out of memory: nothing has changed.
     fn place(&mut self, number: u32, body: &[u8]) -> Result<(), AllocError>
-        requires above { 1 ≤ number }
-        requires within { number ≤ max_number (Self.value self.old).shape }
-        requires free { map.get (Self.value self.old).records number ≡ None }
-        requires next { IsTrue (is_seq (Self.value self.old).shape.org)
-            → number ≡ highest_of (Self.value self.old).records + 1 }
-        requires length { IsTrue (allows_length (Self.value self.old).shape (length body.now)) }
-        ensures ok { OnOk result
-            (Self.value self.new ≡ stored (Self.value self.old) number body.now) }
+        ensures ok { OnOk result (MatchBool (may_place (Self.value self.old) number (length body.now))
+            (Self.value self.new ≡ stored (Self.value self.old) number body.now)
+            (Self.value self.new ≡ Self.value self.old)) }
         ensures err { OnErr result (Self.value self.new ≡ Self.value self.old) }
+        ensures wanted { OnErr result (IsTrue (may_place (Self.value self.old) number (length body.now))) }
     {
-        let _free = self.insert_if_free(number, body)?;
+        let shape = self.shape();
+        let is_next = !shape.is_sequential() || number == self.highest() + 1;
+        if number >= 1 && number <= shape.limit() && is_next && shape.allows(body.len()) {
+            let _free = self.insert_if_free(number, body)?;
+        }
         Ok(())
     }
 
-    /// Stores another record under an occupied number. An error is out of memory: nothing has
-    /// changed.
+    /// Stores another record under an occupied number, of a length that the shape allows. Elsewhere nothing changes.
+    /// An error is out of memory: nothing has changed.
     fn replace(&mut self, number: u32, body: &[u8]) -> Result<(), AllocError>
-        requires occupied { IsSome (map.get (Self.value self.old).records number) }
-        requires length { IsTrue (allows_length (Self.value self.old).shape (length body.now)) }
-        ensures ok { OnOk result
-            (Self.value self.new ≡ stored (Self.value self.old) number body.now) }
+        ensures ok { OnOk result (MatchBool (may_replace (Self.value self.old) number (length body.now))
+            (Self.value self.new ≡ stored (Self.value self.old) number body.now)
+            (Self.value self.new ≡ Self.value self.old)) }
         ensures err { OnErr result (Self.value self.new ≡ Self.value self.old) }
+        ensures wanted { OnErr result (IsTrue (may_replace (Self.value self.old) number (length body.now))) }
     {
-        let _occupied = self.replace_if_occupied(number, body)?;
+        if self.shape().allows(body.len()) {
+            let _occupied = self.replace_if_occupied(number, body)?;
+        }
         Ok(())
     }
 
-    /// Removes the record of an occupied number of a relative file.
+    /// Removes the record of an occupied number of a relative file. Elsewhere nothing changes.
     fn remove(&mut self, number: u32)
-        requires relative { is_seq (Self.value self.old).shape.org ≡ false }
-        requires occupied { IsSome (map.get (Self.value self.old).records number) }
-        ensures { Self.value self.new ≡ removed (Self.value self.old) number }
+        ensures { MatchBool (may_remove (Self.value self.old) number)
+            (Self.value self.new ≡ removed (Self.value self.old) number)
+            (Self.value self.new ≡ Self.value self.old) }
     {
-        let _occupied = self.remove_if_occupied(number);
+        if !self.shape().is_sequential() {
+            let _occupied = self.remove_if_occupied(number);
+        }
     }
 }
 

@@ -1,7 +1,7 @@
 use Rattle.std.proofs.Common.{arith, ◌≡◌, rules, map, string_bytes, ap, subst, ◌∙◌, inl, inr, refl, true, false}
 use Rattle.std.specs.Prelude.{IfSome, Some, None}
 use Rattle.clap.specs.Words.{fault_of}
-use Rattle.cli_faults.proofs.ForCallers.{memory_or_help, memory_or_mistake, only_memory}
+use Rattle.linewise.proofs.ForCallers.{memory_or_help, memory_or_mistake, only_memory}
 use Rattle.live_cli.specs.declared.words.Task.{Task}
 use Rattle.live_cli.specs.declared.words.Task.TheVariants.{End, Follow, Frames, Watch}
 use Rattle.live_cli.specs.Running.{TaskGives}

@@ -3,11 +3,12 @@
 ghost use Rattle.std.specs.Prelude.{◌≡◌, ◌⊎◌};
 ghost use Rattle.std.specs.Io.KnownBytes.{Keeps};
 ghost use Rattle.clap.specs.Words.{kind_of};
-ghost use Rattle.cli_faults.specs.Mistakes.{IsMistake};
+ghost use Rattle.linewise.specs.Mistakes.{IsMistake};
 
+use crate::fault::{CaptureFault, finish};
+use crate::output::write_text;
 use clap::Error;
 use clap::error::ErrorKind;
-use linewise::{CaptureFault, finish, write_text};
 use std::alloc::Global;
 use std::io::Write;
 

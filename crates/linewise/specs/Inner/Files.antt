@@ -1,8 +1,8 @@
 -- Which files of captured frames there are, by their first bytes.
 use Rattle.std.specs.Prelude.{ℕ, List, [], ◌∷◌, Option, Some, None, if◌then◌else◌, bytes_eq}
 use Rattle.std.specs.List.{list_any}
-use Rattle.cli_faults.specs.declared.files.FileKind.{FileKind}
-use Rattle.cli_faults.specs.declared.files.FileKind.TheVariants.{Pcap, Pcapng}
+use Rattle.linewise.specs.declared.files.FileKind.{FileKind}
+use Rattle.linewise.specs.declared.files.FileKind.TheVariants.{Pcap, Pcapng}
 
 -- how a pcapng file begins: 0a0d0d0a
 abbrev pub pcapng : List ℕ

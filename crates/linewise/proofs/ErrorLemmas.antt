@@ -1,11 +1,10 @@
 -- What an error of `clap` is, from the kinds that the words can give.
-use Rattle.std.proofs.Common.{◌≡◌, ◌⊎◌, inl, inr, List, [], ◌∷◌}
+use Rattle.std.proofs.Common.{◌≡◌, ◌⊎◌, inl, inr, [], ◌∷◌}
 use Rattle.std.proofs.Common.{subst}
 use Rattle.clap.specs.Words.{HasKind, Kinds, kind_of}
-use Rattle.clap.specs.Kinds.{IsAmong}
 use Rattle.clap.specs.declared.error.Error.{Error}
 use Rattle.clap.specs.declared.error.kind.ErrorKind.TheVariants.{OutOfMemory, DisplayHelp}
-use Rattle.cli_faults.specs.Mistakes.{IsMistake, AreMistakes}
+use Rattle.linewise.specs.Mistakes.{IsMistake, AreMistakes}
 
 -- an error where nothing is at fault is out of memory
 pub only_memory : (kinds : Kinds) (e : Error) → kinds ≡ [] → HasKind kinds e → kind_of e ≡ OutOfMemory

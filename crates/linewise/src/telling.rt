@@ -3,13 +3,13 @@
 ghost use Rattle.std.specs.Prelude.{◌≡◌};
 ghost use Rattle.linewise.specs.Gives.{status_of};
 
+use crate::fault::{CaptureFault, Outcome, finish};
 use crate::files::file_kind;
-use linewise::{CaptureFault, Outcome, finish};
 use std::io::Write;
 
 /// A command that reads lines.
 #[derive(Clone, Copy, PartialEq, Eq)]
-pub struct Reading {
+pub struct LineCommand {
     /// The name of the program.
     pub program: &'static str,
     /// The word of the command.
@@ -19,12 +19,12 @@ pub struct Reading {
 }
 
 /// Reports what helps with a fault, in a line with the name of the program and the number of the user's line.
-fn help<E: Write>(reading: Reading, front: &[u8], fault: CaptureFault, error_writer: &mut E) {
-    let Reading {
+fn help<E: Write>(named: LineCommand, front: &[u8], fault: CaptureFault, error_writer: &mut E) {
+    let LineCommand {
         program,
         command,
         lines,
-    } = reading;
+    } = named;
     match (file_kind(front), fault) {
         (Some(kind), CaptureFault::BadLine(_) | CaptureFault::TooLarge) => {
             let _ = writeln!(
@@ -45,7 +45,7 @@ fn help<E: Write>(reading: Reading, front: &[u8], fault: CaptureFault, error_wri
 /// Returns the exit status of an outcome, whose fault is reported in its line, and after that in one that helps, where
 /// a line is at fault or the input is a file of captured frames, of which the first four bytes are given.
 pub fn finish_reading<E: Write>(
-    reading: Reading,
+    named: LineCommand,
     front: &[u8],
     outcome: Result<Outcome, CaptureFault>,
     error_writer: &mut E,
@@ -54,7 +54,7 @@ pub fn finish_reading<E: Write>(
 {
     let status = finish(outcome, error_writer);
     if let Err(fault) = outcome {
-        help(reading, front, fault, error_writer);
+        help(named, front, fault, error_writer);
     }
     status
 }

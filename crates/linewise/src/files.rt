@@ -1,7 +1,7 @@
 //! Which files of captured frames there are, by their first bytes.
 
 ghost use Rattle.std.specs.Prelude.{◌≡◌};
-ghost use Rattle.cli_faults.specs.Inner.Files.{kind_of_front};
+ghost use Rattle.linewise.specs.Inner.Files.{kind_of_front};
 
 use std::fmt::{Display, Error, Formatter, Write as FmtWrite};
 

@@ -1,2 +1,0 @@
-pub mod ForCallers
-mod FrontLemmas

@@ -1,3 +1,0 @@
-pub mod Inner
-pub mod Mistakes
-pub mod Programs
