@@ -150,7 +150,7 @@ def differs(plain, first, again):
     first_words, first_reports, first_packets = kinds(first)
     again_words, again_reports, again_packets = kinds(again)
     if first[-2:-1] != [NO_MEMORY] or NO_MEMORY in first[:-2] or NO_MEMORY in again:
-        return "want of memory isn't said once, at the end"
+        return "being out of memory isn't said once, at the end"
     if first_words != words[: len(first_words)]:
         return "the first answer has other words"
     if len(again_words) != len(words):

@@ -7,7 +7,7 @@ NOT_ASKED = {
     "ask-phase": "it doesn't fit here",
     "ask-busy": "the report of the request before hasn't come",
     "ask-too-large": "it is longer than the buffers of both ends allow (--buffer)",
-    "ask-failed": "an answer before it had no place",
+    "ask-failed": "an answer before it was out of sequence",
     "failed": "the link has failed",
     "no-memory": "the live end has no memory",
 }

@@ -40,7 +40,7 @@ class CountTest(Case):
          [("took", 5), ("wrote", 60), ("has", 1), ("took", 1), ("wrote", 200)], [4]),
         ("an answer waits until its last segment is acknowledged", 8,
          [("took", 2), ("begun", 60), ("has", 1), ("wrote", 10), ("took", 1), ("wrote", 30)], [5]),
-        ("a want of memory is another reason", 8,
+        ("being out of memory is another reason", 8,
          [("took", 2), ("wrote", 60), ("memory", 0), ("wrote", 60), ("took", 1)], [4]),
     ]
 

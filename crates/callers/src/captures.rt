@@ -45,7 +45,7 @@ fn take_next<'a>(
     requires { IsReady reading.old }
     ensures ready { OnOk result (IsReady reading.new) }
     ensures less { IfOk result
-        (λ behind. 0 < length rest.now → length behind.now < length rest.now) }
+        (λ after. 0 < length rest.now → length after.now < length rest.now) }
 {
     let step = match reading.take(rest) {
         Ok(step) => step,
@@ -56,8 +56,8 @@ fn take_next<'a>(
         look(frame, out);
         listing.push_frame(text, given.time, given.is_ethernet, frame)?;
     }
-    let (_, behind) = rest.split_at(step.taken);
-    Ok(behind)
+    let (_, after) = rest.split_at(step.taken);
+    Ok(after)
 }
 
 /// Reads the file, unit by unit.

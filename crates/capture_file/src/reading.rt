@@ -247,8 +247,8 @@ impl Reading {
         requires { IsWithinKept self.now.kept.items given }
         ensures { result.now ≡ (frame_record self.now.kept.items given).bytes }
     {
-        let (_, behind) = self.kept.split_at(given.from);
-        let (frame, _) = behind.split_at(given.count);
+        let (_, after) = self.kept.split_at(given.from);
+        let (frame, _) = after.split_at(given.count);
         frame
     }
 

@@ -16,7 +16,7 @@ pub use Rattle.dap_accessed.proofs.SoundGroups.{index-within}
 -- each answer to one message more has a spelling that the peer takes
 pub use Rattle.dap_accessed.proofs.Answering.{HasShortType, added-sends}
 -- before a Config the answers don't depend on the files, and the end stood so after each front of the items too
-pub use Rattle.dap_accessed.proofs.Lateness.{of_any, front_fresh, with_files}
+pub use Rattle.dap_accessed.proofs.Lateness.{of_any, prefix_fresh, with_files}
 -- a table with another file at an index
 pub use Rattle.dap_accessed.proofs.Tables.{with-same, length-with}
 -- an Access uses up the attributes

@@ -263,8 +263,8 @@ front_on own first before (item ∷ more) e =
     let later = front_on own first (before ++ item ∷ []) more (subst (λ (l : List Item). is_late (stands_after own first l).standing.state ≡ false) (sym (append_assoc before (item ∷ []) more)) e) in
     was_fresh own c item (is_late c.standing.state) refl (subst (λ (g : Grouped). is_late g.standing.state ≡ false) (cut-more own (start first) before item) later)
 
-pub front_fresh : (own : ServerSetup) (first : Files) (before more : List Item) → (stands_after own first (before ++ more)).standing.state ≡ Fresh → (stands_after own first before).standing.state ≡ Fresh
-front_fresh own first before more e = fresh_of (stands_after own first before).standing.state (front_on own first before more (ap is_late e))
+pub prefix_fresh : (own : ServerSetup) (first : Files) (before more : List Item) → (stands_after own first (before ++ more)).standing.state ≡ Fresh → (stands_after own first before).standing.state ≡ Fresh
+prefix_fresh own first before more e = fresh_of (stands_after own first before).standing.state (front_on own first before more (ap is_late e))
 
 -- ---- An end that is given files.
 

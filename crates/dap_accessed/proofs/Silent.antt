@@ -42,9 +42,9 @@ use Rattle.dap_accessed.proofs.StepIs.{answers-are, answers-in}
 abbrev Answers : Effect → Type 0
 Answers effect = effect.answers ≢ []
 
-behind-one : (xs : List Message) (m : Message) → xs ++ m ∷ [] ≢ []
-behind-one [] m = λ e. cc
-behind-one (x ∷ xs) m = λ e. cc
+after-one : (xs : List Message) (m : Message) → xs ++ m ∷ [] ≢ []
+after-one [] m = λ e. cc
+after-one (x ∷ xs) m = λ e. cc
 
 either : (b : Bool) (one two : Effect) → Answers one → Answers two → Answers (if b then one else two)
 either true one two a b = a
@@ -88,8 +88,8 @@ module _ (scene : Scene) where
   picking (Ok pick) o s = let outcome = act (get_record pick) (the_file scene.files o) s in getting outcome.reply o s outcome.stream
 
   ending : (o : OpenFile) (s : StreamVal) (given rest : List (ℕ × List ℕ)) → Answers (fetch_ends scene o s given rest)
-  ending o s given [] = behind-one (map filedata_of given) _
-  ending o s given (large ∷ more) = behind-one (map filedata_of given) _
+  ending o s given [] = after-one (map filedata_of given) _
+  ending o s given (large ∷ more) = after-one (map filedata_of given) _
 
   fetching : (o : OpenFile) (s : StreamVal) → Answers (fetch scene o s)
   fetching o s =

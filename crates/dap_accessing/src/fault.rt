@@ -23,7 +23,7 @@ impl AskFault {
     /// Returns what is printed of it.
     fn text(self) -> &'static str {
         match self {
-            AskFault::Failed => "an answer had no place, so the end has failed",
+            AskFault::Failed => "an answer was out of sequence, so the end has failed",
             AskFault::Busy => "a report is still due",
             AskFault::WrongPhase => "the request isn't asked in this phase",
             AskFault::TooLarge => "a message has no spelling, or is longer than the peer takes",
@@ -48,8 +48,8 @@ impl ReadFault {
     /// Returns what is printed of it.
     fn text(self) -> &'static str {
         match self {
-            ReadFault::Failed => "an earlier answer had no place, so the end has failed",
-            ReadFault::Unexpected => "the answer has no place",
+            ReadFault::Failed => "an earlier answer was out of sequence, so the end has failed",
+            ReadFault::Unexpected => "the answer is out of sequence",
             ReadFault::NoMemory => "memory ran out",
         }
     }

@@ -88,13 +88,13 @@ fn answer<R: Read>(
 fn writers_that_fail(rt: HostRuntime) {
     for kind in KINDS {
         for (engine, input, writes, front) in WRITING {
-            assert!(&rt; fails_behind(rt.alloc(), *engine, input, *kind, *writes, front));
+            assert!(&rt; fails_after(rt.alloc(), *engine, input, *kind, *writes, front));
         }
     }
 }
 
 /// Returns whether the engine reports that a write failed, and has written this by then.
-fn fails_behind(
+fn fails_after(
     alloc: Global,
     engine: Engine,
     input: &[u8],

@@ -222,7 +222,7 @@ fn tells_bad_lines(rt: HostRuntime) {
 }
 
 /// Returns what a schedule of a setup and this line comes to.
-fn behind_setup(alloc: Global, line: &[u8]) -> Result<Result<Outcome, CaptureFault>, AllocError> {
+fn after_setup(alloc: Global, line: &[u8]) -> Result<Result<Outcome, CaptureFault>, AllocError> {
     let lines = joined(alloc, b"setup 512 8 1024 1024\n", line)?;
     let mut reader = lines.as_slice();
     Ok(run(alloc, Engine::Run, &mut reader, &mut Vec::new(alloc)))
@@ -231,10 +231,10 @@ fn behind_setup(alloc: Global, line: &[u8]) -> Result<Result<Outcome, CaptureFau
 #[test]
 fn reads_events(rt: HostRuntime) -> Result<(), Fail> {
     for line in EVENTS {
-        assert!(&rt; behind_setup(rt.alloc(), line)?.is_ok());
+        assert!(&rt; after_setup(rt.alloc(), line)?.is_ok());
     }
     for line in NO_EVENTS {
-        assert!(&rt; behind_setup(rt.alloc(), line)? == Err(CaptureFault::BadLine(2)));
+        assert!(&rt; after_setup(rt.alloc(), line)? == Err(CaptureFault::BadLine(2)));
     }
     Ok(())
 }

@@ -9,7 +9,7 @@ use Rattle.dap_accessed.specs.declared.fault.AddFault.{AddFault}
 use Rattle.dap_accessed.specs.declared.fault.AddFault.TheVariants as fault
 use Rattle.dap_accessed.specs.Standing.{Files, Fresh}
 use Rattle.dap_accessed.specs.Groups.{Grouped, stands_after, answers_in, Answers, added, limit_for}
-use Rattle.dap_accessed.proofs.ForCallers.{of_any, front_fresh}
+use Rattle.dap_accessed.proofs.ForCallers.{of_any, prefix_fresh}
 use Rattle.dap_accessed.specs.Present.{Present, StandsAfter}
 use Rattle.dap_accessed.specs.Adding.{IsFresh, MayAdd, MayAddRecord, AddRefused, RecordRefused}
 use Rattle.dap_end.specs.Ports.{HasCome}
@@ -23,8 +23,8 @@ answers_given own first other before [] fresh = refl
 answers_given own first other before (item ∷ items) fresh =
     let then : (stands_after own first ((before ++ item ∷ []) ++ items)).standing.state ≡ Fresh =
     subst (λ (l : List Item). (stands_after own first l).standing.state ≡ Fresh) (sym (append_assoc before (item ∷ []) items)) fresh in
-    let here = of_any own first before (front_fresh own first before (item ∷ items) fresh) in
-    let one = of_any own first (before ++ item ∷ []) (front_fresh own first (before ++ item ∷ []) items then) in
+    let here = of_any own first before (prefix_fresh own first before (item ∷ items) fresh) in
+    let one = of_any own first (before ++ item ∷ []) (prefix_fresh own first (before ++ item ∷ []) items then) in
     let limit : limit_for own first before ≡ limit_for own other before = sym (ap (λ (g : Grouped). g.standing.scene.limit) (here.any other)) in
     let answered : Answers own first before ≡ Answers own other before = sym (ap (λ (g : Grouped). answers_in g.standing.past) (here.any other)) in
     let all : Answers own first (before ++ item ∷ []) ≡ Answers own other (before ++ item ∷ []) = sym (ap (λ (g : Grouped). answers_in g.standing.past) (one.any other)) in

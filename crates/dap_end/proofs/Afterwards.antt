@@ -45,5 +45,5 @@ hands_over v port (Err f) may h = h
 pub posted_is : (old new : ServingValue) (n : ℕ) → HandsOver old new n → new ≡ record old { port = with_outbox_sent old.port }
 posted_is old new n h = h.1
 
-pub posted_past : (old new : ServingValue) (n : ℕ) → HandsOver old new n → (past : ServerHistory) → IsAfter past old → IsAfter (record past { handed = past.handed ++ old.port.outbox }) new
-posted_past old new n h past a = subst (IsAfter (record past { handed = past.handed ++ old.port.outbox })) (sym (posted_is old new n h)) (after_posted past old a)
+pub posted_history : (old new : ServingValue) (n : ℕ) → HandsOver old new n → (past : ServerHistory) → IsAfter past old → IsAfter (record past { handed = past.handed ++ old.port.outbox }) new
+posted_history old new n h past a = subst (IsAfter (record past { handed = past.handed ++ old.port.outbox })) (sym (posted_is old new n h)) (after_posted past old a)

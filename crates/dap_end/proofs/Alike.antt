@@ -37,7 +37,7 @@ use Rattle.dap_end.specs.Histories.{Still}
 use Rattle.dap_end.specs.Wanting.{is_want}
 use Rattle.dap_end.specs.Inner.Wanting.{went_wanting, took_wanting}
 use Rattle.dap_end.proofs.Taking.{grown}
-use Rattle.dap_end.proofs.Asked.{asked_past, handed_is, handed_past, read_grows, still_received, still_sent}
+use Rattle.dap_end.proofs.Asked.{asked_history, handed_is, handed_history, read_grows, still_received, still_sent}
 use Rattle.dap_end.specs.Histories.{asked_one}
 use Rattle.dap_end.proofs.Determined.{may_or_not, refused_one, no_next}
 use Rattle.dap_end.proofs.Turning.{DoAlike, no_want, went_same, took_same}
@@ -49,7 +49,7 @@ asking_one past request old one two n m h a b =
     let limit : a.asks.limit ≡ b.asks.limit = a.asks.is_limit past.requests past.answers h.asking ∙ sym (b.asks.is_limit past.requests past.answers h.asking) in
     let messages : a.messages ≡ b.messages = a.asks.spelled ∙ ap (λ (n : ℕ). all_joined (Blocked n (messages_of old.present.identity request))) limit ∙ sym b.asks.spelled in
     let now = asked_one past old.present.identity request in
-    let present : one.present ≡ two.present = one_present now.requests now.answers one.present two.present (asked_past request old one n a past h).asking (asked_past request old two m b past h).asking (a.identity ∙ sym b.identity) in
+    let present : one.present ≡ two.present = one_present now.requests now.answers one.present two.present (asked_history request old one n a past h).asking (asked_history request old two m b past h).asking (a.identity ∙ sym b.identity) in
     let port : one.port ≡ two.port = a.port ∙ ap (λ (l : List (List ℕ)). record old.port { outbox = old.port.outbox ++ l }) messages ∙ sym b.port in (
       ap (λ (p : PortValue). record one { port = p }) port ∙ ap (λ (x : ClientState). record two { present = x }) present,
       a.count ∙ ap length messages ∙ sym b.count,
@@ -187,7 +187,7 @@ left_of : (old new : AskingValue) (before all : List Report) (f : LinkFault) →
 left_of old new before all f (mid, on, (is, none, h)) = subst (λ (v : AskingValue). Left old v before all f) (sym is) (on, none, h)
 
 handed_done : (v new : AskingValue) (n : ℕ) → HandsOver v new n → HasDone v → HasDone new
-handed_done v new n h (inl d) = inl (_, handed_past v new n h d.0 d.1)
+handed_done v new n h (inl d) = inl (_, handed_history v new n h d.0 d.1)
 handed_done v new n h (inr d) =
     subst HasDone (sym (handed_is v new n h)) (inr (d.0, (d.1.0 ++ v.port.outbox, sends_all v.port.link d.1.0 v.port.outbox d.1.1)))
 

@@ -61,10 +61,10 @@ pub all_read : (own_a : Configuration) (own_b : ServerSetup) (first : Files) (rs
 all_read own_a own_b first rs front back expected e none = all_told own_a own_b first rs front back expected e (each_told rs front none)
 
 -- the answers to a front of items are a front of the answers
-pub answers-front : (own : ServerSetup) (first : Files) (items more : List Item) → (rest : List Message) × (Answers own first items ++ rest ≡ Answers own first (items ++ more))
-answers-front own first items [] = ([], append-nil (Answers own first items) ∙ ap (Answers own first) (sym (append-nil items)))
-answers-front own first items (x ∷ more) =
-    let next = answers-front own first (items ++ x ∷ []) more in
+pub answers-prefix : (own : ServerSetup) (first : Files) (items more : List Item) → (rest : List Message) × (Answers own first items ++ rest ≡ Answers own first (items ++ more))
+answers-prefix own first items [] = ([], append-nil (Answers own first items) ∙ ap (Answers own first) (sym (append-nil items)))
+answers-prefix own first items (x ∷ more) =
+    let next = answers-prefix own first (items ++ x ∷ []) more in
     let here = added own first items x in (
       here ++ next.0,
       sym (append_assoc (Answers own first items) here next.0) ∙ ap (λ (l : List Message). l ++ next.0) (sym (Answers-more own first items x)) ∙ next.1 ∙ ap (Answers own first) (append_assoc items (x ∷ []) more),

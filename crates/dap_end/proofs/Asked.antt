@@ -78,8 +78,8 @@ after_handed past v h =
 pub handed_is : (old new : AskingValue) (n : ℕ) → HandsOver old new n → new ≡ record old { port = with_outbox_sent old.port }
 handed_is old new n h = h.1
 
-pub handed_past : (old new : AskingValue) (n : ℕ) → HandsOver old new n → (past : ClientHistory) → HasAsked past old → HasAsked (record past { handed = past.handed ++ old.port.outbox }) new
-handed_past old new n h past a = subst (HasAsked (record past { handed = past.handed ++ old.port.outbox })) (sym (handed_is old new n h)) (after_handed past old a)
+pub handed_history : (old new : AskingValue) (n : ℕ) → HandsOver old new n → (past : ClientHistory) → HasAsked past old → HasAsked (record past { handed = past.handed ++ old.port.outbox }) new
+handed_history old new n h past a = subst (HasAsked (record past { handed = past.handed ++ old.port.outbox })) (sym (handed_is old new n h)) (after_handed past old a)
 
 -- ---- A request.
 
@@ -120,8 +120,8 @@ asks_one request old after messages outbox n asks own identity is count =
       count = count;
     }
 
-pub asked_past : (request : Request) (old new : AskingValue) (n : ℕ) → AskedOne request old new n → (past : ClientHistory) → HasAsked past old → HasAsked (asked_one past old.present.identity request) new
-asked_past request old new n a past h =
+pub asked_history : (request : Request) (old new : AskingValue) (n : ℕ) → AskedOne request old new n → (past : ClientHistory) → HasAsked past old → HasAsked (asked_one past old.present.identity request) new
+asked_history request old new n a past h =
     let asks = a.asks in
     let messages = a.messages in
     let limit = limit_after (Told past.requests past.answers) in

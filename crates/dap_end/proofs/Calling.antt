@@ -63,9 +63,9 @@ module _ (comes : LinkValue → List ℕ → Type 0) where
       ((r.0.0, rs ++ r.0.1, front ++ r.0.2), r.1, step_shifted event rs front r.1 old r.0 r.2, shifted events rs front r.0 new r.3)
 
   -- after these
-  pub behind_these : (events : List AskingEvent) (old new : AskingValue) (rs reports : List Report) (front wrote : List Written) → RunsBy (AskingStepped comes) (old, [], []) events (new, reports, wrote)
+  pub after_these : (events : List AskingEvent) (old new : AskingValue) (rs reports : List Report) (front wrote : List Written) → RunsBy (AskingStepped comes) (old, [], []) events (new, reports, wrote)
       → RunsBy (AskingStepped comes) (old, rs, front) events (new, rs ++ reports, front ++ wrote)
-  behind_these events old new rs reports front wrote r =
+  after_these events old new rs reports front wrote r =
       subst (λ (l : List Report). RunsBy (AskingStepped comes) (old, l, front) events (new, rs ++ reports, front ++ wrote)) (append-nil rs)
       (subst (λ (l : List Written). RunsBy (AskingStepped comes) (old, rs ++ [], l) events (new, rs ++ reports, front ++ wrote)) (append-nil front) (shifted events rs front (old, [], []) (new, reports, wrote) r))
 
@@ -77,7 +77,7 @@ module _ (comes : LinkValue → List ℕ → Type 0) where
   more_calls requests others old mid new rs ss ws more r q = (
     r.0 ++ q.0,
     ap (λ (l : List Request). l ++ others) r.1 ∙ ap (λ (l : List Request). requests_in r.0 ++ l) q.1 ∙ sym (requests_then r.0 q.0),
-    runs_then (AskingStepped comes) r.0 q.0 (old, [], []) (mid, rs, ws) (new, rs ++ ss, ws ++ more) r.2 (behind_these q.0 mid new rs ss ws more q.2),
+    runs_then (AskingStepped comes) r.0 q.0 (old, [], []) (mid, rs, ws) (new, rs ++ ss, ws ++ more) r.2 (after_these q.0 mid new rs ss ws more q.2),
   )
 
   -- ---- Calls are runs.

@@ -19,7 +19,7 @@ use Rattle.dap_end.specs.Calls.{AskingEvent, AskingStepped, Asks, By, Came, Goes
 use Rattle.dap_end.specs.Inner.Running.{AreOpposite}
 use Rattle.dap_end.proofs.Taking.{grown}
 use Rattle.dap_end.proofs.Proceeding.{none_short}
-use Rattle.dap_end.proofs.Asked.{asked_past, handed_is, handed_past, read_grows, still_received, still_sent}
+use Rattle.dap_end.proofs.Asked.{asked_history, handed_is, handed_history, read_grows, still_received, still_sent}
 use Rattle.dap_end.proofs.Packets.{written_on}
 use Rattle.dap_end.proofs.Hearing.{HandedOver}
 use Rattle.dap_end.proofs.Ways.{IsWay, AreJoined, swapped, comes}
@@ -109,7 +109,7 @@ hands past old heard handed h (inr k) =
     subst (Hands past old heard) (sym (handed_is heard handed k.0 one))
     (record {
       now = record past { handed = past.handed ++ heard.port.outbox };
-      is = subst (HasAsked (record past { handed = past.handed ++ heard.port.outbox })) (handed_is heard handed k.0 one) (handed_past heard handed k.0 one past h);
+      is = subst (HasAsked (record past { handed = past.handed ++ heard.port.outbox })) (handed_is heard handed k.0 one) (handed_history heard handed k.0 one past h);
       requests = refl;
       answers = refl;
       more = heard.port.outbox;
@@ -163,7 +163,7 @@ module _ (link : LinkValue) (handed given : List (List ℕ)) (wire : List Writte
       let a = t.1 in
       record {
         asked = asked_one j.asked old.a.present.identity request;
-        asking = asked_past request old.a new.a t.0 a j.asked j.asking;
+        asking = asked_history request old.a new.a t.0 a j.asked j.asking;
         requests = ap (λ (l : List Request). l ++ request ∷ []) j.requests ∙ sym more;
         told = t.3 ∙ j.told ∙ sym (a.asks.told j.asked.requests j.asked.answers j.asking.asking);
         ways =

@@ -30,7 +30,7 @@ use Rattle.dap_end.specs.Inner.Wanting.{went_wanting, took_wanting}
 use Rattle.dap_msg.proofs.ForCallers.{one_item}
 use Rattle.nsp_link.proofs.ForCallers.{may_queue_parts}
 use Rattle.dap_end.proofs.Taking.{grown}
-use Rattle.dap_end.proofs.Afterwards.{after_received, posted_is, posted_past}
+use Rattle.dap_end.proofs.Afterwards.{after_received, posted_is, posted_history}
 use Rattle.dap_end.proofs.Proceeding.{all_grew, still_sent}
 use Rattle.dap_end.proofs.Turning.{DoAlike, no_want, went_same, took_same}
 use Rattle.dap_end.specs.Inner.ServingView.{with_port}
@@ -90,7 +90,7 @@ serves_once most past old one two h (goes p m k n x has y on) begins a b = absur
 serves_once most past old one two h (goes p m k n x has y on) (goes q l j i z room w other) a b =
     let posted : q ≡ p = posted_is old q j z ∙ sym (posted_is old p k x) in
     let now = record past { handed = past.handed ++ old.port.outbox } in
-    let after = posted_past old p k x past h in
+    let after = posted_history old p k x past h in
     let same = serving_one now p m l n i after y (subst (λ (v : ServingValue). ServedOne v l i) posted w) in
     serves_once most (served now y.one.bytes y.one.item y.one.next) m one two (y.past now after) on (subst (λ (v : ServingValue). ServedInTurn most v two) (sym same.0) other) a b
 

@@ -31,9 +31,9 @@ use Rattle.dap_end.specs.Calls.{EndEvent, Came, GoesOn, Repeats, AskingEvent, As
 use Rattle.dap_end.specs.Agreement.{IsBufsiz, asked_answers, AreAllAdmissible}
 use Rattle.dap_end.specs.Agreement.{AreExpected}
 use Rattle.dap_end.proofs.Agreeing.{none-unexpected}
-use Rattle.dap_end.proofs.AllRead.{all_read, answers-front, admissible-more}
+use Rattle.dap_end.proofs.AllRead.{all_read, answers-prefix, admissible-more}
 use Rattle.dap_end.proofs.ServingOne.{port_given, port_gone}
-use Rattle.dap_end.proofs.Fronts.{served_front}
+use Rattle.dap_end.proofs.Fronts.{served_prefix}
 use Rattle.dap_end.proofs.Running.{answers_from}
 use Rattle.dap_end.proofs.Proceeding.{worked_grew}
 use Rattle.dap_end.proofs.Asked.{handed_is, read_grows}
@@ -47,11 +47,11 @@ pub in_order : (first : Files) (p : Pair) (j : IsLinked first p) (items : List I
 in_order first p j items front =
     let own = p.b.present.setup in
     let t = first_ones j.asked.asked j.asked.handed p.a.port.outbox j.served.items j.asking.full j.asking.fit j.asking.waiting
-    (served_front p.b.port.link p.a.port.link.setup.seg_size j.asked.handed j.served.given p.b.port.offset j.served.items j.ways.there.positive j.ways.there.stands j.serving.gone) in
+    (served_prefix p.b.port.link p.a.port.link.setup.seg_size j.asked.handed j.served.given p.b.port.offset j.served.items j.ways.there.positive j.ways.there.stands j.serving.gone) in
     let packets = answers_to own j.served.first [] j.served.items in
     let answers : messages_in packets ≡ Answers own j.served.first j.served.items = answers_from own j.served.first [] j.served.items in
     let r = first_ones packets j.served.handed p.b.port.outbox items (answers_full own j.served.first [] j.served.items) (subst AllFit (sym answers) j.serving.fit) j.serving.answers front in
-    let more = answers-front own first (map Whole t.taken) (map Whole t.rest) in
+    let more = answers-prefix own first (map Whole t.taken) (map Whole t.rest) in
     let asked : map Whole t.taken ++ map Whole t.rest ≡ map Whole (Asked p.a.present.identity p.requests) =
     sym (map-append Whole t.taken t.rest) ∙ ap (map Whole) (t.split ∙ j.asking.messages ∙ ap (Asked p.a.present.identity) j.requests) in
     let some : r.taken ++ r.rest ≡ Answers own first (map Whole t.taken) =
@@ -65,7 +65,7 @@ in_order first p j items front =
 read_before : (first : Files) (p : Pair) (j : IsLinked first p) → (back : List Item) × (j.asked.answers ++ back ≡ map Whole (asked_answers p.a.present.identity p.b.present.setup first p.requests))
 read_before first p j =
     in_order first p j j.asked.answers
-    (served_front p.a.port.link p.b.port.link.setup.seg_size j.served.handed j.asked.given p.a.port.offset j.asked.answers j.ways.back.positive j.ways.back.stands j.asking.gone)
+    (served_prefix p.a.port.link p.b.port.link.setup.seg_size j.served.handed j.asked.given p.a.port.offset j.asked.answers j.ways.back.positive j.ways.back.stands j.asking.gone)
 
 -- ---- The requests are admissible.
 
@@ -163,7 +163,7 @@ next_expected first good p s bytes later answer next fits came reads =
     let gone = port_gone p.a.port bytes later next j.asked.given j.asked.answers answer fits came j.asking.gone reads within in
     let stands = port_given p.a.port bytes later next size j.served.handed j.asked.given came j.ways.back.stands in
     let q = gone_on p.a.port bytes later next in
-    let front = served_front q.link size j.served.handed (processed_after j.asked.given bytes next) q.offset (j.asked.answers ++ answer ∷ []) j.ways.back.positive stands gone in
+    let front = served_prefix q.link size j.served.handed (processed_after j.asked.given bytes next) q.offset (j.asked.answers ++ answer ∷ []) j.ways.back.positive stands gone in
     let all = in_order first p j (j.asked.answers ++ answer ∷ []) front in
     let split : j.asked.answers ++ answer ∷ all.0 ≡ map Whole (asked_answers p.a.present.identity p.b.present.setup first p.requests) = sym (append_assoc j.asked.answers (answer ∷ []) all.0) ∙ all.1 in
     λ wrong. all_expected first good p s j.asked.answers all.0 answer split (ap (λ (l : List Request). is_unexpected l j.asked.answers answer) (sym j.requests) ∙ wrong)

@@ -10,15 +10,15 @@ pub use Rattle.dap_end.proofs.Asked.{Asked-more}
 pub use Rattle.dap_end.proofs.Asked.{sendable-fit}
 -- no NSP message is empty: of two lists, of those that are blocked, of answers, of a front
 pub use Rattle.dap_end.proofs.Asked.{full-both, full-blocked}
-pub use Rattle.dap_end.proofs.Joined.{answers_full, front_full}
+pub use Rattle.dap_end.proofs.Joined.{answers_full, prefix_full}
 -- there are no more NSP messages than messages
 pub use Rattle.dap_end.proofs.Asked.{few_blocked}
 -- messages have spellings: those of two lists, of a front, of the rest
 pub use Rattle.dap_end.proofs.ServingOne.{fit-both}
-pub use Rattle.dap_end.proofs.Joined.{front_fit, back_fit}
+pub use Rattle.dap_end.proofs.Joined.{prefix_fit, back_fit}
 -- what a request that was asked, and what was passed on, leave
-pub use Rattle.dap_end.proofs.Asked.{asked_past, handed_is, handed_past}
-pub use Rattle.dap_end.proofs.Afterwards.{posted_is, posted_past}
+pub use Rattle.dap_end.proofs.Asked.{asked_history, handed_is, handed_history}
+pub use Rattle.dap_end.proofs.Afterwards.{posted_is, posted_history}
 -- the packets of one segment more; segments have one list of packets
 pub use Rattle.dap_end.proofs.Emitting.{segments_more, wrote_nothing}
 pub use Rattle.dap_end.proofs.Writing.{segments_one}
@@ -29,7 +29,7 @@ pub use Rattle.dap_end.proofs.Alike.{alike_done, has_sent, asking_one, going_ali
 pub use Rattle.dap_end.proofs.Known.{IsKnown, new_known, going_known, taking_known}
 -- two ends: each request has one report, no answer is unexpected, and after them the ends agree
 pub use Rattle.dap_end.proofs.Agreeing.{one-report-each, none-unexpected, both-agree}
-pub use Rattle.dap_end.proofs.AllRead.{all_told, all_read, answers-front, admissible-more}
+pub use Rattle.dap_end.proofs.AllRead.{all_told, all_read, answers-prefix, admissible-more}
 pub use Rattle.dap_end.proofs.Goes.{limit-own}
 -- what a link of which a message more came leaves of what was processed; and one item more
 pub use Rattle.dap_end.proofs.Taking.{Grown, grown}
@@ -38,7 +38,7 @@ pub use Rattle.dap_end.proofs.ServingOne.{port_given, port_gone}
 -- the packets that an end wrote, after one that came
 pub use Rattle.dap_end.proofs.Packets.{ack_written, written_on}
 -- what was processed is of what the peer sent; and items that are a front of messages are the first of these
-pub use Rattle.dap_end.proofs.Fronts.{served_front}
+pub use Rattle.dap_end.proofs.Fronts.{served_prefix}
 pub use Rattle.dap_end.proofs.Joined.{Taken, first_ones}
 -- two links, each of which takes what the other sends: a packet comes, and an end writes one, or goes on
 pub use Rattle.dap_end.proofs.Ways.{AreJoined, swapped, comes}
@@ -51,7 +51,7 @@ pub use Rattle.dap_end.proofs.Proceeding.{none_short}
 pub use Rattle.dap_end.proofs.Stepping.{SteppedBy, RunsIn, AreCalls, ack_is, again_is, going_on_is, runs_then, taken_is}
 -- events of a client, with what it wrote and reported before
 pub use Rattle.dap_end.proofs.Hearing.{requests_of}
-pub use Rattle.dap_end.proofs.Calling.{SoFar, behind_these}
+pub use Rattle.dap_end.proofs.Calling.{SoFar, after_these}
 pub use Rattle.dap_end.proofs.Arriving.{asked_as}
 -- what two ends that are alike do is alike; what waits is refused for one reason, and not where it may be passed on
 pub use Rattle.dap_end.proofs.Turning.{DoAlike, no_want, took_same, went_same}

@@ -60,8 +60,8 @@ gone_front given inbox rest offset items g = λ all k.
 pub here_front : (given inbox : List (List ℕ)) (offset : ℕ) (items : List Item) → GoneThrough given inbox offset items → AreFrontOf (given ++ inbox) items
 here_front given inbox offset items g = subst (λ (l : List (List ℕ)). AreFrontOf (given ++ l) items) (append-nil inbox) (gone_front given inbox [] offset items g)
 
-pub served_front : (v : LinkValue) (size : ℕ) (messages given : List (List ℕ)) (offset : ℕ) (items : List Item) → 0 < size → Stands v size messages given → GoneThrough given v.coming.inbox offset items → AreFrontOf messages items
-served_front v size messages given offset items pos s g =
+pub served_prefix : (v : LinkValue) (size : ℕ) (messages given : List (List ℕ)) (offset : ℕ) (items : List Item) → 0 < size → Stands v size messages given → GoneThrough given v.coming.inbox offset items → AreFrontOf messages items
+served_prefix v size messages given offset items pos s g =
     let w = whole_of v.coming size messages given pos s.taken in
     let rest = drop w.count messages in
     let is : given ++ (v.coming.inbox ++ rest) ≡ messages = sym (append_assoc given v.coming.inbox rest) ∙ ap (λ (l : List (List ℕ)). l ++ rest) w.inbox ∙ take-append-drop w.count messages in

@@ -18,10 +18,10 @@ use Rattle.dap_end.specs.Calls.{numbered_packets, WroteOne, EndEvent, Came, Goes
 use Rattle.dap_end.specs.Calls.{AskingEvent, Asks, By, HeardMore, AskingStepped, AskingEventRuns, requests_in}
 use Rattle.dap_end.specs.Histories.{asked_one}
 use Rattle.dap_end.proofs.Taking.{grown}
-use Rattle.dap_end.proofs.Asked.{ReadMore, asked_past, handed_is, handed_past, still_received, still_sent, read_grows}
+use Rattle.dap_end.proofs.Asked.{ReadMore, asked_history, handed_is, handed_history, still_received, still_sent, read_grows}
 use Rattle.dap_end.proofs.Packets.{all_written, still_written, written_on, numbered_written, one_written}
 use Rattle.dap_end.proofs.Running.{StandsThen, then_stands, sent_link, stepped_by}
-use Rattle.dap_end.proofs.Fronts.{served_front}
+use Rattle.dap_end.proofs.Fronts.{served_prefix}
 
 -- what the end did: these requests were asked, these reports told, and these packets written
 pub record Asked_So (requests : List Request) (reports : List Report) (wrote : List Written) (v : AskingValue) : Type 0 where
@@ -75,7 +75,7 @@ handed_so requests reports wrote old new (inl same) t = subst (Asked_So requests
 handed_so requests reports wrote old new (inr h) t =
     record {
       past = record t.past { handed = t.past.handed ++ old.port.outbox };
-      is = handed_past old new h.0 h.1 t.past t.is;
+      is = handed_history old new h.0 h.1 t.past t.is;
       asked = t.asked;
       told = t.told;
       packets =
@@ -118,7 +118,7 @@ step_so comes requests (old, reports, wrote) (new, after, all) (Asks request) ws
     let a = s.1 in
     record {
       past = asked_one t.past old.present.identity request;
-      is = asked_past request old new s.0 a t.past t.is;
+      is = asked_history request old new s.0 a t.past t.is;
       asked = ap (λ (l : List Request). l ++ request ∷ []) t.asked;
       told = s.3 ∙ t.told ∙ sym (a.asks.told t.past.requests t.past.answers t.is.asking);
       packets = subst (λ (p : PortValue). AreWrittenOf p.link t.past.handed all) (sym a.port) (subst (AreWrittenOf old.port.link t.past.handed) (sym s.4) t.packets);
@@ -162,7 +162,7 @@ asked_stands v size messages given new request n a s = subst (λ p. StandsThen p
 handed_listens : (size : ℕ) (messages : List (List ℕ)) (old new : AskingValue) → HandedOver old new → Listens size messages old → Listens size messages new
 handed_listens size messages old new (inl same) t = subst (Listens size messages) (sym same) t
 handed_listens size messages old new (inr h) t =
-    record { past = record t.past { handed = t.past.handed ++ old.port.outbox }; is = handed_past old new h.0 h.1 t.past t.is; stands = handed_stands old size messages t.past.given new h.0 h.1 t.stands }
+    record { past = record t.past { handed = t.past.handed ++ old.port.outbox }; is = handed_history old new h.0 h.1 t.past t.is; stands = handed_stands old size messages t.past.given new h.0 h.1 t.stands }
 
 sent_listens : (size : ℕ) (messages : List (List ℕ)) (old new : AskingValue) (packets : List (List ℕ)) → WroteMore old.port new.port packets → new ≡ record old { port = new.port } → Listens size messages old → Listens size messages new
 sent_listens size messages old new packets w e t =
@@ -176,7 +176,7 @@ step_listens size messages (old, _, _) (new, _, _) (By (Came bytes)) ws (s, e) t
     subst (Listens size messages) (sym s.3)
     (record { past = t.past; is = still_received old s.1 g s.2.sends t.past t.is; stands = then_stands old.port.link s.1 size messages t.past.given bytes s.0 s.6 t.stands s.2 })
 step_listens size messages (old, _, _) (new, _, _) (Asks request) ws s t =
-    record { past = asked_one t.past old.present.identity request; is = asked_past request old new s.0 s.1 t.past t.is; stands = asked_stands old size messages t.past.given new request s.0 s.1 t.stands }
+    record { past = asked_one t.past old.present.identity request; is = asked_history request old new s.0 s.1 t.past t.is; stands = asked_stands old size messages t.past.given new request s.0 s.1 t.stands }
 step_listens size messages (old, _, _) (new, _, _) (By GoesOn) ws (s, e) t =
     let (heard, read, over) = s.2 in
     let m = read_grows old heard read.0 read.2 in
@@ -202,7 +202,7 @@ pub run_hears : (size : ℕ) (messages : List (List ℕ)) (events : List AskingE
     → AskingEventRuns (IsFromPeer size messages) old events new reports wrote → (past : ClientHistory) × HasAsked past new × AreFrontOf messages past.answers
 run_hears size messages events old new reports wrote pos h stands works r =
     let t = run_listens size messages events (old, [], []) (new, reports, wrote) r (record { past = nothing_asked; is = h; stands = (stands, works) }) in
-    (t.past, t.is, served_front new.port.link size messages t.past.given new.port.offset t.past.answers pos t.stands.0 t.is.gone)
+    (t.past, t.is, served_prefix new.port.link size messages t.past.given new.port.offset t.past.answers pos t.stands.0 t.is.gone)
 
 pub run_stands : (size : ℕ) (messages : List (List ℕ)) (events : List AskingEvent) (old new : AskingValue) (reports : List Report) (wrote : List Written) → HasAsked nothing_asked old → StandsThen old.port.link size messages []
     → AskingEventRuns (IsFromPeer size messages) old events new reports wrote → (given : List (List ℕ)) × StandsThen new.port.link size messages given

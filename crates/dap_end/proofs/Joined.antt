@@ -33,7 +33,7 @@ use Rattle.dap_end.specs.Inner.Running.{AreOpposite, AreNew, PairHeadline}
 use Rattle.dap_end.proofs.Taking.{grown}
 use Rattle.dap_end.proofs.Afterwards.{after_received}
 use Rattle.dap_end.proofs.Proceeding.{still_sent, worked_grew}
-use Rattle.dap_end.proofs.Fronts.{served_front}
+use Rattle.dap_end.proofs.Fronts.{served_prefix}
 use Rattle.dap_end.proofs.Asked.{full-blocked, full-both}
 use Rattle.dap_end.proofs.Packets.{written_on}
 use Rattle.dap_end.proofs.Running.{in_append, answers_from}
@@ -45,9 +45,9 @@ use Rattle.dap_end.specs.Inner.ServingView.{with_port}
 
 -- ---- The items of NSP messages that are messages joined.
 
-pub front_fit : (xs ys : List Message) → AllFit (xs ++ ys) → AllFit xs
-front_fit [] ys h = tt
-front_fit (x ∷ xs) ys h = (h.0, front_fit xs ys h.1)
+pub prefix_fit : (xs ys : List Message) → AllFit (xs ++ ys) → AllFit xs
+prefix_fit [] ys h = tt
+prefix_fit (x ∷ xs) ys h = (h.0, prefix_fit xs ys h.1)
 
 pub back_fit : (xs ys : List Message) → AllFit (xs ++ ys) → AllFit ys
 back_fit [] ys h = h
@@ -56,7 +56,7 @@ back_fit (x ∷ xs) ys h = back_fit xs ys h.1
 items_of : (packets : List NspMessage) → AreFull packets → AllFit (messages_in packets) → AreItemsOf (all_joined packets) (map Whole (messages_in packets))
 items_of [] full fit = refl
 items_of (p ∷ packets) full fit =
-    (map Whole p, map Whole (messages_in packets), map-append Whole p (messages_in packets), are_items p (front_fit p (messages_in packets) fit) full.0, items_of packets full.1 (back_fit p (messages_in packets) fit))
+    (map Whole p, map Whole (messages_in packets), map-append Whole p (messages_in packets), are_items p (prefix_fit p (messages_in packets) fit) full.0, items_of packets full.1 (back_fit p (messages_in packets) fit))
 
 -- a front of the bytes of each is those of a front
 record Front (packets : List NspMessage) (handed : List (List ℕ)) : Type 0 where
@@ -78,9 +78,9 @@ front_of (m ∷ handed) waiting (p ∷ packets) e =
       is = ap (λ (b : List ℕ). b ∷ handed) first ∙ ap (λ (l : List (List ℕ)). blocked_bytes p ∷ l) later.is;
     }
 
-pub front_full : (xs ys : List NspMessage) → AreFull (xs ++ ys) → AreFull xs
-front_full [] ys h = tt
-front_full (x ∷ xs) ys h = (h.0, front_full xs ys h.1)
+pub prefix_full : (xs ys : List NspMessage) → AreFull (xs ++ ys) → AreFull xs
+prefix_full [] ys h = tt
+prefix_full (x ∷ xs) ys h = (h.0, prefix_full xs ys h.1)
 
 -- items that are a front of messages are the first of these
 pub record Taken (messages : List Message) (items : List Item) : Type 0 where
@@ -107,7 +107,7 @@ pub first_ones : (packets : List NspMessage) (handed waiting : List (List ℕ)) 
 first_ones packets handed waiting items full fit bytes front =
     let f = front_of handed waiting packets bytes in
     let all : messages_in packets ≡ messages_in f.front ++ messages_in f.rest = ap messages_in f.split ∙ in_append f.front f.rest in
-    let of_front = items_of f.front (front_full f.front f.rest (subst AreFull f.split full)) (front_fit (messages_in f.front) (messages_in f.rest) (subst AllFit all fit)) in
+    let of_front = items_of f.front (prefix_full f.front f.rest (subst AreFull f.split full)) (prefix_fit (messages_in f.front) (messages_in f.rest) (subst AllFit all fit)) in
     let goes = subst (λ (l : List (List ℕ)). AreFrontOf l items) f.is front (map Whole (messages_in f.front)) of_front in
     let t = taken_of (messages_in f.front) items goes.0 goes.1 in
     record {
@@ -139,11 +139,11 @@ pub headline : (first : Files) (p : Pair) → IsLinked first p → PairHeadline 
 headline first p j =
     let own = p.b.present.setup in
     let t = first_ones j.asked.asked j.asked.handed p.a.port.outbox j.served.items j.asking.full j.asking.fit j.asking.waiting
-    (served_front p.b.port.link p.a.port.link.setup.seg_size j.asked.handed j.served.given p.b.port.offset j.served.items j.ways.there.positive j.ways.there.stands j.serving.gone) in
+    (served_prefix p.b.port.link p.a.port.link.setup.seg_size j.asked.handed j.served.given p.b.port.offset j.served.items j.ways.there.positive j.ways.there.stands j.serving.gone) in
     let packets = answers_to own j.served.first [] j.served.items in
     let answers : messages_in packets ≡ Answers own j.served.first j.served.items = answers_from own j.served.first [] j.served.items in
     let r = first_ones packets j.served.handed p.b.port.outbox j.asked.answers (answers_full own j.served.first [] j.served.items) (subst AllFit (sym answers) j.serving.fit) j.serving.answers
-    (served_front p.a.port.link p.b.port.link.setup.seg_size j.served.handed j.asked.given p.a.port.offset j.asked.answers j.ways.back.positive j.ways.back.stands j.asking.gone) in
+    (served_prefix p.a.port.link p.b.port.link.setup.seg_size j.served.handed j.asked.given p.a.port.offset j.asked.answers j.ways.back.positive j.ways.back.stands j.asking.gone) in
     record {
       taken = t.taken;
       taken_in_order = (t.rest, t.split ∙ j.asking.messages ∙ ap (Asked p.a.present.identity) j.requests);

@@ -28,7 +28,7 @@ use Rattle.dap_end.specs.Turns.{DidAll, WroteThen, TookIn, TakesPacket, WentOn}
 use Rattle.dap_end.specs.Histories.{Still}
 use Rattle.dap_end.specs.Taking.{serves}
 use Rattle.dap_end.proofs.Taking.{grown}
-use Rattle.dap_end.proofs.Afterwards.{after_received, posted_is, posted_past}
+use Rattle.dap_end.proofs.Afterwards.{after_received, posted_is, posted_history}
 use Rattle.dap_end.proofs.Proceeding.{still_by}
 use Rattle.nsp_link.proofs.ForCallers.{taken_count}
 use Rattle.dap_end.proofs.Determined.{no_next}
@@ -108,12 +108,12 @@ known_in old link bytes r h still k = known_by old link (comes_by old.port.link.
 
 posted_known : (v new : ServingValue) (n : ℕ) → HandsOver v new n → IsKnown v → IsKnown new
 posted_known v new n p (past, h, inl came) =
-    (record past { handed = past.handed ++ v.port.outbox }, posted_past v new n p past h, inl (subst (λ (w : ServingValue). HasCome w.port) (sym (posted_is v new n p)) came))
+    (record past { handed = past.handed ++ v.port.outbox }, posted_history v new n p past h, inl (subst (λ (w : ServingValue). HasCome w.port) (sym (posted_is v new n p)) came))
 posted_known v new n p (past, h, inr none) =
     let first = nothing_yet past.first in
     let there : IsAfter first v = subst (λ (q : ServerHistory). IsAfter q v) none.0 h in
     let outbox : v.port.outbox ≡ [] = there.answers in
-    let after : IsAfter first new = subst (λ (l : List (List ℕ)). IsAfter (record first { handed = l }) new) outbox (posted_past v new n p first there) in
+    let after : IsAfter first new = subst (λ (l : List (List ℕ)). IsAfter (record first { handed = l }) new) outbox (posted_history v new n p first there) in
     (first, after, inr (refl, ap (λ (w : ServingValue). w.port.link.coming.inbox) (posted_is v new n p) ∙ none.1))
 
 served_known : (v new : ServingValue) (n : ℕ) → ServedOne v new n → IsKnown v → IsKnown new

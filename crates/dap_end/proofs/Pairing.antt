@@ -12,7 +12,7 @@ use Rattle.dap_end.specs.Calls.{EndEvent, Stepped, ServerRuns, AskingEvent, Aski
 use Rattle.dap_end.proofs.Stepping.{runs_then}
 use Rattle.dap_end.proofs.Running as serving
 use Rattle.dap_end.proofs.Hearing.{requests_of}
-use Rattle.dap_end.proofs.Calling.{SoFar, behind_these}
+use Rattle.dap_end.proofs.Calling.{SoFar, after_these}
 use Rattle.dap_end.proofs.Arriving.{served_as, asked_as}
 
 asking_events : (p : Pair) (events : List AskingEvent) (now : SoFar) → RunsBy (AskingStepped (IsBrought p.from_b)) (p.a, p.reports, p.from_a) events now
@@ -30,7 +30,7 @@ pub asking_pair : (old : Pair) (a : AskingValue) (came : List Arrival) (requests
 asking_pair old a came requests reports wrote brought run =
     let r = asked_as (IsBrought old.from_b) came requests old.a a reports wrote brought run in
     let now : SoFar = (a, old.reports ++ reports, old.from_a ++ wrote) in
-    let all = asking_events old r.0 now (behind_these (IsBrought old.from_b) r.0 old.a a old.reports reports old.from_a wrote r.2) in
+    let all = asking_events old r.0 now (after_these (IsBrought old.from_b) r.0 old.a a old.reports reports old.from_a wrote r.2) in
     (map AtA r.0, subst (λ (l : List Request). RunsBy PairStepped old (map AtA r.0) (record old { a = a; from_a = old.from_a ++ wrote; requests = old.requests ++ l; reports = old.reports ++ reports })) (sym r.1) all)
 
 abbrev Wrote : Type 0

@@ -24,7 +24,7 @@ use Rattle.dap_end.specs.Moved.{sent_more}
 use Rattle.dap_end.specs.Taking.{HasRoom, serves}
 use Rattle.dap_end.specs.Calls.{WorkedOn, nothing_done, item_served, outbox_posted}
 use Rattle.dap_end.specs.Inner.Running.{Grew, ServedMore}
-use Rattle.dap_end.proofs.Afterwards.{posted_is, posted_past}
+use Rattle.dap_end.proofs.Afterwards.{posted_is, posted_history}
 use Rattle.dap_end.proofs.ServingOne.{port_given}
 use Rattle.dap_end.proofs.Turning.{went_by}
 use Rattle.dap_end.proofs.Going.{item_ends}
@@ -93,7 +93,7 @@ more_posted v new n p =
       link = refl;
       own = refl;
       setup = refl;
-      past = λ past h. (record past { handed = past.handed ++ v.port.outbox }, posted_grew past v (may_queue_parts v.port.link v.port.outbox p.0).1 (subst (IsAfter (record past { handed = past.handed ++ v.port.outbox })) (posted_is v new n p) (posted_past v new n p past h)));
+      past = λ past h. (record past { handed = past.handed ++ v.port.outbox }, posted_grew past v (may_queue_parts v.port.link v.port.outbox p.0).1 (subst (IsAfter (record past { handed = past.handed ++ v.port.outbox })) (posted_is v new n p) (posted_history v new n p past h)));
     })
 
 -- what left, and what is left

@@ -34,7 +34,7 @@ use Rattle.dap_end.specs.Headline.{Written, written_bytes, AreWrittenOf, IsFromP
 use Rattle.dap_end.specs.Calls.{numbered_packets, WroteOne, EndEvent, Came, GoesOn, Repeats, EndStepped, Stepped, EventRuns, RunsAs}
 use Rattle.dap_end.proofs.Taking.{grown}
 use Rattle.dap_end.proofs.Afterwards.{after_received}
-use Rattle.dap_end.proofs.Fronts.{served_front}
+use Rattle.dap_end.proofs.Fronts.{served_prefix}
 use Rattle.dap_end.proofs.Packets.{all_written, still_written, written_on, numbered_written, one_written}
 use Rattle.dap_end.proofs.Proceeding.{still_sent, worked_grew, one_served, one_posted, all_worked}
 use Rattle.dap_end.specs.Inner.ServingView.{with_port}
@@ -209,7 +209,7 @@ pub run_from : (events : List EndEvent) (old new : ServingValue) (wrote : List W
     → EventRuns (IsFromPeer size messages) old events new wrote → (now : ServerHistory) × IsAfter now new × (now.first ≡ past.first) × AreFrontOf messages now.items
 run_from events old new wrote size messages past pos is stands works r =
     let h = run_hears events (old, []) (new, wrote) size messages past.first r (record { past = past; is = is; had = refl; stands = stands; works = works }) in
-    (h.past, h.is, h.had, served_front new.port.link size messages h.past.given new.port.offset h.past.items pos h.stands h.is.gone)
+    (h.past, h.is, h.had, served_prefix new.port.link size messages h.past.given new.port.offset h.past.items pos h.stands h.is.gone)
 
 -- so the link stands where it should
 pub run_stands : (events : List EndEvent) (old new : ServingValue) (wrote : List Written) (size : ℕ) (messages : List (List ℕ)) (past : ServerHistory) → IsAfter past old → StandsThen old.port.link size messages past.given

@@ -58,7 +58,7 @@ pub enum Step {
 #[derive(Clone, Copy, Drop, Debug, PartialEq, Eq, Error)]
 pub enum WorldFault {
     /// The other end wrote no packet at this index.
-    #[error("the other end wrote no packet of this place")]
+    #[error("the other end wrote no packet of this index")]
     NoSuchPacket,
     /// The segment or the acknowledgement is more than 2,047 numbers old.
     #[error("the segment or the acknowledgement is more than 2,047 numbers old")]

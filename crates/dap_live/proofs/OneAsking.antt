@@ -26,7 +26,7 @@ use Rattle.dap_end.specs.Asking.{HasAsked, AskedOne, HasDone}
 use Rattle.dap_end.specs.Hearing.{hears}
 use Rattle.dap_end.specs.Done.{AskingValue, ClientHistory, nothing_asked}
 use Rattle.dap_end.specs.Turns.{TakesPacket, WentOn}
-use Rattle.dap_end.proofs.ForCallers.{asked_past, has_sent, asking_one, going_alike, taking_alike}
+use Rattle.dap_end.proofs.ForCallers.{asked_history, has_sent, asking_one, going_alike, taking_alike}
 use Rattle.linewise.specs.declared.talking.Became.{Became}
 use Rattle.linewise.specs.declared.talking.Became.TheVariants.{Done, NoMemory}
 use Rattle.linewise.specs.Talks.{HaveOneText}
@@ -231,7 +231,7 @@ it_one each old other one two request said more m n past h same nm nn x y =
     let there : ClientGoesOn (begun each request (record other { end = y.1 })) (front_text (front.Asked x.0)) two more n =
     subst (λ (k : ℕ). ClientGoesOn (begun each request (record other { end = y.1 })) (front_text (front.Asked k)) two more n) (sym t.1) y.3 in
     let now : AreSameAsking (begun each request (record old { end = x.1 })) (begun each request (record other { end = y.1 })) =
-    (t.0, same.1, same.2, refl, ap (λ (b : Bool). each_after each request b) same.4, inl (_, asked_past request old.end x.1 x.0 x.2 past h)) in
+    (t.0, same.1, same.2, refl, ap (λ (b : Bool). each_after each request b) same.4, inl (_, asked_history request old.end x.1 x.0 x.2 past h)) in
     going_same (begun each request (record old { end = x.1 })) (begun each request (record other { end = y.1 })) (front_text (front.Asked x.0)) said more one two m n now nm nn x.3 there
 
 -- it was asked of one, and refused by the other

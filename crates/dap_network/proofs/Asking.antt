@@ -10,7 +10,7 @@ use Rattle.dap_end.specs.Done.{AskingValue}
 use Rattle.dap_end.specs.Headline.{Arrival, Written}
 use Rattle.dap_end.specs.Joined.{IsBrought}
 use Rattle.dap_end.specs.Runs.{RunsBy}
-use Rattle.dap_end.proofs.ForCallers.{SoFar, asked_as, behind_these, requests_of, runs_then}
+use Rattle.dap_end.proofs.ForCallers.{SoFar, asked_as, after_these, requests_of, runs_then}
 use Rattle.dap_network.specs.Calls.{Leads, peer_then}
 use Rattle.dap_network.specs.Network.{AtPeer, Network, NetworkRuns, NetworkStepped, Peer, PeerStepped}
 use Rattle.dap_network.proofs.Sets.{set_again, set_here, set_same}
@@ -42,7 +42,7 @@ module _ (link : ℕ) where
   peer_leads old peer client came requests reports wrote at brought run =
       let r = asked_as (IsBrought peer.from_node) came requests peer.client client reports wrote brought run in
       let now : SoFar = (client, peer.reports ++ reports, peer.from_peer ++ wrote) in
-      let all = asking_events old peer r.0 now at (behind_these (IsBrought peer.from_node) r.0 peer.client client peer.reports reports peer.from_peer wrote r.2) in
+      let all = asking_events old peer r.0 now at (after_these (IsBrought peer.from_node) r.0 peer.client client peer.reports reports peer.from_peer wrote r.2) in
       (map (AtPeer link) r.0, subst (λ (l : List Request). NetworkRuns old (map (AtPeer link) r.0) (with_the_peer old (peer_after peer l now))) (sym r.1) all)
 
 pub leads_on : (old mid new : Network) → Leads old mid → Leads mid new → Leads old new

@@ -19,7 +19,7 @@ use Rattle.dap_end.specs.Joined.{IsBrought}
 use Rattle.dap_end.specs.Moved.{with_link}
 use Rattle.dap_end.specs.Ports.{PortValue, new_port}
 use Rattle.dap_end.specs.Writing.{WroteMore}
-use Rattle.dap_end.proofs.ForCallers.{AreJoined, Client, IsJoinedTo, asks, comes, first_ones, goes, grown, new_joined, served_front, swapped, written_on, wrote_one}
+use Rattle.dap_end.proofs.ForCallers.{AreJoined, Client, IsJoinedTo, asks, comes, first_ones, goes, grown, new_joined, served_prefix, swapped, written_on, wrote_one}
 use Rattle.dap_network.specs.Network.{IsNewPeer, Peer}
 use Rattle.dap_network.proofs.Standing.{PortGrew, PortStands, stands_new, stands_received, stands_sent}
 
@@ -51,9 +51,9 @@ kept items answers port peer j =
     let c = j.joined in
     let a = peer.client.port in
     let t = first_ones c.asked.asked c.asked.handed a.outbox items c.asking.full c.asking.fit c.asking.waiting
-    (served_front port.link a.link.setup.seg_size c.asked.handed j.given port.offset items c.ways.there.positive c.ways.there.stands j.stands.gone) in
+    (served_prefix port.link a.link.setup.seg_size c.asked.handed j.given port.offset items c.ways.there.positive c.ways.there.stands j.stands.gone) in
     let r = first_ones j.packets j.handed port.outbox c.asked.answers j.stands.full (subst AllFit (sym j.stands.told) j.stands.fit) j.stands.waiting
-    (served_front a.link port.link.setup.seg_size j.handed c.asked.given a.offset c.asked.answers c.ways.back.positive c.ways.back.stands c.asking.gone) in
+    (served_prefix a.link port.link.setup.seg_size j.handed c.asked.given a.offset c.asked.answers c.ways.back.positive c.ways.back.stands c.asking.gone) in
     record {
       taken = t.taken;
       served = t.is;

@@ -72,8 +72,8 @@ impl Counts {
 }
 
 /// Puts a byte at an index, if there is one.
-fn put(bytes: &mut [u8], place: usize, value: u8) {
-    if let Some(byte) = bytes.get_mut(place) {
+fn put(bytes: &mut [u8], index: usize, value: u8) {
+    if let Some(byte) = bytes.get_mut(index) {
         *byte = value;
     }
 }
@@ -81,18 +81,18 @@ fn put(bytes: &mut [u8], place: usize, value: u8) {
 /// Gives each change of the byte at this index, and puts the right one back.
 fn change<T: Taking>(
     bytes: &mut [u8],
-    place: usize,
+    index: usize,
     right: u8,
     taking: &mut T,
     counts: &mut Counts,
 ) -> Result<(), Trouble> {
     for value in 0..=255 {
         if value != right {
-            put(bytes, place, value);
+            put(bytes, index, value);
             counts.add(taking.take(bytes)?);
         }
     }
-    put(bytes, place, right);
+    put(bytes, index, right);
     Ok(())
 }
 
@@ -107,8 +107,8 @@ pub fn alter<T: Taking>(
         counts.add(taking.take(&bytes[..len])?);
     }
     let mut altered = Vec::from_slice(alloc, bytes)?;
-    for (place, right) in bytes.iter().enumerate() {
-        change(&mut altered, place, *right, taking, counts)?;
+    for (index, right) in bytes.iter().enumerate() {
+        change(&mut altered, index, *right, taking, counts)?;
     }
     Ok(())
 }
@@ -186,8 +186,8 @@ impl Taking for Served {
 pub fn alter_served(alloc: Global) -> Result<Counts, Trouble> {
     let mut counts = Counts::new();
     for session in [RECORDS, STORING] {
-        for (place, message) in session.iter().enumerate() {
-            let before = &session[..place];
+        for (index, message) in session.iter().enumerate() {
+            let before = &session[..index];
             alter(alloc, message, &mut Served { alloc, before }, &mut counts)?;
         }
     }
@@ -247,8 +247,8 @@ impl Taking for Heard {
 pub fn alter_heard(alloc: Global) -> Result<Counts, Trouble> {
     let mut counts = Counts::new();
     for session in [ASKED_RECORDS, ASKED_STORING] {
-        for (place, line) in session.iter().enumerate() {
-            let before = &session[..place];
+        for (index, line) in session.iter().enumerate() {
+            let before = &session[..index];
             if let Line::Hear(answer) = line {
                 alter(alloc, answer, &mut Heard { alloc, before }, &mut counts)?;
             }

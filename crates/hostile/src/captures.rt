@@ -127,8 +127,8 @@ impl Frames {
 }
 
 impl Growing for Frames {
-    fn call(&mut self, place: usize) -> Result<(), Trouble> {
-        let file = match place {
+    fn call(&mut self, index: usize) -> Result<(), Trouble> {
+        let file = match index {
             0 => PCAP,
             1 => PCAPNG,
             _ => return Err(Trouble::Over),

@@ -31,8 +31,8 @@ impl Serving {
 }
 
 impl Growing for Serving {
-    fn call(&mut self, place: usize) -> Result<(), Trouble> {
-        let message = at(self.messages, place)?;
+    fn call(&mut self, index: usize) -> Result<(), Trouble> {
+        let message = at(self.messages, index)?;
         self.answers.reserve()?;
         let served = self.end.serve(message, 0)?;
         self.answers.note_all("answer", &served.answers);
@@ -117,8 +117,8 @@ const PROBES: [Request; 5] = [
 ];
 
 impl Growing for Asking {
-    fn call(&mut self, place: usize) -> Result<(), Trouble> {
-        match at(self.lines, place)? {
+    fn call(&mut self, index: usize) -> Result<(), Trouble> {
+        match at(self.lines, index)? {
             Line::Ask(words) => self.ask(words),
             Line::Hear(answer) => self.hear(answer),
         }

@@ -122,8 +122,8 @@ fn perform(file: &mut AnyFile, stream: &mut Stream, act: Act) -> Result<(), Trou
 }
 
 impl Growing for Filing {
-    fn call(&mut self, place: usize) -> Result<(), Trouble> {
-        let act = at(self.acts, place)?;
+    fn call(&mut self, index: usize) -> Result<(), Trouble> {
+        let act = at(self.acts, index)?;
         perform(&mut self.file, &mut self.stream, act)
     }
 

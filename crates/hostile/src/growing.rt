@@ -119,23 +119,23 @@ impl From<WorldFault> for Trouble {
 /// What is called, and what its readers answer.
 pub trait Growing {
     /// Makes the call at this index.
-    fn call(&mut self, place: usize) -> Result<(), Trouble>;
+    fn call(&mut self, index: usize) -> Result<(), Trouble>;
 
     /// Appends what all readers answer.
     fn look(&self, seen: &mut Text);
 }
 
 /// Returns what is at this index of a table of calls.
-pub fn at<T: Copy>(table: &[T], place: usize) -> Result<T, Trouble> {
-    match table.get(place) {
+pub fn at<T: Copy>(table: &[T], index: usize) -> Result<T, Trouble> {
+    match table.get(index) {
         Some(found) => Ok(*found),
         None => Err(Trouble::Over),
     }
 }
 
 /// Keeps what was made.
-pub fn put<T: Drop>(place: &mut Option<T>, made: T) {
-    *place = Some(made);
+pub fn put<T: Drop>(slot: &mut Option<T>, made: T) {
+    *slot = Some(made);
 }
 
 /// Returns what was made, where the rest is done too.
@@ -166,7 +166,7 @@ impl Ending {
             Ending::Twice => " wanted memory twice, and changed nothing",
             Ending::UnreadyTwice => " could not be made: what it is given wanted memory twice",
             Ending::Changed => " wanted memory, and CHANGED what the readers answer",
-            Ending::Wrong => " was REFUSED for another reason than want of memory",
+            Ending::Wrong => " was REFUSED, and not for memory",
             Ending::Unable => " no memory to begin with, or nothing can be written",
         }
     }
@@ -257,7 +257,7 @@ impl Seen {
     fn tell(
         &mut self,
         name: &str,
-        place: usize,
+        index: usize,
         first: Trouble,
         ended: Result<bool, Ending>,
     ) -> io::Result<()> {
@@ -269,7 +269,7 @@ impl Seen {
         line.clear();
         line.put(front.as_bytes());
         line.put(name.as_bytes());
-        line.show(&place);
+        line.show(&index);
         line.put(text.as_bytes());
         line.put(b"\n");
         line.write(&mut self.told)
@@ -279,14 +279,14 @@ impl Seen {
 /// Makes a call again that wanted memory, where nothing has changed. Returns whether there is one.
 fn again<G: Growing>(
     subject: &mut G,
-    place: usize,
+    index: usize,
     seen: &mut Seen,
     goes_on: bool,
 ) -> Result<bool, Ending> {
     if !goes_on {
         seen.look_after(subject)?;
     }
-    let second = match subject.call(place) {
+    let second = match subject.call(index) {
         Ok(()) => return Ok(true),
         Err(Trouble::Over) => return Ok(false),
         Err(second) => second,
@@ -301,16 +301,16 @@ fn again<G: Growing>(
 fn call_again<G: Growing>(
     name: &str,
     subject: &mut G,
-    place: usize,
+    index: usize,
     seen: &mut Seen,
     first: Trouble,
 ) -> Result<bool, Ending> {
     let ended = match first {
         Trouble::Wrong => Err(Ending::Wrong),
-        Trouble::Stopped => again(subject, place, seen, true),
-        _ => again(subject, place, seen, false),
+        Trouble::Stopped => again(subject, index, seen, true),
+        _ => again(subject, index, seen, false),
     };
-    seen.tell(name, place, first, ended)?;
+    seen.tell(name, index, first, ended)?;
     ended
 }
 
@@ -318,14 +318,14 @@ fn call_again<G: Growing>(
 fn call_surely<G: Growing>(
     name: &str,
     subject: &mut G,
-    place: usize,
+    index: usize,
     seen: &mut Seen,
 ) -> Result<bool, Ending> {
     seen.look_before(subject)?;
-    match subject.call(place) {
+    match subject.call(index) {
         Ok(()) => Ok(true),
         Err(Trouble::Over) => Ok(false),
-        Err(first) => call_again(name, subject, place, seen, first),
+        Err(first) => call_again(name, subject, index, seen, first),
     }
 }
 
@@ -336,9 +336,9 @@ pub fn make_all<G: Growing + Drop>(
     seen: &mut Seen,
 ) -> Result<(), Ending> {
     let mut count = 0;
-    for place in 0..usize::MAX {
-        count = place;
-        if !call_surely(name, &mut subject, place, seen)? {
+    for index in 0..usize::MAX {
+        count = index;
+        if !call_surely(name, &mut subject, index, seen)? {
             break;
         }
     }

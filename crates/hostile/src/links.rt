@@ -141,9 +141,9 @@ fn perform(
         Act::Send(message) => Ok(end.send(message)?),
         Act::SendAll(list) => send_all(alloc, end, list),
         Act::Next => keep_next(packets, end.next_packet()),
-        Act::Resend(place) => keep(packets, end.resend(place)),
+        Act::Resend(index) => keep(packets, end.resend(index)),
         Act::Acknowledge => keep(packets, end.ack_packet()),
-        Act::Receive(place) => note_got(got, end.receive(packet_of(packets, place))),
+        Act::Receive(index) => note_got(got, end.receive(packet_of(packets, index))),
     }
 }
 
@@ -176,11 +176,11 @@ impl Links {
 }
 
 impl Growing for Links {
-    fn call(&mut self, place: usize) -> Result<(), Trouble> {
+    fn call(&mut self, index: usize) -> Result<(), Trouble> {
         let Some(pair) = &mut self.pair else {
             return self.begin();
         };
-        let (end, act) = at(ACTS, place.saturating_sub(1))?;
+        let (end, act) = at(ACTS, index.saturating_sub(1))?;
         let end = match end {
             End::A => &mut pair.a,
             End::B => &mut pair.b,

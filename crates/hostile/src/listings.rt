@@ -182,8 +182,8 @@ impl Listing {
 }
 
 impl Growing for Listing {
-    fn call(&mut self, place: usize) -> Result<(), Trouble> {
-        let (engine, mut reader, end, text) = at(self.rows, place)?;
+    fn call(&mut self, index: usize) -> Result<(), Trouble> {
+        let (engine, mut reader, end, text) = at(self.rows, index)?;
         match run(self.alloc, engine, &mut reader, &mut self.written)? {
             came if came == end && self.written.ends_with(text) => Ok(()),
             End::Fault(CaptureFault::NoMemory) => Err(Trouble::Wants),

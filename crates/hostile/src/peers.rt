@@ -236,7 +236,7 @@ fn asking_writes(end: &mut AskingEnd, deed: Deed, out: &mut Vec<Vec<u8>>) -> Res
     out.reserve(1)?;
     match deed {
         Emits => keep_next(out, end.emit()),
-        Resends(place) => keep(out, end.resend(place)),
+        Resends(index) => keep(out, end.resend(index)),
         _ => keep(out, end.ack()),
     }
 }
@@ -246,7 +246,7 @@ fn serving_writes(end: &mut ServingEnd, deed: Deed, out: &mut Vec<Vec<u8>>) -> R
     out.reserve(1)?;
     match deed {
         Emits => keep_next(out, end.emit()),
-        Resends(place) => keep(out, end.resend(place)),
+        Resends(index) => keep(out, end.resend(index)),
         _ => keep(out, end.ack()),
     }
 }
@@ -287,8 +287,8 @@ impl Peers {
         };
         let (from, out) = (&self.by_serving, &mut self.by_asking);
         match deed {
-            Takes(place) => asking_takes(end, packet_of(from, place), out, &mut self.reports),
-            Receives(place) => linked(end.receive(packet_of(from, place))),
+            Takes(index) => asking_takes(end, packet_of(from, index), out, &mut self.reports),
+            Receives(index) => linked(end.receive(packet_of(from, index))),
             GoesOn => Ok(end.go_on(out, &mut self.reports)?),
             Posts => linked(end.post()),
             Renews => linked(end.renew(self.alloc, ASKING)),
@@ -303,8 +303,8 @@ impl Peers {
         };
         let (from, out) = (&self.by_asking, &mut self.by_serving);
         match deed {
-            Takes(place) => serving_takes(end, packet_of(from, place), out),
-            Receives(place) => linked(end.receive(packet_of(from, place))),
+            Takes(index) => serving_takes(end, packet_of(from, index), out),
+            Receives(index) => linked(end.receive(packet_of(from, index))),
             GoesOn => serving_goes_on(end, out),
             Posts => linked(end.post()),
             Renews => linked(end.renew(self.alloc, SERVING)),
@@ -336,8 +336,8 @@ impl Peers {
 }
 
 impl Growing for Peers {
-    fn call(&mut self, place: usize) -> Result<(), Trouble> {
-        self.perform(at(ACTS, place.saturating_sub(1))?)
+    fn call(&mut self, index: usize) -> Result<(), Trouble> {
+        self.perform(at(ACTS, index.saturating_sub(1))?)
     }
 
     fn look(&self, seen: &mut Text) {

@@ -46,12 +46,12 @@ impl Sharing {
 }
 
 impl Growing for Sharing {
-    fn call(&mut self, place: usize) -> Result<(), Trouble> {
+    fn call(&mut self, index: usize) -> Result<(), Trouble> {
         let Some(shared) = &mut self.shared else {
             self.shared = Some(SharedFiles::new(self.alloc, BUFFER, 2)?);
             return Ok(());
         };
-        let (link, message) = at(self.messages, place.saturating_sub(1))?;
+        let (link, message) = at(self.messages, index.saturating_sub(1))?;
         if link >= shared.links() {
             return Err(Trouble::Wrong);
         }

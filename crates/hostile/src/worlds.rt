@@ -160,8 +160,8 @@ pub const SETTLING: Script = &[
 ];
 
 /// Returns the act at this index of a script.
-fn act_at(script: Script, place: usize) -> Option<Act> {
-    let mut rest = place;
+fn act_at(script: Script, index: usize) -> Option<Act> {
+    let mut rest = index;
     for part in script {
         if let Some(act) = part.get(rest) {
             return Some(*act);
@@ -240,7 +240,7 @@ fn event(world: &World, act: Act) -> Event {
     match act {
         Act::Post(end) => Event::Post(end),
         Act::Emit(end) => Event::Emit(end),
-        Act::Resend(end, place) => Event::Resend(end, place),
+        Act::Resend(end, index) => Event::Resend(end, index),
         Act::Acknowledge(end) => Event::Ack(end),
         Act::Take(A) => Event::Deliver(A, last(world, B)),
         Act::Take(B) => Event::Deliver(B, last(world, A)),
@@ -287,11 +287,11 @@ fn look_at_side(world: &World, end: End, seen: &mut Text) {
 }
 
 impl Growing for Playing {
-    fn call(&mut self, place: usize) -> Result<(), Trouble> {
+    fn call(&mut self, index: usize) -> Result<(), Trouble> {
         let Some(world) = &mut self.world else {
             return self.begin();
         };
-        match act_at(self.script, place.saturating_sub(1)) {
+        match act_at(self.script, index.saturating_sub(1)) {
             Some(act) => perform(self.alloc, world, act, &mut self.steps),
             None => Err(Trouble::Over),
         }
@@ -368,8 +368,8 @@ fn directed(alloc: Global, setup: WorldSetup) -> Result<World, Trouble> {
 }
 
 impl Growing for Directing {
-    fn call(&mut self, place: usize) -> Result<(), Trouble> {
-        if place > 0 {
+    fn call(&mut self, index: usize) -> Result<(), Trouble> {
+        if index > 0 {
             return Err(Trouble::Over);
         }
         put(&mut self.world, directed(self.alloc, self.setup)?);

@@ -33,8 +33,8 @@ impl Writers {
 const IMAGE: [u8; 255] = [0x55; 255];
 
 /// Writes the field at this index.
-fn write_field(place: usize, out: &mut Vec<u8>) -> Result<(), FieldFault> {
-    match place {
+fn write_field(index: usize, out: &mut Vec<u8>) -> Result<(), FieldFault> {
+    match index {
         0 => write_u8(7, out),
         1 => write_u16(1024, out),
         2 => write_ex(550, out),
@@ -62,20 +62,20 @@ fn write_packet(bytes: &[u8], out: &mut Vec<u8>) -> Result<(), Trouble> {
 const FIELDS: usize = 4;
 
 /// Writes what is at this index, where there is something.
-fn write(place: usize, out: &mut Vec<u8>) -> Result<(), Trouble> {
-    if place < FIELDS {
-        return Ok(write_field(place, out)?);
+fn write(index: usize, out: &mut Vec<u8>) -> Result<(), Trouble> {
+    if index < FIELDS {
+        return Ok(write_field(index, out)?);
     }
-    let place = place - FIELDS;
-    match MESSAGES.get(place) {
+    let index = index - FIELDS;
+    match MESSAGES.get(index) {
         Some(bytes) => write_message(bytes, out),
-        None => write_packet(at(PACKETS, place - MESSAGES.len())?, out),
+        None => write_packet(at(PACKETS, index - MESSAGES.len())?, out),
     }
 }
 
 /// Writes what is at this index after the prefix, which stays where it is refused.
-fn write_behind(place: usize, out: &mut Vec<u8>) -> Result<(), Trouble> {
-    let written = write(place, out);
+fn write_after(index: usize, out: &mut Vec<u8>) -> Result<(), Trouble> {
+    let written = write(index, out);
     if written.is_err() && out.as_slice() != FRONT {
         return Err(Trouble::Wrong);
     }
@@ -83,9 +83,9 @@ fn write_behind(place: usize, out: &mut Vec<u8>) -> Result<(), Trouble> {
 }
 
 impl Growing for Writers {
-    fn call(&mut self, place: usize) -> Result<(), Trouble> {
+    fn call(&mut self, index: usize) -> Result<(), Trouble> {
         let mut out = Vec::from_slice(self.alloc, FRONT)?;
-        write_behind(place, &mut out)?;
+        write_after(index, &mut out)?;
         append_blocked(self.alloc, &mut self.blocked, &out, 64)?;
         self.written.push(out)?;
         Ok(())

@@ -97,7 +97,7 @@ pub enum SegFault {
     #[error("the field at byte {0} is missing or not whole")]
     Truncated(usize),
     /// What is from this offset on may not follow an acknowledgement.
-    #[error("what stands from byte {0} on may not follow an acknowledgement")]
+    #[error("the bytes from byte {0} on may not follow an acknowledgement")]
     Trailing(usize),
     /// This first byte is neither that of a data segment nor that of a data acknowledgement.
     #[error("the first byte {0:#04x} is neither that of a data segment nor of a data acknowledgement")]

@@ -67,7 +67,7 @@ fn begins_at(rt: &impl Abort, file: &RelFile, firsts: &[(u32, Option<u32>)]) {
 fn removes_each(rt: &impl Abort, file: &mut RelFile) {
     for (number, left) in REMOVALS {
         removes(rt, file, *number);
-        assert!(rt; sizes(file) == *left, "behind {number}");
+        assert!(rt; sizes(file) == *left, "after {number}");
     }
 }
 

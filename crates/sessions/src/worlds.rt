@@ -90,8 +90,8 @@ fn put_step(world: &World, writer: End, step: Step, out: &mut Out) {
     match step {
         Step::Asked(count) => out.number("asked ", count),
         Step::Posted(count) => out.number("posted ", count),
-        Step::Packet(place) => {
-            out.number("packet ", place);
+        Step::Packet(index) => {
+            out.number("packet ", index);
             out.put(" ");
             put_newest(world, writer, out);
         }
@@ -123,9 +123,9 @@ fn happen_so(world: &mut World, call: &mut Call, out: &mut Out) {
 
 /// Emits the next segment of one end, and delivers it to the other.
 fn carry(world: &mut World, from: End, to: End) -> Result<(), WorldFault> {
-    let place = world.wire(from).len();
+    let index = world.wire(from).len();
     world.apply(&Event::Emit(from))?;
-    world.apply(&Event::Deliver(to, place))?;
+    world.apply(&Event::Deliver(to, index))?;
     Ok(())
 }
 
@@ -175,9 +175,9 @@ fn bring(world: &mut World, segments: usize, window: usize) -> Result<(), WorldF
     for sent in 0..segments {
         carry(world, End::A, End::B)?;
         if window > 0 && sent % window == window - 1 {
-            let place = world.wire(End::B).len();
+            let index = world.wire(End::B).len();
             world.apply(&Event::Ack(End::B))?;
-            world.apply(&Event::Deliver(End::A, place))?;
+            world.apply(&Event::Deliver(End::A, index))?;
         }
     }
     Ok(())

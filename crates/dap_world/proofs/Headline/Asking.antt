@@ -22,8 +22,8 @@ pub all_read : (own_a own_b : ℕ) (rs : List Request) (front back : List Item) 
 all_read own_a own_b rs front back expected e none = of_any.all_read (plain_identity own_a) (plain_setup own_b) [] rs front back expected e none
 
 -- the answers to a front of items are a front of the answers
-pub answers-front : (own : ℕ) (items more : List Item) → (rest : List Message) × (Answers own [] items ++ rest ≡ Answers own [] (items ++ more))
-answers-front own items more = of_any.answers-front (plain_setup own) [] items more
+pub answers-prefix : (own : ℕ) (items more : List Item) → (rest : List Message) × (Answers own [] items ++ rest ≡ Answers own [] (items ++ more))
+answers-prefix own items more = of_any.answers-prefix (plain_setup own) [] items more
 
 -- one request more that was admissible
 pub admissible-more : (own_a own_b : ℕ) (before rs : List Request) (r : Request) → AreAdmissible own_a own_b before rs

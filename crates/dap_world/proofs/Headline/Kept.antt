@@ -31,7 +31,7 @@ use Rattle.dap_world.specs.Inner.Parts.{Parts, state_of}
 use Rattle.dap_world.specs.Inner.Worlds.{WasSent, IsDirection, IsWorld, ReachesPeer}
 use Rattle.dap_world.specs.Headline.{HeadlineOf}
 use Rattle.dap_world.proofs.Headline.Agreeing.{none-unexpected}
-use Rattle.dap_world.proofs.Headline.Asking.{all_read, answers-front, admissible-more}
+use Rattle.dap_world.proofs.Headline.Asking.{all_read, answers-prefix, admissible-more}
 use Rattle.dap_world.proofs.Steps.Directions.{kept-there, kept-writes, kept-acked, kept-came, segments_of-append, AreTrue-at}
 use Rattle.dap_world.proofs.Steps.Packets.{arrived-front, arrived-more, arrived-later, get-front, take-next, served-stays}
 
@@ -109,7 +109,7 @@ pub read-front : (s : State) → IsWorld s → (back : List Item) × (answers_re
 read-front s h =
     let asked = served-front s h in
     let answers = Answers s.own_b [] (map Whole (served_by_b s)) in
-    let more = answers-front s.own_b (map Whole (served_by_b s)) (map Whole asked.0) in (
+    let more = answers-prefix s.own_b (map Whole (served_by_b s)) (map Whole asked.0) in (
       map Whole (drop s.read answers ++ more.0),
       sym (map-append Whole (take s.read answers) (drop s.read answers ++ more.0))
           ∙ ap (map Whole) (sym (append_assoc (take s.read answers) (drop s.read answers) more.0) ∙ ap (λ (l : List Message). l ++ more.0) (take-append-drop s.read answers)

@@ -11,7 +11,7 @@ use Rattle.dap_msg.specs.Items.{ItemAt}
 use Rattle.dap_msg.specs.Canon.{canon, Fits}
 use Rattle.dap_msg.specs.Blocked.{NspMessage, blocked_bytes, all_joined, messages_in, AllFit}
 use Rattle.dap_msg.proofs.ForCallers.{one_item, stands_some}
-use Rattle.dap_end.proofs.ForCallers.{back_fit, front_fit, in_append}
+use Rattle.dap_end.proofs.ForCallers.{back_fit, prefix_fit, in_append}
 use Rattle.dap_end.specs.Histories.{AreFull}
 use Rattle.dap_world.specs.Inner.Splitting.{SplitsOne}
 use Rattle.dap_world.proofs.Headline.Reading.{at_item, fit_at, ends_at, bytes_at, joined-one}
@@ -121,7 +121,7 @@ record Nth (packets : List NspMessage) (n : ℕ) (bytes : List ℕ) : Type 0 whe
 
 nth : (packets : List NspMessage) (n : ℕ) (bytes : List ℕ) → AreFull packets → AllFit (messages_in packets) → slice_get (all_joined packets) n ≡ Some bytes → Nth packets n bytes
 nth [] n bytes full fit at = let none : ⊥ = cc in absurd none
-nth (p ∷ packets) zero bytes full fit at = record { packet = p; front = refl; bytes_are = (cc); full = full.0; fit = front_fit p (messages_in packets) fit }
+nth (p ∷ packets) zero bytes full fit at = record { packet = p; front = refl; bytes_are = (cc); full = full.0; fit = prefix_fit p (messages_in packets) fit }
 nth (p ∷ packets) (suc n) bytes full fit at =
     let later = nth packets n bytes full.1 (back_fit p (messages_in packets) fit) at in
     record { packet = later.packet; front = ap (λ (l : List NspMessage). p ∷ l) later.front; bytes_are = later.bytes_are; full = later.full; fit = later.fit }

@@ -18,7 +18,7 @@ use Rattle.dap_world.specs.Inner.Ways.{IsWay}
 use Rattle.dap_world.specs.Inner.Parts.{IsCarried}
 use Rattle.dap_end.specs.Histories.{AreFull}
 use Rattle.dap_end.specs.Ports.{gone_on}
-use Rattle.dap_end.proofs.ForCallers.{back_fit, front_fit, in_append}
+use Rattle.dap_end.proofs.ForCallers.{back_fit, prefix_fit, in_append}
 use Rattle.dap_world.proofs.Steps.Counting.{segments-first, cut-none, handed-bytes}
 use Rattle.dap_world.proofs.Headline.Reading.{ends_at, fit_at, joined-one}
 use Rattle.dap_world.proofs.Headline.Splits.{some_bytes}
@@ -212,7 +212,7 @@ module _ (from to : SideValue) (packets : List NspMessage) (count : ℕ) (h : Is
         handled = h.among.handled;
         offset_is = h.among.offset_is;
         way = h.way;
-        fit = subst AllFit o.split (front_fit w.p (messages_in w.after) fits);
+        fit = subst AllFit o.split (prefix_fit w.p (messages_in w.after) fits);
         next = ap (λ (l : List NspMessage). slice_get (messages_in l) count) (came_whole ∙ all)
             ∙ next_is h.gone w.after h.among.begun o.more o.m w.k count h.among.handled;
       }

@@ -48,7 +48,7 @@ use Rattle.dap_end.specs.Ports.{PortValue}
 use Rattle.dap_end.specs.Asking.{AskedOne, HasAsked}
 use Rattle.dap_end.specs.Done.{AskingValue}
 use Rattle.dap_end.specs.Histories.{asked_one as one_asked}
-use Rattle.dap_end.proofs.ForCallers.{asked_past, sendable-fit}
+use Rattle.dap_end.proofs.ForCallers.{asked_history, sendable-fit}
 use Rattle.dap_world.proofs.Plain.{Asked-more}
 use Rattle.dap_world.specs.Inner.Sides.{AreWithinLimit, AskFaultOf, AskedSo, side_of}
 use Rattle.dap_world.specs.Inner.Parts.{Parts, AreParts, IsAskedAll, IsServedAll, IsCarried, asked_messages, answers, asking_end, serving_end, served_items, answer_packets, asked_packets, end_state, state_of}
@@ -224,7 +224,7 @@ asked_step p r v n requests h o told =
       now,
       subst (λ (port : PortValue). HasAsked now (record { port = port; present = as_client p v.present })) o.port
           (subst (λ (y : accessing.ClientState). HasAsked now (record { port = v.port; present = y })) own
-          (subst (λ (k : Configuration). HasAsked (one_asked past k r) v) h.plain_a (asked_past r (asking_end p) v n o past h.asking.1))),
+          (subst (λ (k : Configuration). HasAsked (one_asked past k r) v) h.plain_a (asked_history r (asking_end p) v n o past h.asking.1))),
     ) in
     let parts : AreParts q = parts_asked p h r m o.messages v.present more_is asking in
     let count : length (asking_of (state_of p) r) ≡ n = sym (length-map (asking_of (state_of p) r) blocked_bytes) ∙ ap length (sym spelled) ∙ sym o.count in

@@ -8,7 +8,7 @@ use Rattle.dap_msg.specs.Canon.{canon}
 use Rattle.dap_accessed.specs.Served.{AllAtMost}
 use Rattle.nsp_link.specs.Cutting.{cut, count_of}
 use Rattle.nsp_link.specs.Limits.{max_limit, max_segments}
-use Rattle.dap_end.proofs.ForCallers.{back_fit, fit-both, front_fit, in_append}
+use Rattle.dap_end.proofs.ForCallers.{back_fit, fit-both, prefix_fit, in_append}
 use Rattle.nsp_link.specs.Link.{LinkValue, with_inbox}
 use Rattle.dap_world.specs.Inner.Sides.{SideValue, AreWithinLimit}
 use Rattle.dap_world.specs.Inner.Parts.{IsCarried, IsAmong}
@@ -95,7 +95,7 @@ all_few size (p ∷ packets) most fit short le =
       first,
       rest,
       le,
-      as_many_bytes p (front_fit p (messages_in packets) fit),
+      as_many_bytes p (prefix_fit p (messages_in packets) fit),
       length-append p (messages_in packets),
       segments-first size (blocked_bytes p) (all_joined packets),
       count_one size (length (blocked_bytes p)),

@@ -17,7 +17,7 @@ use Rattle.nsp_link.specs.Link.{LinkValue, Sends, Writes}
 use Rattle.nsp_link.specs.Sending.{queued_link}
 use Rattle.nsp_link.proofs.ForCallers.{writes_more, stands_more, sends_all, may_queue_parts}
 use Rattle.dap_end.specs.Moved.{with_outbox_sent as port_posted}
-use Rattle.dap_end.proofs.ForCallers.{handed_is, handed_past, posted_is as hands_over, posted_past, back_fit, in_append}
+use Rattle.dap_end.proofs.ForCallers.{handed_is, handed_history, posted_is as hands_over, posted_history, back_fit, in_append}
 use Rattle.dap_end.specs.Asking.{HasAsked}
 use Rattle.dap_end.specs.Ports.{HandsOver as HandedOver}
 use Rattle.dap_end.specs.Done.{AskingValue, ClientHistory}
@@ -255,7 +255,7 @@ pub post_a : (p : Parts) (v : AskingValue) (posted : ℕ) (sent : List (List ℕ
     → OnErr r ((v ≡ asking_end p) × (posted ≡ p.a.posted) × (sent ≡ p.sent)) → IfErr r (PostFault p.a.link p.a.outbox)
     → AreThen p (event.Post A) (record (asking_parts p v posted p.a.wire) { sent = sent }) r
 post_a p v posted sent (Ok answer) h so all more same err =
-    let goes : HandsOver p A = λ past has. subst (λ (x : AskingValue). HasAsked (record past { handed = past.handed ++ p.a.outbox }) x) (handed_is (asking_end p) v (length p.a.outbox) all) (handed_past (asking_end p) v (length p.a.outbox) all past has) in
+    let goes : HandsOver p A = λ past has. subst (λ (x : AskingValue). HasAsked (record past { handed = past.handed ++ p.a.outbox }) x) (handed_is (asking_end p) v (length p.a.outbox) all) (handed_history (asking_end p) v (length p.a.outbox) all past has) in
     let done = posted_step p A more.0 h so.2 (may_queue_parts p.a.link p.a.outbox all.0).2 more.2 goes in
     rw (so.0, handed_is (asking_end p) v (length p.a.outbox) all, so.1, more.1) done
 post_a p v posted sent (Err f) h so all more same err = rw (same.0, same.1, same.2) (h, post_refused p A f h err)
@@ -265,7 +265,7 @@ pub post_b : (p : Parts) (v : ServingValue) (posted : ℕ) (r : Result Step Worl
     → OnErr r ((v ≡ serving_end p) × (posted ≡ p.b.posted)) → IfErr r (PostFault p.b.link p.b.outbox)
     → AreThen p (event.Post B) (serving_parts p v posted p.b.wire) r
 post_b p v posted (Ok answer) h so handed same err =
-    let goes : HandsOver p B = λ past is. subst (λ (x : ServingValue). IsAfter (record past { handed = past.handed ++ p.b.outbox }) x) (hands_over (serving_end p) v (length p.b.outbox) handed) (posted_past (serving_end p) v (length p.b.outbox) handed past is) in
+    let goes : HandsOver p B = λ past is. subst (λ (x : ServingValue). IsAfter (record past { handed = past.handed ++ p.b.outbox }) x) (hands_over (serving_end p) v (length p.b.outbox) handed) (posted_history (serving_end p) v (length p.b.outbox) handed past is) in
     let done = posted_step p B [] h so.2 (may_queue_parts p.b.link p.b.outbox handed.0).2 tt goes in
     rw (so.0, hands_over (serving_end p) v (length p.b.outbox) handed, so.1) done
 post_b p v posted (Err f) h so handed same err = rw (same.0, same.1) (h, post_refused p B f h err)

@@ -25,7 +25,7 @@ use Rattle.dap_end.specs.Ports.{PortValue}
 use Rattle.dap_end.specs.Serving.{IsAfter, MayServe, ServedOne}
 use Rattle.dap_end.specs.Done.{ServingValue, ServerHistory, answers_to}
 use Rattle.dap_accessed.specs.declared.setup.ServerSetup.{ServerSetup}
-use Rattle.dap_end.proofs.ForCallers.{back_fit, front_fit, front_full, in_append}
+use Rattle.dap_end.proofs.ForCallers.{back_fit, prefix_fit, prefix_full, in_append}
 use Rattle.dap_world.specs.Inner.Sides.{AreWithinLimit, side_of}
 use Rattle.dap_world.specs.Inner.Parts.{Parts, AreParts, IsAskedAll, IsServedAll, IsCarried, asked_messages, answers, asking_end, serving_end, served_items, answer_packets, end_state, state_of}
 use Rattle.dap_end.specs.Histories.{AreFull, served}
@@ -43,11 +43,11 @@ use Rattle.dap_world.proofs.Steps.Wrote.{AreThen, as_server, server_is, serving_
 -- ---- What B served.
 
 pub full-take : (n : ℕ) (xs : List NspMessage) → AreFull xs → AreFull (take n xs)
-full-take n xs h = front_full (take n xs) (drop n xs) (subst AreFull (sym (take-append-drop n xs)) h)
+full-take n xs h = prefix_full (take n xs) (drop n xs) (subst AreFull (sym (take-append-drop n xs)) h)
 
 pub fit-take : (n : ℕ) (xs : List NspMessage) → AllFit (messages_in xs) → AllFit (messages_in (take n xs))
 fit-take n xs h =
-    front_fit (messages_in (take n xs)) (messages_in (drop n xs))
+    prefix_fit (messages_in (take n xs)) (messages_in (drop n xs))
     (subst AllFit (ap messages_in (sym (take-append-drop n xs)) ∙ in_append (take n xs) (drop n xs)) h)
 
 -- all that was asked is what was passed on, and what waits

@@ -17,7 +17,7 @@ use Rattle.dap_world.specs.Runs.{Runs}
 use Rattle.dap_world.specs.Inner.Worlds.{IsWorld}
 use Rattle.dap_world.specs.Settling.{RanBy}
 use Rattle.dap_world.specs.Inner.Settling.{AsksNothing, RanTo, SameBut}
-use Rattle.dap_world.proofs.Headline.Asking.{answers-front}
+use Rattle.dap_world.proofs.Headline.Asking.{answers-prefix}
 use Rattle.dap_world.proofs.Stretch.Bringing.{same_emit, same_ack, same_deliver, same_wrote}
 use Rattle.dap_world.proofs.Headline.Kept.{kept-step, taken-more, headline_of}
 use Rattle.dap_world.proofs.Steps.Packets.{served-stays}
@@ -137,7 +137,7 @@ ran_still old new n r none = nothing r.events r.ran (r.count ∙ none)
 pub answers_stay : (old new : State) → IsWorld old → Onward old new → (k : ℕ) → k ≤ old.read → take k (Answers new.own_b [] (map Whole (served_by_b new))) ≡ take k (Answers old.own_b [] (map Whole (served_by_b old)))
 answers_stay old new h on k le =
     let items = map Whole (served_by_b old) in
-    let front = answers-front old.own_b items (map Whole on.more) in
+    let front = answers-prefix old.own_b items (map Whole on.more) in
     let all : Answers new.own_b [] (map Whole (served_by_b new)) ≡ Answers old.own_b [] items ++ front.0 =
     ap (λ (n : ℕ). Answers n [] (map Whole (served_by_b new))) on.own_b
     ∙ ap (Answers old.own_b []) (ap (map Whole) on.taken ∙ map-append Whole (served_by_b old) on.more) ∙ sym front.1 in

@@ -21,7 +21,7 @@ use Rattle.dap_world.specs.Settling.{RanBy}
 use Rattle.dap_world.specs.Inner.Settling.{IsOneDue}
 use Rattle.dap_world.specs.Inner.Settling.{ReadPart}
 use Rattle.dap_world.proofs.Headline.Agreeing.{none-unexpected}
-use Rattle.dap_world.proofs.Headline.Asking.{all_told, answers-front}
+use Rattle.dap_world.proofs.Headline.Asking.{all_told, answers-prefix}
 use Rattle.dap_world.proofs.Headline.Kept.{came-handed, read-front, served-front}
 use Rattle.dap_world.proofs.Stretch.Onward.{ran_on, told_same}
 
@@ -47,7 +47,7 @@ some_due s h lt none =
     let front = read-front s h in
     let all = all_told s.own_a s.own_b s.requests (answers_read s) front.0 (none-unexpected s.own_a s.own_b h.own_a h.own_b s.requests h.admissible) front.1 none in
     let asked = served-front s h in
-    let more = answers-front s.own_b (map Whole (served_by_b s)) (map Whole asked.0) in
+    let more = answers-prefix s.own_b (map Whole (served_by_b s)) (map Whole asked.0) in
     let same : Answers s.own_b [] (map Whole (served_by_b s)) ++ more.0 ≡ request_answers s.own_a s.own_b s.requests =
     more.1 ∙ ap (Answers s.own_b []) (sym (map-append Whole (served_by_b s) asked.0) ∙ ap (map Whole) asked.1) in
     let answers = Answers s.own_b [] (map Whole (served_by_b s)) in

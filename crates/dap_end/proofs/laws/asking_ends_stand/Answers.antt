@@ -1,4 +1,4 @@
-use Rattle.dap_end.proofs.Asked.{asked_past, counted, handed_past, read_grows}
+use Rattle.dap_end.proofs.Asked.{asked_history, counted, handed_history, read_grows}
 use Rattle.dap_end.proofs.Fronts.{here_front}
 use Rattle.dap_end.proofs.Going.{next_items}
 use Rattle.dap_end.proofs.laws.asking_ends_stand.Goals as goal
@@ -7,10 +7,10 @@ pub returns-clause-front : goal.returns-clause-front
 returns-clause-front c = λ past v h. here_front past.given v.port.link.coming.inbox v.port.offset past.answers h.gone
 
 pub returns-clause-asked : goal.returns-clause-asked
-returns-clause-asked c = λ past request old new n h a. asked_past request old new n a past h
+returns-clause-asked c = λ past request old new n h a. asked_history request old new n a past h
 
 pub returns-clause-posted : goal.returns-clause-posted
-returns-clause-posted c = λ past old new n h p. handed_past old new n p past h
+returns-clause-posted c = λ past old new n h p. handed_history old new n p past h
 
 pub returns-clause-read_on : goal.returns-clause-read_on
 returns-clause-read_on c = λ past old new reports h on. counted past old new reports h (read_grows old new reports on)

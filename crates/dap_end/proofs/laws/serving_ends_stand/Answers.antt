@@ -1,6 +1,6 @@
 use Rattle.std.proofs.Common.{ap, []}
 use Rattle.dap_accessed.specs.Present.{Present}
-use Rattle.dap_end.proofs.Afterwards.{posted_past}
+use Rattle.dap_end.proofs.Afterwards.{posted_history}
 use Rattle.dap_end.proofs.Proceeding.{counted, turn_grew}
 use Rattle.dap_end.proofs.Fronts.{here_front}
 use Rattle.dap_end.proofs.Going.{next_items}
@@ -17,7 +17,7 @@ pub returns-clause-joined : goal.returns-clause-joined
 returns-clause-joined c = λ own first items. answers_from own first [] items
 
 pub returns-clause-posted : goal.returns-clause-posted
-returns-clause-posted c = λ past old new n h p. posted_past old new n p past h
+returns-clause-posted c = λ past old new n h p. posted_history old new n p past h
 
 pub returns-clause-served_on : goal.returns-clause-served_on
 returns-clause-served_on c = λ most past old new h on. counted past old new h (turn_grew most old new on)

@@ -7,7 +7,7 @@ use Rattle.dap_end.specs.Done.{AskingValue}
 use Rattle.dap_end.specs.Each.{with_told}
 use Rattle.dap_end.specs.Going.{processed_after}
 use Rattle.dap_end.specs.Moved.{with_outbox_sent}
-use Rattle.dap_end.proofs.Asked.{handed_is, handed_past, still_received, still_sent}
+use Rattle.dap_end.proofs.Asked.{handed_is, handed_history, still_received, still_sent}
 use Rattle.dap_end.proofs.Taking.{grown}
 use Rattle.dap_end.proofs.laws.taken_records_count.Goals as goal
 
@@ -31,7 +31,7 @@ returns-clause-received c = λ told past old new packet r h took.
 pub returns-clause-posted : goal.returns-clause-posted
 returns-clause-posted c = λ told past old new n h hands.
     subst (λ (v : AskingValue). HasAsked (record past { handed = past.handed ++ old.port.outbox }) (with_told told v)) (sym (handed_is old new n hands))
-    (handed_past (with_told told old) (with_told told (record old { port = with_outbox_sent old.port })) n (hands.0, refl, hands.2) past h)
+    (handed_history (with_told told old) (with_told told (record old { port = with_outbox_sent old.port })) n (hands.0, refl, hands.2) past h)
 
 pub returns-clause-wrote : goal.returns-clause-wrote
 returns-clause-wrote c = λ told past old new packets h rest wrote.
