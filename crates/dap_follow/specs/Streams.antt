@@ -49,6 +49,10 @@ pub record Sequenced : Type 0 where
   pub last : Bool
   pub payload : List ℕ
 
+-- a sequence number with this 12-bit number, from 2,047 below to 2,048 above the highest one before it
+abbrev pub IsNear : ℕ → ℕ → ℕ → Type 0
+IsNear highest number sequence = (highest ≤ sequence + 2047) × (sequence ≤ highest + 2048) × (sequence % 4096 ≡ number)
+
 -- Each number without modulus is the segment's number modulo 4,096, and is from 2,047 below to 2,048 above the
 -- highest one before it.
 pub data AreSequenced : ℕ → List (ℕ × SegmentFields) → List Sequenced → Type 0 where

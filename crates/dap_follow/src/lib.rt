@@ -12,4 +12,5 @@ pub use following::follow;
 pub use joining::{push_length, push_range, push_stream};
 pub use laws::cut_messages_are_listed;
 pub use reading::push_packet_line;
+pub use segments::{ROUND, sequence_near};
 pub use streams::Stream;

@@ -3,20 +3,21 @@
 ghost use Rattle.std.specs.Prelude.{◌≡◌, ◌≤◌, ◌<◌, ◌+◌, ◌%◌, ◌^◌, [], OnOk};
 ghost use Rattle.dap_follow.specs.Inner.InOrder.{IsPutIn, RisesCounted};
 ghost use Rattle.dap_follow.specs.Inner.Keeping.{IsAdded};
+ghost use Rattle.dap_follow.specs.Streams.{IsNear};
 
 use dap_listing::CapturedSegment;
 use nsp_link::MAX_AGE;
 use nsp_seg::{MODULUS, Seq12};
 use std::alloc::{AllocError, Global};
 
-/// How many numbers of segments there are.
-pub(crate) const ROUND: u64 = MODULUS as u64;
+/// How many 12-bit numbers of segments there are: sequence numbers begin here, so that one below the first is a number.
+pub const ROUND: u64 = MODULUS as u64;
 
 /// How far a segment's sequence number may be below the highest one before it: as far as its 12-bit number identifies
 /// it.
 const BELOW: u64 = MAX_AGE;
 
-/// A segment that counts: its sequence number (`sequence number`), the number of its packet, its marks, and the hex digits of
+/// A segment that counts: its sequence number, the number of its packet, its marks, and the hex digits of
 /// its payload.
 #[derive(Clone, Copy)]
 pub(crate) struct Counted<'a> {
@@ -27,16 +28,13 @@ pub(crate) struct Counted<'a> {
     pub(crate) payload: &'a [u8],
 }
 
-/// Returns the sequence number of a 12-bit number, from 2,047 below to 2,048 above the highest one before it.
-fn sequence_near(highest: u64, number: Seq12) -> u64
-    requires low { 4096 ≤ highest }
-    requires high { highest < 2 ^ 62 }
-    ensures low { highest ≤ result + 2047 }
-    ensures high { result ≤ highest + 2048 }
-    ensures number { result % 4096 ≡ number }
+/// Returns the sequence number of a segment's 12-bit number, from 2,047 below to 2,048 above the highest one before
+/// it, which is at least 4,096 and less than 2^62.
+pub fn sequence_near(highest: u64, number: Seq12) -> u64
+    ensures { 4096 ≤ highest → highest < 2 ^ 62 → IsNear highest number result }
 {
-    let lowest = highest - BELOW;
-    lowest + u64::from(number.ahead_of(Seq12::of(lowest)))
+    let lowest = highest.saturating_sub(BELOW);
+    lowest.saturating_add(u64::from(number.ahead_of(Seq12::of(lowest))))
 }
 
 /// Puts a segment under its sequence number, unless another has it.

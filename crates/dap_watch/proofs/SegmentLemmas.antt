@@ -6,11 +6,11 @@ use Rattle.std.proofs.lemmas.List.Elements.{filter-append}
 use Rattle.std.proofs.lemmas.Bool.Decides.{nat_tests}
 use Rattle.dap_listing.specs.Captured.{Spell, digit_bytes}
 use Rattle.dap_listing.specs.declared.captured.CapturedSegment.{CapturedSegment}
-use Rattle.dap_follow.specs.Streams.{Sequenced}
+use Rattle.dap_follow.specs.Streams.{IsNear, Sequenced}
 use Rattle.dap_follow.specs.Joined.{Fragment, is_message, latest, fragments_of}
 use Rattle.dap_follow.specs.Segments.{numbered_segment, sequenced_at}
 use Rattle.dap_watch.specs.Inner.Pieces.{Rises, all_segments, glue}
-use Rattle.dap_watch.specs.Inner.Kept.{AreTold, Ascends, Found, IsNear, IsOpen, IsSegment, IsListedPiece, KeepsPieces, KeepsSequenced, Puts, is_taken}
+use Rattle.dap_watch.specs.Inner.Kept.{AreTold, Ascends, Found, IsOpen, IsSegment, IsListedPiece, KeepsPieces, KeepsSequenced, Puts, is_taken}
 use Rattle.dap_watch.specs.declared.kept.Kept.{Kept}
 use Rattle.dap_watch.specs.declared.kept.KeptSegments.{KeptSegments}
 use Rattle.dap_watch.specs.declared.kept.Whole.{Whole}

@@ -4,20 +4,13 @@
 ghost use Rattle.std.specs.Prelude.{◌≡◌, ◌&&◌, true, ◌≤◌, ◌<◌, ◌+◌, ◌/◌, ◌^◌, [], IfOk, IfSome, OnOk, drop, length, take};
 ghost use Rattle.std.specs.List.{AllByRecursion};
 ghost use Rattle.dap_listing.specs.Captured.{Spell};
-ghost use Rattle.dap_watch.specs.Inner.Kept.{AbsorbsAfter, AbsorbsBefore, Ascends, Finds, IsAbsorbed, IsNear, IsSegment, Joins, Lists, Puts, kept_digits, do_join, is_taken as takes};
+ghost use Rattle.dap_watch.specs.Inner.Kept.{AbsorbsAfter, AbsorbsBefore, Ascends, Finds, IsAbsorbed, IsSegment, Joins, Lists, Puts, kept_digits, do_join, is_taken as takes};
 
+use dap_follow::{ROUND, sequence_near};
 use dap_listing::CapturedSegment;
-use nsp_link::MAX_AGE;
-use nsp_seg::{MODULUS, Seq12};
+use nsp_seg::Seq12;
 use std::alloc::{AllocError, Global};
 use std::marker::Model;
-
-/// How many numbers of segments there are.
-const ROUND: u64 = MODULUS as u64;
-
-/// How far a segment's sequence number may be below the highest one before it: as far as its 12-bit number identifies
-/// it.
-const BELOW: u64 = MAX_AGE;
 
 /// The hex digits of a payload, two for each byte.
 #[derive(Drop)]
@@ -152,14 +145,6 @@ impl Kept {
         }
         Ok(())
     }
-}
-
-/// Returns the sequence number of a 12-bit number, from 2,047 below to 2,048 above the highest one before it.
-fn sequence_near(highest: u64, number: Seq12) -> u64
-    ensures { 4096 ≤ highest → highest < 2 ^ 62 → IsNear highest number result }
-{
-    let lowest = highest.saturating_sub(BELOW);
-    lowest.saturating_add(u64::from(number.ahead_of(Seq12::of(lowest))))
 }
 
 /// Returns how many are below a sequence number.

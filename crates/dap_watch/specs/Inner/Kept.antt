@@ -3,7 +3,7 @@ use Rattle.std.specs.Prelude.{◌≡◌, ◌⊎◌, ⊤, ℕ, ◌+◌, ◌/◌, 
 use Rattle.std.specs.List.{AllByRecursion, filter, flat_map}
 use Rattle.dap_listing.specs.Captured.{Spell, digit_bytes}
 use Rattle.dap_listing.specs.declared.captured.CapturedSegment.{CapturedSegment}
-use Rattle.dap_follow.specs.Streams.{Sequenced}
+use Rattle.dap_follow.specs.Streams.{IsNear, Sequenced}
 use Rattle.dap_follow.specs.Joined.{Fragment, is_message, latest, payload, fragments_of, tail}
 use Rattle.dap_follow.specs.Segments.{numbered_segment, sequenced_at}
 use Rattle.dap_watch.specs.Watched.{whole_with}
@@ -39,10 +39,6 @@ pub record IsAbsorbed (one other joined : Kept) : Type 0 where
   pub last : joined.last ≡ other.last
   pub listed : joined.listed ≡ one.listed
   pub digits : kept_digits joined ≡ kept_digits one ++ kept_digits other
-
--- a sequence number with this 12-bit number, near the highest one
-abbrev pub IsNear : ℕ → ℕ → ℕ → Type 0
-IsNear highest number sequence = (highest ≤ sequence + 2047) × (sequence ≤ highest + 2048) × (sequence % 4096 ≡ number)
 
 -- each ends before those after it do
 abbrev pub Ascends : List Kept → Type 0
