@@ -3,7 +3,7 @@ use Rattle.std.proofs.Common.{◌≡◌, ℕ, ◌+◌, ◌≤◌, List, [], ◌+
 use Rattle.std.proofs.lemmas.List.{take-append-le}
 use Rattle.std.proofs.Math.Seq.{take-append_seam, drop-append_seam}
 use Rattle.capture_file.specs.Units.{IsUnit, extent_of, head_len, kept_prefix}
-use Rattle.capture_file.specs.Files.{IsCutShort, IsNone, IsPart, IsWhole, Stops, Units, clamped as offset_of}
+use Rattle.capture_file.specs.Files.{IsCutShort, IsNone, IsPart, IsWhole, Stops, Units, bounded_count as offset_of}
 use Rattle.capture_file.specs.Files.Units.{no_unit_more, one_unit_more}
 use Rattle.capture_file.specs.Meanings.{Record, format_after, interfaces_after, meaning_of, records_of}
 use Rattle.capture_file.specs.declared.fault.FaultKind.{FaultKind}

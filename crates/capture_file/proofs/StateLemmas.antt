@@ -3,10 +3,10 @@ use Rattle.std.proofs.Common.{◌≡◌, ℕ, ◌+◌, ◌-◌, ◌<◌, ◌≤�
 use Rattle.std.proofs.lemmas.List.{take-append-le, drop-append-le, drop_all, take_all, take-append-drop}
 use Rattle.std.proofs.lemmas.Bool.{cond_both, ltb-true, ltb-false}
 use Rattle.capture_file.specs.Units.{IsUnit, extent_of, head_len, kept_prefix}
-use Rattle.capture_file.specs.Files.{HasUnits, IsNone, Stops, Units, clamped}
+use Rattle.capture_file.specs.Files.{HasUnits, IsNone, Stops, Units, bounded_count}
 use Rattle.capture_file.specs.Files.Units.{no_unit_more, one_unit_more}
 use Rattle.capture_file.specs.Meanings.{Record, format_after, interfaces_after, meaning_of, records_of}
-use Rattle.capture_file.specs.Reading.{Gathers, HasRead, IsMeasured, given_in, keeps, wanted}
+use Rattle.capture_file.specs.Reading.{Gathers, HasRead, IsMeasured, given_in, keeps, wanted_count}
 use Rattle.capture_file.specs.Inner.State.{ReadsUnit, Lies, IsInUnits, KeepsUnits, given_by, goal_of}
 use Rattle.capture_file.specs.declared.fault.FaultKind.{FaultKind}
 use Rattle.capture_file.specs.declared.units.Extent.{Extent}
@@ -36,14 +36,14 @@ measured_more format (Some e) rest more m =
     (omega (arith, h, length-append rest more), rw take-append-le m.1, m.2, m.3)
 
 -- the aim is what is wanted, or less
-pub goal_within : (format : Format) (extent : Option Extent) (seen : ℕ) → (goal_of format extent seen).0 ≤ wanted format extent
+pub goal_within : (format : Format) (extent : Option Extent) (seen : ℕ) → (goal_of format extent seen).0 ≤ wanted_count format extent
 goal_within format None seen = omega arith
 goal_within format (Some e) seen =
     cond_both {A = ℕ × Bool} e.whole _ _ (λ goal. goal.0 ≤ e.long) (λ _. omega arith)
     (λ _. cond_both {A = ℕ × Bool} (nat_lt seen (e.long - 4)) _ _ (λ goal. goal.0 ≤ e.long) (λ _. omega arith) (λ _. omega arith))
 
 -- and lies ahead
-pub goal_ahead : (format : Format) (extent : Option Extent) (seen : ℕ) → seen < wanted format extent → seen < (goal_of format extent seen).0
+pub goal_ahead : (format : Format) (extent : Option Extent) (seen : ℕ) → seen < wanted_count format extent → seen < (goal_of format extent seen).0
 goal_ahead format None seen h = h
 goal_ahead format (Some e) seen h =
     cond_both {A = ℕ × Bool} e.whole _ _ (λ goal. seen < goal.0) (λ _. h)
@@ -90,16 +90,16 @@ kept_more format (Some e) rest more m h =
 -- by what a reading has
 pub gathers_from : (r : Reading) (format : Format) (extent : Option Extent) (rest : List ℕ) → r.format ≡ format → r.extent ≡ extent
     → r.seen ≡ length rest → (0 < length rest → r.kept.items ≡ keeps extent rest) → IsMeasured format extent rest
-    → length rest ≤ wanted format extent → Gathers r rest
+    → length rest ≤ wanted_count format extent → Gathers r rest
 gathers_from r format extent rest f e seen kept measured within = record {
   seen = seen;
   kept = λ some. kept some ∙ ap (λ e. keeps e rest) (sym e);
   measured = subst (λ (g : Format). IsMeasured g r.extent rest) (sym f) (subst (λ (x : Option Extent). IsMeasured format x rest) (sym e) measured);
-  within = subst (λ (g : Format). length rest ≤ wanted g r.extent) (sym f) (subst (λ (x : Option Extent). length rest ≤ wanted format x) (sym e) within);
+  within = subst (λ (g : Format). length rest ≤ wanted_count g r.extent) (sym f) (subst (λ (x : Option Extent). length rest ≤ wanted_count format x) (sym e) within);
 }
 
 pub gathers_more : (old begun new : Reading) (goal : ℕ × Bool) (rest part : List ℕ) → Gathers old rest
-    → length rest < wanted old.format old.extent → Lies old begun → begun.seen ≡ old.seen → begun.kept.items ≡ keeps old.extent rest
+    → length rest < wanted_count old.format old.extent → Lies old begun → begun.seen ≡ old.seen → begun.kept.items ≡ keeps old.extent rest
     → goal ≡ goal_of begun.format begun.extent begun.seen → length part ≤ goal.0 - begun.seen → Lies begun new
     → new.seen ≡ begun.seen + length part → (goal.1 ≡ true → new.kept.items ≡ begun.kept.items ++ part)
     → (goal.1 ≡ false → new.kept.items ≡ begun.kept.items) → Gathers new (rest ++ part)
@@ -156,6 +156,7 @@ stops_at old bytes piece count records kind h none = record {
   offset = h.offset;
 }
 
+-- bytes that are no unit after a call are none before it either, where the call keeps the units read so far
 pub none_at : (old new : Reading) (rest : List ℕ) (kind : FaultKind) → KeepsUnits old new
     → IsNone new.format new.interfaces.items rest kind → IsNone old.format old.interfaces.items rest kind
 none_at old new rest kind stays none =
@@ -171,7 +172,7 @@ pub unit_of : (r : Reading) (rest : List ℕ) (e : Extent) → Gathers r rest �
     → IsUnit r.format e rest × (r.kept.items ≡ kept_prefix e rest)
 unit_of r rest e g is long =
     let measured = subst (λ (x : Option Extent). IsMeasured r.format x rest) is g.measured in
-    let within : length rest ≤ e.long = subst (λ (x : Option Extent). length rest ≤ wanted r.format x) is g.within in
+    let within : length rest ≤ e.long = subst (λ (x : Option Extent). length rest ≤ wanted_count r.format x) is g.within in
     let some : head_len r.format ≤ length rest = measured.0 in
     let seen : r.seen ≡ length rest = g.seen in (
       record { has_head = some; extent_is = measured.1; long = omega arith },
@@ -195,7 +196,7 @@ units_more unit e meaning (one_unit_more {format} {last} {interfaces} {described
     (subst (λ (all : List ℕ). Units format interfaces all (records_of (kept_prefix extent first) said ++ (records ++ records_of (kept_prefix e unit) meaning)) (format_after last meaning) (interfaces_after described meaning))
     (sym (append_assoc first bytes unit)) more)
 
-pub read_on : (r : Reading) (bytes rest : List ℕ) (records : List Record) → IsInUnits r bytes records rest → length rest < wanted r.format r.extent
+pub read_on : (r : Reading) (bytes rest : List ℕ) (records : List Record) → IsInUnits r bytes records rest → length rest < wanted_count r.format r.extent
     → HasRead r bytes (records ++ [])
 read_on r bytes rest records s short = record {
   front = s.front;
@@ -213,7 +214,7 @@ records_are kept (means.Describes i) = refl
 records_are kept (means.Gives g) = refl
 records_are kept means.Nothing = refl
 
-pub clamped_on : (a b n : ℕ) → a ≡ clamped n → clamped (a + b) ≡ clamped (n + b)
+pub clamped_on : (a b n : ℕ) → a ≡ bounded_count n → bounded_count (a + b) ≡ bounded_count (n + b)
 clamped_on a b n e = omega arith
 
 pub read_more : (old new : Reading) (bytes rest : List ℕ) (records : List Record) (e : Extent) (meaning : Meaning) (given : Option Given)
@@ -232,8 +233,8 @@ read_more old new bytes rest records e meaning given s is long means goes =
       joined = s.joined ∙ sym (append-nil (s.front ++ rest));
       units = rw (same, goes.format, goes.interfaces) units;
       gathers = gathers_from new new.format None [] refl goes.extent goes.seen (λ some. absurd (omega (arith, some))) tt (omega arith);
-      short = subst (λ (x : Option Extent). 0 < wanted new.format x) (sym goes.extent) (omega (arith, head_least new.format));
-      offset = goes.offset ∙ (ap (λ n. clamped (old.offset + n)) seen ∙ (clamped_on old.offset (length rest) (length s.front) s.offset ∙ ap clamped (sym (length-append s.front rest))));
+      short = subst (λ (x : Option Extent). 0 < wanted_count new.format x) (sym goes.extent) (omega (arith, head_least new.format));
+      offset = goes.offset ∙ (ap (λ n. bounded_count (old.offset + n)) seen ∙ (clamped_on old.offset (length rest) (length s.front) s.offset ∙ ap bounded_count (sym (length-append s.front rest))));
     }
 
 pub none_of : (r : Reading) (rest : List ℕ) (e : Extent) (kind : FaultKind) → Gathers r rest → r.extent ≡ Some e → e.long ≤ r.seen

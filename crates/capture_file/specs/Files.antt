@@ -38,8 +38,8 @@ IsNone format interfaces rest kind =
     × (meaning_of format interfaces (kept_prefix extent unit) ≡ Err kind))
 
 -- a count, or 2^64 - 1 where that is less
-abbrev pub clamped : ℕ → ℕ
-clamped offset = min offset 18446744073709551615
+abbrev pub bounded_count : ℕ → ℕ
+bounded_count offset = min offset 18446744073709551615
 
 -- After these records there is something that is no unit: its fault, and its offset.
 pub record Stops (bytes : List ℕ) (records : List Record) (kind : FaultKind) (at : ℕ) : Type 0 where
@@ -50,7 +50,7 @@ pub record Stops (bytes : List ℕ) (records : List Record) (kind : FaultKind) (
   pub joined : bytes ≡ front ++ rest
   pub units : HasUnits front records format interfaces
   pub none : IsNone format interfaces rest kind
-  pub offset : at ≡ clamped (length front)
+  pub offset : at ≡ bounded_count (length front)
 
 -- The file is cut short after these records, or is empty: the offset of the last unit.
 pub record IsCutShort (bytes : List ℕ) (records : List Record) (at : ℕ) : Type 0 where
@@ -62,7 +62,7 @@ pub record IsCutShort (bytes : List ℕ) (records : List Record) (at : ℕ) : Ty
   pub units : HasUnits front records format interfaces
   pub some : (0 < length rest) ⊎ (format ≡ Start)
   pub partial : IsPart format rest
-  pub offset : at ≡ clamped (length front)
+  pub offset : at ≡ bounded_count (length front)
 
 -- The file is whole: it has begun, and its units have these records.
 pub record IsWhole (bytes : List ℕ) (records : List Record) : Type 0 where

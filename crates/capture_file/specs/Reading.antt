@@ -1,7 +1,7 @@
 -- What a reader of a file has read, in pieces of any size.
 use Rattle.std.specs.Prelude.{◌≡◌, ℕ, ◌+◌, ◌<◌, ◌≤◌, false, List, [], ◌∷◌, ◌++◌, take, length, Option, Some, None, Ok}
 use Rattle.capture_file.specs.Units.{extent_of, head_len, kept_prefix}
-use Rattle.capture_file.specs.Files.{HasUnits, clamped}
+use Rattle.capture_file.specs.Files.{HasUnits, bounded_count}
 use Rattle.capture_file.specs.Meanings.{Record, frame_record}
 use Rattle.capture_file.specs.declared.units.Extent.{Extent}
 use Rattle.capture_file.specs.declared.units.Format.{Format}
@@ -14,9 +14,9 @@ keeps None rest = rest
 keeps (Some extent) rest = kept_prefix extent rest
 
 -- how many bytes are wanted: of the head, or of the unit
-abbrev pub wanted : Format → Option Extent → ℕ
-wanted format None = head_len format
-wanted format (Some extent) = extent.long
+abbrev pub wanted_count : Format → Option Extent → ℕ
+wanted_count format None = head_len format
+wanted_count format (Some extent) = extent.long
 
 -- how long the unit is, is as its head says
 abbrev pub IsMeasured : Format → Option Extent → List ℕ → Type 0
@@ -30,7 +30,7 @@ pub record Gathers (r : Reading) (rest : List ℕ) : Type 0 where
   pub seen : r.seen ≡ length rest
   pub kept : 0 < length rest → r.kept.items ≡ keeps r.extent rest
   pub measured : IsMeasured r.format r.extent rest
-  pub within : length rest ≤ wanted r.format r.extent
+  pub within : length rest ≤ wanted_count r.format r.extent
 
 -- These bytes of a file were read, and have these records: whole units, and after them less than one.
 pub record HasRead (r : Reading) (bytes : List ℕ) (records : List Record) : Type 0 where
@@ -39,8 +39,8 @@ pub record HasRead (r : Reading) (bytes : List ℕ) (records : List Record) : Ty
   pub joined : bytes ≡ front ++ rest
   pub units : HasUnits front records r.format r.interfaces.items
   pub gathers : Gathers r rest
-  pub short : length rest < wanted r.format r.extent
-  pub offset : r.offset ≡ clamped (length front)
+  pub short : length rest < wanted_count r.format r.extent
+  pub offset : r.offset ≡ bounded_count (length front)
 
 -- some bytes were read, and no fault was met
 abbrev pub IsReady : Reading → Type 0

@@ -30,7 +30,7 @@ pcap_by magic =
     else if magic == 0x4D3CB2A1 then Some (Pcap Little 9)
     else None
 
--- what the first bytes of a pcap file tell
+-- the format of a file by its first bytes, the magic number of pcap; none where they aren't one
 abbrev pub pcap_of : List ℕ → Option Format
 pcap_of head = pcap_by (u32_at Big 0 head)
 

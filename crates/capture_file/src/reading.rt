@@ -3,7 +3,7 @@
 ghost use Rattle.std.specs.Prelude.{◌≡◌, ◌≢◌, ◌≤◌, ◌<◌, ◌+◌, ◌^◌, ◌⊎◌, ◌++◌, ◌∷◌, ℕ, List, [], Some, None, true, false, IfErr, IfOk, IfSome, OnOk, length, take, Ok, Err};
 ghost use Rattle.capture_file.specs.Meanings.{Record, frame_record};
 ghost use Rattle.capture_file.specs.Files.{IsCutShort, IsNone, IsWhole, Stops};
-ghost use Rattle.capture_file.specs.Reading.{Gathers, HasRead, IsReady, IsWithinKept, given_in, keeps, wanted};
+ghost use Rattle.capture_file.specs.Reading.{Gathers, HasRead, IsReady, IsWithinKept, given_in, keeps, wanted_count};
 ghost use Rattle.capture_file.specs.Inner.Frames.{HasFrame};
 ghost use Rattle.capture_file.specs.Inner.State.{ReadsUnit, Lies, IsInUnits, KeepsUnits, goal_of};
 
@@ -97,12 +97,12 @@ impl Reading {
     /// Takes bytes of the unit.
     fn gather(&mut self, piece: &[u8]) -> Result<usize, FaultKind>
         requires { (rest : List ℕ) × Gathers self.old rest
-            × (length rest < wanted self.old.format self.old.extent) }
+            × (length rest < wanted_count self.old.format self.old.extent) }
         ensures within { IfOk result (λ count. count ≤ length piece.now) }
         ensures some { IfOk result (λ count. 0 < length piece.now → 0 < count) }
         ensures stays { OnOk result (KeepsUnits self.old self.new) }
         ensures gathers { IfOk result (λ count. (rest : List ℕ) → Gathers self.old rest
-            → length rest < wanted self.old.format self.old.extent
+            → length rest < wanted_count self.old.format self.old.extent
             → Gathers self.new (rest ++ take count piece.now)) }
         ensures memory { IfErr result (λ kind. kind ≡ FaultKind.NoMemory) }
     {
@@ -123,7 +123,7 @@ impl Reading {
             → Gathers self.new rest) }
         ensures short { OnOk result (self.new.extent ≡ None
             → (rest : List ℕ) → Gathers self.old rest
-            → length rest < wanted self.new.format self.new.extent) }
+            → length rest < wanted_count self.new.format self.new.extent) }
         ensures fault { IfErr result (λ kind. (rest : List ℕ) → Gathers self.old rest
             → IsNone self.old.format self.old.interfaces.items rest kind) }
     {
@@ -168,7 +168,7 @@ impl Reading {
         requires stands { (bytes rest : List ℕ) × (records : List Record)
             × IsInUnits self.old bytes records rest }
         requires measured { self.old.extent ≡ None → (rest : List ℕ) → Gathers self.old rest
-            → length rest < wanted self.old.format self.old.extent }
+            → length rest < wanted_count self.old.format self.old.extent }
         ensures read { IfOk result (λ given. (bytes rest : List ℕ) (records : List Record)
             → IsInUnits self.old bytes records rest
             → HasRead self.new bytes (records ++ given_in self.new.kept.items given)) }

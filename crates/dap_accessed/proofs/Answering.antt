@@ -44,13 +44,13 @@ use Rattle.dap_msg.specs.BothEnds.{message_limit}
 use Rattle.dap_accessed.specs.Standing.{Files, enters}
 use Rattle.dap_accessed.specs.Standing.{index_by, file_at, the_file, ServerState, Fresh, Ready, Opened, Connected, Store, Stopped, Group, Standing, Scene, Effect}
 use Rattle.dap_accessed.specs.Past.{asked_shape, kept_attributes, is_dropping, ordinal_so_far, next_ordinal}
-use Rattle.dap_accessed.specs.Replies.{bare_status, reason_status, sync_status, reason_of, refusal_status, done_status, record_status, too_large, completed, org_number, format_number, opened_with}
-use Rattle.dap_accessed.specs.Accesses.{permitted, rights_to_create, rights_to_open, make_file, open_file, create_file, access_file, end_stream, complete}
-use Rattle.dap_accessed.specs.Records.{at_number, uncurrent, verb_of, get_pick, got, record_got, Change, Putting, Updating, changed, fits_limit, filedata_of}
+use Rattle.dap_accessed.specs.Replies.{bare_status, reason_status, sync_status, reason_of, refusal_status, done_status, record_status, too_large, complete_response, org_number, format_number, opened_with}
+use Rattle.dap_accessed.specs.Accesses.{effect_if_permitted, rights_to_create, rights_to_open, make_file, open_file, create_file, access_file, end_stream, complete}
+use Rattle.dap_accessed.specs.Records.{at_number, stream_without_current, verb_of, get_pick, got, record_got, Change, Putting, Updating, effect_of_change, fits_limit, filedata_of}
 use Rattle.dap_accessed.specs.Transfers.{fetch, fetch_ends, continue_refused, continue_fetch, store_one, stored_answers, continue_store}
 use Rattle.dap_msg.specs.BothEnds.{is_too_small}
 use Rattle.dap_accessed.specs.Effects.{Begun, Turn, control_status, control_opened, control_connected, turn_in, turn_of, effect_with}
-use Rattle.dap_accessed.specs.Groups.{Answers, stands_after, added}
+use Rattle.dap_accessed.specs.Groups.{Answers, stands_after, answers_added}
 use Rattle.dap_accessed.specs.Sound.{AreFiles, IsOpenAt, IsSound}
 use Rattle.dap_accessed.proofs.Kept.{both}
 use Rattle.dap_accessed.proofs.SoundTables.{AllFiles, file-there}
@@ -111,8 +111,8 @@ module _ (limit : ℕ) (least : min_buffer ≤ limit) where
   malformed : (n : ℕ) → IsSendable limit (bare_status (codes.status_code_for n))
   malformed n = bare (codes.status_code_for n) (code_small n)
 
-  ended : IsSendable limit completed
-  ended = short completed (answers_fit.complete 2 (lit< tt))
+  ended : IsSendable limit complete_response
+  ended = short complete_response (answers_fit.complete 2 (lit< tt))
 
   opened : (shape : Shape) → IsTrue (is_shape shape) → AreSendable limit (opened_with shape)
   opened shape h = (
@@ -153,7 +153,7 @@ module _ (own : ServerSetup) (small_own : FieldsFit (Config own.identity)) (scen
   either true one two h k = h
   either false one two h k = k
 
-  permitting : (asked : Rights) (e : Effect) → Sends e → Sends (permitted own asked scene e)
+  permitting : (asked : Rights) (e : Effect) → Sends e → Sends (effect_if_permitted own asked scene e)
   permitting asked e h = either (lacks own.most asked) _ _ (reasoned scene.limit least 0x4000 2 [] (lit< tt) (lit≤ tt), tt) h
 
   opening : (fac : ℕ) (at : Option ℕ) → IfSome at (λ n. n < length scene.files) → Sends (open_file own scene fac at)
@@ -200,7 +200,7 @@ module _ (own : ServerSetup) (small_own : FieldsFit (Config own.identity)) (scen
     body-short n None e = lit≤ tt
     body-short n (Some body) e = body_fits (the_file scene.files o) n body file-is (sym e)
 
-    finding : (fits : Bool) (before after : StreamVal) (r : ℕ × List ℕ) → length r.1 ≤ max_record → fits_limit scene.limit r ≡ fits → Sends (if fits then enters scene (Connected o after) (filedata_of r ∷ []) else enters scene (Connected o (uncurrent before)) (too_large ∷ []))
+    finding : (fits : Bool) (before after : StreamVal) (r : ℕ × List ℕ) → length r.1 ≤ max_record → fits_limit scene.limit r ≡ fits → Sends (if fits then enters scene (Connected o after) (filedata_of r ∷ []) else enters scene (Connected o (stream_without_current before)) (too_large ∷ []))
     finding true before after r h e = (recorded scene.limit least r h e, tt)
     finding false before after r h e = (reasoned scene.limit least 0x5000 10 [] (lit< tt) (lit≤ tt), tt)
 
@@ -212,7 +212,7 @@ module _ (own : ServerSetup) (small_own : FieldsFit (Config own.identity)) (scen
     picked (Err refusal) s = (refusing scene.limit least refusal [] (lit≤ tt), tt)
     picked (Ok pick) s = getting (act (get_record pick) (the_file scene.files o) s).reply s (act (get_record pick) (the_file scene.files o) s).stream
 
-    second : (change : Change) (s : StreamVal) (body : List ℕ) → Sends (changed change scene o s body)
+    second : (change : Change) (s : StreamVal) (body : List ℕ) → Sends (effect_of_change change scene o s body)
     second (Putting (Err refusal)) s body = (refusing scene.limit least refusal [] (lit≤ tt), tt)
     second (Putting (Ok key)) s body = (replying scene.limit least (act (put_record key body) (the_file scene.files o) s).reply, tt)
     second Updating s body = (replying scene.limit least (act (update_record body) (the_file scene.files o) s).reply, tt)
@@ -228,7 +228,7 @@ module _ (own : ServerSetup) (small_own : FieldsFit (Config own.identity)) (scen
         let due = records_from (the_file scene.files o).records s.next in
         fetch-ends s (take_while (fits_limit scene.limit) due) (drop (prefix_len (fits_limit scene.limit) due) due) (all_recorded scene.limit least due (records_short (the_file scene.files o) s.next file-is))
 
-    not-continued : (known : Bool) → IsSendable scene.limit (bare_status (if known then codes.unsupported codes.types.contran else codes.invalid codes.types.contran))
+    not-continued : (known : Bool) → IsSendable scene.limit (bare_status (if known then codes.unsupported_code codes.types.contran else codes.invalid codes.types.contran))
     not-continued true = bare scene.limit least 0x2140 (lit< tt)
     not-continued false = bare scene.limit least 0x9140 (lit< tt)
 
@@ -315,7 +315,7 @@ module _ (own : ServerSetup) (small : FieldsFit (Config own.identity)) (first : 
   one-sends s (Some b) item h t = with-second own small s.scene h.standing.files.files h.standing.least b.opened h.begun b.change b.stream item t
 
   -- what one item more adds may be sent
-  pub added-sends : (items : List Item) (item : Item) → HasShortType item → AreSendable (stands_after own first items).standing.scene.limit (added own first items item)
+  pub added-sends : (items : List Item) (item : Item) → HasShortType item → AreSendable (stands_after own first items).standing.scene.limit (answers_added own first items item)
   added-sends items item t =
       let c = stands_after own first items in
       subst (AreSendable c.standing.scene.limit) (sym (added-is own first items item)) (one-sends c.standing c.begun item (all-sound own first items good) t)
@@ -333,7 +333,7 @@ fit-both (m ∷ one) two h k = (h.0, fit-both one two h.1 k)
 fit-on : (own : ServerSetup) → FieldsFit (Config own.identity) → (first : Files) → AreFiles first → (before more : List Item) → AllFit (Answers own first before) → AllByRecursion IsRead more → AllFit (Answers own first (before ++ more))
 fit-on own small first good before [] h r = subst (λ (l : List Item). AllFit (Answers own first l)) (sym (append-nil before)) h
 fit-on own small first good before (item ∷ more) h r =
-    let here = added own first before item in
+    let here = answers_added own first before item in
     let fit : AllFit here = sendable-fit (stands_after own first before).standing.scene.limit here (added-sends own small first good before item (read-short item r.0)) in
     let one : AllFit (Answers own first (before ++ item ∷ [])) = subst AllFit (sym (Answers-more own first before item)) (fit-both (Answers own first before) here h fit) in
     subst (λ (l : List Item). AllFit (Answers own first l)) (append_assoc before (item ∷ []) more) (fit-on own small first good (before ++ item ∷ []) more one r.1)

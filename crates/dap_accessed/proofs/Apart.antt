@@ -25,10 +25,10 @@ use Rattle.dap_accessed.specs.Replies.{bare_status}
 use Rattle.dap_accessed.specs.Standing.{Files, new_file, index_by, with_file, the_file, ServerState, Fresh, Ready, Opened, Connected, Store, Stopped, Group, Standing, Scene, Effect, start, enters}
 use Rattle.dap_accessed.specs.Past.{asked_shape, kept_attributes, is_dropping, ordinal_so_far}
 use Rattle.dap_accessed.specs.Accesses.{rights_to_create, rights_to_open, make_file, open_file, create_file, access_file, end_stream, complete}
-use Rattle.dap_accessed.specs.Records.{at_number, verb_of, get_pick, got, record_got, Change, Putting, Updating, changed, fits_limit}
+use Rattle.dap_accessed.specs.Records.{at_number, verb_of, get_pick, got, record_got, Change, Putting, Updating, effect_of_change, fits_limit}
 use Rattle.dap_accessed.specs.Transfers.{fetch, fetch_ends, continue_fetch}
 use Rattle.dap_accessed.specs.Effects.{Begun, Turn, Does, BeginsGroup, control_opened, control_connected, turn_in, turn_of, effect_with}
-use Rattle.dap_accessed.specs.Groups.{Grouped, After, stands_after, next_group, more_after}
+use Rattle.dap_accessed.specs.Groups.{GroupedItems, After, stands_after, next_group, more_after}
 use Rattle.dap_accessed.specs.Apart.{NamesAreApart}
 use Rattle.dap_accessed.proofs.Cuts.{cut-more}
 use Rattle.dap_accessed.proofs.SoundTables.{distinct-with, distinct-without, distinct-more, none-passes}
@@ -110,7 +110,7 @@ module _ (own : ServerSetup) where
       picked (Err refusal) s = stays
       picked (Ok pick) s = getting (act (get_record pick) (the_file scene.files o) s).reply s (act (get_record pick) (the_file scene.files o) s).stream
 
-      second : (change : Change) (s : StreamVal) (body : List ℕ) → Leaves (changed change scene o s body)
+      second : (change : Change) (s : StreamVal) (body : List ℕ) → Leaves (effect_of_change change scene o s body)
       second (Putting (Err refusal)) s body = stays
       second (Putting (Ok key)) s body = changing o _
       second Updating s body = changing o _
@@ -187,7 +187,7 @@ module _ (own : ServerSetup) where
   more-leaves s None item = next-leaves s item (turn_of own s item) (one-leaves s item)
   more-leaves s (Some b) item = with-second s.scene b.opened b.change b.stream item
 
-  abbrev IsApart : Grouped → Type 0
+  abbrev IsApart : GroupedItems → Type 0
   IsApart c = NamesAreApart own.names c.standing.scene.files
 
   apart-on : (first : Files) (before more : List Item) → IsApart (stands_after own first before) → IsApart (stands_after own first (before ++ more))

@@ -25,7 +25,7 @@ use Rattle.dap_accessed.specs.Standing.{Scene, Effect, enters, Connected, Stoppe
 use Rattle.dap_accessed.specs.Replies.{bare_status, too_large}
 use Rattle.dap_accessed.specs.Records.{filedata_of, fits_limit, at_number}
 use Rattle.dap_accessed.specs.Transfers.{fetch, fetch_ends}
-use Rattle.dap_accessed.specs.Served.{Answered}
+use Rattle.dap_accessed.specs.Served.{AreAnswers}
 
 -- the records before the first that is too large, and that one and all after it
 abbrev leading : ℕ → List (ℕ × List ℕ) → List (ℕ × List ℕ)
@@ -45,7 +45,7 @@ pub record GoesOn (limit : ℕ) (file : FileVal) (n next : ℕ) (answers : Vec (
   pub stands : next ≡ behind n given
   pub above : 1 ≤ next
   pub within : next ≤ max_record_number + 1
-  pub answered : Answered limit (map filedata_of given) answers
+  pub answered : AreAnswers limit (map filedata_of given) answers
 
 behind-more : (n : ℕ) (given : List (ℕ × List ℕ)) (r : ℕ × List ℕ) → behind n (given ++ r ∷ []) ≡ r.0 + 1
 behind-more n [] r = refl
@@ -70,13 +70,13 @@ leading-large limit r rest e = rw e refl
 failing-large : (limit : ℕ) (r : ℕ × List ℕ) (rest : List (ℕ × List ℕ)) → fits_limit limit r ≡ false → beyond limit (r ∷ rest) ≡ r ∷ rest
 failing-large limit r rest e = rw e refl
 
-pub begins : (limit : ℕ) (file : FileVal) (n : ℕ) (answers : Vec (Vec ℕ)) → 1 ≤ n → n ≤ max_record_number + 1 → Answered limit [] answers → GoesOn limit file n n answers
+pub begins : (limit : ℕ) (file : FileVal) (n : ℕ) (answers : Vec (Vec ℕ)) → 1 ≤ n → n ≤ max_record_number + 1 → AreAnswers limit [] answers → GoesOn limit file n n answers
 begins limit file n answers above within a = record { given = []; leads = refl; fails = refl; stands = refl; above = above; within = within; answered = a }
 
 -- one record more
 pub goes_on : (limit : ℕ) (file : FileVal) (n next : ℕ) (old new : Vec (Vec ℕ)) (r : ℕ × List ℕ) (g : GoesOn limit file n next old)
     → records_from file.records next ≡ r ∷ records_from file.records (r.0 + 1) → fits_limit limit r ≡ true → r.0 ≤ max_record_number
-    → Answered limit (map filedata_of g.given ++ filedata_of r ∷ []) new → GoesOn limit file n (r.0 + 1) new
+    → AreAnswers limit (map filedata_of g.given ++ filedata_of r ∷ []) new → GoesOn limit file n (r.0 + 1) new
 goes_on limit file n next old new r g some fits within a =
     record {
       given = g.given ++ r ∷ [];
@@ -86,7 +86,7 @@ goes_on limit file n next old new r g some fits within a =
       stands = sym (behind-more n g.given r);
       above = omega arith;
       within = omega (arith, within);
-      answered = subst (λ (l : List Message). Answered limit l new) (sym (map-append filedata_of g.given (r ∷ []))) a;
+      answered = subst (λ (l : List Message). AreAnswers limit l new) (sym (map-append filedata_of g.given (r ∷ []))) a;
     }
 
 abbrev fetch_of : ℕ → Scene → OpenFile → StreamVal → FileVal → Effect

@@ -12,7 +12,7 @@ use Rattle.dap_accessed.specs.Standing.{Files, ServerState, Standing, Fresh, Rea
 use Rattle.dap_accessed.specs.Present.{Memory, looked_back, Present, phase_at, phase_within, phase_of}
 use Rattle.dap_accessed.specs.Records.{Change, Putting, Updating}
 use Rattle.dap_accessed.specs.Effects.{Begun, Turn, Does, BeginsGroup, turn_of}
-use Rattle.dap_accessed.specs.Groups.{Grouped, stands_after, next_group, more_after}
+use Rattle.dap_accessed.specs.Groups.{GroupedItems, stands_after, next_group, more_after}
 use Rattle.dap_accessed.specs.Adding.{IsFresh, IsLate}
 use Rattle.dap_accessed.proofs.Cuts.{cut-more}
 
@@ -43,7 +43,7 @@ is-fresh p e = record { is = λ first items h. (let c = stands_after p.setup fir
 
 -- ---- Before a Config no group is begun.
 
-abbrev IsWhole : Grouped → Type 0
+abbrev IsWhole : GroupedItems → Type 0
 IsWhole c = c.standing.state ≡ Fresh → c.begun ≡ None
 
 does : (own : ServerSetup) (s : Standing) (item : Item) (begun : Begun) → turn_of own (record s { state = Fresh }) item ≡ BeginsGroup begun → ⊥

@@ -4,7 +4,7 @@ use Rattle.std.specs.Prelude.{◌&&◌, ◌||◌, nat_lt, is_none, is_some, IsSo
 use Rattle.std.specs.FinMap.{get}
 use Rattle.std.proofs.lemmas.Bool.{cases_lt, lt-ltb}
 use Rattle.rec_file.specs.Shapes.{is_seq, max_number, allows_length}
-use Rattle.rec_file.specs.Files.{FileVal, IsFile, highest_of, stored}
+use Rattle.rec_file.specs.Files.{FileVal, IsFile, highest_of, file_with_record}
 use Rattle.rec_file.specs.Acts.{out_of_range, is_free_number}
 use Rattle.rec_file.proofs.ForCallers.{IsFile-placed}
 use Rattle.dap_accessed.specs.declared.fault.AddFault.{AddFault}
@@ -60,7 +60,7 @@ storable file n body h may =
       length = un_not (allows_length file.shape (length body)) one.0;
     }
 
-pub stored-file : (file : FileVal) (n : ℕ) (body : List ℕ) → IsFile file → MayStore file n body → IsFile (stored file n body)
+pub stored-file : (file : FileVal) (n : ℕ) (body : List ℕ) → IsFile file → MayStore file n body → IsFile (file_with_record file n body)
 stored-file file n body h may = let s = storable file n body h may in IsFile-placed file n body h s.above s.within s.next s.length
 
 -- ---- Tables.

@@ -25,11 +25,11 @@ use Rattle.dap_accessed.specs.declared.verbs.Verb.TheVariants as verbs
 use Rattle.dap_accessed.specs.Standing.{Files, index_by, the_file, ServerState, Fresh, Ready, Opened, Connected, Store, Stopped, Group, Standing, Scene, Effect, start, enters}
 use Rattle.dap_accessed.specs.Past.{asked_shape, kept_attributes, is_dropping, ordinal_so_far}
 use Rattle.dap_accessed.specs.Replies.{bare_status, too_large}
-use Rattle.dap_accessed.specs.Accesses.{permitted, rights_to_create, rights_to_open, make_file, open_file, create_file, access_file, end_stream, complete}
-use Rattle.dap_accessed.specs.Records.{verb_of, get_pick, got, record_got, at_number, filedata_of, fits_limit, uncurrent, Change, Putting, Updating, changed}
+use Rattle.dap_accessed.specs.Accesses.{effect_if_permitted, rights_to_create, rights_to_open, make_file, open_file, create_file, access_file, end_stream, complete}
+use Rattle.dap_accessed.specs.Records.{verb_of, get_pick, got, record_got, at_number, filedata_of, fits_limit, stream_without_current, Change, Putting, Updating, effect_of_change}
 use Rattle.dap_accessed.specs.Transfers.{fetch, fetch_ends, continue_fetch}
 use Rattle.dap_accessed.specs.Effects.{Begun, Turn, Does, BeginsGroup, control_opened, control_connected, turn_in, turn_of, effect_with}
-use Rattle.dap_accessed.specs.Groups.{Grouped, stands_after, next_group, more_after}
+use Rattle.dap_accessed.specs.Groups.{GroupedItems, stands_after, next_group, more_after}
 use Rattle.dap_accessed.specs.Present.{Present, present_of, StandsAfter}
 use Rattle.dap_accessed.specs.Adding.{IsFresh}
 use Rattle.dap_accessed.proofs.Cuts.{cut-more}
@@ -87,13 +87,13 @@ module _ (scene : Scene) where
     getting (Err refusal) before after = refl
     getting (Ok n) before after =
         let r : ℕ × List ℕ = (n, unwrap_or (map.get (the_file scene.files o).records n) []) in
-        either (fits_limit scene.limit r) (enters scene (Connected o after) (filedata_of r ∷ [])) (enters scene (Connected o (uncurrent before)) (too_large ∷ [])) refl refl
+        either (fits_limit scene.limit r) (enters scene (Connected o after) (filedata_of r ∷ [])) (enters scene (Connected o (stream_without_current before)) (too_large ∷ [])) refl refl
 
     picked : (pick : Result Pick Refusal) (s : StreamVal) → Late (record_got pick scene o s)
     picked (Err refusal) s = refl
     picked (Ok pick) s = getting (act (get_record pick) (the_file scene.files o) s).reply s (act (get_record pick) (the_file scene.files o) s).stream
 
-    second : (change : Change) (s : StreamVal) (body : List ℕ) → Late (changed change scene o s body)
+    second : (change : Change) (s : StreamVal) (body : List ℕ) → Late (effect_of_change change scene o s body)
     second (Putting (Err refusal)) s body = refl
     second (Putting (Ok key)) s body = refl
     second Updating s body = refl
@@ -155,7 +155,7 @@ module _ (scene : Scene) where
 
 -- ---- Every list of items.
 
-abbrev LateThen : Grouped → Type 0
+abbrev LateThen : GroupedItems → Type 0
 LateThen c = is_late c.standing.state ≡ true
 
 next-late : (s : Standing) (item : Item) (t : Turn) → is_late s.state ≡ true → LateTurn t → LateThen (next_group s item t)
@@ -169,7 +169,7 @@ more-late own s (Some b) item h = with-second s.scene b.opened b.change b.stream
 -- ---- Before the Config.
 
 -- the same with other files
-abbrev pub with_files : Files → Grouped → Grouped
+abbrev pub with_files : Files → GroupedItems → GroupedItems
 with_files files c = record c { standing = record c.standing { scene = record c.standing.scene { files = files } } }
 
 -- these files are those that it had at first, and it stands so whatever these are
@@ -190,7 +190,7 @@ fresh_of (Stopped o s) e = cc
 abbrev given_files : Files → Standing → Standing
 given_files other s = record s { scene = record s.scene { files = other } }
 
-abbrev after_one : ServerSetup → Standing → Item → Grouped
+abbrev after_one : ServerSetup → Standing → Item → GroupedItems
 after_one own s item = next_group s item (turn_of own s item)
 
 -- an item moves no file, and does the same whatever files there are
@@ -223,18 +223,18 @@ of_one_more own first before item h fresh =
     let d = one_step own c.standing item fresh in
     let here : stands_after own first (before ++ item ∷ []) ≡ after_one own c.standing item = cut-more own (start first) before item ∙ ap (λ (b : Option Begun). more_after own c.standing b item) h.whole in
     record {
-      files = ap (λ (g : Grouped). g.standing.scene.files) here ∙ d.files ∙ h.files;
+      files = ap (λ (g : GroupedItems). g.standing.scene.files) here ∙ d.files ∙ h.files;
       any = λ other.
           cut-more own (start other) before item
-          ∙ ap (λ (g : Grouped). more_after own g.standing g.begun item) (h.any other)
+          ∙ ap (λ (g : GroupedItems). more_after own g.standing g.begun item) (h.any other)
           ∙ ap (λ (b : Option Begun). more_after own (given_files other c.standing) b item) h.whole
           ∙ d.any other
           ∙ ap (with_files other) (sym here);
-      whole = ap (λ (g : Grouped). g.begun) here ∙ d.whole;
+      whole = ap (λ (g : GroupedItems). g.begun) here ∙ d.whole;
     }
 
 -- it was so before the last item
-was_fresh : (own : ServerSetup) (c : Grouped) (item : Item) (late : Bool) → is_late c.standing.state ≡ late → is_late (more_after own c.standing c.begun item).standing.state ≡ false → is_late c.standing.state ≡ false
+was_fresh : (own : ServerSetup) (c : GroupedItems) (item : Item) (late : Bool) → is_late c.standing.state ≡ late → is_late (more_after own c.standing c.begun item).standing.state ≡ false → is_late c.standing.state ≡ false
 was_fresh own c item true e fresh = let late = more-late own c.standing c.begun item e in cc
 was_fresh own c item false e fresh = e
 
@@ -246,7 +246,7 @@ of_any_on own first before (item ∷ more) h e =
     let c = stands_after own first before in
     let same = append_assoc before (item ∷ []) more in
     let one : is_late (stands_after own first (before ++ item ∷ [])).standing.state ≡ false → IsOfAny own first (before ++ item ∷ []) = λ f.
-    let fresh = was_fresh own c item (is_late c.standing.state) refl (subst (λ (g : Grouped). is_late g.standing.state ≡ false) (cut-more own (start first) before item) f) in
+    let fresh = was_fresh own c item (is_late c.standing.state) refl (subst (λ (g : GroupedItems). is_late g.standing.state ≡ false) (cut-more own (start first) before item) f) in
     of_one_more own first before item (h fresh) (fresh_of c.standing.state fresh) in
     subst (IsOfAny own first) same (of_any_on own first (before ++ item ∷ []) more one (subst (λ (l : List Item). is_late (stands_after own first l).standing.state ≡ false) (sym same) e))
 
@@ -261,7 +261,7 @@ front_on own first before [] e = subst (λ (l : List Item). is_late (stands_afte
 front_on own first before (item ∷ more) e =
     let c = stands_after own first before in
     let later = front_on own first (before ++ item ∷ []) more (subst (λ (l : List Item). is_late (stands_after own first l).standing.state ≡ false) (sym (append_assoc before (item ∷ []) more)) e) in
-    was_fresh own c item (is_late c.standing.state) refl (subst (λ (g : Grouped). is_late g.standing.state ≡ false) (cut-more own (start first) before item) later)
+    was_fresh own c item (is_late c.standing.state) refl (subst (λ (g : GroupedItems). is_late g.standing.state ≡ false) (cut-more own (start first) before item) later)
 
 pub prefix_fresh : (own : ServerSetup) (first : Files) (before more : List Item) → (stands_after own first (before ++ more)).standing.state ≡ Fresh → (stands_after own first before).standing.state ≡ Fresh
 prefix_fresh own first before more e = fresh_of (stands_after own first before).standing.state (front_on own first before more (ap is_late e))

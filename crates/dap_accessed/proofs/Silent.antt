@@ -26,11 +26,11 @@ use Rattle.dap_accessed.specs.declared.verbs.Verb.TheVariants as verbs
 use Rattle.dap_accessed.specs.Standing.{Files, the_file, index_by, ServerState, Group, Standing, Scene, Effect, Fresh, Ready, Opened, Connected, Store, Stopped, enters}
 use Rattle.dap_accessed.specs.Replies.{bare_status}
 use Rattle.dap_accessed.specs.Past.{is_filedata, is_dropping, ordinal_so_far}
-use Rattle.dap_accessed.specs.Accesses.{permitted, rights_to_create, rights_to_open, make_file, open_file, create_file, access_file, end_stream, complete}
+use Rattle.dap_accessed.specs.Accesses.{effect_if_permitted, rights_to_create, rights_to_open, make_file, open_file, create_file, access_file, end_stream, complete}
 use Rattle.dap_accessed.specs.Records.{Change, Putting, Updating, got, record_got, at_number, verb_of, fits_limit, filedata_of}
 use Rattle.dap_accessed.specs.Transfers.{fetch, fetch_ends, continue_fetch, continue_refused}
 use Rattle.dap_accessed.specs.Effects.{Begun, effect_with, control_opened, control_connected}
-use Rattle.dap_accessed.specs.Groups.{Grouped, stands_after}
+use Rattle.dap_accessed.specs.Groups.{GroupedItems, stands_after}
 use Rattle.dap_accessed.specs.Present.{Present, Memory, looked_back, StandsAfter, phase_at, phase_within, phase_of}
 use Rattle.dap_accessed.specs.Inner.Moves.{move_in, scene_in, begins_only, is_silent, plain_memory, turns}
 use Rattle.dap_accessed.specs.Served.{IsSilent}
@@ -194,7 +194,7 @@ drops : (standing : Standing) (begun : Option Begun) → is_dropping standing.pa
 drops standing None e = drops-at standing.state standing.past e
 drops standing (Some b) e = drops-within b.change b.opened b.stream
 
-pub silent-in : (old : Present) (c : Grouped) (item : Item) → IsIn c old → IsSilentIn old.setup c item → is_silent old.phase item ≡ true
+pub silent-in : (old : Present) (c : GroupedItems) (item : Item) → IsIn c old → IsSilentIn old.setup c item → is_silent old.phase item ≡ true
 silent-in old c item h none =
     silent old.phase old item (answers-in old item c h ∙ none.0)
     (λ f. ap (λ (p : Present). is_storing p.phase) h ∙ drops c.standing c.begun (none.1 f))

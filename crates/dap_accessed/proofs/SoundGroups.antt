@@ -38,8 +38,8 @@ use Rattle.dap_msg.specs.Codes as codes
 use Rattle.dap_accessed.specs.Replies.{bare_status}
 use Rattle.dap_accessed.specs.Standing.{Files, index_of, index_by, with_file, the_file, ServerState, Fresh, Ready, Opened, Connected, Store, Stopped, Group, Standing, Scene, Effect, start, enters}
 use Rattle.dap_accessed.specs.Past.{asked_shape, kept_attributes, is_dropping, ordinal_so_far}
-use Rattle.dap_accessed.specs.Accesses.{permitted, rights_to_create, rights_to_open, make_file, open_file, create_file, access_file, end_stream, complete}
-use Rattle.dap_accessed.specs.Records.{at_number, verb_of, get_pick, got, record_got, settled, Change, Putting, Updating, changed, fits_limit}
+use Rattle.dap_accessed.specs.Accesses.{effect_if_permitted, rights_to_create, rights_to_open, make_file, open_file, create_file, access_file, end_stream, complete}
+use Rattle.dap_accessed.specs.Records.{at_number, verb_of, get_pick, got, record_got, effect_of_outcome, Change, Putting, Updating, effect_of_change, fits_limit}
 use Rattle.dap_accessed.specs.Transfers.{fetch, fetch_ends, continue_fetch, store_one}
 use Rattle.dap_msg.specs.BothEnds.{is_too_small}
 use Rattle.dap_accessed.specs.Effects.{Begun, Turn, Does, BeginsGroup, control_opened, control_connected, turn_in, turn_of, effect_with}
@@ -127,7 +127,7 @@ module _ (scene : Scene) (files : AreFiles scene.files) (least : 64 ≤ scene.li
   still : (o : OpenFile) (file : FileVal) → o.at < length scene.files → o.at < length (with_file o.at file scene.files)
   still o file h = omega (arith, length-with scene.files o.at file)
 
-  settling : (op : Operation) (o : OpenFile) (s : StreamVal) → o.at < length scene.files → Leaves (settled scene o (act op (the_file scene.files o) s))
+  settling : (op : Operation) (o : OpenFile) (s : StreamVal) → o.at < length scene.files → Leaves (effect_of_outcome scene o (act op (the_file scene.files o) s))
   settling op o s h =
       changing op o s (Connected o (act op (the_file scene.files o) s).stream) h (still o (act op (the_file scene.files o) s).file h)
 
@@ -191,7 +191,7 @@ module _ (scene : Scene) (files : AreFiles scene.files) (least : 64 ≤ scene.li
     picked (Err refusal) s = entering (Connected o _) h
     picked (Ok pick) s = getting (act (get_record pick) (the_file scene.files o) s).reply s (act (get_record pick) (the_file scene.files o) s).stream
 
-    second : (change : Change) (s : StreamVal) (body : List ℕ) → Leaves (changed change scene o s body)
+    second : (change : Change) (s : StreamVal) (body : List ℕ) → Leaves (effect_of_change change scene o s body)
     second (Putting (Err refusal)) s body = entering (Connected o _) h
     second (Putting (Ok key)) s body = settling (put_record key body) o s h
     second Updating s body = settling (update_record body) o s h

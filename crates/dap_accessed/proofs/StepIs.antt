@@ -19,7 +19,7 @@ use Rattle.dap_accessed.specs.Standing.{Files, Scene, ServerState, Group, Standi
 use Rattle.dap_accessed.specs.Past.{asked_shape, kept_attributes, is_dropping, ordinal_so_far, this_store, is_skip, is_ready, is_store, is_access, is_filedata, attributes_in, since_access, was_refused, max_ordinal, next_ordinal}
 use Rattle.dap_accessed.specs.Records.{Change, Putting, Updating}
 use Rattle.dap_accessed.specs.Effects.{Begun, Turn, Does, BeginsGroup, turn_of, effect_with}
-use Rattle.dap_accessed.specs.Groups.{Grouped, over, added, stands_after, next_group, next_answers, after_item, answers_of}
+use Rattle.dap_accessed.specs.Groups.{GroupedItems, over, answers_added, stands_after, next_group, next_answers, after_item, answers_of}
 use Rattle.dap_accessed.specs.Present.{Present, Memory, looked_back, present_of, phase_at, StandsAfter}
 use Rattle.dap_accessed.specs.Sessions.{IsIn}
 use Rattle.dap_accessed.specs.Inner.Moves.{Move, move, move_in, turn_by, between, turns, settles, remembers, plain_memory, store_memory, scene_in, drops_next, ordinal_next}
@@ -189,7 +189,7 @@ module _ (own : ServerSetup) (scene : Scene) (past : List Group) where
 
   pub two-follows : (state : ServerState) (o : OpenFile) (s : StreamVal) (change : Change) (first item : Item) →
       let begun : Begun = record { first = first; opened = o; stream = s; change = change } in
-      let c : Grouped = record { standing = at state; begun = Some begun } in
+      let c : GroupedItems = record { standing = at state; begun = Some begun } in
       Agrees (move (present_of own c) item) (present_of own (after_item own c item)) (answers_of own c item)
   two-follows state o s (Putting key) first item =
       record {
@@ -203,7 +203,7 @@ module _ (own : ServerSetup) (scene : Scene) (past : List Group) where
       }
 
 pub step-is : (own : ServerSetup) (s : Standing) (begun : Option Begun) (item : Item) →
-    let c : Grouped = record { standing = s; begun = begun } in
+    let c : GroupedItems = record { standing = s; begun = begun } in
     Agrees own s.scene s.past (move (present_of own c) item) (present_of own (after_item own c item)) (answers_of own c item)
 step-is own s None item = one-follows own s.scene s.past s.state item
 step-is own s (Some b) item = two-follows own s.scene s.past s.state b.opened b.stream b.change b.first item
@@ -212,7 +212,7 @@ step-is own s (Some b) item = two-follows own s.scene s.past s.state b.opened b.
 pub present-moves : (own : ServerSetup) (first : Files) (items : List Item) (item : Item) → present_of own (stands_after own first (items ++ item ∷ [])) ≡ (move (present_of own (stands_after own first items)) item).present
 present-moves own first items item = let c = stands_after own first items in present-more own first items item ∙ (step-is own c.standing c.begun item).same_present
 
-pub answers-move : (own : ServerSetup) (first : Files) (items : List Item) (item : Item) → added own first items item ≡ (move (present_of own (stands_after own first items)) item).answers
+pub answers-move : (own : ServerSetup) (first : Files) (items : List Item) (item : Item) → answers_added own first items item ≡ (move (present_of own (stands_after own first items)) item).answers
 answers-move own first items item = let c = stands_after own first items in added-is own first items item ∙ (step-is own c.standing c.begun item).same_answers
 
 -- an end's own BUFSIZ and its setup stay
@@ -249,18 +249,18 @@ stands-more old new item e first items h =
     let own : new.setup ≡ old.setup = ap (λ (p : Present). p.setup) e ∙ same-setup old item in
     e ∙ ap (λ (p : Present). (move p item).present) h ∙ sym (present-moves old.setup first items item) ∙ ap (λ (n : ServerSetup). present_of n (stands_after n first (items ++ item ∷ []))) (sym own)
 
-pub answers-are : (old : Present) (item : Item) (first : Files) (items : List Item) → StandsAfter first items old → (move old item).answers ≡ added old.setup first items item
+pub answers-are : (old : Present) (item : Item) (first : Files) (items : List Item) → StandsAfter first items old → (move old item).answers ≡ answers_added old.setup first items item
 answers-are old item first items h = ap (λ (p : Present). (move p item).answers) h ∙ sym (answers-move old.setup first items item)
 
 -- ---- From any state.
 
 -- an end that was in a state is in that after the item
-pub in-more : (old new : Present) (item : Item) (c : Grouped) → new ≡ (move old item).present → IsIn c old → IsIn (after_item old.setup c item) new
+pub in-more : (old new : Present) (item : Item) (c : GroupedItems) → new ≡ (move old item).present → IsIn c old → IsIn (after_item old.setup c item) new
 in-more old new item c e h =
     let own : new.setup ≡ old.setup = ap (λ (p : Present). p.setup) e ∙ same-setup old item in
     e ∙ ap (λ (p : Present). (move p item).present) h ∙ sym (step-is old.setup c.standing c.begun item).same_present ∙ ap (λ (n : ServerSetup). present_of n (after_item old.setup c item)) (sym own)
 
-pub answers-in : (old : Present) (item : Item) (c : Grouped) → IsIn c old → (move old item).answers ≡ answers_of old.setup c item
+pub answers-in : (old : Present) (item : Item) (c : GroupedItems) → IsIn c old → (move old item).answers ≡ answers_of old.setup c item
 answers-in old item c h = ap (λ (p : Present). (move p item).answers) h ∙ sym (step-is old.setup c.standing c.begun item).same_answers
 
 -- an Access uses up the attributes

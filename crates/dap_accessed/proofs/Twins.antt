@@ -21,7 +21,7 @@ use Rattle.dap_accessed.specs.Replies.{bare_status}
 use Rattle.dap_accessed.specs.Standing.{Files, ServerState, Fresh, Ready, Opened, Connected, Store, Stopped, Scene, Effect, enters}
 use Rattle.dap_accessed.specs.Records.{Putting, Updating}
 use Rattle.dap_accessed.specs.Effects.{Turn, Does, BeginsGroup, effect_fresh, effect_ready, effect_with}
-use Rattle.dap_accessed.specs.Groups.{After, Answers, added, limit_for, stands_after}
+use Rattle.dap_accessed.specs.Groups.{After, Answers, answers_added, limit_for, stands_after}
 use Rattle.dap_accessed.specs.Present.{Present, Memory, present_of}
 use Rattle.dap_accessed.specs.Twins.{AreTwins, SameMessages}
 use Rattle.dap_accessed.specs.Inner.Moves.{Move, between, move, move_in, plain_memory, store_memory, scene_in, settles, turn_by, turns}
@@ -132,9 +132,9 @@ module _ (one : ServerSetup) (identity : Configuration) (first : Files) where
     present : kept_by like items ≡ twin identity (kept_by one items)
     answers : SameMessages one.identity identity (Answers one first items) (Answers like first items)
 
-  adds : (items : List Item) (item : Item) → kept_by like items ≡ twin identity (kept_by one items) → SameMessages one.identity identity (added one first items item) (added like first items item)
+  adds : (items : List Item) (item : Item) → kept_by like items ≡ twin identity (kept_by one items) → SameMessages one.identity identity (answers_added one first items item) (answers_added like first items item)
   adds items item h =
-      subst (λ (l : List Message). SameMessages one.identity identity l (added like first items item)) (sym (answers-move one first items item))
+      subst (λ (l : List Message). SameMessages one.identity identity l (answers_added like first items item)) (sym (answers-move one first items item))
       (subst (SameMessages one.identity identity (move (kept_by one items) item).answers) (sym (answers-move like first items item ∙ ap (λ (p : Present). (move p item).answers) h))
       (follows identity (kept_by one items) item).answers)
 
@@ -144,8 +144,8 @@ module _ (one : ServerSetup) (identity : Configuration) (first : Files) where
         present = present-moves like first items item ∙ ap (λ (p : Present). (move p item).present) h.present ∙ (follows identity (kept_by one items) item).present
             ∙ ap (twin identity) (sym (present-moves one first items item));
         answers = subst (λ (l : List Message). SameMessages one.identity identity l (Answers like first (items ++ item ∷ []))) (sym (Answers-more one first items item))
-            (subst (SameMessages one.identity identity (Answers one first items ++ added one first items item)) (sym (Answers-more like first items item))
-            (same_both one.identity identity (Answers one first items) (Answers like first items) (added one first items item) (added like first items item) h.answers (adds items item h.present)));
+            (subst (SameMessages one.identity identity (Answers one first items ++ answers_added one first items item)) (sym (Answers-more like first items item))
+            (same_both one.identity identity (Answers one first items) (Answers like first items) (answers_added one first items item) (answers_added like first items item) h.answers (adds items item h.present)));
       }
 
   so-on : (before more : List Item) → StandsSo before → StandsSo (before ++ more)
@@ -179,7 +179,7 @@ module _ (one other : ServerSetup) (twins : AreTwins one other) (first : Files) 
       subst (λ (own : ServerSetup). SameMessages one.identity other.identity (Answers one first items) (Answers own first items)) (is-twin one other twins)
       (so one other.identity first items).answers
 
-  pub same-added : (item : Item) → SameMessages one.identity other.identity (added one first items item) (added other first items item)
+  pub same-added : (item : Item) → SameMessages one.identity other.identity (answers_added one first items item) (answers_added other first items item)
   same-added item =
-      subst (λ (own : ServerSetup). SameMessages one.identity other.identity (added one first items item) (added own first items item)) (is-twin one other twins)
+      subst (λ (own : ServerSetup). SameMessages one.identity other.identity (answers_added one first items item) (answers_added own first items item)) (is-twin one other twins)
       (adds one other.identity first items item (so one other.identity first items).present)

@@ -21,7 +21,7 @@ use Rattle.dap_accessed.specs.declared.answers.Answer.{Answer}
 use Rattle.dap_accessed.specs.declared.answers.Answer.TheVariants as answer
 use Rattle.dap_accessed.specs.Served.{AllAtMost}
 use Rattle.dap_accessed.specs.Inner.Written.{IsShortReply, most_bytes}
-use Rattle.dap_accessed.specs.Served.{Answered}
+use Rattle.dap_accessed.specs.Served.{AreAnswers}
 
 pub org_small : (org : Org) → org_number org < 2 ^ 8
 org_small Seq = lit< tt
@@ -40,7 +40,7 @@ filled bytes old new (Err f) a e c l =
 
 -- ---- One message, and one more.
 
-pub answered_one : (limit : ℕ) (m : Message) (answers : Vec (Vec ℕ)) → Fits m → length (canon m) ≤ limit → bodies answers.items ≡ canon m ∷ [] → Answered limit (m ∷ []) answers
+pub answered_one : (limit : ℕ) (m : Message) (answers : Vec (Vec ℕ)) → Fits m → length (canon m) ≤ limit → bodies answers.items ≡ canon m ∷ [] → AreAnswers limit (m ∷ []) answers
 answered_one limit m answers f h e =
     record {
       bytes = e ∙ ap (λ l. l ∷ []) (sym (append-nil (canon m)));
@@ -62,8 +62,8 @@ fit_more : (messages : List Message) (m : Message) → AllFit messages → Fits 
 fit_more [] m all f = (f, tt)
 fit_more (first ∷ messages) m all f = (all.0, fit_more messages m all.1 f)
 
-pub answered_more : (limit : ℕ) (messages : List Message) (m : Message) (old new : Vec (Vec ℕ)) → Fits m → length (canon m) ≤ limit → Answered limit messages old
-    → bodies new.items ≡ block_one limit (bodies old.items) (canon m) → Answered limit (messages ++ m ∷ []) new
+pub answered_more : (limit : ℕ) (messages : List Message) (m : Message) (old new : Vec (Vec ℕ)) → Fits m → length (canon m) ≤ limit → AreAnswers limit messages old
+    → bodies new.items ≡ block_one limit (bodies old.items) (canon m) → AreAnswers limit (messages ++ m ∷ []) new
 answered_more limit messages m old new f h before e =
     record {
       bytes = e ∙ ap (λ l. block_one limit l (canon m)) before.bytes ∙ sym (Blocked-more limit messages m);

@@ -11,7 +11,7 @@ use Rattle.dap_accessed.specs.declared.phase.OpenFile.{OpenFile}
 use Rattle.dap_accessed.specs.declared.setup.ServerSetup.{ServerSetup}
 use Rattle.dap_accessed.specs.Setup.{lacks}
 use Rattle.dap_accessed.specs.Standing.{Files, new_file, index_by, file_at, ServerState, Ready, Opened, Scene, Effect, enters}
-use Rattle.dap_accessed.specs.Replies.{bare_status, reason_of, refused_access, opened_with, completed}
+use Rattle.dap_accessed.specs.Replies.{bare_status, reason_of, refused_access, opened_with, complete_response}
 
 -- the operations that FAC allows
 abbrev pub rights_of : ℕ → Rights
@@ -32,8 +32,8 @@ abbrev pub refuse_access : Scene → Message → Effect
 refuse_access scene status = enters scene Ready (status ∷ [])
 
 -- An Access that asks for a right which the server doesn't give is refused.
-abbrev pub permitted : ServerSetup → (asked : Rights) → Scene → Effect → Effect
-permitted own asked scene effect =
+abbrev pub effect_if_permitted : ServerSetup → (asked : Rights) → Scene → Effect → Effect
+effect_if_permitted own asked scene effect =
     if lacks own.most asked then refuse_access scene (refused_access (reason_of NotPermitted)) else effect
 
 -- the rights that an Access to open a file asks for
@@ -48,7 +48,7 @@ rights_to_create fac = record (rights_of (fac_or fac codes.fac_bits.put)) { put 
 abbrev pub open_file : ServerSetup → Scene → (fac : ℕ) → Option ℕ → Effect
 open_file own scene fac None = refuse_access scene (bare_status codes.stscode.file_not_found)
 open_file own scene fac (Some at) =
-    permitted own (rights_to_open fac) scene (enters scene (Opened (record { at = at; is_new = false; rights = rights_of (fac_or fac codes.fac_bits.get) }))
+    effect_if_permitted own (rights_to_open fac) scene (enters scene (Opened (record { at = at; is_new = false; rights = rights_of (fac_or fac codes.fac_bits.get) }))
     (opened_with (file_at at scene.files).shape))
 
 -- Makes a file of this name and shape, if the attributes were good. It comes after all others.
@@ -62,7 +62,7 @@ make_file scene name fac (Some shape) =
 -- Makes a file of this name and shape, unless one of that name is at an index.
 abbrev pub create_file : ServerSetup → Scene → (name : List ℕ) → (fac : ℕ) → Option ℕ → Option Shape → Effect
 create_file own scene name fac (Some at) shape = refuse_access scene (refused_access codes.reasons.file_exists)
-create_file own scene name fac None shape = permitted own (rights_to_create fac) scene (make_file scene name fac shape)
+create_file own scene name fac None shape = effect_if_permitted own (rights_to_create fac) scene (make_file scene name fac shape)
 
 -- an Access, by ACCFUNC: open and create are supported
 abbrev pub access_file : ServerSetup → Scene → AccessFields → Option Shape → Effect
@@ -70,24 +70,24 @@ access_file own scene access shape =
     let found = index_by own.names access.name scene.files in
     if access.func == codes.accfunc.opening then open_file own scene access.fac found
     else if access.func == codes.accfunc.creating then create_file own scene access.name access.fac found shape
-    else refuse_access scene (bare_status (codes.unsupported codes.types.access))
+    else refuse_access scene (bare_status (codes.unsupported_code codes.types.access))
 
 -- ---- Access Complete.
 
 -- the files after a purge: one that this Access made is removed
-abbrev pub purged : OpenFile → Files → Files
-purged opened files = if opened.is_new then remove files opened.at else files
+abbrev pub files_after_purge : OpenFile → Files → Files
+files_after_purge opened files = if opened.is_new then remove files opened.at else files
 
 -- the end of a stream; without a stream it is out of synchronization
 abbrev pub end_stream : Scene → OpenFile → ServerState → Effect
 end_stream scene opened (Opened _) = enters scene (Opened opened) (bare_status (codes.out_of_sequence codes.types.accomp) ∷ [])
-end_stream scene opened state = enters scene (Opened opened) (completed ∷ [])
+end_stream scene opened state = enters scene (Opened opened) (complete_response ∷ [])
 
 -- an Access Complete, by CMPFUNC, while a file is open
 abbrev pub complete : (func : ℕ) → Scene → OpenFile → ServerState → Effect
 complete func scene opened state =
-    if func == codes.cmpfunc.close then enters scene Ready (completed ∷ [])
-    else if func == codes.cmpfunc.purge then enters (record scene { files = purged opened scene.files }) Ready (completed ∷ [])
+    if func == codes.cmpfunc.close then enters scene Ready (complete_response ∷ [])
+    else if func == codes.cmpfunc.purge then enters (record scene { files = files_after_purge opened scene.files }) Ready (complete_response ∷ [])
     else if func == codes.cmpfunc.end_of_stream then end_stream scene opened state
-    else if func == codes.cmpfunc.skip then enters scene state (bare_status (codes.unsupported codes.types.accomp) ∷ [])
+    else if func == codes.cmpfunc.skip then enters scene state (bare_status (codes.unsupported_code codes.types.accomp) ∷ [])
     else enters scene state (bare_status (codes.invalid codes.types.accomp) ∷ [])

@@ -4,7 +4,7 @@ use Rattle.rec_file.specs.declared.shapes.Shape.{Shape}
 use Rattle.rec_file.specs.declared.refusals.Refusal.{Refusal}
 use Rattle.rec_file.specs.declared.refusals.Refusal.TheVariants.{BadLength, NumberOutOfRange, RecordExists}
 use Rattle.rec_file.specs.Shapes.{is_seq, allows_length}
-use Rattle.rec_file.specs.Files.{FileVal, highest_of, stored}
+use Rattle.rec_file.specs.Files.{FileVal, highest_of, file_with_record}
 use Rattle.rec_file.specs.Acts.{out_of_range, is_free_number, first_refusal}
 use Rattle.dap_accessed.specs.declared.fault.AddFault.{AddFault}
 use Rattle.dap_accessed.specs.declared.fault.AddFault.TheVariants as fault
@@ -62,7 +62,7 @@ MayStore file n body = first_refusal (record_refusals file n body) ≡ None
 
 -- the newest file has the record under this number
 abbrev pub with_record : ℕ → List ℕ → Files → Files
-with_record n body files = with_file (newest files) (stored (file_at (newest files) files) n body) files
+with_record n body files = with_file (newest files) (file_with_record (file_at (newest files) files) n body) files
 
 -- no Configuration was served, there is a file, and the newest one takes the record
 abbrev pub MayAddRecord : Present → ℕ → List ℕ → Type 0

@@ -19,7 +19,7 @@ use Rattle.dap_accessed.specs.Standing.{the_file, ServerState, Fresh, Ready, Ope
 use Rattle.dap_accessed.specs.Replies.{bare_status, sync_status}
 use Rattle.dap_accessed.specs.Past.{asked_shape, kept_attributes, is_dropping, ordinal_so_far}
 use Rattle.dap_accessed.specs.Accesses.{access_file, complete}
-use Rattle.dap_accessed.specs.Records.{at_number, new_stream, verb_of, get_pick, record_got, put_key, refused_effect, settled, Change, Putting, Updating, changed}
+use Rattle.dap_accessed.specs.Records.{at_number, new_stream, verb_of, get_pick, record_got, put_key, refused_effect, effect_of_outcome, Change, Putting, Updating, effect_of_change}
 use Rattle.dap_accessed.specs.Transfers.{fetch, continue_fetch, store_one, continue_store}
 
 -- the first message of a group of two, and where it is served
@@ -41,7 +41,7 @@ sync scene state message = enters scene state (sync_status message ∷ [])
 
 -- the answer to a Control that is out of sequence while a file is open; an unknown CTLFUNC isn't supported
 abbrev pub control_status : Verb → Message
-control_status verbs.Unknown = bare_status (codes.unsupported codes.types.control)
+control_status verbs.Unknown = bare_status (codes.unsupported_code codes.types.control)
 control_status verb = bare_status (codes.out_of_sequence codes.types.control)
 
 -- that answer, which changes nothing
@@ -106,7 +106,7 @@ control_connected verbs.Put scene opened stream control =
 control_connected verbs.Update scene opened stream control = begins_with control opened stream Updating
 control_connected verbs.Store scene opened stream control = Does (enters scene (Store opened stream) [])
 control_connected verbs.Delete scene opened stream control =
-    Does (settled scene opened (act delete_record (the_file scene.files opened) stream))
+    Does (effect_of_outcome scene opened (act delete_record (the_file scene.files opened) stream))
 control_connected verbs.Rewind scene opened stream control =
     Does (enters scene (Connected opened (at_number 1 stream)) (bare_status codes.stscode.success ∷ []))
 control_connected verb scene opened stream control = Does (refuse_control verb scene (Connected opened stream))
@@ -155,7 +155,7 @@ turn_of own s (Whole message) = turn_in own s.scene s.past s.state message
 
 -- the second item of a group of two; one that is no Data message ends the group without its operation
 abbrev pub effect_with : Change → Scene → OpenFile → StreamVal → Item → Effect
-effect_with change scene opened stream (Whole (Filedata _ body)) = changed change scene opened stream body
+effect_with change scene opened stream (Whole (Filedata _ body)) = effect_of_change change scene opened stream body
 effect_with change scene opened stream (Whole message) = sync scene (Connected opened stream) message
 effect_with change scene opened stream (Malformed fault) =
     enters scene (Connected opened stream) (bare_status (codes.status_code_for fault.message_type) ∷ [])

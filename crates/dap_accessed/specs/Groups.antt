@@ -24,22 +24,22 @@ after_two s begun second =
     (effect_with begun.change s.scene begun.opened begun.stream second)
 
 -- the state after the whole groups, and what is begun of one that isn't whole
-pub record Grouped : Type 0 where
+pub record GroupedItems : Type 0 where
   pub standing : Standing
   pub begun : Option Begun
 
 -- the items, cut into groups from this state on
-abbrev pub grouped : (own : ServerSetup) → Standing → List Item → Grouped
-grouped own s [] = record { standing = s; begun = None }
-grouped own s (item ∷ []) =
+abbrev pub grouped_items : (own : ServerSetup) → Standing → List Item → GroupedItems
+grouped_items own s [] = record { standing = s; begun = None }
+grouped_items own s (item ∷ []) =
     elim (turn_of own s item) [
       | Does effect ↦ record { standing = over s s.state item effect; begun = None }
       | BeginsGroup begun ↦ record { standing = s; begun = Some begun }
     ]
-grouped own s (item ∷ second ∷ items) =
+grouped_items own s (item ∷ second ∷ items) =
     elim (turn_of own s item) [
-      | Does effect ↦ grouped own (over s s.state item effect) (second ∷ items)
-      | BeginsGroup begun ↦ grouped own (after_two s begun second) items
+      | Does effect ↦ grouped_items own (over s s.state item effect) (second ∷ items)
+      | BeginsGroup begun ↦ grouped_items own (after_two s begun second) items
     ]
 
 -- the answers of the groups, in order
@@ -48,8 +48,8 @@ answers_in [] = []
 answers_in (group ∷ past) = answers_in past ++ group.answers
 
 -- the state of a server with this setup, and these files at first, after these items
-abbrev pub stands_after : (own : ServerSetup) → Files → List Item → Grouped
-stands_after own first items = grouped own (start first) items
+abbrev pub stands_after : (own : ServerSetup) → Files → List Item → GroupedItems
+stands_after own first items = grouped_items own (start first) items
 
 -- the maximum length of a message to the peer then
 abbrev pub limit_for : (own : ServerSetup) → Files → List Item → ℕ
@@ -64,23 +64,23 @@ abbrev pub Answers : (own : ServerSetup) → Files → List Item → List Messag
 Answers own first items = answers_in (stands_after own first items).standing.past
 
 -- the answers that one more item adds
-abbrev pub added : (own : ServerSetup) → Files → List Item → Item → List Message
-added own first items item = drop (length (Answers own first items)) (Answers own first (items ++ item ∷ []))
+abbrev pub answers_added : (own : ServerSetup) → Files → List Item → Item → List Message
+answers_added own first items item = drop (length (Answers own first items)) (Answers own first (items ++ item ∷ []))
 
 -- ---- One more item finishes the group that was begun, or is a group, or begins one.
 
 -- the state after a group, or with one begun
-abbrev pub next_group : Standing → Item → Turn → Grouped
+abbrev pub next_group : Standing → Item → Turn → GroupedItems
 next_group s item (Does effect) = record { standing = over s s.state item effect; begun = None }
 next_group s item (BeginsGroup begun) = record { standing = s; begun = Some begun }
 
 -- the state after an item, where this group was begun
-abbrev pub more_after : (own : ServerSetup) → Standing → Option Begun → Item → Grouped
+abbrev pub more_after : (own : ServerSetup) → Standing → Option Begun → Item → GroupedItems
 more_after own s None item = next_group s item (turn_of own s item)
 more_after own s (Some begun) item = record { standing = after_two s begun item; begun = None }
 
 -- the state after one more item
-abbrev pub after_item : (own : ServerSetup) → Grouped → Item → Grouped
+abbrev pub after_item : (own : ServerSetup) → GroupedItems → Item → GroupedItems
 after_item own c item = more_after own c.standing c.begun item
 
 -- the answers of a group; one that is begun has none yet
@@ -95,5 +95,5 @@ answers_after own s (Some begun) item =
     (effect_with begun.change s.scene begun.opened begun.stream item).answers
 
 -- the answers to an item in this state
-abbrev pub answers_of : (own : ServerSetup) → Grouped → Item → List Message
+abbrev pub answers_of : (own : ServerSetup) → GroupedItems → Item → List Message
 answers_of own c item = answers_after own c.standing c.begun item

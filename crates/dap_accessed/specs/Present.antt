@@ -11,7 +11,7 @@ use Rattle.dap_accessed.specs.Standing.{Files, ServerState, Group, Standing, Fre
 use Rattle.dap_accessed.specs.Past.{is_store, is_dropping, ordinal_so_far, kept_attributes, asked_shape}
 use Rattle.dap_accessed.specs.Records.{Change, Putting, Updating}
 use Rattle.dap_accessed.specs.Effects.{Begun}
-use Rattle.dap_accessed.specs.Groups.{Grouped, stands_after}
+use Rattle.dap_accessed.specs.Groups.{GroupedItems, stands_after}
 
 -- what a server keeps
 pub record Present : Type 0 where
@@ -63,7 +63,7 @@ phase_of s None = phase_at s.state (looked_back s.state s.past)
 phase_of s (Some begun) = phase_within begun.change begun.opened begun.stream
 
 -- what a server keeps in this state
-abbrev pub present_of : (own : ServerSetup) → Grouped → Present
+abbrev pub present_of : (own : ServerSetup) → GroupedItems → Present
 present_of own c =
     record {
       own = own.identity.bufsiz;

@@ -23,8 +23,8 @@ use Rattle.dap_accessed.specs.Standing.{with_file, the_file, Connected, Scene, E
 use Rattle.dap_accessed.specs.Replies.{refusal_status, record_status, too_large}
 
 -- the stream with no current record
-abbrev pub uncurrent : StreamVal → StreamVal
-uncurrent stream = record stream { current = None }
+abbrev pub stream_without_current : StreamVal → StreamVal
+stream_without_current stream = record stream { current = None }
 
 -- the stream at another number, with no current record
 abbrev pub at_number : ℕ → StreamVal → StreamVal
@@ -89,7 +89,7 @@ get_pick file stream control =
 -- A refusal leaves the files and the stream's next number, and no current record.
 abbrev pub refused_effect : Scene → OpenFile → StreamVal → Refusal → Effect
 refused_effect scene opened stream refusal =
-    enters scene (Connected opened (uncurrent stream)) (refusal_status refusal [] ∷ [])
+    enters scene (Connected opened (stream_without_current stream)) (refusal_status refusal [] ∷ [])
 
 -- the Data message of a record, with its number in 4 bytes
 abbrev pub filedata_of : ℕ × List ℕ → Message
@@ -106,7 +106,7 @@ got (Err refusal) scene opened before after = refused_effect scene opened before
 got (Ok n) scene opened before after =
     let r : ℕ × List ℕ = (n, unwrap_or (map.get (the_file scene.files opened).records n) []) in
     if fits_limit scene.limit r then enters scene (Connected opened after) (filedata_of r ∷ [])
-    else enters scene (Connected opened (uncurrent before)) (too_large ∷ [])
+    else enters scene (Connected opened (stream_without_current before)) (too_large ∷ [])
 
 -- what a GET does, unless it was refused before
 abbrev pub record_got : Result Pick Refusal → Scene → OpenFile → StreamVal → Effect
@@ -125,8 +125,8 @@ put_key file stream control =
 
 -- a PUT, an UPDATE or a DELETE: the file and the stream are those that the operation leaves, and the answer is one
 -- Status
-abbrev pub settled : Scene → OpenFile → Outcome → Effect
-settled scene opened outcome =
+abbrev pub effect_of_outcome : Scene → OpenFile → Outcome → Effect
+effect_of_outcome scene opened outcome =
     enters (record scene { files = with_file opened.at outcome.file scene.files }) (Connected opened outcome.stream)
     (record_status outcome.reply ∷ [])
 
@@ -136,10 +136,10 @@ pub data Change : Type 0 where
   Updating : Change
 
 -- the PUT or the UPDATE, once the Data message has come
-abbrev pub changed : Change → Scene → OpenFile → StreamVal → List ℕ → Effect
-changed (Putting (Err refusal)) scene opened stream body =
+abbrev pub effect_of_change : Change → Scene → OpenFile → StreamVal → List ℕ → Effect
+effect_of_change (Putting (Err refusal)) scene opened stream body =
     refused_effect scene opened stream refusal
-changed (Putting (Ok key)) scene opened stream body =
-    settled scene opened (act (put_record key body) (the_file scene.files opened) stream)
-changed Updating scene opened stream body =
-    settled scene opened (act (update_record body) (the_file scene.files opened) stream)
+effect_of_change (Putting (Ok key)) scene opened stream body =
+    effect_of_outcome scene opened (act (put_record key body) (the_file scene.files opened) stream)
+effect_of_change Updating scene opened stream body =
+    effect_of_outcome scene opened (act (update_record body) (the_file scene.files opened) stream)

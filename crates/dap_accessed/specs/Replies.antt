@@ -67,8 +67,8 @@ abbrev pub too_large : Message
 too_large = reason_status codes.stscode.record_refused codes.reasons.too_large_for_buffer []
 
 -- the Access Complete that answers the end of an access or a stream
-abbrev pub completed : Message
-completed = complete_with codes.cmpfunc.response
+abbrev pub complete_response : Message
+complete_response = complete_with codes.cmpfunc.response
 
 -- the code of ORG
 abbrev pub org_number : Org → ℕ

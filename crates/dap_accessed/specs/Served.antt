@@ -11,7 +11,7 @@ use Rattle.dap_accessed.specs.declared.setup.ServerSetup.{ServerSetup}
 use Rattle.dap_accessed.specs.declared.served.Served.{Served}
 use Rattle.dap_accessed.specs.Standing.{Files}
 use Rattle.dap_accessed.specs.Past.{is_filedata, is_dropping}
-use Rattle.dap_accessed.specs.Groups.{stands_after, limit_for, added}
+use Rattle.dap_accessed.specs.Groups.{stands_after, limit_for, answers_added}
 use Rattle.dap_accessed.specs.Present.{Present, StandsAfter}
 
 -- each is within the limit
@@ -20,7 +20,7 @@ AllAtMost limit list = AllByRecursion (λ bytes. length bytes ≤ limit) list
 
 -- NSP messages with these messages, each of which has a spelling, joined as far as the limit goes, and none longer than
 -- it
-pub record Answered (limit : ℕ) (messages : List Message) (answers : Vec (Vec ℕ)) : Type 0 where
+pub record AreAnswers (limit : ℕ) (messages : List Message) (answers : Vec (Vec ℕ)) : Type 0 where
   pub bytes : bodies answers.items ≡ all_joined (Blocked limit messages)
   pub within : AllAtMost limit (bodies answers.items)
   pub fits : AllFit messages
@@ -36,8 +36,8 @@ pub record ServesItemAt (bytes : List ℕ) (at : ℕ) (old new : Present) (serve
   pub most : limit ≤ max_nsp_message
   pub stands : (first : Files) (items : List Item) → StandsAfter first items old → StandsAfter first (items ++ item ∷ []) new
   pub answers : (first : Files) (items : List Item) → StandsAfter first items old →
-      bodies served.answers.items ≡ all_joined (Blocked limit (added old.setup first items item))
-  pub fits : (first : Files) (items : List Item) → StandsAfter first items old → AllFit (added old.setup first items item)
+      bodies served.answers.items ≡ all_joined (Blocked limit (answers_added old.setup first items item))
+  pub fits : (first : Files) (items : List Item) → StandsAfter first items old → AllFit (answers_added old.setup first items item)
   pub within : AllAtMost limit (bodies served.answers.items)
   pub same_own : new.own ≡ old.own
   pub same_setup : new.setup ≡ old.setup
@@ -45,4 +45,4 @@ pub record ServesItemAt (bytes : List ℕ) (at : ℕ) (old new : Present) (serve
 -- an item without an answer, that is no Data message which is stored: it is never out of memory
 abbrev pub IsSilent : (own : ServerSetup) → Files → List Item → Item → Type 0
 IsSilent own first items item =
-    (added own first items item ≡ []) × (is_filedata item ≡ true → is_dropping (stands_after own first items).standing.past ≡ true)
+    (answers_added own first items item ≡ []) × (is_filedata item ≡ true → is_dropping (stands_after own first items).standing.past ≡ true)

@@ -18,9 +18,9 @@ use Rattle.dap_accessed.specs.Setup.{lacks, plain_setup}
 use Rattle.dap_accessed.specs.Standing.{Files, index_by, plain_shape}
 use Rattle.dap_accessed.specs.Past.{is_filedata, is_dropping}
 use Rattle.dap_accessed.specs.Accesses.{rights_to_open}
-use Rattle.dap_accessed.specs.Groups.{Grouped, after_item, answers_of}
+use Rattle.dap_accessed.specs.Groups.{GroupedItems, after_item, answers_of}
 use Rattle.dap_accessed.specs.Present.{Present, present_of}
-use Rattle.dap_accessed.specs.Served.{AllAtMost, Answered}
+use Rattle.dap_accessed.specs.Served.{AllAtMost, AreAnswers}
 
 -- what a server keeps of a link, but for the files
 pub record SessionValue : Type 0 where
@@ -114,19 +114,19 @@ asked_in own files phase item = None
 -- ---- One item.
 
 -- it is what a server keeps in this state
-abbrev pub IsIn : Grouped → Present → Type 0
+abbrev pub IsIn : GroupedItems → Present → Type 0
 IsIn c present = present ≡ present_of present.setup c
 
 -- an item without an answer in this state, that is no Data message which is stored: it is never out of memory
-abbrev pub IsSilentIn : (own : ServerSetup) → Grouped → Item → Type 0
+abbrev pub IsSilentIn : (own : ServerSetup) → GroupedItems → Item → Type 0
 IsSilentIn own c item =
     (answers_of own c item ≡ []) × (is_filedata item ≡ true → is_dropping c.standing.past ≡ true)
 
 -- An item was served. In whatever state the server was, it is in the state after that and this item, and gives the
 -- answers that the item has there, joined within the peer's limit.
 pub record ServesItem (item : Item) (old new : Present) (answers : Vec (Vec ℕ)) : Type 0 where
-  pub stands : (c : Grouped) → IsIn c old → IsIn (after_item old.setup c item) new
-  pub answered : (c : Grouped) → IsIn c old → Answered old.limit (answers_of old.setup c item) answers
+  pub stands : (c : GroupedItems) → IsIn c old → IsIn (after_item old.setup c item) new
+  pub answered : (c : GroupedItems) → IsIn c old → AreAnswers old.limit (answers_of old.setup c item) answers
   pub within : AllAtMost old.limit (bodies answers.items)
   pub most : old.limit ≤ max_nsp_message
   pub same_own : new.own ≡ old.own

@@ -4,7 +4,7 @@ use Rattle.std.specs.List.{AllByRecursion, IsDistinct}
 use Rattle.dap_msg.specs.BothEnds.{max_nsp_message, min_buffer}
 use Rattle.rec_file.specs.Files.{IsFile}
 use Rattle.dap_accessed.specs.Standing.{Files, Scene, ServerState, Fresh, Ready, Opened, Connected, Store, Stopped}
-use Rattle.dap_accessed.specs.Groups.{Grouped}
+use Rattle.dap_accessed.specs.Groups.{GroupedItems}
 
 -- the open file is in the table
 abbrev pub IsOpenAt : Files → ServerState → Type 0
@@ -31,6 +31,6 @@ pub record IsSoundAt (scene : Scene) (state : ServerState) : Type 0 where
   pub most : scene.limit ≤ max_nsp_message
 
 -- the state is sound so, and inside a group of two the open file of its first message is in the table too
-pub record IsSound (c : Grouped) : Type 0 where
+pub record IsSound (c : GroupedItems) : Type 0 where
   pub standing : IsSoundAt c.standing.scene c.standing.state
   pub begun : IfSome c.begun (λ b. b.opened.at < length c.standing.scene.files)

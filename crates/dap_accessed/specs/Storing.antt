@@ -1,6 +1,6 @@
 -- A record that is stored in a file under its number.
 use Rattle.std.specs.Prelude.{ℕ, ◌≡◌, List, Some, Result, Ok, Err}
-use Rattle.rec_file.specs.Files.{FileVal, stored}
+use Rattle.rec_file.specs.Files.{FileVal, file_with_record}
 use Rattle.rec_file.specs.Acts.{first_refusal}
 use Rattle.dap_accessed.specs.declared.fault.AddFault.{AddFault}
 use Rattle.dap_accessed.specs.declared.fault.AddFault.TheVariants as fault
@@ -14,5 +14,5 @@ StoreRefused file n body _ = ⊥
 
 -- the file has the record, or is as it was
 abbrev pub Stores : ℕ → List ℕ → (old new : FileVal) → Result (Unit {0}) AddFault → Type 0
-Stores n body old new (Ok _) = MayStore old n body × (new ≡ stored old n body)
+Stores n body old new (Ok _) = MayStore old n body × (new ≡ file_with_record old n body)
 Stores n body old new (Err f) = StoreRefused old n body f × (new ≡ old)

@@ -34,7 +34,7 @@ fetch scene opened stream =
 -- another Continue Transfer: a resumption isn't supported, any other value isn't allowed
 abbrev pub continue_refused : (func : ℕ) → Message
 continue_refused func =
-    bare_status (if func == codes.confunc.resume then codes.unsupported codes.types.contran else codes.invalid codes.types.contran)
+    bare_status (if func == codes.confunc.resume then codes.unsupported_code codes.types.contran else codes.invalid codes.types.contran)
 
 -- A Continue Transfer after a fetch that stopped: again from that record, from the number after it, or not at all.
 abbrev pub continue_fetch : (func : ℕ) → Scene → OpenFile → StreamVal → Effect

@@ -6,9 +6,9 @@ ghost use Rattle.dap_msg.specs.Canon.{Fits};
 ghost use Rattle.dap_msg.specs.Sizes.{file_data_size};
 ghost use Rattle.dap_msg.specs.BothEnds.{four_bytes, min_buffer};
 ghost use Rattle.rec_file.specs.Limits.{max_record};
-ghost use Rattle.dap_accessed.specs.Replies.{attributes_for, completed, format_number, opened_with, org_number, status, too_large};
+ghost use Rattle.dap_accessed.specs.Replies.{attributes_for, complete_response, format_number, opened_with, org_number, status, too_large};
 ghost use Rattle.dap_accessed.specs.Inner.Written.{AddsAnswer, FitsIn, IsAtMost, IsShortReply, IsWritableReply, reply_message, most_bytes};
-ghost use Rattle.dap_accessed.specs.Served.{Answered};
+ghost use Rattle.dap_accessed.specs.Served.{AreAnswers};
 
 use crate::fault::NoMemory;
 use dap_msg::codes::{
@@ -163,7 +163,7 @@ impl<'a> Answer<'a> {
 /// Returns one answer in an NSP message.
 pub(crate) fn one(alloc: Global, limit: u16, answer: Answer<'_>) -> Result<Vec<Vec<u8>>, NoMemory>
     requires { FitsIn limit answer }
-    ensures { IfOk result (Answered limit (reply_message answer.entry ∷ [])) }
+    ensures { IfOk result (AreAnswers limit (reply_message answer.entry ∷ [])) }
 {
     let mut answers = Vec::new(alloc);
     append(alloc, limit, answer, &mut answers)?;
@@ -187,7 +187,7 @@ pub(crate) fn append(
 /// Returns the answers to an Access that opens a file.
 pub(crate) fn opening(alloc: Global, limit: u16, shape: Shape) -> Result<Vec<Vec<u8>>, NoMemory>
     requires { min_buffer ≤ limit }
-    ensures { IfOk result (Answered limit (opened_with shape)) }
+    ensures { IfOk result (AreAnswers limit (opened_with shape)) }
 {
     let mut answers = Vec::new(alloc);
     append(
@@ -231,7 +231,7 @@ impl Room {
     pub(crate) fn fill(self, limit: u16, answer: Answer<'_>) -> Vec<Vec<u8>>
         requires short { IsShortReply answer }
         requires room { min_buffer ≤ limit }
-        ensures { Answered limit (reply_message answer.entry ∷ []) result }
+        ensures { AreAnswers limit (reply_message answer.entry ∷ []) result }
     {
         let Room {
             mut answers,

@@ -17,13 +17,13 @@ ghost use Rattle.dap_accessed.specs.Standing.{Files, index_of, file_at};
 ghost use Rattle.dap_accessed.specs.Adding.{MayStore, newest, with_new_file, with_record};
 ghost use Rattle.rec_file.specs.Shapes.{is_shape};
 ghost use Rattle.rec_file.specs.declared.shapes.Shape.{Shape};
-ghost use Rattle.dap_accessed.specs.Groups.{After, Answers, added, limit_for, stands_after};
+ghost use Rattle.dap_accessed.specs.Groups.{After, Answers, answers_added, limit_for, stands_after};
 
 /// One more message adds its answers to those of the messages before it, and no others.
 pub fn answers_grow()
     ensures { (own : ServerSetup) (first : Files) (items : List TheItem) (item : TheItem)
         → Answers own first (items ++ item ∷ [])
-        ≡ Answers own first items ++ added own first items item }
+        ≡ Answers own first items ++ answers_added own first items item }
 {}
 
 /// Where each file at first obeyed its shape, and no two had the same name, it is so after any messages; each shape
@@ -39,7 +39,7 @@ pub fn answers_are_sendable()
     ensures { (own : ServerSetup) → FieldsFit (Config own.identity)
         → (first : Files) (items : List TheItem)
         (item : TheItem) → AreFiles first → IsRead item
-        → AreSendable (limit_for own first items) (added own first items item) }
+        → AreSendable (limit_for own first items) (answers_added own first items item) }
 {}
 
 /// All answers to messages that were read have spellings.
@@ -78,5 +78,5 @@ pub fn identity_is_told_alone()
         (Answers one first items) (Answers other first items) }
     ensures added { (one other : ServerSetup) (first : Files) (items : List TheItem)
         (item : TheItem) → AreTwins one other → SameMessages one.identity other.identity
-        (added one first items item) (added other first items item) }
+        (answers_added one first items item) (answers_added other first items item) }
 {}

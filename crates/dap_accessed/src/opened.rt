@@ -1,7 +1,7 @@
 //! What is served while a file is open.
 
 ghost use Rattle.std.specs.Prelude.{OnOk, ◌≡◌, ◌<◌, length, OnErr};
-ghost use Rattle.dap_accessed.specs.Records.{uncurrent};
+ghost use Rattle.dap_accessed.specs.Records.{stream_without_current};
 ghost use Rattle.dap_accessed.specs.Inner.Moves.{Makes, Moves, refusal_move, refuses_large};
 ghost use Rattle.dap_accessed.specs.Sessions.{IsOpenIn, with_files};
 ghost use Rattle.dap_accessed.specs.Inner.Steps.{step_move};
@@ -19,7 +19,7 @@ use rec_file::{Refusal, Stream};
 
 /// Returns the stream with no current record.
 pub(crate) fn without_current(mut stream: Stream) -> Stream
-    ensures { result ≡ uncurrent stream }
+    ensures { result ≡ stream_without_current stream }
 {
     stream.forget();
     stream

@@ -8,9 +8,9 @@ ghost use Rattle.dap_msg.specs.Codes as codes;
 ghost use Rattle.dap_msg.specs.Decoding.{IsSpelled};
 ghost use Rattle.dap_msg.specs.Items.{ItemFits};
 ghost use Rattle.dap_accessed.specs.Accesses.{fac_or, rights_of, rights_to_create};
-ghost use Rattle.dap_accessed.specs.Groups.{Grouped};
+ghost use Rattle.dap_accessed.specs.Groups.{GroupedItems};
 ghost use Rattle.dap_accessed.specs.Replies.{bare_status, refused_access};
-ghost use Rattle.dap_accessed.specs.Served.{Answered};
+ghost use Rattle.dap_accessed.specs.Served.{AreAnswers};
 ghost use Rattle.dap_accessed.specs.Sessions.{IsIn, IsOpenIn, IsSilentIn, ServesItem, asked_in, with_files, new_session, open_at, phase_moved_up, refused_session, session_with, there_at, would_open};
 ghost use Rattle.dap_accessed.specs.Setup.{IsServerSetup};
 ghost use Rattle.dap_accessed.specs.Inner.Sessions.{Enters};
@@ -221,7 +221,7 @@ impl Session {
 
     /// Returns no answers.
     pub(crate) fn none(&self) -> Vec<Vec<u8>>
-        ensures { Answered self.now.limit [] result }
+        ensures { AreAnswers self.now.limit [] result }
     {
         Vec::new(self.alloc)
     }
@@ -406,7 +406,7 @@ impl Session {
     /// Answers an Access that may not open its file, by a Status with this code and nothing else.
     pub fn refuse_open(&mut self, files: &FileTable, code: u16) -> Result<Vec<Vec<u8>>, NoMemory>
         ensures session { OnOk result (self.new ≡ refused_session self.old) }
-        ensures answer { IfOk result (Answered self.old.limit (bare_status code ∷ [])) }
+        ensures answer { IfOk result (AreAnswers self.old.limit (bare_status code ∷ [])) }
         ensures no_memory { OnErr result (self.new ≡ self.old) }
         ensures most { self.old.limit ≤ max_nsp_message }
     {
@@ -433,7 +433,7 @@ impl Session {
         ensures next { IfOk result (λ served. served.next ≡ next) }
         ensures there { IsOpenIn files.new self.new.phase }
         ensures no_memory { OnErr result ((files.new ≡ files.old) × (self.new ≡ self.old)) }
-        ensures unrefused { (c : Grouped) → IsIn c (with_files files.old self.old)
+        ensures unrefused { (c : GroupedItems) → IsIn c (with_files files.old self.old)
             → IsSilentIn self.old.setup c item.entry → IsOk result }
     {
         let answers = self.answer_item(files, item)?;

@@ -9,7 +9,7 @@ use Rattle.dap_events.specs.declared.event.Event.{Event}
 use Rattle.dap_events.specs.declared.event.Step.{Step}
 use Rattle.dap_events.specs.declared.event.Step.TheVariants as step
 use Rattle.dap_events.specs.declared.setup.WorldSetup.{WorldSetup}
-use Rattle.dap_world.specs.Machine.{State, Sending, files_of, fresh}
+use Rattle.dap_world.specs.Machine.{State, Sending, files_of, initial_state}
 use Rattle.dap_world.specs.Setups.{IsWorldSetup}
 use Rattle.dap_world.specs.Wires.{IsOnWire}
 use Rattle.dap_world.proofs.ForCallers.{no_step, one_on_wire, one_reason, one_step}
@@ -17,7 +17,7 @@ use Rattle.dap_text.specs.Reports.{report_text}
 use Rattle.dap_orders.specs.Schedules.{Numbered, numbered_lines}
 use Rattle.dap_capture.specs.Inner.Playing.{events_of}
 use Rattle.dap_text.specs.Tables.{files_text}
-use Rattle.dap_capture.specs.Played.{IsPacketWritten, IsStepText, Played, Plays, all_played, empty, end_text, event_line, one_played, played, refusal_line, refusal_text, setup_refused, stops}
+use Rattle.dap_capture.specs.Played.{IsPacketWritten, IsStepText, PlaysSchedule, Plays, all_played, empty, end_text, event_line, one_played, played, refusal_line, refusal_text, setup_refused, stops}
 use Rattle.linewise.specs.declared.fault.Outcome.{Outcome}
 
 same_end : (a b : End) (x : _) → x ≡ Some a → x ≡ Some b → b ≡ a
@@ -67,7 +67,7 @@ one_run s number (e ∷ events) one two a b (stops f word why says) (stops g wor
     let words = same_word word word' _ says (ap refusal_text same ∙ says') in
     (refl, ap (λ (w : List ℕ). refusal_line number w ++ files_text (files_of s)) words)
 
-one_schedule : (lines : List Numbered) (one two : Outcome) (a b : List ℕ) → Played lines one a → Played lines two b → (one ≡ two) × (a ≡ b)
+one_schedule : (lines : List Numbered) (one two : Outcome) (a b : List ℕ) → PlaysSchedule lines one a → PlaysSchedule lines two b → (one ≡ two) × (a ≡ b)
 one_schedule [] one two a b empty empty = (refl, refl)
 one_schedule (first ∷ others) one two a b (setup_refused setup says bad) (setup_refused setup' says' bad') = (refl, refl)
 one_schedule (first ∷ others) one two a b (setup_refused setup says bad) (played setup' says' good plays) =
@@ -75,8 +75,8 @@ one_schedule (first ∷ others) one two a b (setup_refused setup says bad) (play
 one_schedule (first ∷ others) one two a b (played setup says good plays) (setup_refused setup' says' bad) =
     absurd (bad (subst IsWorldSetup (same_setup setup' setup _ says' says) good))
 one_schedule (first ∷ others) one two a b (played setup says good plays) (played setup' says' good' plays') =
-    one_run (fresh setup) 1 (events_of others) one two a b plays
-    (subst (λ (x : WorldSetup). Plays (fresh x) 1 (events_of others) two b) (same_setup setup setup' _ says says') plays')
+    one_run (initial_state setup) 1 (events_of others) one two a b plays
+    (subst (λ (x : WorldSetup). Plays (initial_state x) 1 (events_of others) two b) (same_setup setup setup' _ says says') plays')
 
-pub one_text : (input a b : List ℕ) (one two : Outcome) → Played (numbered_lines input) one a → Played (numbered_lines input) two b → (one ≡ two) × (a ≡ b)
+pub one_text : (input a b : List ℕ) (one two : Outcome) → PlaysSchedule (numbered_lines input) one a → PlaysSchedule (numbered_lines input) two b → (one ≡ two) × (a ≡ b)
 one_text input a b one two = one_schedule (numbered_lines input) one two a b

@@ -3,13 +3,13 @@ use Rattle.std.proofs.Common.{◌≡◌, ◌+◌, ◌++◌, ℕ, List, [], ◌�
 use Rattle.std.specs.List.{filter_map, cons_option}
 use Rattle.std.specs.Prelude.{codes}
 use Rattle.std.proofs.lemmas.List.{append_assoc}
-use Rattle.dap_world.specs.Machine.{State, RefusesEvent, fresh, files_of}
+use Rattle.dap_world.specs.Machine.{State, RefusesEvent, initial_state, files_of}
 use Rattle.dap_world.specs.Setups.{IsWorldSetup}
 use Rattle.dap_events.specs.declared.setup.WorldSetup.{WorldSetup}
 use Rattle.dap_events.specs.declared.event.Event.{Event}
 use Rattle.dap_events.specs.declared.event.WorldFault.{WorldFault}
 use Rattle.dap_events.specs.declared.event.WorldFault.TheVariants as fault
-use Rattle.dap_world.specs.Runs.{Went}
+use Rattle.dap_world.specs.Runs.{ComesTo}
 use Rattle.linewise.specs.declared.fault.Outcome.{Outcome}
 use Rattle.linewise.specs.declared.fault.Outcome.TheVariants.{Good, Stopped}
 use Rattle.dap_orders.specs.Orders.{event_of, world_setup_of}
@@ -17,7 +17,7 @@ use Rattle.dap_orders.specs.Schedules.{Numbered, fault_unless}
 use Rattle.dap_orders.specs.Schedules.{event_fault}
 use Rattle.dap_capture.specs.Inner.Playing.{events_of}
 use Rattle.dap_text.specs.Tables.{files_text}
-use Rattle.dap_capture.specs.Played.{Plays, all_played, one_played, stops, Played, empty, setup_refused, played, event_line, refusal_line, refusal_text}
+use Rattle.dap_capture.specs.Played.{Plays, all_played, one_played, stops, PlaysSchedule, empty, setup_refused, played, event_line, refusal_line, refusal_text}
 use Rattle.dap_capture.specs.Inner.Playing.{PlaysOne}
 
 -- what a text so far comes to, once the rest of the run is known
@@ -62,7 +62,7 @@ faults_after number line rest lines e cut says =
     ap (filter_map event_fault) cut ∙ ap (λ o. cons_option o (filter_map event_fault rest)) (no_fault number (event_of line) e says)
 
 -- a refusal that has a word is one of the machine
-pub refused : (old new : State) (e : Event) (f : WorldFault) (word : List ℕ) → refusal_text f ≡ Some word → Went old e (Err f) new → RefusesEvent old e f × (new ≡ old)
+pub refused : (old new : State) (e : Event) (f : WorldFault) (word : List ℕ) → refusal_text f ≡ Some word → ComesTo old e (Err f) new → RefusesEvent old e f × (new ≡ old)
 refused old new e fault.NoSuchPacket word has went = went
 refused old new e fault.Stale word has went = went
 refused old new e fault.NothingToDo word has went = went
@@ -73,15 +73,15 @@ refused old new e fault.BadSetup word has went = let no : ⊥ = cc in absurd no
 
 -- ---- the whole schedule
 
-pub nothing_said : (lines : List Numbered) (text : List ℕ) → lines ≡ [] → text ≡ [] → Played lines Good text
-nothing_said lines text none silent = subst (λ ls. Played ls Good text) (sym none) (subst (Played [] Good) (sym silent) empty)
+pub nothing_said : (lines : List Numbered) (text : List ℕ) → lines ≡ [] → text ≡ [] → PlaysSchedule lines Good text
+nothing_said lines text none silent = subst (λ ls. PlaysSchedule ls Good text) (sym none) (subst (PlaysSchedule [] Good) (sym silent) empty)
 
 pub bad_sizes : (lines others : List Numbered) (first : Numbered) (setup : WorldSetup) (text : List ℕ) → lines ≡ first ∷ others
-    → Some setup ≡ world_setup_of first.1 → (IsWorldSetup setup → ⊥) → text ≡ refusal_line 0 (codes "bad-setup") → Played lines Stopped text
+    → Some setup ≡ world_setup_of first.1 → (IsWorldSetup setup → ⊥) → text ≡ refusal_line 0 (codes "bad-setup") → PlaysSchedule lines Stopped text
 bad_sizes lines others first setup text cut says bad is =
-    subst (λ ls. Played ls Stopped text) (sym cut) (subst (Played (first ∷ others) Stopped) (sym is) (setup_refused setup (sym says) bad))
+    subst (λ ls. PlaysSchedule ls Stopped text) (sym cut) (subst (PlaysSchedule (first ∷ others) Stopped) (sym is) (setup_refused setup (sym says) bad))
 
 pub played_from : (lines others : List Numbered) (first : Numbered) (setup : WorldSetup) (world : State) (outcome : Outcome) (text : List ℕ) → lines ≡ first ∷ others
-    → Some setup ≡ world_setup_of first.1 → IsWorldSetup setup → world ≡ fresh setup → Plays world 1 (events_of others) outcome text → Played lines outcome text
+    → Some setup ≡ world_setup_of first.1 → IsWorldSetup setup → world ≡ initial_state setup → Plays world 1 (events_of others) outcome text → PlaysSchedule lines outcome text
 played_from lines others first setup world outcome text cut says good is run =
-    subst (λ ls. Played ls outcome text) (sym cut) (played setup (sym says) good (subst (λ w. Plays w 1 (events_of others) outcome text) is run))
+    subst (λ ls. PlaysSchedule ls outcome text) (sym cut) (played setup (sym says) good (subst (λ w. Plays w 1 (events_of others) outcome text) is run))

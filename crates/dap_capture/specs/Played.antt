@@ -12,7 +12,7 @@ use Rattle.dap_events.specs.declared.event.Step.TheVariants as step
 use Rattle.dap_events.specs.declared.event.WorldFault.{WorldFault}
 use Rattle.dap_events.specs.declared.event.WorldFault.TheVariants as fault
 use Rattle.dap_events.specs.declared.setup.WorldSetup.{WorldSetup}
-use Rattle.dap_world.specs.Machine.{State, Sending, Steps, RefusesEvent, fresh, end_of, reported, files_of}
+use Rattle.dap_world.specs.Machine.{State, Sending, Steps, RefusesEvent, initial_state, end_of, reports_by_a, files_of}
 use Rattle.dap_world.specs.Setups.{IsWorldSetup}
 use Rattle.dap_world.specs.Wires.{IsOnWire}
 use Rattle.dap_world.specs.Runs.{writing_end}
@@ -27,7 +27,7 @@ use Rattle.linewise.specs.declared.fault.CaptureFault.{CaptureFault}
 use Rattle.linewise.specs.declared.fault.Outcome.{Outcome}
 use Rattle.linewise.specs.declared.fault.Outcome.TheVariants.{Good, Stopped}
 
--- the line of an event, after its number
+-- the line of an event: its number, then this text
 abbrev pub event_line : ℕ → List ℕ → List ℕ
 event_line number text = concat (decimal number ∷ codes " " ∷ text ∷ line_feed ∷ [])
 
@@ -55,7 +55,7 @@ IsStepText s e (step.Delivered got) text = text ≡ got_text got
 IsStepText s e (step.Served count) text = text ≡ codes "served " ++ decimal count
 IsStepText s e step.Nothing text = text ≡ codes "read"
 IsStepText s e step.Reported text =
-    (report : Report) × (slice_get (reported s) (length (reported s) - 1) ≡ Some report) × (text ≡ codes "report " ++ report_text report)
+    (report : Report) × (slice_get (reports_by_a s) (length (reports_by_a s) - 1) ≡ Some report) × (text ≡ codes "report " ++ report_text report)
 
 -- the word for a refusal; out of memory has none, so no text says it
 abbrev pub refusal_text : WorldFault → Option (List ℕ)
@@ -82,16 +82,16 @@ pub data Plays : State → ℕ → List Event → Outcome → List ℕ → Type 
 
 -- The text of a schedule: nothing where there is no line; or the refusal of the setup; or the text of a run from a
 -- new world. By the law `schedules_have_one_text` there is one outcome and one text.
-pub data Played : List Numbered → Outcome → List ℕ → Type 0 where
-  empty : Played [] Good []
+pub data PlaysSchedule : List Numbered → Outcome → List ℕ → Type 0 where
+  empty : PlaysSchedule [] Good []
   setup_refused : {first : Numbered} {others : List Numbered} (setup : WorldSetup)
       → world_setup_of first.1 ≡ Some setup → (IsWorldSetup setup → ⊥)
-      → Played (first ∷ others) Stopped (refusal_line 0 (codes "bad-setup"))
+      → PlaysSchedule (first ∷ others) Stopped (refusal_line 0 (codes "bad-setup"))
   played : {first : Numbered} {others : List Numbered} {outcome : Outcome} {text : List ℕ} (setup : WorldSetup)
-      → world_setup_of first.1 ≡ Some setup → IsWorldSetup setup → Plays (fresh setup) 1 (filter_map (λ line. event_of line.1) others) outcome text
-      → Played (first ∷ others) outcome text
+      → world_setup_of first.1 ≡ Some setup → IsWorldSetup setup → Plays (initial_state setup) 1 (filter_map (λ line. event_of line.1) others) outcome text
+      → PlaysSchedule (first ∷ others) outcome text
 
 -- what `schedule` does with an input
 abbrev pub ScheduleGives : List ℕ → Option (List ℕ) → Option (List ℕ) → Result Outcome CaptureFault → Type 0
 ScheduleGives input =
-    GivesText (schedule_faults (numbered_lines input)) (Played (numbered_lines input)) input
+    GivesText (schedule_faults (numbered_lines input)) (PlaysSchedule (numbered_lines input)) input

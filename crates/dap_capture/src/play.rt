@@ -2,12 +2,12 @@
 
 ghost use Rattle.std.specs.Prelude.{◌≡◌, ◌≤◌, ◌+◌, IfErr, IfOk, length};
 ghost use Rattle.std.specs.List.{filter_map};
-ghost use Rattle.dap_world.specs.Runs.{Went};
+ghost use Rattle.dap_world.specs.Runs.{ComesTo};
 ghost use Rattle.dap_orders.specs.Orders.{event_of_order};
 ghost use Rattle.dap_orders.specs.Schedules.{event_fault, numbered_lines, schedule_faults};
 ghost use Rattle.dap_capture.specs.Inner.Checking.{GivesFirstFaultOrNoMemory, GivesFirstFaultThenNoMemory};
 ghost use Rattle.dap_capture.specs.Inner.Playing.{PlaysOne};
-ghost use Rattle.dap_capture.specs.Played.{Played, Plays};
+ghost use Rattle.dap_capture.specs.Played.{PlaysSchedule, Plays};
 ghost use Rattle.dap_capture.specs.Inner.Playing.{events_of};
 
 use crate::steps::{push_event, push_refusal, refusal_word};
@@ -19,7 +19,7 @@ use std::alloc::Global;
 
 /// Lets the event happen; a request is given away.
 fn happen(world: &mut World, event: Event) -> Result<Step, WorldFault>
-    ensures { Went world.old event result world.new }
+    ensures { ComesTo world.old event result world.new }
 {
     match event {
         Event::Ask(request) => world.ask(request),
@@ -86,11 +86,11 @@ fn play_events<'a>(
     Ok((Outcome::Good, text))
 }
 
-/// Plays a schedule up to its first fault.
+/// Plays a schedule, or returns its first bad line; where memory is refused before that line, it isn't looked for.
 fn play_lines(alloc: Global, input: &[u8]) -> Result<(Outcome, Vec<u8>), CaptureFault>
     requires small { length input.now ≤ MAX_INPUT }
     ensures played { IfOk result
-        (λ played. Played (numbered_lines input.now) played.0 played.1.items) }
+        (λ played. PlaysSchedule (numbered_lines input.now) played.0 played.1.items) }
     ensures faults { GivesFirstFaultOrNoMemory result (schedule_faults (numbered_lines input.now)) }
 {
     let mut lines = MeaningfulLines::of(input);
@@ -116,7 +116,7 @@ fn play_lines(alloc: Global, input: &[u8]) -> Result<(Outcome, Vec<u8>), Capture
 pub(crate) fn play(alloc: Global, input: &[u8]) -> Result<(Outcome, Vec<u8>), CaptureFault>
     requires small { length input.now ≤ MAX_INPUT }
     ensures played { IfOk result
-        (λ played. Played (numbered_lines input.now) played.0 played.1.items) }
+        (λ played. PlaysSchedule (numbered_lines input.now) played.0 played.1.items) }
     ensures faults { GivesFirstFaultThenNoMemory result (schedule_faults (numbered_lines input.now)) }
 {
     match play_lines(alloc, input) {

@@ -2,7 +2,7 @@
 
 ghost use Rattle.std.specs.Prelude.{◌≡◌, ◌<◌, OnOk, length, option_copied};
 ghost use Rattle.dap_events.specs.declared.event.Event.TheVariants as event;
-ghost use Rattle.dap_world.specs.Machine.{reported, end_of};
+ghost use Rattle.dap_world.specs.Machine.{reports_by_a, end_of};
 ghost use Rattle.dap_world.specs.Naming.{NamedIsThere};
 ghost use Rattle.dap_world.specs.Runs.{writing_end};
 ghost use Rattle.dap_text.specs.Adding.{Adds};
@@ -73,7 +73,7 @@ fn push_packet(text: &mut Vec<u8>, world: &World, end: End, index: usize) -> Res
 
 /// Appends the newest report.
 fn push_newest(text: &mut Vec<u8>, world: &World) -> Result<(), AllocError>
-    requires { 0 < length (reported world.now) }
+    requires { 0 < length (reports_by_a world.now) }
     ensures { OnOk result (AddsSome text.old text.new
         (IsStepText world.now event.Read Step.Reported)) }
 {

@@ -8,7 +8,7 @@ use Rattle.dap_msg.specs.Blocked.{NspMessage, Blocked, all_joined, AllFit}
 use Rattle.dap_accessed.specs.declared.fault.AddFault.{AddFault}
 use Rattle.dap_accessed.specs.declared.fault.AddFault.TheVariants as fault
 use Rattle.dap_accessed.specs.Standing.{Files, Fresh}
-use Rattle.dap_accessed.specs.Groups.{Grouped, stands_after, answers_in, Answers, added, limit_for}
+use Rattle.dap_accessed.specs.Groups.{GroupedItems, stands_after, answers_in, Answers, answers_added, limit_for}
 use Rattle.dap_accessed.proofs.ForCallers.{of_any, prefix_fresh}
 use Rattle.dap_accessed.specs.Present.{Present, StandsAfter}
 use Rattle.dap_accessed.specs.Adding.{IsFresh, MayAdd, MayAddRecord, AddRefused, RecordRefused}
@@ -25,14 +25,14 @@ answers_given own first other before (item ∷ items) fresh =
     subst (λ (l : List Item). (stands_after own first l).standing.state ≡ Fresh) (sym (append_assoc before (item ∷ []) items)) fresh in
     let here = of_any own first before (prefix_fresh own first before (item ∷ items) fresh) in
     let one = of_any own first (before ++ item ∷ []) (prefix_fresh own first (before ++ item ∷ []) items then) in
-    let limit : limit_for own first before ≡ limit_for own other before = sym (ap (λ (g : Grouped). g.standing.scene.limit) (here.any other)) in
-    let answered : Answers own first before ≡ Answers own other before = sym (ap (λ (g : Grouped). answers_in g.standing.past) (here.any other)) in
-    let all : Answers own first (before ++ item ∷ []) ≡ Answers own other (before ++ item ∷ []) = sym (ap (λ (g : Grouped). answers_in g.standing.past) (one.any other)) in
-    let adds : added own first before item ≡ added own other before item =
+    let limit : limit_for own first before ≡ limit_for own other before = sym (ap (λ (g : GroupedItems). g.standing.scene.limit) (here.any other)) in
+    let answered : Answers own first before ≡ Answers own other before = sym (ap (λ (g : GroupedItems). answers_in g.standing.past) (here.any other)) in
+    let all : Answers own first (before ++ item ∷ []) ≡ Answers own other (before ++ item ∷ []) = sym (ap (λ (g : GroupedItems). answers_in g.standing.past) (one.any other)) in
+    let adds : answers_added own first before item ≡ answers_added own other before item =
     ap (λ (l : List Message). drop (length l) (Answers own first (before ++ item ∷ []))) answered ∙ ap (λ (l : List Message). drop (length (Answers own other before)) l) all in
     ap (λ (l : List NspMessage). l ++ answers_to own first (before ++ item ∷ []) items)
-    (ap (λ (n : ℕ). Blocked n (added own first before item)) limit ∙ ap (Blocked (limit_for own other before)) adds)
-    ∙ ap (λ (l : List NspMessage). Blocked (limit_for own other before) (added own other before item) ++ l) (answers_given own first other (before ++ item ∷ []) items then)
+    (ap (λ (n : ℕ). Blocked n (answers_added own first before item)) limit ∙ ap (Blocked (limit_for own other before)) adds)
+    ∙ ap (λ (l : List NspMessage). Blocked (limit_for own other before) (answers_added own other before item) ++ l) (answers_given own first other (before ++ item ∷ []) items then)
 
 -- the end was given files, and stands as if it had had them at first
 pub given : (old : ServingValue) (after : Present) (r : Result (Unit {0}) AddFault) → after.setup ≡ old.present.setup → OnOk r (IsFresh old.present)
@@ -42,7 +42,7 @@ given old after (Ok u) own fresh stands = λ past h.
     let own_old = old.present.setup in
     let is_fresh = fresh.is past.first past.items h.serving in
     let any = (of_any own_old past.first past.items is_fresh).any after.files in
-    let same : Answers own_old past.first past.items ≡ Answers own_old after.files past.items = sym (ap (λ (g : Grouped). answers_in g.standing.past) any) in
+    let same : Answers own_old past.first past.items ≡ Answers own_old after.files past.items = sym (ap (λ (g : GroupedItems). answers_in g.standing.past) any) in
     record {
       serving = stands past.first past.items h.serving;
       gone = h.gone;

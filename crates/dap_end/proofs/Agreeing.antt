@@ -11,7 +11,7 @@ use Rattle.dap_msg.specs.declared.items.Item.{Item}
 use Rattle.dap_msg.specs.declared.items.Item.TheVariants.{Whole}
 use Rattle.dap_accessed.specs.Standing.{ServerState, Files, Group, Standing, start}
 use Rattle.dap_accessed.specs.Standing as at
-use Rattle.dap_accessed.specs.Groups.{Grouped, grouped, answers_in, stands_after}
+use Rattle.dap_accessed.specs.Groups.{GroupedItems, grouped_items, answers_in, stands_after}
 use Rattle.dap_accessed.specs.declared.phase.OpenFile.{OpenFile}
 use Rattle.rec_file.specs.Acts.{StreamVal}
 use Rattle.dap_accessed.specs.Sound.{AreFiles}
@@ -189,13 +189,13 @@ asked-more : (own : Configuration) (rs : List Request) (r : Request) → Asked o
 asked-more own [] r = append-nil (messages_of own r)
 asked-more own (q ∷ rs) r = ap (λ (l : List Message). messages_of own q ++ l) (asked-more own rs r) ∙ sym (append_assoc (messages_of own q) (Asked own rs) (messages_of own r))
 
-cut-append : (own : ServerSetup) (s : Standing) (xs ys : List Item) → grouped own s (xs ++ ys) ≡ more_items own (grouped own s xs) ys
-cut-append own s xs [] = ap (grouped own s) (append-nil xs)
+cut-append : (own : ServerSetup) (s : Standing) (xs ys : List Item) → grouped_items own s (xs ++ ys) ≡ more_items own (grouped_items own s xs) ys
+cut-append own s xs [] = ap (grouped_items own s) (append-nil xs)
 cut-append own s xs (y ∷ ys) =
-    ap (grouped own s) (sym (append_assoc xs (y ∷ []) ys)) ∙ cut-append own s (xs ++ y ∷ []) ys ∙ ap (λ (c : Grouped). more_items own c ys) (cut-more own s xs y)
+    ap (grouped_items own s) (sym (append_assoc xs (y ∷ []) ys)) ∙ cut-append own s (xs ++ y ∷ []) ys ∙ ap (λ (c : GroupedItems). more_items own c ys) (cut-more own s xs y)
 
 module _ (own_a : Configuration) (own_b : ServerSetup) (a : IsBufsiz own_a.bufsiz) (b : IsBufsiz own_b.identity.bufsiz) (first : Files) (good : AreFiles first) where
-  abbrev after : List Request → Grouped
+  abbrev after : List Request → GroupedItems
   after rs = stands_after own_b first (asked_items own_a rs)
 
   -- after these requests: no group is begun, there is a report for each, and the ends agree
@@ -207,13 +207,13 @@ module _ (own_a : Configuration) (own_b : ServerSetup) (a : IsBufsiz own_a.bufsi
     agree : AgreeAt own_a own_b (phase_after reports) standing.state standing.scene.limit (limit_after reports)
 
   answered : (rs : List Request) (y : Synced rs) → map Whole (asked_answers own_a own_b first rs) ≡ map Whole (answers_in y.standing.past)
-  answered rs y = ap (λ (c : Grouped). map Whole (answers_in c.standing.past)) y.whole
+  answered rs y = ap (λ (c : GroupedItems). map Whole (answers_in c.standing.past)) y.whole
 
   starts : Synced []
   starts = record { standing = start first; whole = refl; reports = []; heard = (refl, refl); agree = refl }
 
   sound-after : (rs : List Request) (y : Synced rs) → AllFiles y.standing.scene.files
-  sound-after rs y = subst (λ (c : Grouped). AllFiles c.standing.scene.files) y.whole (all-sound own_b first (asked_items own_a rs) good).standing.files.files
+  sound-after rs y = subst (λ (c : GroupedItems). AllFiles c.standing.scene.files) y.whole (all-sound own_b first (asked_items own_a rs) good).standing.files.files
 
   after-more : (rs : List Request) (r : Request) → after (rs ++ r ∷ []) ≡ more_items own_b (after rs) (map Whole (messages_of own_a r))
   after-more rs r =
@@ -229,7 +229,7 @@ module _ (own_a : Configuration) (own_b : ServerSetup) (a : IsBufsiz own_a.bufsi
       let g = goes own_a own_b a b s.scene.files (sound-after rs y) s.scene.limit s.past (limit_after y.reports) (phase_after y.reports) s.state y.agree r fits in
       record {
         standing = g.new;
-        whole = after-more rs r ∙ ap (λ (c : Grouped). more_items own_b c (map Whole (messages_of own_a r))) y.whole ∙ g.cut_is;
+        whole = after-more rs r ∙ ap (λ (c : GroupedItems). more_items own_b c (map Whole (messages_of own_a r))) y.whole ∙ g.cut_is;
         reports = y.reports ++ g.done ∷ [];
         heard = subst (λ (l : List Item). AllHeard (rs ++ r ∷ []) l (y.reports ++ g.done ∷ [])) (sym (ap (map Whole) g.adds ∙ map-append Whole (answers_in s.past) g.answers))
             (heard-more rs r (map Whole (answers_in s.past)) y.reports (map Whole g.answers) g.done y.heard g.heard);
@@ -262,7 +262,7 @@ module _ (own_a : Configuration) (own_b : ServerSetup) (a : IsBufsiz own_a.bufsi
       let y = synced rs m in
       let told : asked_reports own_a own_b first rs ≡ y.reports = ap (Told rs) (answered rs y) ∙ told-heard rs (map Whole (answers_in y.standing.past)) y.reports y.heard in
       record {
-        whole = ap (λ (c : Grouped). c.begun) y.whole;
+        whole = ap (λ (c : GroupedItems). c.begun) y.whole;
         states = subst (λ (l : List Report). AgreeAt own_a own_b (phase_after l) (after rs).standing.state (after rs).standing.scene.limit (limit_after l)) (sym told)
-            (subst (λ (c : Grouped). AgreeAt own_a own_b (phase_after y.reports) c.standing.state c.standing.scene.limit (limit_after y.reports)) (sym y.whole) y.agree);
+            (subst (λ (c : GroupedItems). AgreeAt own_a own_b (phase_after y.reports) c.standing.state c.standing.scene.limit (limit_after y.reports)) (sym y.whole) y.agree);
       }

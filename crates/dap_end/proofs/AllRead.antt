@@ -6,7 +6,7 @@ use Rattle.dap_msg.specs.declared.message.Configuration.{Configuration}
 use Rattle.dap_msg.specs.declared.message.Message.{Message}
 use Rattle.dap_msg.specs.declared.items.Item.{Item}
 use Rattle.dap_msg.specs.declared.items.Item.TheVariants.{Whole}
-use Rattle.dap_accessed.specs.Groups.{Answers, added}
+use Rattle.dap_accessed.specs.Groups.{Answers, answers_added}
 use Rattle.dap_accessed.proofs.ForCallers.{Answers-more}
 use Rattle.dap_accessing.specs.Request.{Request}
 use Rattle.dap_accessing.specs.Told.{Hearing, Reports, Waits, Unexpected, hear, Told, Due, NothingDue, AnswersDue, Wrong, due_after, is_unexpected}
@@ -65,7 +65,7 @@ pub answers-prefix : (own : ServerSetup) (first : Files) (items more : List Item
 answers-prefix own first items [] = ([], append-nil (Answers own first items) ∙ ap (Answers own first) (sym (append-nil items)))
 answers-prefix own first items (x ∷ more) =
     let next = answers-prefix own first (items ++ x ∷ []) more in
-    let here = added own first items x in (
+    let here = answers_added own first items x in (
       here ++ next.0,
       sym (append_assoc (Answers own first items) here next.0) ∙ ap (λ (l : List Message). l ++ next.0) (sym (Answers-more own first items x)) ∙ next.1 ∙ ap (Answers own first) (append_assoc items (x ∷ []) more),
     )

@@ -19,13 +19,13 @@ use Rattle.dap_end.specs.Wanting.{why}
 use Rattle.dap_end.specs.Runs.{RunsBy}
 use Rattle.dap_end.specs.declared.fault.EndFault.TheVariants as end_fault
 use Rattle.dap_end.specs.Ports.{HandsOver, PortValue}
-use Rattle.dap_end.specs.Writing.{Acknowledged, wants_ack, WroteMore, Extends, WroteAnswer, WrotePart}
+use Rattle.dap_end.specs.Writing.{AcknowledgesIf, wants_ack, WroteMore, Extends, WroteAnswer, WrotePart}
 use Rattle.dap_end.specs.Asking.{AskedOne, ReadOne, ReadNone}
 use Rattle.dap_end.specs.Hearing.{ReadOn, ReadsAll, hears}
 use Rattle.dap_end.specs.Hearing.{nothing_read, one_read as reads_first}
 use Rattle.dap_end.specs.Done.{AskingValue}
 use Rattle.dap_end.specs.Turns.{WritesReplies, DidAll, TakesPacket, TookIn, TookThen, WentOn, WroteThen}
-use Rattle.dap_end.specs.Headline.{Written, written_bytes}
+use Rattle.dap_end.specs.Headline.{WrittenPacket, written_bytes}
 use Rattle.dap_end.specs.Calls.{numbered_packets, Came, GoesOn, Repeats}
 use Rattle.dap_end.specs.Calls.{AskingEvent, Asks, By, AskingStepped, AskingRunsAs, requests_in}
 use Rattle.dap_end.proofs.Packets.{ack_written}
@@ -36,7 +36,7 @@ use Rattle.dap_end.proofs.Stepping.{numbered_bytes, runs_then}
 
 -- the end, and the reports and packets so far
 abbrev pub SoFar : Type 0
-SoFar = AskingValue × List Report × List Written
+SoFar = AskingValue × List Report × List WrittenPacket
 
 pub requests_then : (xs ys : List AskingEvent) → requests_in (xs ++ ys) ≡ requests_in xs ++ requests_in ys
 requests_then [] ys = refl
@@ -44,35 +44,35 @@ requests_then (Asks request ∷ xs) ys = ap (λ (l : List Request). request ∷ 
 requests_then (By event ∷ xs) ys = requests_then xs ys
 
 module _ (comes : LinkValue → List ℕ → Type 0) where
-  step_shifted : (event : AskingEvent) (rs : List Report) (front ws : List Written) (old new : SoFar) → AskingStepped comes old event ws new → AskingStepped comes (old.0, rs ++ old.1, front ++ old.2) event ws (new.0, rs ++ new.1, front ++ new.2)
-  step_shifted (Asks request) rs front ws old new s = (s.0, s.1, s.2, ap (λ (l : List Report). rs ++ l) s.3, ap (λ (l : List Written). front ++ l) s.4)
+  step_shifted : (event : AskingEvent) (rs : List Report) (front ws : List WrittenPacket) (old new : SoFar) → AskingStepped comes old event ws new → AskingStepped comes (old.0, rs ++ old.1, front ++ old.2) event ws (new.0, rs ++ new.1, front ++ new.2)
+  step_shifted (Asks request) rs front ws old new s = (s.0, s.1, s.2, ap (λ (l : List Report). rs ++ l) s.3, ap (λ (l : List WrittenPacket). front ++ l) s.4)
   step_shifted (By (Came bytes)) rs front ws old new (s, e) =
-      ((s.0, s.1, s.2, s.3, s.4, ap (λ (l : List Report). rs ++ l) s.5, s.6), ap (λ (l : List Written). front ++ l) e ∙ sym (append_assoc front old.2 ws))
+      ((s.0, s.1, s.2, s.3, s.4, ap (λ (l : List Report). rs ++ l) s.5, s.6), ap (λ (l : List WrittenPacket). front ++ l) e ∙ sym (append_assoc front old.2 ws))
   step_shifted (By GoesOn) rs front ws old new (s, e) =
       let (heard, read, over) = s.2 in (
         (s.0, s.1, (heard, (read.0, ap (λ (l : List Report). rs ++ l) read.1 ∙ sym (append_assoc rs old.1 read.0), read.2), over), s.3, s.4, s.5),
-        ap (λ (l : List Written). front ++ l) e ∙ sym (append_assoc front old.2 ws),
+        ap (λ (l : List WrittenPacket). front ++ l) e ∙ sym (append_assoc front old.2 ws),
       )
   step_shifted (By (Repeats k)) rs front ws old new (s, e) =
-      ((s.0, s.1, s.2, s.3, s.4, ap (λ (l : List Report). rs ++ l) s.5), ap (λ (l : List Written). front ++ l) e ∙ sym (append_assoc front old.2 ws))
+      ((s.0, s.1, s.2, s.3, s.4, ap (λ (l : List Report). rs ++ l) s.5), ap (λ (l : List WrittenPacket). front ++ l) e ∙ sym (append_assoc front old.2 ws))
 
   -- with reports and packets that were there before
-  pub shifted : (events : List AskingEvent) (rs : List Report) (front : List Written) (old new : SoFar) → RunsBy (AskingStepped comes) old events new → RunsBy (AskingStepped comes) (old.0, rs ++ old.1, front ++ old.2) events (new.0, rs ++ new.1, front ++ new.2)
+  pub shifted : (events : List AskingEvent) (rs : List Report) (front : List WrittenPacket) (old new : SoFar) → RunsBy (AskingStepped comes) old events new → RunsBy (AskingStepped comes) (old.0, rs ++ old.1, front ++ old.2) events (new.0, rs ++ new.1, front ++ new.2)
   shifted [] rs front old new r = ap (λ (x : SoFar). (x.0, rs ++ x.1, front ++ x.2)) r
   shifted (event ∷ events) rs front old new r =
       ((r.0.0, rs ++ r.0.1, front ++ r.0.2), r.1, step_shifted event rs front r.1 old r.0 r.2, shifted events rs front r.0 new r.3)
 
   -- after these
-  pub after_these : (events : List AskingEvent) (old new : AskingValue) (rs reports : List Report) (front wrote : List Written) → RunsBy (AskingStepped comes) (old, [], []) events (new, reports, wrote)
+  pub after_these : (events : List AskingEvent) (old new : AskingValue) (rs reports : List Report) (front wrote : List WrittenPacket) → RunsBy (AskingStepped comes) (old, [], []) events (new, reports, wrote)
       → RunsBy (AskingStepped comes) (old, rs, front) events (new, rs ++ reports, front ++ wrote)
   after_these events old new rs reports front wrote r =
       subst (λ (l : List Report). RunsBy (AskingStepped comes) (old, l, front) events (new, rs ++ reports, front ++ wrote)) (append-nil rs)
-      (subst (λ (l : List Written). RunsBy (AskingStepped comes) (old, rs ++ [], l) events (new, rs ++ reports, front ++ wrote)) (append-nil front) (shifted events rs front (old, [], []) (new, reports, wrote) r))
+      (subst (λ (l : List WrittenPacket). RunsBy (AskingStepped comes) (old, rs ++ [], l) events (new, rs ++ reports, front ++ wrote)) (append-nil front) (shifted events rs front (old, [], []) (new, reports, wrote) r))
 
   pub no_call : (v : AskingValue) → AskingRunsAs comes [] v v [] []
   no_call v = ([], refl, refl)
 
-  pub more_calls : (requests others : List Request) (old mid new : AskingValue) (rs ss : List Report) (ws more : List Written) → AskingRunsAs comes requests old mid rs ws → AskingRunsAs comes others mid new ss more
+  pub more_calls : (requests others : List Request) (old mid new : AskingValue) (rs ss : List Report) (ws more : List WrittenPacket) → AskingRunsAs comes requests old mid rs ws → AskingRunsAs comes others mid new ss more
       → AskingRunsAs comes (requests ++ others) old new (rs ++ ss) (ws ++ more)
   more_calls requests others old mid new rs ss ws more r q = (
     r.0 ++ q.0,
@@ -82,7 +82,7 @@ module _ (comes : LinkValue → List ℕ → Type 0) where
 
   -- ---- Calls are runs.
 
-  one_event : (old new : AskingValue) (event : AskingEvent) (reports : List Report) (ws : List Written) → AskingStepped comes (old, [], []) event ws (new, reports, ws) → AskingRunsAs comes (requests_in (event ∷ [])) old new reports ws
+  one_event : (old new : AskingValue) (event : AskingEvent) (reports : List Report) (ws : List WrittenPacket) → AskingStepped comes (old, [], []) event ws (new, reports, ws) → AskingRunsAs comes (requests_in (event ∷ [])) old new reports ws
   one_event old new event reports ws s = (event ∷ [], refl, ((new, reports, ws), ws, s, refl))
 
   pub asking_is : (old new : AskingValue) (request : Request) (n : ℕ) → AskedOne request old new n → AskingRunsAs comes (request ∷ []) old new [] []
@@ -121,7 +121,7 @@ module _ (comes : LinkValue → List ℕ → Type 0) where
   -- a run whose packets and reports stand after those that were there
   abbrev pub AreAskingCalls : AskingValue → AskingValue → (out all : List (List ℕ)) → (before after : List Report) → Type 0
   AreAskingCalls old new out all before after =
-      (reports : List Report) × (wrote : List Written) × AskingRunsAs comes [] old new reports wrote × (all ≡ out ++ written_bytes wrote) × (after ≡ before ++ reports)
+      (reports : List Report) × (wrote : List WrittenPacket) × AskingRunsAs comes [] old new reports wrote × (all ≡ out ++ written_bytes wrote) × (after ≡ before ++ reports)
 
   behind : (out all packets : List (List ℕ)) (k a : ℕ) → all ≡ out ++ packets → all ≡ out ++ written_bytes (numbered_packets k a packets)
   behind out all packets k a e = e ∙ ap (λ (l : List (List ℕ)). out ++ l) (sym (numbered_bytes k a packets))
@@ -131,17 +131,17 @@ module _ (comes : LinkValue → List ℕ → Type 0) where
   took_by old mid new bytes out all before after s c = (c.0, c.1, (By (Came bytes) ∷ c.2.0, c.2.1, ((mid, [], []), [], s, c.2.2)), c.3, c.4)
 
   answered_is : (old heard new : AskingValue) (out all packets written : List (List ℕ)) (before after : List Report) (wants : Bool) → DidAll (hears before after) old heard (Ok tt) → new ≡ record heard { port = new.port } → WroteMore heard.port new.port written
-      → all ≡ out ++ packets → Acknowledged new.port wants written packets → AreAskingCalls old new out all before after
+      → all ≡ out ++ packets → AcknowledgesIf new.port wants written packets → AreAskingCalls old new out all before after
   answered_is old heard new out all packets written before after false h rest w is ack =
       (h.2.0, _, one_event old new (By GoesOn) _ _ (goes old heard new before after written h w rest), behind out all written _ _ (is ∙ ap (λ (l : List (List ℕ)). out ++ l) ack), h.2.1)
   answered_is old heard new out all packets written before after true h rest w is ack =
       let first = numbered_packets (heard.port.link.sent + 1) heard.port.link.coming.received written in
-      let last : Written = record { bytes = ack.0; segment = None; acks = new.port.link.coming.received } in
+      let last : WrittenPacket = record { bytes = ack.0; segment = None; acks = new.port.link.coming.received } in
       let both = more_calls [] [] old new new h.2.0 [] first (last ∷ []) (one_event old new (By GoesOn) _ first (goes old heard new before after written h w rest)) (ack_is new ack.0 ack.2) in (
         h.2.0,
         first ++ last ∷ [],
         subst (λ (l : List Report). AskingRunsAs comes [] old new l (first ++ last ∷ [])) (append-nil h.2.0) both,
-        is ∙ ap (λ (l : List (List ℕ)). out ++ l) (ack.1 ∙ ap (λ (l : List (List ℕ)). l ++ ack.0 ∷ []) (sym (numbered_bytes _ _ written)) ∙ sym (map-append (λ (w : Written). w.bytes) first (last ∷ []))),
+        is ∙ ap (λ (l : List (List ℕ)). out ++ l) (ack.1 ∙ ap (λ (l : List (List ℕ)). l ++ ack.0 ∷ []) (sym (numbered_bytes _ _ written)) ∙ sym (map-append (λ (w : WrittenPacket). w.bytes) first (last ∷ []))),
         h.2.1,
       )
 

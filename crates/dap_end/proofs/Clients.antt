@@ -13,7 +13,7 @@ use Rattle.dap_end.specs.Histories.{asked_one}
 use Rattle.dap_end.specs.Ports.{PortValue, new_port}
 use Rattle.dap_end.specs.Asking.{HasAsked}
 use Rattle.dap_end.specs.Done.{AskingValue, ClientHistory, nothing_asked}
-use Rattle.dap_end.specs.Headline.{Written}
+use Rattle.dap_end.specs.Headline.{WrittenPacket}
 use Rattle.dap_end.specs.Joined.{IsBrought}
 use Rattle.dap_end.specs.Calls.{AskingEvent, AskingStepped, Asks, By, Came, GoesOn, Repeats, WroteOne, requests_in}
 use Rattle.dap_end.specs.Inner.Running.{AreOpposite}
@@ -28,12 +28,12 @@ use Rattle.dap_end.proofs.Moving.{wrote_one, goes, again_sent}
 -- a client, every packet that it wrote, what was asked of it, and what it reported
 pub record Client : Type 0 where
   pub a : AskingValue
-  pub wrote : List Written
+  pub wrote : List WrittenPacket
   pub requests : List Request
   pub reports : List Report
 
 -- The link was handed these NSP messages, gave those away, and wrote these packets.
-pub record IsJoinedTo (link : LinkValue) (handed given : List (List ℕ)) (wire : List Written) (c : Client) : Type 0 where
+pub record IsJoinedTo (link : LinkValue) (handed given : List (List ℕ)) (wire : List WrittenPacket) (c : Client) : Type 0 where
   pub asked : ClientHistory
   pub asking : HasAsked asked c.a
   pub requests : asked.requests ≡ c.requests
@@ -81,7 +81,7 @@ new_joined s t c o port asking wrote requests reports =
       requests = sym requests;
       told = reports;
       ways =
-          subst (λ (l : List Written). AreJoined c.a.port.link (new_link t) [] [] [] [] l []) (sym wrote)
+          subst (λ (l : List WrittenPacket). AreJoined c.a.port.link (new_link t) [] [] [] [] l []) (sym wrote)
           (subst (λ (x : PortValue). AreJoined x.link (new_link t) [] [] [] [] [] []) (sym port) ways);
     }
 
@@ -123,12 +123,12 @@ hands past old heard handed h (inr k) =
 link_trans : (a b c : LinkValue) → b ≡ with_inbox a b.coming.inbox → c ≡ record (with_inbox b c.coming.inbox) { queue = c.queue } → c ≡ record (with_inbox a c.coming.inbox) { queue = c.queue }
 link_trans a b c ab bc = bc ∙ ap (λ (l : LinkValue). record (with_inbox l c.coming.inbox) { queue = c.queue }) ab
 
-module _ (link : LinkValue) (handed given : List (List ℕ)) (wire : List Written) where
+module _ (link : LinkValue) (handed given : List (List ℕ)) (wire : List WrittenPacket) where
   -- a client that is so joined
   abbrev Is : Client → Type 0
   Is c = IsJoinedTo link handed given wire c
 
-  wrote_a : (old new : Client) (ws : List Written) (w : Written) (k : Option ℕ) → WroteOne old.a.port.link k w → new.a ≡ old.a → new.reports ≡ old.reports → ws ≡ w ∷ [] → IfSome k (λ n. n ≤ old.a.port.link.sent) → new.wrote ≡ old.wrote ++ ws
+  wrote_a : (old new : Client) (ws : List WrittenPacket) (w : WrittenPacket) (k : Option ℕ) → WroteOne old.a.port.link k w → new.a ≡ old.a → new.reports ≡ old.reports → ws ≡ w ∷ [] → IfSome k (λ n. n ≤ old.a.port.link.sent) → new.wrote ≡ old.wrote ++ ws
       → new.requests ≡ old.requests ++ [] → Is old → Is new
   wrote_a old new ws w k one same none is was at more j =
       let ways = wrote_one old.a.port.link link j.asked.handed handed j.asked.given given old.wrote wire k w j.ways j.asking.sends was one in
@@ -139,11 +139,11 @@ module _ (link : LinkValue) (handed given : List (List ℕ)) (wire : List Writte
         told = none ∙ j.told;
         ways =
             subst (λ (v : AskingValue). AreJoined v.port.link link j.asked.handed handed j.asked.given given new.wrote wire) (sym same)
-            (subst (λ (l : List Written). AreJoined old.a.port.link link j.asked.handed handed j.asked.given given l wire) (sym (at ∙ ap (λ (l : List Written). old.wrote ++ l) is)) ways);
+            (subst (λ (l : List WrittenPacket). AreJoined old.a.port.link link j.asked.handed handed j.asked.given given l wire) (sym (at ∙ ap (λ (l : List WrittenPacket). old.wrote ++ l) is)) ways);
       }
 
   -- an event of the client, by which so much more is asked
-  pub asks : (old new : Client) (event : AskingEvent) (ws : List Written) → AskingStepped (IsBrought wire) (old.a, old.reports, old.wrote) event ws (new.a, new.reports, new.wrote) → new.requests ≡ old.requests ++ requests_in (event ∷ []) → Is old → Is new
+  pub asks : (old new : Client) (event : AskingEvent) (ws : List WrittenPacket) → AskingStepped (IsBrought wire) (old.a, old.reports, old.wrote) event ws (new.a, new.reports, new.wrote) → new.requests ≡ old.requests ++ requests_in (event ∷ []) → Is old → Is new
   asks old new (By (Came bytes)) ws (t, at) more j =
       let g = grown old.a.port.link t.1 bytes t.0 t.2 in
       let back = swapped old.a.port.link link j.asked.handed handed j.asked.given given old.wrote wire j.ways in
@@ -155,7 +155,7 @@ module _ (link : LinkValue) (handed given : List (List ℕ)) (wire : List Writte
         requests = j.requests ∙ sym (more ∙ append-nil old.requests);
         told = t.5 ∙ j.told;
         ways =
-            subst (λ (l : List Written). AreJoined new.a.port.link link j.asked.handed handed j.asked.given given l wire) (sym (at ∙ ap (λ (l : List Written). old.wrote ++ l) t.4 ∙ append-nil old.wrote))
+            subst (λ (l : List WrittenPacket). AreJoined new.a.port.link link j.asked.handed handed j.asked.given given l wire) (sym (at ∙ ap (λ (l : List WrittenPacket). old.wrote ++ l) t.4 ∙ append-nil old.wrote))
             (subst (λ (v : AskingValue). AreJoined v.port.link link j.asked.handed handed j.asked.given given old.wrote wire) (sym t.3)
             (swapped link t.1 handed j.asked.handed given j.asked.given wire old.wrote ways));
       }
@@ -167,7 +167,7 @@ module _ (link : LinkValue) (handed given : List (List ℕ)) (wire : List Writte
         requests = ap (λ (l : List Request). l ++ request ∷ []) j.requests ∙ sym more;
         told = t.3 ∙ j.told ∙ sym (a.asks.told j.asked.requests j.asked.answers j.asking.asking);
         ways =
-            subst (λ (l : List Written). AreJoined new.a.port.link link j.asked.handed handed j.asked.given given l wire) (sym t.4)
+            subst (λ (l : List WrittenPacket). AreJoined new.a.port.link link j.asked.handed handed j.asked.given given l wire) (sym t.4)
             (subst (λ (x : PortValue). AreJoined x.link link j.asked.handed handed j.asked.given given old.wrote wire) (sym a.port) j.ways);
       }
   asks old new (By GoesOn) ws (t, at) more j =
@@ -187,7 +187,7 @@ module _ (link : LinkValue) (handed given : List (List ℕ)) (wire : List Writte
         asking = subst (HasAsked h.now) (sym t.4) (still_sent t.0 new.a.port (length t.1) t.3.sent h.now h.is);
         requests = h.requests ∙ g.requests ∙ j.requests ∙ sym (more ∙ append-nil old.requests);
         told = all.1 ∙ ap (λ (l : List Report). l ++ all.0) j.told ∙ sym g.told ∙ ap (λ (l : List Request). Told l read.0.answers) (sym (h.requests ∙ g.requests)) ∙ ap (Told h.now.requests) (sym h.answers);
-        ways = subst (λ (l : List Written). AreJoined new.a.port.link link h.now.handed handed h.now.given given l wire) (sym (at ∙ ap (λ (l : List Written). old.wrote ++ l) t.5)) ways;
+        ways = subst (λ (l : List WrittenPacket). AreJoined new.a.port.link link h.now.handed handed h.now.given given l wire) (sym (at ∙ ap (λ (l : List WrittenPacket). old.wrote ++ l) t.5)) ways;
       }
   asks old new (By (Repeats (Some i))) ws (t, at) more j = wrote_a old new ws t.0 _ t.2 t.3 t.5 t.4 (again_sent old.a.port.link i t.1) at more j
   asks old new (By (Repeats None)) ws (t, at) more j = wrote_a old new ws t.0 _ t.2 t.3 t.5 t.4 tt at more j

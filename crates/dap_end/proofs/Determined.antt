@@ -14,7 +14,7 @@ use Rattle.nsp_link.specs.Sending.{may_queue, SendAllFault}
 use Rattle.dap_accessed.specs.Standing.{Files}
 use Rattle.dap_accessed.specs.Present.{Present, present_of}
 use Rattle.dap_accessed.specs.Groups.{stands_after}
-use Rattle.dap_end.specs.Histories.{served}
+use Rattle.dap_end.specs.Histories.{history_after_item}
 use Rattle.dap_end.specs.declared.fault.EndFault.{EndFault}
 use Rattle.dap_end.specs.declared.fault.EndFault.TheVariants as end_fault
 use Rattle.dap_end.specs.declared.fault.TakeFault.{TakeFault}
@@ -92,7 +92,7 @@ serves_once most past old one two h (goes p m k n x has y on) (goes q l j i z ro
     let now = record past { handed = past.handed ++ old.port.outbox } in
     let after = posted_history old p k x past h in
     let same = serving_one now p m l n i after y (subst (λ (v : ServingValue). ServedOne v l i) posted w) in
-    serves_once most (served now y.one.bytes y.one.item y.one.next) m one two (y.past now after) on (subst (λ (v : ServingValue). ServedInTurn most v two) (sym same.0) other) a b
+    serves_once most (history_after_item now y.one.bytes y.one.item y.one.next) m one two (y.past now after) on (subst (λ (v : ServingValue). ServedInTurn most v two) (sym same.0) other) a b
 
 pub no_next : (bytes : List ℕ) (later : List (List ℕ)) → [] ≡ bytes ∷ later → ⊥
 no_next bytes later e = cc

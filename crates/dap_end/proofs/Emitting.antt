@@ -11,7 +11,7 @@ use Rattle.nsp_link.proofs.ForCallers.{may_send_parts}
 use Rattle.dap_end.specs.Ports.{PortValue}
 use Rattle.dap_end.specs.Moved.{with_link}
 use Rattle.nsp_link.specs.declared.fault.LinkFault.TheVariants as fault
-use Rattle.dap_end.specs.Writing.{Acknowledged, AreSegments, WroteMore, Extends, wants_ack, WroteAnswer, WrotePart}
+use Rattle.dap_end.specs.Writing.{AcknowledgesIf, AreSegments, WroteMore, Extends, wants_ack, WroteAnswer, WrotePart}
 use Rattle.dap_end.specs.Moved.{sent_more}
 
 -- ---- One.
@@ -78,14 +78,14 @@ pub written_count : (old new : PortValue) (out all : List (List ℕ)) → (w : E
 written_count old new out all w = ap length w.1 ∙ length-append out w.0
 
 -- one acknowledgement more is written, or none
-acked : (new : PortValue) (out all after written : List (List ℕ)) (wants : Bool) → all ≡ out ++ written → Acknowledged new wants all after → Extends out after (Acknowledged new wants written)
+acked : (new : PortValue) (out all after written : List (List ℕ)) (wants : Bool) → all ≡ out ++ written → AcknowledgesIf new wants all after → Extends out after (AcknowledgesIf new wants written)
 acked new out all after written false e a = (written, a ∙ e, refl)
 acked new out all after written true e a = (written ++ a.0 ∷ [], a.1 ∙ ap (λ (l : List (List ℕ)). l ++ a.0 ∷ []) e ∙ append_assoc out written (a.0 ∷ []), (a.0, refl, a.2))
 
 pub answered : (old new : PortValue) (got : Got) (out all after : List (List ℕ)) (count : ℕ) (r : Result (Unit {0}) LinkFault) → (w : Extends out all (WroteMore old new)) → may_send new.link ≡ false → length w.0 ≡ count
-    → OnOk r (Acknowledged new (wants_ack got count) all after) → OnOk r (Extends out after (WroteAnswer old new got))
+    → OnOk r (AcknowledgesIf new (wants_ack got count) all after) → OnOk r (Extends out after (WroteAnswer old new got))
 answered old new got out all after count (Ok u) w full long a =
-    let b = acked new out all after w.0 (wants_ack got (length w.0)) w.1 (subst (λ (n : ℕ). Acknowledged new (wants_ack got n) all after) (sym long) a) in
+    let b = acked new out all after w.0 (wants_ack got (length w.0)) w.1 (subst (λ (n : ℕ). AcknowledgesIf new (wants_ack got n) all after) (sym long) a) in
     (b.0, b.1, (w.0, w.2, full, b.2))
 answered old new got out all after count (Err f) w full long a = tt
 

@@ -25,7 +25,7 @@ use Rattle.dap_end.specs.Done.{ServingValue, AskingValue, answers_to}
 use Rattle.dap_end.specs.Going.{AreFrontOf, processed_after}
 use Rattle.dap_end.specs.Asking.{AskedOne, ReadNone}
 use Rattle.dap_end.specs.Runs.{RunsBy}
-use Rattle.dap_end.specs.Headline.{Written}
+use Rattle.dap_end.specs.Headline.{WrittenPacket}
 use Rattle.dap_end.specs.Joined.{Pair}
 use Rattle.dap_end.specs.Calls.{EndEvent, Came, GoesOn, Repeats, AskingEvent, Asks, By, PairEvent, AtA, AtB, PairStepped}
 use Rattle.dap_end.specs.Agreement.{IsBufsiz, asked_answers, AreAllAdmissible}
@@ -91,7 +91,7 @@ one_more first good p new request n s a =
 
 -- ---- Each end keeps its BUFSIZ.
 
-own_a : (old new : Pair) (event : AskingEvent) (ws : List Written) → PairStepped old (AtA event) ws new → new.a.present.identity ≡ old.a.present.identity
+own_a : (old new : Pair) (event : AskingEvent) (ws : List WrittenPacket) → PairStepped old (AtA event) ws new → new.a.present.identity ≡ old.a.present.identity
 own_a old new (Asks request) ws s = s.0.1.identity
 own_a old new (By (Came bytes)) ws s = ap (λ (v : AskingValue). v.present.identity) s.0.0.3
 own_a old new (By GoesOn) ws s =
@@ -105,7 +105,7 @@ own_a old new (By GoesOn) ws s =
     ∙ (read_grows old.a heard all.0 all.2).identity
 own_a old new (By (Repeats k)) ws s = ap (λ (v : AskingValue). v.present.identity) s.0.0.3
 
-own_b : (old new : Pair) (event : EndEvent) (ws : List Written) → PairStepped old (AtB event) ws new → new.b.present.setup ≡ old.b.present.setup
+own_b : (old new : Pair) (event : EndEvent) (ws : List WrittenPacket) → PairStepped old (AtB event) ws new → new.b.present.setup ≡ old.b.present.setup
 own_b old new (Came bytes) ws s = ap (λ (v : ServingValue). v.present.setup) s.0.0.3
 own_b old new GoesOn ws s =
     let t = s.0.0 in
@@ -129,7 +129,7 @@ same_requests : (first : Files) (old new : Pair) → IsSoundPair first old → n
 same_requests first old new s e =
     subst (AreAllAdmissible old.a.present.identity old.b.present.setup first []) (sym (e ∙ append-nil old.requests)) s.admissible
 
-asked_sound : (first : Files) → AreFiles first → (old new : Pair) (event : AskingEvent) (ws : List Written) → PairStepped old (AtA event) ws new → IsSoundPair first old
+asked_sound : (first : Files) → AreFiles first → (old new : Pair) (event : AskingEvent) (ws : List WrittenPacket) → PairStepped old (AtA event) ws new → IsSoundPair first old
     → AreAllAdmissible old.a.present.identity old.b.present.setup first [] new.requests
 asked_sound first good old new (Asks request) ws s sound =
     subst (AreAllAdmissible old.a.present.identity old.b.present.setup first []) (sym (ap (λ (p : Pair). p.requests) s.1)) (one_more first good old new.a request s.0.0 sound s.0.1)
@@ -137,7 +137,7 @@ asked_sound first good old new (By (Came bytes)) ws s sound = same_requests firs
 asked_sound first good old new (By GoesOn) ws s sound = same_requests first old new sound (ap (λ (p : Pair). p.requests) s.1)
 asked_sound first good old new (By (Repeats k)) ws s sound = same_requests first old new sound (ap (λ (p : Pair). p.requests) s.1)
 
-step_sound : (first : Files) → AreFiles first → (old new : Pair) (event : PairEvent) (ws : List Written) → PairStepped old event ws new → IsSoundPair first old → IsSoundPair first new
+step_sound : (first : Files) → AreFiles first → (old new : Pair) (event : PairEvent) (ws : List WrittenPacket) → PairStepped old event ws new → IsSoundPair first old → IsSoundPair first new
 step_sound first good old new (AtA event) ws s sound =
     stays first old new sound (pair_step first old new (AtA event) ws s sound.linked) (own_a old new event ws s) (ap (λ (p : Pair). p.b.present.setup) s.1) (asked_sound first good old new event ws s sound)
 step_sound first good old new (AtB event) ws s sound =

@@ -25,9 +25,9 @@ use Rattle.dap_msg.specs.Codes as codes
 use Rattle.dap_accessed.specs.Standing.{Files, ServerState, Group, Standing, Scene, Effect, enters, the_file, index_by, file_at}
 use Rattle.dap_accessed.specs.Standing as at
 use Rattle.dap_accessed.specs.Replies.{reason_of, refused_access, bare_status, record_status, reason_of, too_large}
-use Rattle.dap_accessed.specs.Records.{uncurrent, at_number, filedata_of, fits_limit, get_pick, put_key, record_got, got, refused_effect, settled, changed, Change, Putting, Updating}
+use Rattle.dap_accessed.specs.Records.{stream_without_current, at_number, filedata_of, fits_limit, get_pick, put_key, record_got, got, refused_effect, effect_of_outcome, effect_of_change, Change, Putting, Updating}
 use Rattle.dap_accessed.specs.Transfers.{fetch, fetch_ends}
-use Rattle.dap_accessed.specs.Groups.{Grouped, over, answers_in}
+use Rattle.dap_accessed.specs.Groups.{GroupedItems, over, answers_in}
 use Rattle.dap_accessing.specs.declared.request.By.{By}
 use Rattle.dap_accessing.specs.declared.request.By.TheVariants as by
 use Rattle.dap_accessing.specs.declared.request.How.{How}
@@ -64,7 +64,7 @@ use Rattle.dap_end.specs.Agreement.{IsBufsiz}
 use Rattle.dap_end.specs.Agreement.{AgreeAt, AreLimits}
 
 -- the cut after more items
-abbrev pub more_items : (own : ServerSetup) → Grouped → List Item → Grouped
+abbrev pub more_items : (own : ServerSetup) → GroupedItems → List Item → GroupedItems
 more_items own c [] = c
 more_items own c (item ∷ items) = more_items own (after_item own c item) items
 
@@ -201,19 +201,19 @@ module _ (own_a : Configuration) (own_b : ServerSetup) (scene : Scene) (limit_a 
   module _ (o : OpenFile) where
     -- ---- PUT, UPDATE and DELETE.
 
-    pub operates : (op : Operation) (s : StreamVal) → Comes Connected hear_done (settled scene o (act op (the_file scene.files o) s))
+    pub operates : (op : Operation) (s : StreamVal) → Comes Connected hear_done (effect_of_outcome scene o (act op (the_file scene.files o) s))
     operates op s =
         let outcome = act op (the_file scene.files o) s in
         (record_report outcome.reply, hear_status outcome.reply, stays_connected outcome.reply o outcome.stream)
 
-    pub changes : (change : Change) (s : StreamVal) (body : List ℕ) → Comes Connected hear_done (changed change scene o s body)
-    changes (Putting (Err refusal)) s body = (record_report (Err refusal), hear_status (Err refusal), stays_connected (Err refusal) o (uncurrent s))
+    pub changes : (change : Change) (s : StreamVal) (body : List ℕ) → Comes Connected hear_done (effect_of_change change scene o s body)
+    changes (Putting (Err refusal)) s body = (record_report (Err refusal), hear_status (Err refusal), stays_connected (Err refusal) o (stream_without_current s))
     changes (Putting (Ok key)) s body = operates (put_record key body) s
     changes Updating s body = operates (update_record body) s
 
     -- ---- GET.
 
-    hear_found : (fits : Bool) (before after : StreamVal) (r : ℕ × List ℕ) → Comes Connected hear_record (if fits then enters scene (at.Connected o after) (filedata_of r ∷ []) else enters scene (at.Connected o (uncurrent before)) (too_large ∷ []))
+    hear_found : (fits : Bool) (before after : StreamVal) (r : ℕ × List ℕ) → Comes Connected hear_record (if fits then enters scene (at.Connected o after) (filedata_of r ∷ []) else enters scene (at.Connected o (stream_without_current before)) (too_large ∷ []))
     hear_found true before after r = (report.Found (number_of (four_bytes r.0)) r.1, refl, h)
     hear_found false before after r = (report.Refused 0x5000 10, refl, h)
 
@@ -370,7 +370,7 @@ module _ (own_a : Configuration) (own_b : ServerSetup) (files : Files) (limit : 
         answers = Config own_b.identity ∷ [];
         done = report.Ready own_b.identity.bufsiz;
         new = over s at.Fresh (Whole (Config own_a)) (configured s.scene own_a.bufsiz);
-        cut_is = ap (λ b. let c : Grouped = record { standing = over s at.Fresh (Whole (Config own_a)) (if b then enters s.scene at.Fresh (bare_status (codes.invalid codes.types.config) ∷ []) else configured s.scene own_a.bufsiz); begun = None } in c) large_a;
+        cut_is = ap (λ b. let c : GroupedItems = record { standing = over s at.Fresh (Whole (Config own_a)) (if b then enters s.scene at.Fresh (bare_status (codes.invalid codes.types.config) ∷ []) else configured s.scene own_a.bufsiz); begun = None } in c) large_a;
         adds = refl;
         heard = rw large_b refl;
         agree = (limit-own own_a.bufsiz a, limit-own own_b.identity.bufsiz b);

@@ -13,7 +13,7 @@ use Rattle.dap_end.specs.Moved.{sent_more}
 use Rattle.dap_end.specs.Asking.{HasAsked, AskedOne}
 use Rattle.dap_end.specs.Done.{AskingValue, ClientHistory, nothing_asked}
 use Rattle.dap_end.specs.Runs.{RunsBy}
-use Rattle.dap_end.specs.Headline.{Written, AreWrittenOf, IsFromPeer}
+use Rattle.dap_end.specs.Headline.{WrittenPacket, AreWrittenOf, IsFromPeer}
 use Rattle.dap_end.specs.Calls.{numbered_packets, WroteOne, EndEvent, Came, GoesOn, Repeats}
 use Rattle.dap_end.specs.Calls.{AskingEvent, Asks, By, HeardMore, AskingStepped, AskingEventRuns, requests_in}
 use Rattle.dap_end.specs.Histories.{asked_one}
@@ -24,7 +24,7 @@ use Rattle.dap_end.proofs.Running.{StandsThen, then_stands, sent_link, stepped_b
 use Rattle.dap_end.proofs.Fronts.{served_prefix}
 
 -- what the end did: these requests were asked, these reports told, and these packets written
-pub record Asked_So (requests : List Request) (reports : List Report) (wrote : List Written) (v : AskingValue) : Type 0 where
+pub record Asked_So (requests : List Request) (reports : List Report) (wrote : List WrittenPacket) (v : AskingValue) : Type 0 where
   pub past : ClientHistory
   pub is : HasAsked past v
   pub asked : past.requests ≡ requests
@@ -36,17 +36,17 @@ abbrev pub new_requests : AskingEvent → List Request
 new_requests event = requests_in (event ∷ [])
 
 -- nothing was told or written
-same_so : (requests : List Request) (reports after : List Report) (wrote all ws : List Written) (v : AskingValue) → after ≡ reports → ws ≡ [] → all ≡ wrote ++ ws → Asked_So requests reports wrote v → Asked_So requests after all v
+same_so : (requests : List Request) (reports after : List Report) (wrote all ws : List WrittenPacket) (v : AskingValue) → after ≡ reports → ws ≡ [] → all ≡ wrote ++ ws → Asked_So requests reports wrote v → Asked_So requests after all v
 same_so requests reports after wrote all ws v quiet none is t =
     subst (λ (l : List Report). Asked_So requests l all v) (sym quiet)
-    (subst (λ (l : List Written). Asked_So requests reports l v) (sym (is ∙ ap (λ (l : List Written). wrote ++ l) none ∙ append-nil wrote)) t)
+    (subst (λ (l : List WrittenPacket). Asked_So requests reports l v) (sym (is ∙ ap (λ (l : List WrittenPacket). wrote ++ l) none ∙ append-nil wrote)) t)
 
-one_so : (requests : List Request) (reports after : List Report) (wrote all ws : List Written) (v new : AskingValue) (k : Option ℕ) (w : Written) → WroteOne v.port.link k w → new ≡ v → after ≡ reports → ws ≡ w ∷ [] → all ≡ wrote ++ ws → Asked_So requests reports wrote v
+one_so : (requests : List Request) (reports after : List Report) (wrote all ws : List WrittenPacket) (v new : AskingValue) (k : Option ℕ) (w : WrittenPacket) → WroteOne v.port.link k w → new ≡ v → after ≡ reports → ws ≡ w ∷ [] → all ≡ wrote ++ ws → Asked_So requests reports wrote v
     → Asked_So requests after all new
 one_so requests reports after wrote all ws v new k w one same quiet is e t =
     subst (λ (x : AskingValue). Asked_So requests after all x) (sym same)
     (subst (λ (l : List Report). Asked_So requests l all v) (sym quiet)
-    (subst (λ (l : List Written). Asked_So requests reports l v) (sym (e ∙ ap (λ (l : List Written). wrote ++ l) is))
+    (subst (λ (l : List WrittenPacket). Asked_So requests reports l v) (sym (e ∙ ap (λ (l : List WrittenPacket). wrote ++ l) is))
     (record {
       past = t.past;
       is = t.is;
@@ -55,7 +55,7 @@ one_so requests reports after wrote all ws v new k w one same quiet is e t =
       packets = all_written v.port.link t.past.handed wrote (w ∷ []) t.packets (one_written v.port.link t.past.handed k w t.is.sends one, tt);
     })))
 
-heard_so : (requests : List Request) (reports more : List Report) (wrote : List Written) (old new : AskingValue) → ReadMore old new more → Asked_So requests reports wrote old → Asked_So requests (reports ++ more) wrote new
+heard_so : (requests : List Request) (reports more : List Report) (wrote : List WrittenPacket) (old new : AskingValue) → ReadMore old new more → Asked_So requests reports wrote old → Asked_So requests (reports ++ more) wrote new
 heard_so requests reports more wrote old new m t =
     let g = m.past t.past t.is in
     record {
@@ -70,7 +70,7 @@ heard_so requests reports more wrote old new m t =
 abbrev pub HandedOver : AskingValue → AskingValue → Type 0
 HandedOver old new = (new ≡ old) ⊎ ((n : ℕ) × HandsOver old new n)
 
-handed_so : (requests : List Request) (reports : List Report) (wrote : List Written) (old new : AskingValue) → HandedOver old new → Asked_So requests reports wrote old → Asked_So requests reports wrote new
+handed_so : (requests : List Request) (reports : List Report) (wrote : List WrittenPacket) (old new : AskingValue) → HandedOver old new → Asked_So requests reports wrote old → Asked_So requests reports wrote new
 handed_so requests reports wrote old new (inl same) t = subst (Asked_So requests reports wrote) (sym same) t
 handed_so requests reports wrote old new (inr h) t =
     record {
@@ -83,7 +83,7 @@ handed_so requests reports wrote old new (inr h) t =
           (still_written old.port.link t.past.handed old.port.outbox wrote t.packets);
     }
 
-sent_so : (requests : List Request) (reports : List Report) (wrote ws : List Written) (old new : AskingValue) (packets : List (List ℕ)) → WroteMore old.port new.port packets → new ≡ record old { port = new.port }
+sent_so : (requests : List Request) (reports : List Report) (wrote ws : List WrittenPacket) (old new : AskingValue) (packets : List (List ℕ)) → WroteMore old.port new.port packets → new ≡ record old { port = new.port }
     → ws ≡ numbered_packets (old.port.link.sent + 1) old.port.link.coming.received packets → Asked_So requests reports wrote old → Asked_So requests reports (wrote ++ ws) new
 sent_so requests reports wrote ws old new packets w e is t =
     let after : AreWrittenOf old.port.link t.past.handed ws =
@@ -98,10 +98,10 @@ sent_so requests reports wrote ws old new packets w e is t =
 
 -- the end, and the reports and packets so far
 abbrev SoFar : Type 0
-SoFar = AskingValue × List Report × List Written
+SoFar = AskingValue × List Report × List WrittenPacket
 
 -- what happens to either end
-end_so : (comes : LinkValue → List ℕ → Type 0) (requests : List Request) (old new : SoFar) (event : EndEvent) (ws : List Written) → AskingStepped comes old (By event) ws new → Asked_So requests old.1 old.2 old.0 → Asked_So requests new.1 new.2 new.0
+end_so : (comes : LinkValue → List ℕ → Type 0) (requests : List Request) (old new : SoFar) (event : EndEvent) (ws : List WrittenPacket) → AskingStepped comes old (By event) ws new → Asked_So requests old.1 old.2 old.0 → Asked_So requests new.1 new.2 new.0
 end_so comes requests (old, reports, wrote) (new, after, all) (Came bytes) ws (s, e) t =
     let g = grown old.port.link s.1 bytes s.0 s.2 in
     same_so requests reports after wrote all ws new s.5 s.4 e
@@ -110,10 +110,10 @@ end_so comes requests (old, reports, wrote) (new, after, all) (Came bytes) ws (s
 end_so comes requests (old, reports, wrote) (new, after, all) GoesOn ws (s, e) t =
     let (heard, read, over) = s.2 in
     let told = subst (λ (l : List Report). Asked_So requests l wrote heard) (sym read.1) (heard_so requests reports read.0 wrote old heard (read_grows old heard read.0 read.2) t) in
-    subst (λ (l : List Written). Asked_So requests after l new) (sym e) (sent_so requests after wrote ws s.0 new s.1 s.3 s.4 s.5 (handed_so requests after wrote heard s.0 over told))
+    subst (λ (l : List WrittenPacket). Asked_So requests after l new) (sym e) (sent_so requests after wrote ws s.0 new s.1 s.3 s.4 s.5 (handed_so requests after wrote heard s.0 over told))
 end_so comes requests (old, reports, wrote) (new, after, all) (Repeats k) ws (s, e) t = one_so requests reports after wrote all ws old new _ s.0 s.2 s.3 s.5 s.4 e t
 
-step_so : (comes : LinkValue → List ℕ → Type 0) (requests : List Request) (old new : SoFar) (event : AskingEvent) (ws : List Written) → AskingStepped comes old event ws new → Asked_So requests old.1 old.2 old.0 → Asked_So (requests ++ new_requests event) new.1 new.2 new.0
+step_so : (comes : LinkValue → List ℕ → Type 0) (requests : List Request) (old new : SoFar) (event : AskingEvent) (ws : List WrittenPacket) → AskingStepped comes old event ws new → Asked_So requests old.1 old.2 old.0 → Asked_So (requests ++ new_requests event) new.1 new.2 new.0
 step_so comes requests (old, reports, wrote) (new, after, all) (Asks request) ws s t =
     let a = s.1 in
     record {
@@ -139,7 +139,7 @@ run_so comes (event ∷ events) requests old new (mid, more, s, r) t =
 pub asked_nothing : (v : AskingValue) → HasAsked nothing_asked v → Asked_So [] [] [] v
 asked_nothing v h = record { past = nothing_asked; is = h; asked = refl; told = refl; packets = tt }
 
-pub run_promises : (comes : LinkValue → List ℕ → Type 0) (events : List AskingEvent) (old new : AskingValue) (reports : List Report) (wrote : List Written) → HasAsked nothing_asked old → AskingEventRuns comes old events new reports wrote
+pub run_promises : (comes : LinkValue → List ℕ → Type 0) (events : List AskingEvent) (old new : AskingValue) (reports : List Report) (wrote : List WrittenPacket) → HasAsked nothing_asked old → AskingEventRuns comes old events new reports wrote
     → (past : ClientHistory) × HasAsked past new × (past.requests ≡ requests_in events) × (reports ≡ Told past.requests past.answers) × AreWrittenOf new.port.link past.handed wrote
 run_promises comes events old new reports wrote h r =
     let t = run_so comes events [] (old, [], []) (new, reports, wrote) r (asked_nothing old h) in
@@ -170,7 +170,7 @@ sent_listens size messages old new packets w e t =
     record { past = t.past; is = still_sent old (sent_more old.port (length packets)) (length packets) refl t.past t.is; stands = (record { taken = t.stands.0.taken; held = t.stands.0.held }, t.stands.1) } in
     subst (Listens size messages) (sym (e ∙ ap (λ (p : PortValue). record old { port = p }) w.sent)) here
 
-step_listens : (size : ℕ) (messages : List (List ℕ)) (old new : SoFar) (event : AskingEvent) (ws : List Written) → AskingStepped (IsFromPeer size messages) old event ws new → Listens size messages old.0 → Listens size messages new.0
+step_listens : (size : ℕ) (messages : List (List ℕ)) (old new : SoFar) (event : AskingEvent) (ws : List WrittenPacket) → AskingStepped (IsFromPeer size messages) old event ws new → Listens size messages old.0 → Listens size messages new.0
 step_listens size messages (old, _, _) (new, _, _) (By (Came bytes)) ws (s, e) t =
     let g = grown old.port.link s.1 bytes s.0 s.2 in
     subst (Listens size messages) (sym s.3)
@@ -198,13 +198,13 @@ run_listens : (size : ℕ) (messages : List (List ℕ)) (events : List AskingEve
 run_listens size messages [] old new r h = subst (λ (x : SoFar). Listens size messages x.0) (sym r) h
 run_listens size messages (event ∷ events) old new r h = run_listens size messages events r.0 new r.3 (step_listens size messages old r.0 event r.1 r.2 h)
 
-pub run_hears : (size : ℕ) (messages : List (List ℕ)) (events : List AskingEvent) (old new : AskingValue) (reports : List Report) (wrote : List Written) → 0 < size → HasAsked nothing_asked old → Stands old.port.link size messages [] → old.port.link.failed ≡ false
+pub run_hears : (size : ℕ) (messages : List (List ℕ)) (events : List AskingEvent) (old new : AskingValue) (reports : List Report) (wrote : List WrittenPacket) → 0 < size → HasAsked nothing_asked old → Stands old.port.link size messages [] → old.port.link.failed ≡ false
     → AskingEventRuns (IsFromPeer size messages) old events new reports wrote → (past : ClientHistory) × HasAsked past new × AreFrontOf messages past.answers
 run_hears size messages events old new reports wrote pos h stands works r =
     let t = run_listens size messages events (old, [], []) (new, reports, wrote) r (record { past = nothing_asked; is = h; stands = (stands, works) }) in
     (t.past, t.is, served_prefix new.port.link size messages t.past.given new.port.offset t.past.answers pos t.stands.0 t.is.gone)
 
-pub run_stands : (size : ℕ) (messages : List (List ℕ)) (events : List AskingEvent) (old new : AskingValue) (reports : List Report) (wrote : List Written) → HasAsked nothing_asked old → StandsThen old.port.link size messages []
+pub run_stands : (size : ℕ) (messages : List (List ℕ)) (events : List AskingEvent) (old new : AskingValue) (reports : List Report) (wrote : List WrittenPacket) → HasAsked nothing_asked old → StandsThen old.port.link size messages []
     → AskingEventRuns (IsFromPeer size messages) old events new reports wrote → (given : List (List ℕ)) × StandsThen new.port.link size messages given
 run_stands size messages events old new reports wrote h s r =
     let t = run_listens size messages events (old, [], []) (new, reports, wrote) r (record { past = nothing_asked; is = h; stands = s }) in (t.past.given, t.stands)

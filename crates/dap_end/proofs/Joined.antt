@@ -11,7 +11,7 @@ use Rattle.dap_msg.proofs.ForCallers.{are_items}
 use Rattle.nsp_link.specs.declared.link.LinkSetup.{LinkSetup}
 use Rattle.dap_accessed.specs.Standing.{Files}
 use Rattle.dap_accessed.specs.Present.{Present}
-use Rattle.dap_accessed.specs.Groups.{Answers, After, added, limit_for}
+use Rattle.dap_accessed.specs.Groups.{Answers, After, answers_added, limit_for}
 use Rattle.dap_accessing.specs.Request.{Request}
 use Rattle.dap_accessing.specs.Asked.{Asked}
 use Rattle.dap_accessing.specs.Told.{Told}
@@ -24,7 +24,7 @@ use Rattle.dap_end.specs.Done.{ServingValue, ServerHistory, answers_to, nothing_
 use Rattle.dap_end.specs.Asking.{HasAsked}
 use Rattle.dap_end.specs.Done.{ClientHistory}
 use Rattle.dap_end.specs.Runs.{RunsBy}
-use Rattle.dap_end.specs.Headline.{Written}
+use Rattle.dap_end.specs.Headline.{WrittenPacket}
 use Rattle.dap_end.specs.Calls.{WroteOne, EndEvent, Came, GoesOn, Repeats}
 use Rattle.dap_end.specs.Calls.{AskingEvent}
 use Rattle.dap_end.specs.Joined.{Pair}
@@ -120,7 +120,7 @@ first_ones packets handed waiting items full fit bytes front =
 pub answers_full : (own : ServerSetup) (first : Files) (before items : List Item) → AreFull (answers_to own first before items)
 answers_full own first before [] = tt
 answers_full own first before (item ∷ items) =
-    full-both (Blocked (limit_for own first before) (added own first before item)) (answers_to own first (before ++ item ∷ []) items) (full-blocked (limit_for own first before) (added own first before item))
+    full-both (Blocked (limit_for own first before) (answers_added own first before item)) (answers_to own first (before ++ item ∷ []) items) (full-blocked (limit_for own first before) (answers_added own first before item))
     (answers_full own first (before ++ item ∷ []) items)
 
 -- ---- What is true of both ends after any events.
@@ -171,18 +171,18 @@ new_pair s t first p o n =
       requests = c.requests;
       told = c.told;
       ways =
-          subst (λ (l : List Written). AreJoined p.a.port.link p.b.port.link c.asked.handed [] c.asked.given [] p.from_a l) (sym (ap (λ (x : Pair). x.from_b) n.none))
+          subst (λ (l : List WrittenPacket). AreJoined p.a.port.link p.b.port.link c.asked.handed [] c.asked.given [] p.from_a l) (sym (ap (λ (x : Pair). x.from_b) n.none))
           (subst (λ (x : PortValue). AreJoined p.a.port.link x.link c.asked.handed [] c.asked.given [] p.from_a []) (sym n.port_b) c.ways);
     }
 
 -- ---- The end that serves is called.
 
-wrote_b : (first : Files) (old new : Pair) (wrote : List Written) (w : Written) (k : Option ℕ) → WroteOne old.b.port.link k w → new.b ≡ old.b → wrote ≡ w ∷ [] → IfSome k (λ n. n ≤ old.b.port.link.sent)
+wrote_b : (first : Files) (old new : Pair) (wrote : List WrittenPacket) (w : WrittenPacket) (k : Option ℕ) → WroteOne old.b.port.link k w → new.b ≡ old.b → wrote ≡ w ∷ [] → IfSome k (λ n. n ≤ old.b.port.link.sent)
     → new.from_b ≡ old.from_b ++ wrote → new ≡ record old { b = new.b; from_b = new.from_b } → IsLinked first old → IsLinked first new
 wrote_b first old new wrote w k one same is was at e j =
     let back = swapped old.a.port.link old.b.port.link j.asked.handed j.served.handed j.asked.given j.served.given old.from_a old.from_b j.ways in
     let ways = wrote_one old.b.port.link old.a.port.link j.served.handed j.asked.handed j.served.given j.asked.given old.from_b old.from_a k w back j.serving.sends was one in
-    subst (IsLinked first) (sym (e ∙ ap (λ (v : ServingValue). record old { b = v; from_b = new.from_b }) same ∙ ap (λ (l : List Written). record old { from_b = l }) (at ∙ ap (λ (l : List Written). old.from_b ++ l) is)))
+    subst (IsLinked first) (sym (e ∙ ap (λ (v : ServingValue). record old { b = v; from_b = new.from_b }) same ∙ ap (λ (l : List WrittenPacket). record old { from_b = l }) (at ∙ ap (λ (l : List WrittenPacket). old.from_b ++ l) is)))
     (record {
       asked = j.asked;
       asking = j.asking;
@@ -195,7 +195,7 @@ wrote_b first old new wrote w k one same is was at e j =
     })
 
 -- each event
-serves : (first : Files) (old new : Pair) (event : EndEvent) (ws : List Written) → PairStepped old (AtB event) ws new → IsLinked first old → IsLinked first new
+serves : (first : Files) (old new : Pair) (event : EndEvent) (ws : List WrittenPacket) → PairStepped old (AtB event) ws new → IsLinked first old → IsLinked first new
 serves first old new (Came bytes) ws s j =
     let t = s.0.0 in
     let g = grown old.b.port.link t.1 bytes t.0 t.2 in
@@ -211,7 +211,7 @@ serves first old new (Came bytes) ws s j =
       requests = j.requests;
       told = j.told;
       ways =
-          subst (λ (l : List Written). AreJoined old.a.port.link new.b.port.link j.asked.handed j.served.handed j.asked.given j.served.given old.from_a l) (sym (s.0.1 ∙ ap (λ (l : List Written). old.from_b ++ l) t.4 ∙ append-nil old.from_b))
+          subst (λ (l : List WrittenPacket). AreJoined old.a.port.link new.b.port.link j.asked.handed j.served.handed j.asked.given j.served.given old.from_a l) (sym (s.0.1 ∙ ap (λ (l : List WrittenPacket). old.from_b ++ l) t.4 ∙ append-nil old.from_b))
           (subst (λ (v : ServingValue). AreJoined old.a.port.link v.port.link j.asked.handed j.served.handed j.asked.given j.served.given old.from_a old.from_b) (sym t.3) ways);
     })
 serves first old new GoesOn ws s j =
@@ -233,7 +233,7 @@ serves first old new GoesOn ws s j =
       requests = j.requests;
       told = j.told;
       ways =
-          subst (λ (l : List Written). AreJoined old.a.port.link new.b.port.link j.asked.handed now.handed j.asked.given now.given old.from_a l) (sym (s.0.1 ∙ ap (λ (l : List Written). old.from_b ++ l) t.5))
+          subst (λ (l : List WrittenPacket). AreJoined old.a.port.link new.b.port.link j.asked.handed now.handed j.asked.given now.given old.from_a l) (sym (s.0.1 ∙ ap (λ (l : List WrittenPacket). old.from_b ++ l) t.5))
           (swapped new.b.port.link old.a.port.link now.handed j.asked.handed now.given j.asked.given _ old.from_a ways);
     })
 serves first old new (Repeats (Some i)) ws ((t, at), e) j = wrote_b first old new ws t.0 _ t.2 t.3 t.4 (again_sent old.b.port.link i t.1) at e j
@@ -241,7 +241,7 @@ serves first old new (Repeats None) ws ((t, at), e) j = wrote_b first old new ws
 
 -- ---- The end that asks is called.
 
-asks : (first : Files) (old new : Pair) (event : AskingEvent) (ws : List Written) → PairStepped old (AtA event) ws new → IsLinked first old → IsLinked first new
+asks : (first : Files) (old new : Pair) (event : AskingEvent) (ws : List WrittenPacket) → PairStepped old (AtA event) ws new → IsLinked first old → IsLinked first new
 asks first old new event ws s j =
     let before : IsJoinedTo old.b.port.link j.served.handed j.served.given old.from_b (client_of old) = record { asked = j.asked; asking = j.asking; requests = j.requests; told = j.told; ways = j.ways } in
     let now = client_asks old.b.port.link j.served.handed j.served.given old.from_b (client_of old) (client_of new) event ws s.0 (ap (λ (p : Pair). p.requests) s.1) before in
@@ -255,13 +255,13 @@ asks first old new event ws s j =
       requests = now.requests;
       told = now.told;
       ways =
-          subst (λ (l : List Written). AreJoined new.a.port.link new.b.port.link now.asked.handed j.served.handed now.asked.given j.served.given new.from_a l) (sym (ap (λ (p : Pair). p.from_b) s.1))
+          subst (λ (l : List WrittenPacket). AreJoined new.a.port.link new.b.port.link now.asked.handed j.served.handed now.asked.given j.served.given new.from_a l) (sym (ap (λ (p : Pair). p.from_b) s.1))
           (subst (λ (v : ServingValue). AreJoined new.a.port.link v.port.link now.asked.handed j.served.handed now.asked.given j.served.given new.from_a old.from_b) (sym same) now.ways);
     }
 
 -- ---- All events.
 
-pub pair_step : (first : Files) (old new : Pair) (event : PairEvent) (ws : List Written) → PairStepped old event ws new → IsLinked first old → IsLinked first new
+pub pair_step : (first : Files) (old new : Pair) (event : PairEvent) (ws : List WrittenPacket) → PairStepped old event ws new → IsLinked first old → IsLinked first new
 pair_step first old new (AtA event) ws s j = asks first old new event ws s j
 pair_step first old new (AtB event) ws s j = serves first old new event ws s j
 

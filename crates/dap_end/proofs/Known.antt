@@ -12,8 +12,8 @@ use Rattle.nsp_link.proofs.ForCallers.{inserted}
 use Rattle.std.specs.declared.cmp.Ordering.TheVariants.{Less, Equal, Greater}
 use Rattle.std.specs.Ordering.{match_ordering}
 use Rattle.nsp_link.specs.Link.{LinkValue, piece_of, failed_link}
-use Rattle.nsp_link.specs.Receiving.{Received, run, segment_number, taking_in, ends_link, Bounded, BoundedBytes, LetsGo, Receives}
-use Rattle.dap_end.specs.Histories.{served}
+use Rattle.nsp_link.specs.Receiving.{ReceivesPacket, run, segment_number, taking_in, ends_link, ReceivesBounded, BoundedBytes, LetsGo, Receives}
+use Rattle.dap_end.specs.Histories.{history_after_item}
 use Rattle.dap_end.specs.declared.fault.EndFault.{EndFault}
 use Rattle.dap_end.specs.declared.fault.EndFault.TheVariants as end_fault
 use Rattle.dap_end.specs.declared.fault.TakeFault.{TakeFault}
@@ -69,7 +69,7 @@ stopped_comes : (v : LinkValue) (ends : Bool) → Comes v (if ends then failed_l
 stopped_comes v true = inr (refl, refl, refl)
 stopped_comes v false = stays v
 
-received_comes : (old new : LinkValue) (p : Packet) (r : Result Got LinkFault) → Received old p r new → Comes old new
+received_comes : (old new : LinkValue) (p : Packet) (r : Result Got LinkFault) → ReceivesPacket old p r new → Comes old new
 received_comes old new (Segment s) (Ok got) (_, (_, _, acks)) = along old new _ acks.2 (in_comes old (segment_number old s.number) (piece_of s))
 received_comes old new (DataAck s) (Ok got) (_, (_, acks)) = along old new _ acks.2 (inr (refl, refl, refl))
 received_comes old new p (Err e) (_, left) = along old new _ left (stopped_comes old (ends_link e))
@@ -79,7 +79,7 @@ let_go_comes old new (Segment s) (Ok got) (_, _, acks) = along old new _ acks.2 
 let_go_comes old new (Segment s) (Err e) (_, left) = along old new _ left (stopped_comes old (ends_link e))
 let_go_comes old new (DataAck s) r h = absurd h
 
-bounded_comes : (old new : LinkValue) (p : Packet) (r : Result Got LinkFault) → Bounded old p r new → Comes old new
+bounded_comes : (old new : LinkValue) (p : Packet) (r : Result Got LinkFault) → ReceivesBounded old p r new → Comes old new
 bounded_comes old new p r (inl h) = let_go_comes old new p r h.1
 bounded_comes old new p r (inr h) = received_comes old new p r h.1
 
@@ -118,7 +118,7 @@ posted_known v new n p (past, h, inr none) =
 
 served_known : (v new : ServingValue) (n : ℕ) → ServedOne v new n → IsKnown v → IsKnown new
 served_known v new n s (past, h, inl came) =
-    (served past s.one.bytes s.one.item s.one.next, s.past past h, inl (subst (λ (p : PortValue). HasCome p) (sym s.port) came))
+    (history_after_item past s.one.bytes s.one.item s.one.next, s.past past h, inl (subst (λ (p : PortValue). HasCome p) (sym s.port) came))
 served_known v new n s (past, h, inr none) = absurd (no_next s.one.bytes s.one.later (sym none.1 ∙ s.one.came))
 
 turn_known : (most : ℕ) (a b : ServingValue) → ServedInTurn most a b → IsKnown a → IsKnown b

@@ -5,7 +5,7 @@ use Rattle.std.proofs.lemmas.List.{append-nil}
 use Rattle.nsp_link.specs.Link.{LinkValue, Stands, Sends, with_inbox, AreShort}
 use Rattle.dap_end.specs.Ports.{PortValue}
 use Rattle.dap_end.specs.Writing.{AreSegments, WroteMore}
-use Rattle.dap_end.specs.Headline.{Written, AreWrittenOf}
+use Rattle.dap_end.specs.Headline.{WrittenPacket, AreWrittenOf}
 use Rattle.dap_end.specs.Calls.{numbered_packets, WroteOne}
 use Rattle.dap_end.proofs.Packets.{all_written, numbered_written, one_written}
 use Rattle.dap_end.proofs.Proceeding.{none_short}
@@ -13,12 +13,12 @@ use Rattle.dap_end.proofs.Running.{went_written}
 use Rattle.dap_end.proofs.Ways.{AreTrue, AreJoined, moved, LinkMoved, works, counts_numbered}
 
 -- the packets of an end that wrote one are true
-one_true : (v : LinkValue) (k : Option ℕ) (w : Written) → IfSome k (λ n. n ≤ v.sent) → WroteOne v k w → AreTrue v.sent v.coming.received (w ∷ [])
+one_true : (v : LinkValue) (k : Option ℕ) (w : WrittenPacket) → IfSome k (λ n. n ≤ v.sent) → WroteOne v k w → AreTrue v.sent v.coming.received (w ∷ [])
 one_true v k w was h =
     (record { segment = subst (λ (s : Option ℕ). IfSome s (λ n. n ≤ v.sent)) (sym h.0) was; acks = omega (arith, h.1) }, tt)
 
 -- the same, and the end moved by nothing else
-pub wrote_one : (a b : LinkValue) (from_a from_b to_a to_b : List (List ℕ)) (wire_a wire_b : List Written) (k : Option ℕ) (w : Written) → AreJoined a b from_a from_b to_a to_b wire_a wire_b → Sends a from_a → IfSome k (λ n. n ≤ a.sent) → WroteOne a k w
+pub wrote_one : (a b : LinkValue) (from_a from_b to_a to_b : List (List ℕ)) (wire_a wire_b : List WrittenPacket) (k : Option ℕ) (w : WrittenPacket) → AreJoined a b from_a from_b to_a to_b wire_a wire_b → Sends a from_a → IfSome k (λ n. n ≤ a.sent) → WroteOne a k w
     → AreJoined a b from_a from_b to_a to_b (wire_a ++ w ∷ []) wire_b
 wrote_one a b from_a from_b to_a to_b wire_a wire_b k w j sends was one =
     subst (λ (l : List (List ℕ)). AreJoined a b l from_b to_a to_b (wire_a ++ w ∷ []) wire_b) (append-nil from_a)
@@ -39,7 +39,7 @@ within_by v link sent (suc n) e is within before =
     record { more = omega (arith, is, same); within = omega (arith, within (omega arith), acked, window) }
 
 -- an end goes on: this is its link in between, and then this many segments were written
-pub goes : (a b link : LinkValue) (new : PortValue) (port : PortValue) (from_a from_b to_a to_b more given now : List (List ℕ)) (wire_a wire_b : List Written) (packets : List (List ℕ)) → AreJoined a b from_a from_b to_a to_b wire_a wire_b → port.link ≡ link
+pub goes : (a b link : LinkValue) (new : PortValue) (port : PortValue) (from_a from_b to_a to_b more given now : List (List ℕ)) (wire_a wire_b : List WrittenPacket) (packets : List (List ℕ)) → AreJoined a b from_a from_b to_a to_b wire_a wire_b → port.link ≡ link
     → link ≡ record (with_inbox a link.coming.inbox) { queue = link.queue } → WroteMore port new packets → now ≡ from_a ++ more → AreShort a more → Stands link b.setup.seg_size from_b given → Sends link now
     → AreJoined new.link b now from_b given to_b (wire_a ++ numbered_packets (link.sent + 1) link.coming.received packets) wire_b
 goes a b link new port from_a from_b to_a to_b more given now wire_a wire_b packets j at counts w is short stands sends =

@@ -11,7 +11,7 @@ use Rattle.nsp_link.specs.declared.fault.LinkFault.TheVariants as fault
 use Rattle.nsp_link.specs.declared.link.LinkSetup.{LinkSetup}
 use Rattle.nsp_link.specs.Link.{LinkValue, IsLink, Stands, may_send, waiting_bytes, with_inbox, AreShort}
 use Rattle.dap_accessed.specs.Standing.{Files}
-use Rattle.dap_end.specs.Histories.{served}
+use Rattle.dap_end.specs.Histories.{history_after_item}
 use Rattle.dap_end.specs.declared.fault.EndFault.{EndFault}
 use Rattle.dap_end.specs.declared.fault.EndFault.TheVariants as end_fault
 use Rattle.dap_end.specs.Ports.{HandsOver, PortValue, bytes_waiting}
@@ -113,15 +113,15 @@ more_served old new n s =
       own = s.own;
       setup = s.setup;
       past = λ past h. (
-        served past s.one.bytes s.one.item s.one.next,
+        history_after_item past s.one.bytes s.one.item s.one.next,
         record {
           is = s.past past h;
           first = refl;
           items = (s.one.item ∷ [], refl);
           handed = ([], sym (append-nil past.handed), none_short old.port.link);
-          given = subst (λ (l : LinkValue). (served past s.one.bytes s.one.item s.one.next).given ++ l.coming.inbox ≡ past.given ++ old.port.link.coming.inbox) (sym link)
+          given = subst (λ (l : LinkValue). (history_after_item past s.one.bytes s.one.item s.one.next).given ++ l.coming.inbox ≡ past.given ++ old.port.link.coming.inbox) (sym link)
               (split_given past.given old.port.link.coming.inbox s.one.later s.one.bytes s.one.next s.one.came);
-          stands = λ size messages t. subst (λ (l : LinkValue). Stands l size messages (served past s.one.bytes s.one.item s.one.next).given) (sym link)
+          stands = λ size messages t. subst (λ (l : LinkValue). Stands l size messages (history_after_item past s.one.bytes s.one.item s.one.next).given) (sym link)
               (port_given old.port s.one.bytes s.one.later s.one.next size messages past.given s.one.came t);
         },
       );

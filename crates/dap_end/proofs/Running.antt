@@ -15,7 +15,7 @@ use Rattle.nsp_link.proofs.ForCallers.{came_due}
 use Rattle.nsp_link.specs.Link.{LinkValue, Stands, IsSpelling, with_inbox}
 use Rattle.nsp_link.specs.Sending.{WritesSent, ack_packet_of}
 use Rattle.dap_accessed.specs.Standing.{Files}
-use Rattle.dap_accessed.specs.Groups.{Answers, added, limit_for}
+use Rattle.dap_accessed.specs.Groups.{Answers, answers_added, limit_for}
 use Rattle.dap_accessed.proofs.ForCallers.{Answers-more}
 use Rattle.dap_end.specs.declared.fault.EndFault.{EndFault}
 use Rattle.dap_end.specs.declared.fault.TakeFault.{TakeFault}
@@ -30,8 +30,8 @@ use Rattle.dap_end.specs.Turns.{DidAll, WentOn, TookIn, TakesPacket}
 use Rattle.dap_end.specs.Taking.{serves}
 use Rattle.dap_end.specs.Calls.{WorkedOn, nothing_done}
 use Rattle.dap_end.specs.Runs.{RunsBy}
-use Rattle.dap_end.specs.Headline.{Written, written_bytes, AreWrittenOf, IsFromPeer}
-use Rattle.dap_end.specs.Calls.{numbered_packets, WroteOne, EndEvent, Came, GoesOn, Repeats, EndStepped, Stepped, EventRuns, RunsAs}
+use Rattle.dap_end.specs.Headline.{WrittenPacket, written_bytes, AreWrittenOf, IsFromPeer}
+use Rattle.dap_end.specs.Calls.{numbered_packets, WroteOne, EndEvent, Came, GoesOn, Repeats, EndStepped, ServingStepped, EventRuns, RunsAs}
 use Rattle.dap_end.proofs.Taking.{grown}
 use Rattle.dap_end.proofs.Afterwards.{after_received}
 use Rattle.dap_end.proofs.Fronts.{served_prefix}
@@ -49,10 +49,10 @@ in_append (x ∷ xs) ys = ap (λ (l : List Message). x ++ l) (in_append xs ys) �
 pub answers_from : (own : ServerSetup) (first : Files) (before items : List Item) → Answers own first before ++ messages_in (answers_to own first before items) ≡ Answers own first (before ++ items)
 answers_from own first before [] = append-nil (Answers own first before) ∙ ap (Answers own first) (sym (append-nil before))
 answers_from own first before (item ∷ items) =
-    let block = Blocked (limit_for own first before) (added own first before item) in
+    let block = Blocked (limit_for own first before) (answers_added own first before item) in
     let rest = answers_to own first (before ++ item ∷ []) items in
-    ap (λ (l : List Message). Answers own first before ++ l) (in_append block rest ∙ ap (λ (l : List Message). l ++ messages_in rest) (messages_in-Blocked (limit_for own first before) (added own first before item)))
-    ∙ sym (append_assoc (Answers own first before) (added own first before item) (messages_in rest))
+    ap (λ (l : List Message). Answers own first before ++ l) (in_append block rest ∙ ap (λ (l : List Message). l ++ messages_in rest) (messages_in-Blocked (limit_for own first before) (answers_added own first before item)))
+    ∙ sym (append_assoc (Answers own first before) (answers_added own first before item) (messages_in rest))
     ∙ ap (λ (l : List Message). l ++ messages_in rest) (sym (Answers-more own first before item))
     ∙ answers_from own first (before ++ item ∷ []) items
     ∙ ap (Answers own first) (append_assoc before (item ∷ []) items)
@@ -60,19 +60,19 @@ answers_from own first before (item ∷ items) =
 -- ---- Whatever comes.
 
 -- what the end did, with the files that it had at first, and the packets that it wrote
-pub record Did (first : Files) (v : ServingValue) (wrote : List Written) : Type 0 where
+pub record Did (first : Files) (v : ServingValue) (wrote : List WrittenPacket) : Type 0 where
   pub past : ServerHistory
   pub is : IsAfter past v
   pub had : past.first ≡ first
   pub packets : AreWrittenOf v.port.link past.handed wrote
 
-no_more : (first : Files) (v : ServingValue) (wrote ws : List Written) → ws ≡ [] → Did first v wrote → Did first v (wrote ++ ws)
-no_more first v wrote ws none d = subst (Did first v) (sym (ap (λ (l : List Written). wrote ++ l) none ∙ append-nil wrote)) d
+no_more : (first : Files) (v : ServingValue) (wrote ws : List WrittenPacket) → ws ≡ [] → Did first v wrote → Did first v (wrote ++ ws)
+no_more first v wrote ws none d = subst (Did first v) (sym (ap (λ (l : List WrittenPacket). wrote ++ l) none ∙ append-nil wrote)) d
 
-one_more : (first : Files) (v new : ServingValue) (wrote ws : List Written) (k : Option ℕ) (w : Written) → WroteOne v.port.link k w → new ≡ v → ws ≡ w ∷ [] → Did first v wrote → Did first new (wrote ++ ws)
+one_more : (first : Files) (v new : ServingValue) (wrote ws : List WrittenPacket) (k : Option ℕ) (w : WrittenPacket) → WroteOne v.port.link k w → new ≡ v → ws ≡ w ∷ [] → Did first v wrote → Did first new (wrote ++ ws)
 one_more first v new wrote ws k w one same is d =
     subst (λ (x : ServingValue). Did first x (wrote ++ ws)) (sym same)
-    (subst (λ (l : List Written). Did first v (wrote ++ l)) (sym is)
+    (subst (λ (l : List WrittenPacket). Did first v (wrote ++ l)) (sym is)
     (record {
       past = d.past;
       is = d.is;
@@ -81,7 +81,7 @@ one_more first v new wrote ws k w one same is d =
     }))
 
 -- written by the port, and the end did more before
-pub went_written : (old served new : LinkValue) (handed more now : List (List ℕ)) (wrote ws : List Written) → served ≡ record (with_inbox old served.coming.inbox) { queue = served.queue } → now ≡ handed ++ more
+pub went_written : (old served new : LinkValue) (handed more now : List (List ℕ)) (wrote ws : List WrittenPacket) → served ≡ record (with_inbox old served.coming.inbox) { queue = served.queue } → now ≡ handed ++ more
     → new ≡ record served { sent = new.sent } → AreWrittenOf old handed wrote → AreWrittenOf served now ws → AreWrittenOf new now (wrote ++ ws)
 went_written old served new handed more now wrote ws counts is sent before after =
     let one : AreWrittenOf served handed wrote = subst (λ (l : LinkValue). AreWrittenOf l handed wrote) (sym counts) before in
@@ -91,7 +91,7 @@ went_written old served new handed more now wrote ws counts is sent before after
 pub sent_link : (p new : PortValue) (n : ℕ) → new ≡ sent_more p n → new.link ≡ record p.link { sent = new.link.sent }
 sent_link p new n e = subst (λ (q : PortValue). q.link ≡ record p.link { sent = q.link.sent }) (sym e) refl
 
-went : (old served new : ServingValue) (packets : List (List ℕ)) (first : Files) (wrote ws : List Written) → WorkedOn old served → WroteMore served.port new.port packets → new ≡ with_port served new.port
+went : (old served new : ServingValue) (packets : List (List ℕ)) (first : Files) (wrote ws : List WrittenPacket) → WorkedOn old served → WroteMore served.port new.port packets → new ≡ with_port served new.port
     → ws ≡ numbered_packets (served.port.link.sent + 1) served.port.link.coming.received packets → Did first old wrote → Did first new (wrote ++ ws)
 went old served new packets first wrote ws on w e is d =
     let m = worked_grew old served on in
@@ -108,13 +108,13 @@ went old served new packets first wrote ws on w e is d =
 
 -- the end, and the packets so far
 abbrev Wrote : Type 0
-Wrote = ServingValue × List Written
+Wrote = ServingValue × List WrittenPacket
 
 -- an event of the end alone
-abbrev Stepping : (comes : LinkValue → List ℕ → Type 0) → ServingValue → EndEvent → ServingValue → List Written → Type 0
+abbrev Stepping : (comes : LinkValue → List ℕ → Type 0) → ServingValue → EndEvent → ServingValue → List WrittenPacket → Type 0
 Stepping comes old event new ws = EndStepped (Unit {0}) WorkedOn comes old event new ws
 
-step_end : (comes : LinkValue → List ℕ → Type 0) (old new : ServingValue) (event : EndEvent) (first : Files) (wrote ws : List Written) → Stepping comes old event new ws → Did first old wrote → Did first new (wrote ++ ws)
+step_end : (comes : LinkValue → List ℕ → Type 0) (old new : ServingValue) (event : EndEvent) (first : Files) (wrote ws : List WrittenPacket) → Stepping comes old event new ws → Did first old wrote → Did first new (wrote ++ ws)
 step_end comes old new (Came bytes) first wrote ws t d =
     let g = grown old.port.link t.1 bytes t.0 t.2 in
     no_more first new wrote ws t.4
@@ -123,10 +123,10 @@ step_end comes old new (Came bytes) first wrote ws t d =
 step_end comes old new GoesOn first wrote ws t d = went old t.0 new t.1 first wrote ws t.2 t.3 t.4 t.5 d
 step_end comes old new (Repeats k) first wrote ws t d = one_more first old new wrote ws _ t.0 t.2 t.3 t.4 d
 
-step : (comes : LinkValue → List ℕ → Type 0) (old new : Wrote) (event : EndEvent) (first : Files) (ws : List Written) → Stepped comes old event ws new → Did first old.0 old.1 → Did first new.0 new.1
+step : (comes : LinkValue → List ℕ → Type 0) (old new : Wrote) (event : EndEvent) (first : Files) (ws : List WrittenPacket) → ServingStepped comes old event ws new → Did first old.0 old.1 → Did first new.0 new.1
 step comes (old, wrote) (new, all) event first ws (t, e) d = subst (Did first new) (sym e) (step_end comes old new event first wrote ws t d)
 
-pub run : (comes : LinkValue → List ℕ → Type 0) (events : List EndEvent) (old new : Wrote) (first : Files) → RunsBy (Stepped comes) old events new → Did first old.0 old.1 → Did first new.0 new.1
+pub run : (comes : LinkValue → List ℕ → Type 0) (events : List EndEvent) (old new : Wrote) (first : Files) → RunsBy (ServingStepped comes) old events new → Did first old.0 old.1 → Did first new.0 new.1
 run comes [] old new first r d = subst (λ (x : Wrote). Did first x.0 x.1) (sym r) d
 run comes (event ∷ events) old new first r d = run comes events r.0 new first r.3 (step comes old r.0 event first r.1 r.2 d)
 
@@ -164,14 +164,14 @@ some_peer size messages v bytes f =
     let same : size ≡ some_size size = omega (arith, f.4.positive) in
     subst (λ (n : ℕ). IsFromPeer n messages v bytes) same f
 
-pub stepped_by : {P : Type 0} (quiet : Type 0) (does : EndValue P → EndValue P → Type 0) (here there : LinkValue → List ℕ → Type 0) (old new : EndValue P) (event : EndEvent) (ws : List Written) → ((v : LinkValue) (bytes : List ℕ) → here v bytes → there v bytes)
+pub stepped_by : {P : Type 0} (quiet : Type 0) (does : EndValue P → EndValue P → Type 0) (here there : LinkValue → List ℕ → Type 0) (old new : EndValue P) (event : EndEvent) (ws : List WrittenPacket) → ((v : LinkValue) (bytes : List ℕ) → here v bytes → there v bytes)
     → EndStepped quiet does here old event new ws → EndStepped quiet does there old event new ws
 stepped_by quiet does here there old new (Came bytes) ws comes t = (t.0, t.1, t.2, t.3, t.4, t.5, comes old.port.link bytes t.6)
 stepped_by quiet does here there old new GoesOn ws comes t = t
 stepped_by quiet does here there old new (Repeats k) ws comes t = t
 
 -- what comes in one way comes in another
-pub runs_where : (here there : LinkValue → List ℕ → Type 0) → ((v : LinkValue) (bytes : List ℕ) → here v bytes → there v bytes) → (events : List EndEvent) (old new : Wrote) → RunsBy (Stepped here) old events new → RunsBy (Stepped there) old events new
+pub runs_where : (here there : LinkValue → List ℕ → Type 0) → ((v : LinkValue) (bytes : List ℕ) → here v bytes → there v bytes) → (events : List EndEvent) (old new : Wrote) → RunsBy (ServingStepped here) old events new → RunsBy (ServingStepped there) old events new
 runs_where here there comes [] old new r = r
 runs_where here there comes (event ∷ events) old new r =
     (r.0, r.1, (stepped_by (Unit {0}) WorkedOn here there old.0 r.0.0 event r.1 comes r.2.0, r.2.1), runs_where here there comes events r.0 new r.3)
@@ -192,7 +192,7 @@ went_hears old served new sent size messages first on e h =
       works = works;
     })
 
-step_hears : (old new : ServingValue) (event : EndEvent) (ws : List Written) (size : ℕ) (messages : List (List ℕ)) (first : Files) → Stepping (IsFromPeer size messages) old event new ws → Hears size messages first old → Hears size messages first new
+step_hears : (old new : ServingValue) (event : EndEvent) (ws : List WrittenPacket) (size : ℕ) (messages : List (List ℕ)) (first : Files) → Stepping (IsFromPeer size messages) old event new ws → Hears size messages first old → Hears size messages first new
 step_hears old new (Came bytes) ws size messages first t h =
     let g = grown old.port.link t.1 bytes t.0 t.2 in
     let s = then_stands old.port.link t.1 size messages h.past.given bytes t.0 t.6 (h.stands, h.works) t.2 in
@@ -201,18 +201,18 @@ step_hears old new (Came bytes) ws size messages first t h =
 step_hears old new GoesOn ws size messages first t h = went_hears old t.0 new (length t.1) size messages first t.2 (t.4 ∙ ap (with_port t.0) t.3.sent) h
 step_hears old new (Repeats k) ws size messages first t h = subst (Hears size messages first) (sym t.3) h
 
-run_hears : (events : List EndEvent) (old new : Wrote) (size : ℕ) (messages : List (List ℕ)) (first : Files) → RunsBy (Stepped (IsFromPeer size messages)) old events new → Hears size messages first old.0 → Hears size messages first new.0
+run_hears : (events : List EndEvent) (old new : Wrote) (size : ℕ) (messages : List (List ℕ)) (first : Files) → RunsBy (ServingStepped (IsFromPeer size messages)) old events new → Hears size messages first old.0 → Hears size messages first new.0
 run_hears [] old new size messages first r h = subst (λ (x : Wrote). Hears size messages first x.0) (sym r) h
 run_hears (event ∷ events) old new size messages first r h = run_hears events r.0 new size messages first r.3 (step_hears old.0 r.0.0 event r.1 size messages first r.2.0 h)
 
-pub run_from : (events : List EndEvent) (old new : ServingValue) (wrote : List Written) (size : ℕ) (messages : List (List ℕ)) (past : ServerHistory) → 0 < size → IsAfter past old → Stands old.port.link size messages past.given → old.port.link.failed ≡ false
+pub run_from : (events : List EndEvent) (old new : ServingValue) (wrote : List WrittenPacket) (size : ℕ) (messages : List (List ℕ)) (past : ServerHistory) → 0 < size → IsAfter past old → Stands old.port.link size messages past.given → old.port.link.failed ≡ false
     → EventRuns (IsFromPeer size messages) old events new wrote → (now : ServerHistory) × IsAfter now new × (now.first ≡ past.first) × AreFrontOf messages now.items
 run_from events old new wrote size messages past pos is stands works r =
     let h = run_hears events (old, []) (new, wrote) size messages past.first r (record { past = past; is = is; had = refl; stands = stands; works = works }) in
     (h.past, h.is, h.had, served_prefix new.port.link size messages h.past.given new.port.offset h.past.items pos h.stands h.is.gone)
 
 -- so the link stands where it should
-pub run_stands : (events : List EndEvent) (old new : ServingValue) (wrote : List Written) (size : ℕ) (messages : List (List ℕ)) (past : ServerHistory) → IsAfter past old → StandsThen old.port.link size messages past.given
+pub run_stands : (events : List EndEvent) (old new : ServingValue) (wrote : List WrittenPacket) (size : ℕ) (messages : List (List ℕ)) (past : ServerHistory) → IsAfter past old → StandsThen old.port.link size messages past.given
     → EventRuns (IsFromPeer size messages) old events new wrote → (given : List (List ℕ)) × StandsThen new.port.link size messages given
 run_stands events old new wrote size messages past is s r =
     let h = run_hears events (old, []) (new, wrote) size messages past.first r (record { past = past; is = is; had = refl; stands = s.0; works = s.1 }) in (h.past.given, (h.stands, h.works))
@@ -235,14 +235,14 @@ none : (v : ServingValue) → WorkedOn v v
 none v = nothing_done
 
 -- with packets that were there before
-pub shifted : (comes : LinkValue → List ℕ → Type 0) (events : List EndEvent) (front : List Written) (old new : Wrote) → RunsBy (Stepped comes) old events new → RunsBy (Stepped comes) (old.0, front ++ old.1) events (new.0, front ++ new.1)
+pub shifted : (comes : LinkValue → List ℕ → Type 0) (events : List EndEvent) (front : List WrittenPacket) (old new : Wrote) → RunsBy (ServingStepped comes) old events new → RunsBy (ServingStepped comes) (old.0, front ++ old.1) events (new.0, front ++ new.1)
 shifted comes events front old new r = stepping.shifted WorkedOn none comes events front old new r
 
 module _ (comes : LinkValue → List ℕ → Type 0) where
   pub no_call : (v : ServingValue) → RunsAs comes v v []
   no_call v = ([], refl)
 
-  pub more_calls : (old mid new : ServingValue) (ws more : List Written) → RunsAs comes old mid ws → RunsAs comes mid new more → RunsAs comes old new (ws ++ more)
+  pub more_calls : (old mid new : ServingValue) (ws more : List WrittenPacket) → RunsAs comes old mid ws → RunsAs comes mid new more → RunsAs comes old new (ws ++ more)
   more_calls old mid new ws more r q = stepping.more_calls WorkedOn none comes old mid new ws more r q
 
   pub serving_is : (old new : ServingValue) (n : ℕ) → ServedOne old new n → RunsAs comes old new []
@@ -270,7 +270,7 @@ module _ (comes : LinkValue → List ℕ → Type 0) where
 
   -- a run whose packets stand after those that were there
   abbrev pub AreCalls : ServingValue → ServingValue → (out all : List (List ℕ)) → Type 0
-  AreCalls old new out all = (wrote : List Written) × RunsAs comes old new wrote × (all ≡ out ++ written_bytes wrote)
+  AreCalls old new out all = (wrote : List WrittenPacket) × RunsAs comes old new wrote × (all ≡ out ++ written_bytes wrote)
 
   pub going_on_is : (most : ℕ) (old new : ServingValue) (out all : List (List ℕ)) (r : Result (Unit {0}) EndFault) → WentOn (serves most) old new out all r → AreCalls old new out all
   going_on_is most old new out all r w = stepping.going_on_is WorkedOn none comes (serves most) (all_worked most) old new out all r w

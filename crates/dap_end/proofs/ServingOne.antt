@@ -12,12 +12,12 @@ use Rattle.dap_msg.specs.Blocked.{NspMessage, Blocked, all_joined, bodies, block
 use Rattle.dap_msg.specs.declared.message.Message.{Message}
 use Rattle.nsp_link.specs.Link.{Stands, with_inbox}
 use Rattle.nsp_link.proofs.ForCallers.{stands_given}
-use Rattle.dap_accessed.specs.Groups.{Answers, added, limit_for}
+use Rattle.dap_accessed.specs.Groups.{Answers, answers_added, limit_for}
 use Rattle.dap_accessed.proofs.ForCallers.{Answers-more}
 use Rattle.dap_accessed.specs.Present.{Present}
 use Rattle.dap_accessed.specs.Served.{ServesItemAt, AllAtMost}
 use Rattle.dap_accessed.specs.declared.served.Served.{Served}
-use Rattle.dap_end.specs.Histories.{served}
+use Rattle.dap_end.specs.Histories.{history_after_item}
 use Rattle.dap_end.specs.Ports.{PortValue, gone_on}
 use Rattle.dap_end.specs.Going.{oldest_message}
 use Rattle.dap_end.specs.Going.{processed_after}
@@ -80,7 +80,7 @@ fit-both (m ∷ one) two h k = (h.0, fit-both one two h.1 k)
 module _ (old : ServingValue) (bytes : List ℕ) (later : List (List ℕ)) (inbox : old.port.link.coming.inbox ≡ bytes ∷ later) (fits : AreBytes bytes) where
   past_one : (after : Present) (s : Served) (serves : ServesItemAt bytes old.port.offset old.present after s) → old.port.outbox ≡ [] → s.next ≤ length bytes
       → (past : ServerHistory) → IsAfter past old
-      → IsAfter (served past bytes serves.item s.next) (serving_of (record (gone_on old.port bytes later s.next) { outbox = bodies s.answers.items }) after)
+      → IsAfter (history_after_item past bytes serves.item s.next) (serving_of (record (gone_on old.port bytes later s.next) { outbox = bodies s.answers.items }) after)
   past_one after s serves idle within past h =
       let limit : serves.limit ≡ limit_for old.present.setup past.first past.items = serves.is_limit past.first past.items h.serving in
       let block : List NspMessage = answer_to old.present.setup past.first past.items serves.item in
@@ -90,7 +90,7 @@ module _ (old : ServingValue) (bytes : List ℕ) (later : List (List ℕ)) (inbo
         sends = record { queue = h.sends.queue; acked = h.sends.acked; part = h.sends.part };
         answers =
             ap (λ (l : List (List ℕ)). past.handed ++ l)
-            (serves.answers past.first past.items h.serving ∙ ap (λ (n : ℕ). all_joined (Blocked n (added old.present.setup past.first past.items serves.item))) limit)
+            (serves.answers past.first past.items h.serving ∙ ap (λ (n : ℕ). all_joined (Blocked n (answers_added old.present.setup past.first past.items serves.item))) limit)
             ∙ ap (λ (l : List (List ℕ)). l ++ all_joined block) (sym (append-nil past.handed) ∙ ap (λ (l : List (List ℕ)). past.handed ++ l) (sym idle) ∙ h.answers)
             ∙ sym (map-append blocked_bytes (answers_to old.present.setup past.first [] past.items) block)
             ∙ ap all_joined (sym (answers-more old.present.setup past.first past.items serves.item))
@@ -98,7 +98,7 @@ module _ (old : ServingValue) (bytes : List ℕ) (later : List (List ℕ)) (inbo
         fit =
             subst (λ (n : ServerSetup). AllFit (Answers n past.first (past.items ++ serves.item ∷ []))) (sym serves.same_setup)
             (subst AllFit (sym (Answers-more old.present.setup past.first past.items serves.item))
-            (fit-both (Answers old.present.setup past.first past.items) (added old.present.setup past.first past.items serves.item) h.fit (serves.fits past.first past.items h.serving)));
+            (fit-both (Answers old.present.setup past.first past.items) (answers_added old.present.setup past.first past.items serves.item) h.fit (serves.fits past.first past.items h.serving)));
       }
 
   pub served_one : (after : Present) (s : Served) (port : PortValue) (next n : ℕ)
@@ -116,7 +116,7 @@ module _ (old : ServingValue) (bytes : List ℕ) (later : List (List ℕ)) (inbo
         own = serves.same_own;
         setup = serves.same_setup;
         count = count ∙ ap length (sym (ap (λ (p : PortValue). p.outbox) to));
-        past = λ past h. subst (λ (p : PortValue). IsAfter (served past bytes serves.item s.next) (serving_of p after)) (sym to) (past_one after s serves idle le past h);
+        past = λ past h. subst (λ (p : PortValue). IsAfter (history_after_item past bytes serves.item s.next) (serving_of p after)) (sym to) (past_one after s serves idle le past h);
       }
 
 pub offset_there : (p : PortValue) (bytes : List ℕ) (later : List (List ℕ)) → p.link.coming.inbox ≡ bytes ∷ later → IsPort p → IsOffset p.offset bytes

@@ -11,10 +11,10 @@ use Rattle.dap_end.specs.declared.fault.EndFault.{EndFault}
 use Rattle.dap_end.specs.declared.fault.TakeFault.{TakeFault}
 use Rattle.dap_end.specs.declared.fault.TakeFault.TheVariants as take_fault
 use Rattle.dap_end.specs.Ports.{EndValue}
-use Rattle.dap_end.specs.Writing.{Acknowledged, wants_ack, WroteAnswer, WroteMore}
+use Rattle.dap_end.specs.Writing.{AcknowledgesIf, wants_ack, WroteAnswer, WroteMore}
 use Rattle.dap_end.specs.Turns.{WritesReplies, DidAll, EndOf, WroteThen, WentOn, TookIn, TookThen, TakesPacket}
 use Rattle.dap_end.specs.Runs.{RunsBy}
-use Rattle.dap_end.specs.Headline.{Written, written_bytes}
+use Rattle.dap_end.specs.Headline.{WrittenPacket, written_bytes}
 use Rattle.dap_end.specs.Calls.{numbered_packets, EndEvent, Came, GoesOn, Repeats, EndStepped}
 use Rattle.dap_end.proofs.Packets.{ack_written}
 use Rattle.dap_end.proofs.Emitting.{wrote_nothing}
@@ -33,41 +33,41 @@ numbered_bytes k a (p ∷ packets) = ap (λ (l : List (List ℕ)). p ∷ l) (num
 behind : (out all packets : List (List ℕ)) (k a : ℕ) → all ≡ out ++ packets → all ≡ out ++ written_bytes (numbered_packets k a packets)
 behind out all packets k a e = e ∙ ap (λ (l : List (List ℕ)). out ++ l) (sym (numbered_bytes k a packets))
 
-bytes_append : (xs ys : List Written) → written_bytes (xs ++ ys) ≡ written_bytes xs ++ written_bytes ys
-bytes_append xs ys = map-append (λ (w : Written). w.bytes) xs ys
+bytes_append : (xs ys : List WrittenPacket) → written_bytes (xs ++ ys) ≡ written_bytes xs ++ written_bytes ys
+bytes_append xs ys = map-append (λ (w : WrittenPacket). w.bytes) xs ys
 
 module _ {P : Type 0} (Does : EndValue P → EndValue P → Type 0) (none : (v : EndValue P) → Does v v) (comes : LinkValue → List ℕ → Type 0) where
   -- an event of the end alone
-  abbrev pub StepsBy : EndValue P → EndEvent → EndValue P → List Written → Type 0
+  abbrev pub StepsBy : EndValue P → EndEvent → EndValue P → List WrittenPacket → Type 0
   StepsBy old event new ws = EndStepped (Unit {0}) Does comes old event new ws
 
   -- the end, and the packets so far
   abbrev pub So : Type 0
-  So = EndValue P × List Written
+  So = EndValue P × List WrittenPacket
 
   -- after the event its packets follow those before
-  abbrev pub SteppedBy : So → EndEvent → List Written → So → Type 0
+  abbrev pub SteppedBy : So → EndEvent → List WrittenPacket → So → Type 0
   SteppedBy old event more new = EndStepped (Unit {0}) Does comes old.0 event new.0 more × (new.1 ≡ old.1 ++ more)
 
   -- some events
-  abbrev pub RunsIn : (old new : EndValue P) → List Written → Type 0
+  abbrev pub RunsIn : (old new : EndValue P) → List WrittenPacket → Type 0
   RunsIn old new wrote = (events : List EndEvent) × RunsBy SteppedBy (old, []) events (new, wrote)
 
   -- with packets that were there before
-  pub shifted : (events : List EndEvent) (front : List Written) (old new : So) → RunsBy SteppedBy old events new → RunsBy SteppedBy (old.0, front ++ old.1) events (new.0, front ++ new.1)
+  pub shifted : (events : List EndEvent) (front : List WrittenPacket) (old new : So) → RunsBy SteppedBy old events new → RunsBy SteppedBy (old.0, front ++ old.1) events (new.0, front ++ new.1)
   shifted [] front old new r = ap (λ (x : So). (x.0, front ++ x.1)) r
   shifted (event ∷ events) front old new r =
-      ((r.0.0, front ++ r.0.1), r.1, (r.2.0, ap (λ (l : List Written). front ++ l) r.2.1 ∙ sym (append_assoc front old.1 r.1)), shifted events front r.0 new r.3)
+      ((r.0.0, front ++ r.0.1), r.1, (r.2.0, ap (λ (l : List WrittenPacket). front ++ l) r.2.1 ∙ sym (append_assoc front old.1 r.1)), shifted events front r.0 new r.3)
 
   pub no_call : (v : EndValue P) → RunsIn v v []
   no_call v = ([], refl)
 
-  pub more_calls : (old mid new : EndValue P) (ws more : List Written) → RunsIn old mid ws → RunsIn mid new more → RunsIn old new (ws ++ more)
+  pub more_calls : (old mid new : EndValue P) (ws more : List WrittenPacket) → RunsIn old mid ws → RunsIn mid new more → RunsIn old new (ws ++ more)
   more_calls old mid new ws more r q =
-      let behind = subst (λ (l : List Written). RunsBy SteppedBy (mid, l) q.0 (new, ws ++ more)) (append-nil ws) (shifted q.0 ws (mid, []) (new, more) q.1) in
+      let behind = subst (λ (l : List WrittenPacket). RunsBy SteppedBy (mid, l) q.0 (new, ws ++ more)) (append-nil ws) (shifted q.0 ws (mid, []) (new, more) q.1) in
       (r.0 ++ q.0, runs_then SteppedBy r.0 q.0 (old, []) (mid, ws) (new, ws ++ more) r.1 behind)
 
-  one_event : (old new : EndValue P) (event : EndEvent) (ws : List Written) → StepsBy old event new ws → RunsIn old new ws
+  one_event : (old new : EndValue P) (event : EndEvent) (ws : List WrittenPacket) → StepsBy old event new ws → RunsIn old new ws
   one_event old new event ws s = (event ∷ [], ((new, ws), ws, (s, refl), refl))
 
   -- something was done, and nothing written
@@ -99,19 +99,19 @@ module _ {P : Type 0} (Does : EndValue P → EndValue P → Type 0) (none : (v :
 
   -- a run whose packets stand after those that were there
   abbrev pub AreCalls : (old new : EndValue P) → (out all : List (List ℕ)) → Type 0
-  AreCalls old new out all = (wrote : List Written) × RunsIn old new wrote × (all ≡ out ++ written_bytes wrote)
+  AreCalls old new out all = (wrote : List WrittenPacket) × RunsIn old new wrote × (all ≡ out ++ written_bytes wrote)
 
   took_by : (old mid new : EndValue P) (bytes : List ℕ) (out all : List (List ℕ)) → StepsBy old (Came bytes) mid [] → AreCalls mid new out all → AreCalls old new out all
   took_by old mid new bytes out all s c = (c.0, (Came bytes ∷ c.1.0, ((mid, []), [], (s, refl), c.1.1)), c.2)
 
   -- with an acknowledgement or without
   answered_is : (old served new : EndValue P) (out all packets written : List (List ℕ)) (wants : Bool) → Does old served → new ≡ record served { port = new.port } → WroteMore served.port new.port written → all ≡ out ++ packets
-      → Acknowledged new.port wants written packets → AreCalls old new out all
+      → AcknowledgesIf new.port wants written packets → AreCalls old new out all
   answered_is old served new out all packets written false m rest w is ack =
       (_, one_event old new GoesOn _ (served, written, m, w, rest, refl), behind out all written _ _ (is ∙ ap (λ (l : List (List ℕ)). out ++ l) ack))
   answered_is old served new out all packets written true m rest w is ack =
       let first = numbered_packets (served.port.link.sent + 1) served.port.link.coming.received written in
-      let last : Written = record { bytes = ack.0; segment = None; acks = new.port.link.coming.received } in (
+      let last : WrittenPacket = record { bytes = ack.0; segment = None; acks = new.port.link.coming.received } in (
         first ++ last ∷ [],
         more_calls old new new first (last ∷ []) (one_event old new GoesOn first (served, written, m, w, rest, refl)) (ack_is new ack.0 ack.2),
         is ∙ ap (λ (l : List (List ℕ)). out ++ l) (ack.1 ∙ ap (λ (l : List (List ℕ)). l ++ ack.0 ∷ []) (sym (numbered_bytes _ _ written)) ∙ sym (bytes_append first (last ∷ []))),

@@ -9,7 +9,7 @@ use Rattle.nsp_link.specs.declared.fault.LinkFault.{LinkFault}
 use Rattle.nsp_link.specs.Cutting.{Piece}
 use Rattle.nsp_link.specs.Coming.{Coming, with_taken, with_all_taken, body_with}
 use Rattle.nsp_link.specs.Link.{LinkValue, piece_of, failed_link, with_acked}
-use Rattle.nsp_link.specs.Receiving.{Received, run, segment_number, taking_in, ends_link, Bounded, BoundedBytes, LetsGo, Receives}
+use Rattle.nsp_link.specs.Receiving.{ReceivesPacket, run, segment_number, taking_in, ends_link, ReceivesBounded, BoundedBytes, LetsGo, Receives}
 use Rattle.dap_msg.specs.Items.{IsOffset}
 use Rattle.dap_end.specs.Ports.{PortValue}
 use Rattle.dap_end.specs.Moved.{with_link}
@@ -54,7 +54,7 @@ stopped_by v false = same v
 forgotten_grown : (old mid : LinkValue) (count : ℕ) → Grown old mid → Grown old (with_acked mid count)
 forgotten_grown old mid count g = record { more = g.more; inbox = g.inbox; setup = g.setup }
 
-received : (old new : LinkValue) (p : Packet) (r : Result Got LinkFault) → Received old p r new → Grown old new
+received : (old new : LinkValue) (p : Packet) (r : Result Got LinkFault) → ReceivesPacket old p r new → Grown old new
 received old new (Segment s) (Ok got) (_, (_, _, acks)) =
     let mid = taking_in old (segment_number old s.number) (piece_of s) in
     along old new _ acks.2 (forgotten_grown old mid acks.0 (in_grown old (segment_number old s.number) (piece_of s)))
@@ -66,7 +66,7 @@ let_go old new (Segment s) (Ok got) (_, _, acks) = along old new _ acks.2 (forgo
 let_go old new (Segment s) (Err e) (_, left) = along old new _ left (stopped_by old (ends_link e))
 let_go old new (DataAck s) r h = absurd h
 
-bounded : (old new : LinkValue) (p : Packet) (r : Result Got LinkFault) → Bounded old p r new → Grown old new
+bounded : (old new : LinkValue) (p : Packet) (r : Result Got LinkFault) → ReceivesBounded old p r new → Grown old new
 bounded old new p r (inl h) = let_go old new p r h.1
 bounded old new p r (inr h) = received old new p r h.1
 

@@ -15,20 +15,20 @@ use Rattle.nsp_link.specs.Limits.{max_window}
 use Rattle.nsp_link.specs.Cutting.{Piece, cut}
 use Rattle.nsp_link.specs.Holding.{following}
 use Rattle.nsp_link.specs.Link.{LinkValue, IsBetween, IsTimely, Stands, Writes, held_after, with_inbox, AreShort}
-use Rattle.nsp_link.specs.Due.{IsDue, Delivered, taken_after}
+use Rattle.nsp_link.specs.Due.{IsDue, DeliversPacket, taken_after}
 use Rattle.nsp_link.proofs.ForCallers.{inserted, written_spells, stands_more, came_due}
 use Rattle.nsp_link.specs.Receiving.{Receives}
-use Rattle.dap_end.specs.Headline.{Written, AreWrittenOf}
+use Rattle.dap_end.specs.Headline.{WrittenPacket, AreWrittenOf}
 use Rattle.dap_end.specs.Calls.{numbered_packets}
 
 -- ---- What holds of one way.
 
 -- the segment was sent, and no more is acknowledged than was taken
-pub record IsTrue (sent received : ℕ) (w : Written) : Type 0 where
+pub record IsTrue (sent received : ℕ) (w : WrittenPacket) : Type 0 where
   pub segment : IfSome w.segment (λ k. k ≤ sent)
   pub acks : w.acks ≤ received
 
-abbrev pub AreTrue : ℕ → ℕ → List Written → Type 0
+abbrev pub AreTrue : ℕ → ℕ → List WrittenPacket → Type 0
 AreTrue sent received wire = AllByRecursion (IsTrue sent received) wire
 
 -- what is held early was sent
@@ -36,7 +36,7 @@ abbrev pub AreSent : ℕ → List (ℕ × Piece) → Type 0
 AreSent sent held = AllByRecursion (λ h. h.0 ≤ sent) held
 
 -- the one link sends these messages and wrote these packets, the other stands after a front of them and gave these away
-pub record IsWay (from to : LinkValue) (handed given : List (List ℕ)) (wire : List Written) : Type 0 where
+pub record IsWay (from to : LinkValue) (handed given : List (List ℕ)) (wire : List WrittenPacket) : Type 0 where
   pub positive : 0 < from.setup.seg_size
   pub there : from.setup.local ≡ to.setup.remote
   pub back : from.setup.remote ≡ to.setup.local
@@ -57,11 +57,11 @@ seg_more : (sent more : ℕ) (k : Option ℕ) → sent ≤ more → IfSome k (λ
 seg_more sent more None le h = tt
 seg_more sent more (Some k) le h = omega arith
 
-true_more : (sent more received now : ℕ) (wire : List Written) → sent ≤ more → received ≤ now → AreTrue sent received wire → AreTrue more now wire
+true_more : (sent more received now : ℕ) (wire : List WrittenPacket) → sent ≤ more → received ≤ now → AreTrue sent received wire → AreTrue more now wire
 true_more sent more received now [] le low h = tt
 true_more sent more received now (w ∷ wire) le low h = (record { segment = seg_more sent more w.segment le h.0.segment; acks = omega (arith, h.0.acks) }, true_more sent more received now wire le low h.1)
 
-true_all : (sent received : ℕ) (xs ys : List Written) → AreTrue sent received xs → AreTrue sent received ys → AreTrue sent received (xs ++ ys)
+true_all : (sent received : ℕ) (xs ys : List WrittenPacket) → AreTrue sent received xs → AreTrue sent received ys → AreTrue sent received (xs ++ ys)
 true_all sent received [] ys h k = k
 true_all sent received (x ∷ xs) ys h k = (h.0, true_all sent received xs ys h.1 k)
 
@@ -125,7 +125,7 @@ held_within v None sent p was held = held
 held_within v (Some k) sent p was held = held_by (k == v.coming.received + 1) (nat_lt v.coming.received k && nat_lt k (v.coming.received + 1 + v.setup.window)) (length (following k v.held)) sent k p v.held was held
 
 -- the taking link took it
-takes : (from to new : LinkValue) (handed given : List (List ℕ)) (wire : List Written) (k : Option ℕ) (a : ℕ) → IsWay from to handed given wire → IfSome k (λ n. n ≤ from.sent) → Delivered to new k a → Stands new from.setup.seg_size handed given
+takes : (from to new : LinkValue) (handed given : List (List ℕ)) (wire : List WrittenPacket) (k : Option ℕ) (a : ℕ) → IsWay from to handed given wire → IfSome k (λ n. n ≤ from.sent) → DeliversPacket to new k a → Stands new from.setup.seg_size handed given
     → IsWay from new handed given wire
 takes from to new handed given wire k a h was took stands =
     let d = took in
@@ -146,7 +146,7 @@ takes from to new handed given wire k a h was took stands =
     }
 
 -- the sending link took one of the other's, with an acknowledgement
-hears : (from new to : LinkValue) (handed given : List (List ℕ)) (wire : List Written) (k : Option ℕ) (a : ℕ) → IsWay from to handed given wire → a ≤ to.coming.received → Delivered from new k a → AreWrittenOf new handed wire
+hears : (from new to : LinkValue) (handed given : List (List ℕ)) (wire : List WrittenPacket) (k : Option ℕ) (a : ℕ) → IsWay from to handed given wire → a ≤ to.coming.received → DeliversPacket from new k a → AreWrittenOf new handed wire
     → IsWay new to handed given wire
 hears from new to handed given wire k a h le took packets =
     let d = took in
@@ -172,12 +172,12 @@ near_by sent n None le was = tt
 near_by sent n (Some k) le was = omega arith
 
 -- a packet of the wire is due
-record Due (from to : LinkValue) (handed given : List (List ℕ)) (w : Written) : Type 0 where
+record Due (from to : LinkValue) (handed given : List (List ℕ)) (w : WrittenPacket) : Type 0 where
   packet : Packet
   spelled : Spells packet w.bytes
   is : IsDue to from.setup.seg_size handed given packet w.segment w.acks
 
-due_at : (from to : LinkValue) (handed given : List (List ℕ)) (wire : List Written) (w : Written) → IsWay from to handed given wire → to.failed ≡ false → from.coming.received ≤ to.sent → IsTrue from.sent from.coming.received w
+due_at : (from to : LinkValue) (handed given : List (List ℕ)) (wire : List WrittenPacket) (w : WrittenPacket) → IsWay from to handed given wire → to.failed ≡ false → from.coming.received ≤ to.sent → IsTrue from.sent from.coming.received w
     → Writes from handed w.segment w.acks w.bytes → IsTimely to w.segment w.acks → Due from to handed given w
 due_at from to handed given wire w h works le true_w writes timely =
     let p = written_spells from.setup.local from.setup.remote (cut from.setup.seg_size handed) w.segment w.acks w.bytes writes in
@@ -201,27 +201,27 @@ due_at from to handed given wire w h works le true_w writes timely =
 
 -- ---- Both ways.
 
-pub record AreJoined (a b : LinkValue) (from_a from_b to_a to_b : List (List ℕ)) (wire_a wire_b : List Written) : Type 0 where
+pub record AreJoined (a b : LinkValue) (from_a from_b to_a to_b : List (List ℕ)) (wire_a wire_b : List WrittenPacket) : Type 0 where
   pub there : IsWay a b from_a to_b wire_a
   pub back : IsWay b a from_b to_a wire_b
   pub works_a : a.failed ≡ false
   pub works_b : b.failed ≡ false
 
-pub swapped : (a b : LinkValue) (from_a from_b to_a to_b : List (List ℕ)) (wire_a wire_b : List Written) → AreJoined a b from_a from_b to_a to_b wire_a wire_b → AreJoined b a from_b from_a to_b to_a wire_b wire_a
+pub swapped : (a b : LinkValue) (from_a from_b to_a to_b : List (List ℕ)) (wire_a wire_b : List WrittenPacket) → AreJoined a b from_a from_b to_a to_b wire_a wire_b → AreJoined b a from_b from_a to_b to_a wire_b wire_a
 swapped a b from_a from_b to_a to_b wire_a wire_b j = record { there = j.back; back = j.there; works_a = j.works_b; works_b = j.works_a }
 
-true_at : (sent received : ℕ) (wire : List Written) (j : ℕ) (w : Written) → AreTrue sent received wire → slice_get wire j ≡ Some w → IsTrue sent received w
+true_at : (sent received : ℕ) (wire : List WrittenPacket) (j : ℕ) (w : WrittenPacket) → AreTrue sent received wire → slice_get wire j ≡ Some w → IsTrue sent received w
 true_at sent received [] j w h e = let no : ⊥ = cc in absurd no
 true_at sent received (x ∷ wire) zero w h e = let same : x ≡ w = cc in subst (IsTrue sent received) same h.0
 true_at sent received (x ∷ wire) (suc j) w h e = true_at sent received wire j w h.1 e
 
-written_at : (v : LinkValue) (handed : List (List ℕ)) (wire : List Written) (j : ℕ) (w : Written) → AreWrittenOf v handed wire → slice_get wire j ≡ Some w → Writes v handed w.segment w.acks w.bytes
+written_at : (v : LinkValue) (handed : List (List ℕ)) (wire : List WrittenPacket) (j : ℕ) (w : WrittenPacket) → AreWrittenOf v handed wire → slice_get wire j ≡ Some w → Writes v handed w.segment w.acks w.bytes
 written_at v handed [] j w h e = let no : ⊥ = cc in absurd no
-written_at v handed (x ∷ wire) zero w h e = let same : x ≡ w = cc in subst (λ (y : Written). Writes v handed y.segment y.acks y.bytes) same h.0
+written_at v handed (x ∷ wire) zero w h e = let same : x ≡ w = cc in subst (λ (y : WrittenPacket). Writes v handed y.segment y.acks y.bytes) same h.0
 written_at v handed (x ∷ wire) (suc j) w h e = written_at v handed wire j w h.1 e
 
 -- the second end takes a packet of the first in
-pub comes : (a b new : LinkValue) (from_a from_b to_a to_b : List (List ℕ)) (wire_a wire_b : List Written) (j : ℕ) (w : Written) (r : Result Got LinkFault) → AreJoined a b from_a from_b to_a to_b wire_a wire_b → slice_get wire_a j ≡ Some w
+pub comes : (a b new : LinkValue) (from_a from_b to_a to_b : List (List ℕ)) (wire_a wire_b : List WrittenPacket) (j : ℕ) (w : WrittenPacket) (r : Result Got LinkFault) → AreJoined a b from_a from_b to_a to_b wire_a wire_b → slice_get wire_a j ≡ Some w
     → IsTimely b w.segment w.acks → Receives b new w.bytes r → AreWrittenOf new from_b wire_b → AreJoined a new from_a from_b to_a to_b wire_a wire_b
 comes a b new from_a from_b to_a to_b wire_a wire_b j w (Ok got) join at timely h packets =
     let true_w = true_at a.sent a.coming.received wire_a j w join.there.counts at in
@@ -249,7 +249,7 @@ pub record LinkMoved (v : LinkValue) (inbox : List (List ℕ)) (queue : List Pie
   pub more : v.sent ≤ sent
   pub within : sent ≤ v.acked + v.setup.window
 
-pub works : (a b : LinkValue) (from_a from_b to_a to_b more given : List (List ℕ)) (wire_a wire_b ws : List Written) (inbox : List (List ℕ)) (queue : List Piece) (sent : ℕ) → AreJoined a b from_a from_b to_a to_b wire_a wire_b → LinkMoved a inbox queue sent
+pub works : (a b : LinkValue) (from_a from_b to_a to_b more given : List (List ℕ)) (wire_a wire_b ws : List WrittenPacket) (inbox : List (List ℕ)) (queue : List Piece) (sent : ℕ) → AreJoined a b from_a from_b to_a to_b wire_a wire_b → LinkMoved a inbox queue sent
     → AreShort a more → Stands (moved a inbox queue sent) b.setup.seg_size from_b given → AreWrittenOf (moved a inbox queue sent) (from_a ++ more) (wire_a ++ ws) → AreTrue sent a.coming.received ws
     → AreJoined (moved a inbox queue sent) b (from_a ++ more) from_b given to_b (wire_a ++ ws) wire_b
 works a b from_a from_b to_a to_b more given wire_a wire_b ws inbox queue sent j m short stands packets counts =

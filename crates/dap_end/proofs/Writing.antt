@@ -9,7 +9,7 @@ use Rattle.nsp_link.specs.Link.{LinkValue, Sends, may_send}
 use Rattle.nsp_link.specs.Sending.{ack_packet_of}
 use Rattle.nsp_link.proofs.ForCallers.{may_send_by, written_one}
 use Rattle.dap_end.specs.Ports.{PortValue}
-use Rattle.dap_end.specs.Writing.{Acknowledged, AreSegments, WroteMore, WroteAnswer, wants_ack}
+use Rattle.dap_end.specs.Writing.{AcknowledgesIf, AreSegments, WroteMore, WroteAnswer, wants_ack}
 use Rattle.dap_end.specs.Moved.{sent_more}
 
 -- what counts as sent is there, and within the window
@@ -36,7 +36,7 @@ segments_one v handed k (x ∷ one) (y ∷ two) sends e a b =
     ap (λ (z : List ℕ). z ∷ one) (written_one v.setup.local v.setup.remote (cut v.setup.seg_size handed) (Some k) v.coming.received x y (a.0 handed sends) (b.0 handed sends))
     ∙ ap (λ (l : List (List ℕ)). y ∷ l) (segments_one v handed (k + 1) one two sends (omega arith) a.1 b.1)
 
-acks_same : (v w : PortValue) (wants : Bool) (written one two : List (List ℕ)) → v ≡ w → Acknowledged v wants written one → Acknowledged w wants written two → one ≡ two
+acks_same : (v w : PortValue) (wants : Bool) (written one two : List (List ℕ)) → v ≡ w → AcknowledgesIf v wants written one → AcknowledgesIf w wants written two → one ≡ two
 acks_same v w false written one two same a b = a ∙ sym b
 acks_same v w true written one two same a b =
     let bytes : a.0 ≡ b.0 = a.2.1 ∙ ap (λ (p : PortValue). spelling (ack_packet_of p.link)) same ∙ sym b.2.1 in
@@ -54,7 +54,7 @@ wrote_one p one two handed xs ys sends a b fa fb =
 pub answer_one : (p one two : PortValue) (handed : List (List ℕ)) (got : Got) (xs ys : List (List ℕ)) → Sends p.link handed → WroteAnswer p one got xs → WroteAnswer p two got ys → (one ≡ two) × (xs ≡ ys)
 answer_one p one two handed got xs ys sends a b =
     let both = wrote_one p one two handed a.0 b.0 sends a.1 b.1 a.2 b.2 in
-    let there = subst (λ (l : List (List ℕ)). Acknowledged two (wants_ack got (length l)) l ys) (sym both.1) b.3 in
+    let there = subst (λ (l : List (List ℕ)). AcknowledgesIf two (wants_ack got (length l)) l ys) (sym both.1) b.3 in
     (both.0, acks_same one two (wants_ack got (length a.0)) a.0 xs ys both.0 a.3 there)
 
 -- ---- One packet.

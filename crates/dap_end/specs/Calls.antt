@@ -17,16 +17,16 @@ use Rattle.dap_end.specs.Asking.{AskedOne}
 use Rattle.dap_end.specs.Hearing.{ReadOn}
 use Rattle.dap_end.specs.Writing.{Extends, WroteMore}
 use Rattle.dap_end.specs.Runs.{RunsBy}
-use Rattle.dap_end.specs.Headline.{Arrival, Written}
+use Rattle.dap_end.specs.Headline.{Arrival, WrittenPacket}
 use Rattle.dap_end.specs.Joined.{Pair, IsBrought}
 
 -- these packets, of the segments from this number on
-abbrev pub numbered_packets : (k acks : ℕ) → List (List ℕ) → List Written
+abbrev pub numbered_packets : (k acks : ℕ) → List (List ℕ) → List WrittenPacket
 numbered_packets k acks [] = []
 numbered_packets k acks (bytes ∷ packets) = record { bytes = bytes; segment = Some k; acks = acks } ∷ numbered_packets (k + 1) acks packets
 
 -- the packet has the segment of this number, or none, and acknowledges all segments that the link has received
-abbrev pub WroteOne : LinkValue → Option ℕ → Written → Type 0
+abbrev pub WroteOne : LinkValue → Option ℕ → WrittenPacket → Type 0
 WroteOne v k w = (w.segment ≡ k) × (w.acks ≡ v.coming.received) × WritesSent v k w.bytes
 
 -- ---- Calls.
@@ -39,7 +39,7 @@ pub data EndEvent : Type 0 where
   Repeats : Option ℕ → EndEvent
 
 -- what each event does to an end, and the packets that it writes
-abbrev pub EndStepped : {P : Type 0} → (quiet : Type 0) → (does : EndValue P → EndValue P → Type 0) → (comes : LinkValue → List ℕ → Type 0) → (old : EndValue P) → EndEvent → (new : EndValue P) → List Written → Type 0
+abbrev pub EndStepped : {P : Type 0} → (quiet : Type 0) → (does : EndValue P → EndValue P → Type 0) → (comes : LinkValue → List ℕ → Type 0) → (old : EndValue P) → EndEvent → (new : EndValue P) → List WrittenPacket → Type 0
 EndStepped quiet does comes old (Came bytes) new wrote =
     (result : Result Got LinkFault) × (link : LinkValue) × Receives old.port.link link bytes result
     × (new ≡ record old { port = with_link old.port link }) × (wrote ≡ []) × quiet × comes old.port.link bytes
@@ -48,7 +48,7 @@ EndStepped {P} quiet does comes old GoesOn new wrote =
     × (wrote ≡ numbered_packets (mid.port.link.sent + 1) mid.port.link.coming.received packets)
 EndStepped quiet does comes old (Repeats k) new wrote =
     let v = old.port.link in
-    (w : Written) × IfSome k (λ i. i < v.sent - v.acked) × WroteOne v (option_map (λ i. v.acked + 1 + i) k) w
+    (w : WrittenPacket) × IfSome k (λ i. i < v.sent - v.acked) × WroteOne v (option_map (λ i. v.acked + 1 + i) k) w
     × (new ≡ old) × (wrote ≡ w ∷ []) × quiet
 
 -- these bytes came to this link
@@ -65,19 +65,19 @@ pub data WorkedOn : ServingValue → ServingValue → Type 0 where
   outbox_posted : {old new : ServingValue} (mid : ServingValue) (n : ℕ) → HandsOver old mid n → WorkedOn mid new → WorkedOn old new
 
 -- an event, after which the packets of the event follow those before
-abbrev pub Stepped : (comes : LinkValue → List ℕ → Type 0) → ServingValue × List Written → EndEvent → List Written → ServingValue × List Written → Type 0
-Stepped comes old event more new = EndStepped (Unit {0}) WorkedOn comes old.0 event new.0 more × (new.1 ≡ old.1 ++ more)
+abbrev pub ServingStepped : (comes : LinkValue → List ℕ → Type 0) → ServingValue × List WrittenPacket → EndEvent → List WrittenPacket → ServingValue × List WrittenPacket → Type 0
+ServingStepped comes old event more new = EndStepped (Unit {0}) WorkedOn comes old.0 event new.0 more × (new.1 ≡ old.1 ++ more)
 
 -- events, one after another
-abbrev pub EventRuns : (comes : LinkValue → List ℕ → Type 0) → ServingValue → List EndEvent → ServingValue → List Written → Type 0
-EventRuns comes old events new wrote = RunsBy (Stepped comes) (old, []) events (new, wrote)
+abbrev pub EventRuns : (comes : LinkValue → List ℕ → Type 0) → ServingValue → List EndEvent → ServingValue → List WrittenPacket → Type 0
+EventRuns comes old events new wrote = RunsBy (ServingStepped comes) (old, []) events (new, wrote)
 
 -- some events, one after another
-abbrev pub RunsAs : (comes : LinkValue → List ℕ → Type 0) → (old new : ServingValue) → List Written → Type 0
+abbrev pub RunsAs : (comes : LinkValue → List ℕ → Type 0) → (old new : ServingValue) → List WrittenPacket → Type 0
 RunsAs comes old new wrote = (events : List EndEvent) × EventRuns comes old events new wrote
 
 -- Calls of a server. What comes is one of these packets.
-abbrev pub ServerRuns : List Arrival → (old new : ServingValue) → List Written → Type 0
+abbrev pub ServerRuns : List Arrival → (old new : ServingValue) → List WrittenPacket → Type 0
 ServerRuns came old new wrote = RunsAs (IsOneOf came) old new wrote
 
 -- ---- The client.
@@ -92,13 +92,13 @@ abbrev pub HeardMore : (before after : List Report) → AskingValue → AskingVa
 HeardMore before after old new = (heard : AskingValue) × Extends before after (ReadOn old heard) × ((new ≡ heard) ⊎ ((n : ℕ) × HandsOver heard new n))
 
 -- an event, after which its reports and packets follow those before
-abbrev pub AskingStepped : (comes : LinkValue → List ℕ → Type 0) → AskingValue × List Report × List Written → AskingEvent → List Written → AskingValue × List Report × List Written → Type 0
+abbrev pub AskingStepped : (comes : LinkValue → List ℕ → Type 0) → AskingValue × List Report × List WrittenPacket → AskingEvent → List WrittenPacket → AskingValue × List Report × List WrittenPacket → Type 0
 AskingStepped comes old (Asks request) more new = (n : ℕ) × AskedOne request old.0 new.0 n × (more ≡ []) × (new.1 ≡ old.1) × (new.2 ≡ old.2)
 AskingStepped comes old (By event) more new =
     EndStepped (new.1 ≡ old.1) (HeardMore old.1 new.1) comes old.0 event new.0 more × (new.2 ≡ old.2 ++ more)
 
 -- events, one after another
-abbrev pub AskingEventRuns : (comes : LinkValue → List ℕ → Type 0) → AskingValue → List AskingEvent → AskingValue → List Report → List Written → Type 0
+abbrev pub AskingEventRuns : (comes : LinkValue → List ℕ → Type 0) → AskingValue → List AskingEvent → AskingValue → List Report → List WrittenPacket → Type 0
 AskingEventRuns comes old events new reports wrote = RunsBy (AskingStepped comes) (old, [], []) events (new, reports, wrote)
 
 -- the requests that were asked
@@ -108,12 +108,12 @@ requests_in (Asks request ∷ events) = request ∷ requests_in events
 requests_in (_ ∷ events) = requests_in events
 
 -- some events in which these requests were asked, one after another
-abbrev pub AskingRunsAs : (comes : LinkValue → List ℕ → Type 0) → List Request → (old new : AskingValue) → List Report → List Written → Type 0
+abbrev pub AskingRunsAs : (comes : LinkValue → List ℕ → Type 0) → List Request → (old new : AskingValue) → List Report → List WrittenPacket → Type 0
 AskingRunsAs comes requests old new reports wrote =
     (events : List AskingEvent) × (requests ≡ requests_in events) × AskingEventRuns comes old events new reports wrote
 
 -- Calls of a client in which these requests were asked. What comes is one of these packets.
-abbrev pub AskingRuns : List Arrival → List Request → (old new : AskingValue) → List Report → List Written → Type 0
+abbrev pub AskingRuns : List Arrival → List Request → (old new : AskingValue) → List Report → List WrittenPacket → Type 0
 AskingRuns came requests old new reports wrote = AskingRunsAs (IsOneOf came) requests old new reports wrote
 
 -- ---- Both.
@@ -124,12 +124,12 @@ pub data PairEvent : Type 0 where
   AtB : EndEvent → PairEvent
 
 -- one end is called, and writes this
-abbrev pub PairStepped : Pair → PairEvent → List Written → Pair → Type 0
+abbrev pub PairStepped : Pair → PairEvent → List WrittenPacket → Pair → Type 0
 PairStepped old (AtA event) more new =
     AskingStepped (IsBrought old.from_b) (old.a, old.reports, old.from_a) event more (new.a, new.reports, new.from_a)
     × (new ≡ record old { a = new.a; from_a = new.from_a; requests = old.requests ++ requests_in (event ∷ []); reports = new.reports })
 PairStepped old (AtB event) more new =
-    Stepped (IsBrought old.from_a) (old.b, old.from_b) event more (new.b, new.from_b) × (new ≡ record old { b = new.b; from_b = new.from_b })
+    ServingStepped (IsBrought old.from_a) (old.b, old.from_b) event more (new.b, new.from_b) × (new ≡ record old { b = new.b; from_b = new.from_b })
 
 -- calls of both, one after another
 abbrev pub PairRuns : (old new : Pair) → Type 0

@@ -4,7 +4,7 @@ use Rattle.dap_msg.specs.declared.items.Item.{Item}
 use Rattle.dap_msg.specs.Blocked.{NspMessage, Blocked}
 use Rattle.dap_accessed.specs.declared.setup.ServerSetup.{ServerSetup}
 use Rattle.dap_accessed.specs.Standing.{Files}
-use Rattle.dap_accessed.specs.Groups.{added, limit_for}
+use Rattle.dap_accessed.specs.Groups.{answers_added, limit_for}
 use Rattle.dap_accessed.specs.Present as accessed
 use Rattle.dap_accessing.specs.Present as accessing
 use Rattle.dap_accessing.specs.Request.{Request}
@@ -31,7 +31,7 @@ nothing_yet first = record { first = first; given = []; items = []; handed = [] 
 abbrev pub answers_to : (own : ServerSetup) → Files → (before items : List Item) → List NspMessage
 answers_to own first before [] = []
 answers_to own first before (item ∷ items) =
-    Blocked (limit_for own first before) (added own first before item) ++ answers_to own first (before ++ item ∷ []) items
+    Blocked (limit_for own first before) (answers_added own first before item) ++ answers_to own first (before ++ item ∷ []) items
 
 -- ---- The client.
 

@@ -13,17 +13,17 @@ abbrev pub Arrival : Type 0
 Arrival = LinkValue × List ℕ
 
 -- a packet that was written, with the number of its segment, if it has one, and how many segments it acknowledges
-pub record Written : Type 0 where
+pub record WrittenPacket : Type 0 where
   pub bytes : List ℕ
   pub segment : Option ℕ
   pub acks : ℕ
 
 -- the bytes alone
-abbrev pub written_bytes : List Written → List (List ℕ)
+abbrev pub written_bytes : List WrittenPacket → List (List ℕ)
 written_bytes wrote = map (λ w. w.bytes) wrote
 
 -- each packet has its segment of what was passed to the link, and its acknowledgement
-abbrev pub AreWrittenOf : LinkValue → (handed : List (List ℕ)) → List Written → Type 0
+abbrev pub AreWrittenOf : LinkValue → (handed : List (List ℕ)) → List WrittenPacket → Type 0
 AreWrittenOf v handed wrote = AllByRecursion (λ w. Writes v handed w.segment w.acks w.bytes) wrote
 
 -- ---- A peer.

@@ -17,8 +17,8 @@ abbrev pub Still : {P V : Type 0} → (Fits : P → V → Type 0) → (old new :
 Still {P} Fits old new = (history : P) → Fits history old → Fits history new
 
 -- a server's, with one more item
-abbrev pub served : ServerHistory → (bytes : List ℕ) → Item → (next : ℕ) → ServerHistory
-served history bytes item next = record history { given = processed_after history.given bytes next; items = history.items ++ item ∷ [] }
+abbrev pub history_after_item : ServerHistory → (bytes : List ℕ) → Item → (next : ℕ) → ServerHistory
+history_after_item history bytes item next = record history { given = processed_after history.given bytes next; items = history.items ++ item ∷ [] }
 
 -- a client's, with one more answer
 abbrev pub with_answer_read : ClientHistory → (bytes : List ℕ) → Item → (next : ℕ) → ClientHistory

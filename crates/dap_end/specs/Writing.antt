@@ -30,15 +30,15 @@ wants_ack AckOnly written = false
 wants_ack got written = written == 0
 
 -- if it is wanted, one acknowledgement of all that was taken follows what was there
-abbrev pub Acknowledged : PortValue → (wanted : Bool) → (out all : List (List ℕ)) → Type 0
-Acknowledged p true out all = (bytes : List ℕ) × (all ≡ out ++ bytes ∷ []) × IsSpelling (ack_packet_of p.link) bytes
-Acknowledged p false out all = all ≡ out
+abbrev pub AcknowledgesIf : PortValue → (wanted : Bool) → (out all : List (List ℕ)) → Type 0
+AcknowledgesIf p true out all = (bytes : List ℕ) × (all ≡ out ++ bytes ∷ []) × IsSpelling (ack_packet_of p.link) bytes
+AcknowledgesIf p false out all = all ≡ out
 
 -- all segments that the window allows, and if there is none and a segment came, an acknowledgement
 abbrev pub WroteAnswer : (old new : PortValue) → Got → (packets : List (List ℕ)) → Type 0
 WroteAnswer old new got packets =
     (written : List (List ℕ)) × WroteMore old new written × (may_send new.link ≡ false)
-    × Acknowledged new (wants_ack got (length written)) written packets
+    × AcknowledgesIf new (wants_ack got (length written)) written packets
 
 -- some of these, and one is left
 abbrev pub WrotePart : (old new : PortValue) → Got → (packets : List (List ℕ)) → Type 0

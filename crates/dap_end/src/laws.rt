@@ -44,7 +44,7 @@ ghost use Rattle.dap_end.specs.Each.{with_told};
 ghost use Rattle.dap_end.specs.Agreement.{IsBufsiz};
 ghost use Rattle.dap_accessed.specs.Sound.{AreFiles};
 ghost use Rattle.dap_end.specs.Done.{AskingValue, ClientHistory, nothing_asked};
-ghost use Rattle.dap_end.specs.Headline.{AreWrittenOf, Arrival, IsFromPeer, Written, written_bytes};
+ghost use Rattle.dap_end.specs.Headline.{AreWrittenOf, Arrival, IsFromPeer, WrittenPacket, written_bytes};
 ghost use Rattle.dap_end.specs.Joined.{IsBrought, Pair};
 ghost use Rattle.dap_end.specs.Calls.{AskingRuns, PairRuns, ServerRuns};
 
@@ -159,7 +159,7 @@ pub fn taken_records_count()
 pub fn calls_are_runs()
     ensures none { (v : ServingValue) → ServerRuns [] v v [] }
     ensures more { (came later : List Arrival) (old mid new : ServingValue)
-        (ws more : List Written) → ServerRuns came old mid ws → ServerRuns later mid new more
+        (ws more : List WrittenPacket) → ServerRuns came old mid ws → ServerRuns later mid new more
         → ServerRuns (came ++ later) old new (ws ++ more) }
     ensures receive { (old new : ServingValue) (bytes : List ℕ) (r : Result TheGot TheFault)
         → TookIn old new bytes r → ServerRuns ((old.port.link, bytes) ∷ []) old new [] }
@@ -191,11 +191,11 @@ pub fn calls_are_runs()
         } ∷ []) }
     ensures go_on { (most : ℕ) (old new : ServingValue) (out all : List (List ℕ))
         (r : Result (Unit {0}) TheEndFault) → WentOn (serves most) old new out all r
-        → (wrote : List Written) × ServerRuns [] old new wrote
+        → (wrote : List WrittenPacket) × ServerRuns [] old new wrote
         × (all ≡ out ++ written_bytes wrote) }
     ensures take { (most : ℕ) (old new : ServingValue) (bytes : List ℕ) (out all : List (List ℕ))
         (r : Result TheGot TheTakeFault) → TakesPacket (serves most) old new bytes out all r
-        → (wrote : List Written) × ServerRuns ((old.port.link, bytes) ∷ []) old new wrote
+        → (wrote : List WrittenPacket) × ServerRuns ((old.port.link, bytes) ∷ []) old new wrote
         × (all ≡ out ++ written_bytes wrote) }
 {}
 
@@ -204,7 +204,7 @@ pub fn calls_are_runs()
 pub fn asking_calls_are_runs()
     ensures none { (v : AskingValue) → AskingRuns [] [] v v [] [] }
     ensures more { (came later : List Arrival) (requests others : List TheRequest)
-        (old mid new : AskingValue) (rs ss : List TheReport) (ws more : List Written)
+        (old mid new : AskingValue) (rs ss : List TheReport) (ws more : List WrittenPacket)
         → AskingRuns came requests old mid rs ws → AskingRuns later others mid new ss more
         → AskingRuns (came ++ later) (requests ++ others) old new (rs ++ ss) (ws ++ more) }
     ensures ask { (old new : AskingValue) (request : TheRequest) (n : ℕ)
@@ -243,14 +243,14 @@ pub fn asking_calls_are_runs()
         (before after : List TheReport) (r : Result (Unit {0}) TheEndFault)
         → IfErr r (λ f. f ≢ end_fault.Read read_fault.Unexpected)
         → WentOn (hears before after) old new out all r
-        → (reports : List TheReport) × (wrote : List Written)
+        → (reports : List TheReport) × (wrote : List WrittenPacket)
         × AskingRuns [] [] old new reports wrote
         × (all ≡ out ++ written_bytes wrote) × (after ≡ before ++ reports) }
     ensures take { (old new : AskingValue) (bytes : List ℕ) (out all : List (List ℕ))
         (before after : List TheReport) (r : Result TheGot TheTakeFault)
         → IfErr r (λ f. why f ≢ end_fault.Read read_fault.Unexpected)
         → TakesPacket (hears before after) old new bytes out all r
-        → (reports : List TheReport) × (wrote : List Written)
+        → (reports : List TheReport) × (wrote : List WrittenPacket)
         × AskingRuns ((old.port.link, bytes) ∷ []) [] old new reports wrote
         × (all ≡ out ++ written_bytes wrote) × (after ≡ before ++ reports) }
 {}
@@ -260,7 +260,7 @@ pub fn asking_calls_are_runs()
 /// each packet that it wrote carries its segment of that.
 pub fn every_run_is_served()
     ensures { (came : List Arrival) (first : Files) (old new : ServingValue)
-        (wrote : List Written) → IsAfter (nothing_yet first) old → ServerRuns came old new wrote
+        (wrote : List WrittenPacket) → IsAfter (nothing_yet first) old → ServerRuns came old new wrote
         → (history : ServerHistory) × IsAfter history new × (history.first ≡ first)
         × (new.present.files ≡ After new.present.setup history.first history.items)
         × AreWrittenOf new.port.link history.handed wrote }
@@ -270,7 +270,7 @@ pub fn every_run_is_served()
 /// what the end served is a prefix of the items in them, each once and in order.
 pub fn a_peer_is_served_in_order()
     ensures { (setup : TheSetup) (first : Files) (size : ℕ) (messages : List (List ℕ))
-        (came : List Arrival) (old new : ServingValue) (wrote : List Written)
+        (came : List Arrival) (old new : ServingValue) (wrote : List WrittenPacket)
         → AllByRecursion (λ c. IsFromPeer size messages c.0 c.1) came
         → old.port ≡ new_port setup → IsAfter (nothing_yet first) old
         → ServerRuns came old new wrote
@@ -376,7 +376,7 @@ pub fn posting_is_determined()
 /// that.
 pub fn every_run_is_told()
     ensures { (came : List Arrival) (requests : List TheRequest) (old new : AskingValue)
-        (reports : List TheReport) (wrote : List Written)
+        (reports : List TheReport) (wrote : List WrittenPacket)
         → HasAsked nothing_asked old → AskingRuns came requests old new reports wrote
         → (history : ClientHistory) × HasAsked history new × (history.requests ≡ requests)
         × (reports ≡ Told history.requests history.answers)
@@ -388,7 +388,7 @@ pub fn every_run_is_told()
 pub fn a_peer_is_heard_in_order()
     ensures { (setup : TheSetup) (size : ℕ) (messages : List (List ℕ))
         (came : List Arrival) (requests : List TheRequest) (old new : AskingValue)
-        (reports : List TheReport) (wrote : List Written)
+        (reports : List TheReport) (wrote : List WrittenPacket)
         → AllByRecursion (λ c. IsFromPeer size messages c.0 c.1) came
         → old.port ≡ new_port setup → HasAsked nothing_asked old
         → AskingRuns came requests old new reports wrote
@@ -427,7 +427,7 @@ pub fn packets_are_determined()
 /// or where the end would have taken more than 2^40 segments, and for nothing else; and then it changes nothing.
 pub fn peers_are_taken_in()
     ensures serving { (setup : TheSetup) (first : Files) (size : ℕ) (messages : List (List ℕ))
-        (came : List Arrival) (old mid new : ServingValue) (wrote : List Written)
+        (came : List Arrival) (old mid new : ServingValue) (wrote : List WrittenPacket)
         (bytes : List ℕ) (f : TheFault)
         → AllByRecursion (λ c. IsFromPeer size messages c.0 c.1) came
         → old.port ≡ new_port setup → IsAfter (nothing_yet first) old
@@ -436,7 +436,7 @@ pub fn peers_are_taken_in()
         → ((f ≡ fault.NoMemory) ⊎ (f ≡ fault.Exhausted)) × (new ≡ mid) }
     ensures asking { (setup : TheSetup) (size : ℕ) (messages : List (List ℕ))
         (came : List Arrival) (requests : List TheRequest) (old mid new : AskingValue)
-        (reports : List TheReport) (wrote : List Written) (bytes : List ℕ) (f : TheFault)
+        (reports : List TheReport) (wrote : List WrittenPacket) (bytes : List ℕ) (f : TheFault)
         → AllByRecursion (λ c. IsFromPeer size messages c.0 c.1) came
         → old.port ≡ new_port setup → HasAsked nothing_asked old
         → AskingRuns came requests old mid reports wrote
@@ -448,7 +448,7 @@ pub fn peers_are_taken_in()
 /// not more than 2,047 numbers old, is a run of both; and two are one where the second begins as the first ends.
 pub fn runs_of_two_ends()
     ensures asking { (old : Pair) (a : AskingValue) (came : List Arrival)
-        (requests : List TheRequest) (reports : List TheReport) (wrote : List Written)
+        (requests : List TheRequest) (reports : List TheReport) (wrote : List WrittenPacket)
         → AllByRecursion (λ c. IsBrought old.from_b c.0 c.1) came
         → AskingRuns came requests old.a a reports wrote
         → PairRuns old (record old {
@@ -458,7 +458,7 @@ pub fn runs_of_two_ends()
           reports = old.reports ++ reports;
         }) }
     ensures serving { (old : Pair) (b : ServingValue) (came : List Arrival)
-        (wrote : List Written) → AllByRecursion (λ c. IsBrought old.from_a c.0 c.1) came
+        (wrote : List WrittenPacket) → AllByRecursion (λ c. IsBrought old.from_a c.0 c.1) came
         → ServerRuns came old.b b wrote
         → PairRuns old (record old { b = b; from_b = old.from_b ++ wrote }) }
     ensures more { (old mid new : Pair) → PairRuns old mid → PairRuns mid new → PairRuns old new }

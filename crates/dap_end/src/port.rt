@@ -8,7 +8,7 @@ ghost use Rattle.nsp_link.specs.declared.fault.LinkFault.TheVariants.{Failed, Me
 ghost use Rattle.std.specs.Prelude.{◌==◌};
 ghost use Rattle.dap_fields.specs.Spelling.{AreBytes};
 ghost use Rattle.dap_msg.specs.Blocked.{bodies};
-ghost use Rattle.dap_end.specs.Writing.{Acknowledged, WroteMore, Extends, WroteAnswer, WrotePart, wants_ack};
+ghost use Rattle.dap_end.specs.Writing.{AcknowledgesIf, WroteMore, Extends, WroteAnswer, WrotePart, wants_ack};
 ghost use Rattle.dap_end.specs.Moved.{sent_more};
 ghost use Rattle.nsp_link.specs.Receiving.{Receives};
 ghost use Rattle.dap_end.specs.Ports.{new_port, gone_on, HasCome};
@@ -178,7 +178,7 @@ impl Port {
     /// Writes one acknowledgement, where a segment came and none was written.
     fn acknowledge(&self, got: Got, written: usize, out: &mut Vec<Vec<u8>>) -> Result<(), LinkFault>
         requires { self.now.link.failed ≡ false }
-        ensures ok { OnOk result (Acknowledged self.now (wants_ack got written)
+        ensures ok { OnOk result (AcknowledgesIf self.now (wants_ack got written)
             (bodies out.old.items) (bodies out.new.items)) }
         ensures wants { OnErr result (wants_ack got written ≡ true) }
         ensures memory { IfErr result (λ f. f ≡ NoMemory) }

@@ -8,7 +8,7 @@ use Rattle.indexmap.specs.IndexSet.{insert_key}
 use Rattle.dap_listing.specs.Captured.{Spell}
 use Rattle.dap_listing.specs.declared.lines.Direction.{Direction}
 use Rattle.dap_listing.specs.declared.captured.CapturedSegment.{CapturedSegment}
-use Rattle.dap_follow.specs.Streams.{Captured, Sequenced, at, came_as, came_in, is_same, no_more, streams}
+use Rattle.dap_follow.specs.Streams.{CapturedItem, Sequenced, at, came_as, came_in, is_same, no_more, streams}
 use Rattle.dap_follow.specs.Inner.InOrder.{RisesCounted, counted_value}
 use Rattle.dap_follow.specs.Inner.Keeping.{stream_of, IsAdded, IsCounted, IsIndexed, KeepsSegments, KeepsAll, KeepsEach, KeepsStream}
 use Rattle.dap_follow.specs.Segments.{NumberedSegment, HasStreamAt, numbered_segment, captured_segment, highest_in, sequenced_at}
@@ -44,10 +44,10 @@ good_more : (n m : ℕ) (cs : List Counted) → n ≤ m → AllByRecursion (IsCo
 good_more n m [] less good = tt
 good_more n m (c ∷ cs) less good = ((good.0.0, omega (arith, good.0.1, less), good.0.2), good_more n m cs less good.1)
 
-one_longer : (packets : List Captured) (x : Captured) → length (packets ++ x ∷ []) ≡ length packets + 1
+one_longer : (packets : List CapturedItem) (x : CapturedItem) → length (packets ++ x ∷ []) ≡ length packets + 1
 one_longer packets x = length-append packets (x ∷ [])
 
-pub keeps_stream : (packets : List Captured) (x : Captured) (s : Stream) (p : StreamSegments) → came_as s (1 + length packets) x ≡ None → KeepsStream packets s p → KeepsStream (packets ++ x ∷ []) s p
+pub keeps_stream : (packets : List CapturedItem) (x : CapturedItem) (s : Stream) (p : StreamSegments) → came_as s (1 + length packets) x ≡ None → KeepsStream packets s p → KeepsStream (packets ++ x ∷ []) s p
 keeps_stream packets x s p none k = record {
   first = k.first;
   others = k.others;
@@ -58,7 +58,7 @@ keeps_stream packets x s p none k = record {
   high = omega (arith, k.high, one_longer packets x);
 }
 
-keeps_each : (packets : List Captured) (x : Captured) (keys : List Stream) (by_stream : List StreamSegments) → ((s : Stream) → came_as s (1 + length packets) x ≡ None)
+keeps_each : (packets : List CapturedItem) (x : CapturedItem) (keys : List Stream) (by_stream : List StreamSegments) → ((s : Stream) → came_as s (1 + length packets) x ≡ None)
     → KeepsEach packets keys by_stream → KeepsEach (packets ++ x ∷ []) keys by_stream
 keeps_each packets x [] [] none each = tt
 keeps_each packets x [] (p ∷ by_stream) none each = each
@@ -66,7 +66,7 @@ keeps_each packets x (s ∷ keys) [] none each = each
 keeps_each packets x (s ∷ keys) (p ∷ by_stream) none each = (keeps_stream packets x s p (none s) each.0, keeps_each packets x keys by_stream none each.1)
 
 -- a packet that carries no segment
-pub keeps_aside : (packets : List Captured) (x : Captured) (s : Streams) → stream_of x ≡ None → ((stream : Stream) → came_as stream (1 + length packets) x ≡ None)
+pub keeps_aside : (packets : List CapturedItem) (x : CapturedItem) (s : Streams) → stream_of x ≡ None → ((stream : Stream) → came_as stream (1 + length packets) x ≡ None)
     → KeepsAll packets s → KeepsAll (packets ++ x ∷ []) s
 keeps_aside packets x s of_none none k =
     let same = streams-none packets x of_none in
@@ -84,7 +84,7 @@ of_it : (s : Stream) (way : Direction) (c : CapturedSegment) (n : ℕ) → is_sa
 of_it s way c n same = rw same refl
 
 -- the segments of the stream before the packet
-pub record Ready (packets : List Captured) (c : CapturedSegment) (s : Stream) (p : StreamSegments) : Type 0 where
+pub record Ready (packets : List CapturedItem) (c : CapturedSegment) (s : Stream) (p : StreamSegments) : Type 0 where
   pub before : List NumberedSegment
   pub are : came_in s packets ≡ before
   pub begins : (first : NumberedSegment) × (others : List NumberedSegment) × (before ++ numbered_segment (1 + length packets) c ∷ [] ≡ first ∷ others) × KeepsSegments (first.1.number + 4096) before p
@@ -92,7 +92,7 @@ pub record Ready (packets : List Captured) (c : CapturedSegment) (s : Stream) (p
   pub low : 4096 ≤ p.highest
   pub high : p.highest ≤ 8192 + 2048 * length packets
 
-pub ready_known : (packets : List Captured) (c : CapturedSegment) (s : Stream) (p : StreamSegments) → KeepsStream packets s p → Ready packets c s p
+pub ready_known : (packets : List CapturedItem) (c : CapturedSegment) (s : Stream) (p : StreamSegments) → KeepsStream packets s p → Ready packets c s p
 ready_known packets c s p k = record {
   before = k.first ∷ k.others;
   are = k.are;
@@ -102,7 +102,7 @@ ready_known packets c s p k = record {
   high = k.high;
 }
 
-pub ready_new : (packets : List Captured) (c : CapturedSegment) (s : Stream) (p : StreamSegments) → came_in s packets ≡ [] → p.highest ≡ c.number + 4096 → c.number < 4096 → p.ordered.items ≡ [] → Ready packets c s p
+pub ready_new : (packets : List CapturedItem) (c : CapturedSegment) (s : Stream) (p : StreamSegments) → came_in s packets ≡ [] → p.highest ≡ c.number + 4096 → c.number < 4096 → p.ordered.items ≡ [] → Ready packets c s p
 ready_new packets c s p none highest small empty = record {
   before = [];
   are = none;
@@ -112,7 +112,7 @@ ready_new packets c s p none highest small empty = record {
   high = omega (arith, highest, small);
 }
 
-pub ready_done : (packets : List Captured) (way : Direction) (c : CapturedSegment) (s : Stream) (old new : StreamSegments) → is_same s (stream_is way c) ≡ true → Spell c.digits.now (length c.digits.now / 2)
+pub ready_done : (packets : List CapturedItem) (way : Direction) (c : CapturedSegment) (s : Stream) (old new : StreamSegments) → is_same s (stream_is way c) ≡ true → Spell c.digits.now (length c.digits.now / 2)
     → Ready packets c s old → IsAdded (1 + length packets) c old new → KeepsStream (packets ++ captured_segment way c ∷ []) s new
 ready_done packets way c s old new same spell r a =
     let x = captured_segment way c in
@@ -129,11 +129,11 @@ ready_done packets way c s old new same spell r a =
       high = omega (arith, a.highest, a.high, r.high, longer);
     }
 
-pub ready_rises : (packets : List Captured) (c : CapturedSegment) (s : Stream) (p : StreamSegments) → Ready packets c s p → RisesCounted p.ordered.items
+pub ready_rises : (packets : List CapturedItem) (c : CapturedSegment) (s : Stream) (p : StreamSegments) → Ready packets c s p → RisesCounted p.ordered.items
 ready_rises packets c s p r = r.begins.3.rises
 
 -- the streams before the packet was put into its own
-pub MidEach : List Captured → Direction → CapturedSegment → List Stream → List StreamSegments → Type 0
+pub MidEach : List CapturedItem → Direction → CapturedSegment → List Stream → List StreamSegments → Type 0
 MidEach packets way c [] [] = Unit {0}
 MidEach packets way c [] (p ∷ by_stream) = ⊥
 MidEach packets way c (s ∷ keys) [] = ⊥
@@ -141,7 +141,7 @@ MidEach packets way c (s ∷ keys) (p ∷ by_stream) =
     (((is_same s (stream_is way c) ≡ true) × Ready packets c s p) ⊎ ((is_same s (stream_is way c) ≡ false) × KeepsStream (packets ++ captured_segment way c ∷ []) s p))
     × MidEach packets way c keys by_stream
 
-mid_known : (packets : List Captured) (way : Direction) (c : CapturedSegment) (keys : List Stream) (by_stream : List StreamSegments) → KeepsEach packets keys by_stream → MidEach packets way c keys by_stream
+mid_known : (packets : List CapturedItem) (way : Direction) (c : CapturedSegment) (keys : List Stream) (by_stream : List StreamSegments) → KeepsEach packets keys by_stream → MidEach packets way c keys by_stream
 unfolding MidEach
 mid_known packets way c [] [] each = tt
 mid_known packets way c [] (p ∷ by_stream) each = each
@@ -153,7 +153,7 @@ mid_known packets way c (s ∷ keys) (p ∷ by_stream) each = (
   mid_known packets way c keys by_stream each.1,
 )
 
-mid_new : (packets : List Captured) (way : Direction) (c : CapturedSegment) (new : StreamSegments) → Ready packets c (stream_is way c) new
+mid_new : (packets : List CapturedItem) (way : Direction) (c : CapturedSegment) (new : StreamSegments) → Ready packets c (stream_is way c) new
     → (keys : List Stream) (by_stream : List StreamSegments) → KeepsEach packets keys by_stream → MidEach packets way c (keys ++ stream_is way c ∷ []) (by_stream ++ new ∷ [])
 unfolding MidEach
 mid_new packets way c new ready [] [] each = (inl (is_same_self (stream_is way c), ready), tt)
@@ -168,7 +168,7 @@ no_other : (a : Stream) → None ≡ Some a → ⊥
 no_other a e = cc
 
 -- where the packet's stream stands
-pub mid_at : (packets : List Captured) (way : Direction) (c : CapturedSegment) (index : ℕ) (keys : List Stream) (by_stream : List StreamSegments) → MidEach packets way c keys by_stream
+pub mid_at : (packets : List CapturedItem) (way : Direction) (c : CapturedSegment) (index : ℕ) (keys : List Stream) (by_stream : List StreamSegments) → MidEach packets way c keys by_stream
     → HasStreamAt (stream_is way c) index keys → (index < length by_stream) × ((d : StreamSegments) → Ready packets c (stream_is way c) (get_or by_stream index d))
 unfolding MidEach
 mid_at packets way c index [] [] mid at = absurd (no_other at.0 at.1)
@@ -188,7 +188,7 @@ other_at s k index [] all at = absurd (no_other at.0 at.1)
 other_at s k zero (y ∷ keys) all at = subst (λ (t : Stream). is_same s t ≡ false) (some_is y at.0 at.1 ∙ sym (same_is k at.0 at.2)) all.0
 other_at s k (suc index) (y ∷ keys) all at = other_at s k index keys all.1 at
 
-mid_rest : (packets : List Captured) (way : Direction) (c : CapturedSegment) (keys : List Stream) (by_stream : List StreamSegments) → AllByRecursion (λ y. is_same (stream_is way c) y ≡ false) keys
+mid_rest : (packets : List CapturedItem) (way : Direction) (c : CapturedSegment) (keys : List Stream) (by_stream : List StreamSegments) → AllByRecursion (λ y. is_same (stream_is way c) y ≡ false) keys
     → MidEach packets way c keys by_stream → KeepsEach (packets ++ captured_segment way c ∷ []) keys by_stream
 unfolding MidEach
 mid_rest packets way c [] [] all mid = tt
@@ -197,7 +197,7 @@ mid_rest packets way c (s ∷ keys) [] all mid = mid
 mid_rest packets way c (s ∷ keys) (p ∷ by_stream) all mid =
     (⊎_elim (λ both. absurd (false≢true (sym (same_sym (stream_is way c) s all.0) ∙ both.0))) (λ both. both.1) mid.0, mid_rest packets way c keys by_stream all.1 mid.1)
 
-pub mid_done : (packets : List Captured) (way : Direction) (c : CapturedSegment) (new d : StreamSegments) → Spell c.digits.now (length c.digits.now / 2)
+pub mid_done : (packets : List CapturedItem) (way : Direction) (c : CapturedSegment) (new d : StreamSegments) → Spell c.digits.now (length c.digits.now / 2)
     → (index : ℕ) (keys : List Stream) (by_stream : List StreamSegments) → MidEach packets way c keys by_stream → IsDistinct is_same keys → HasStreamAt (stream_is way c) index keys
     → IsAdded (1 + length packets) c (get_or by_stream index d) new → KeepsEach (packets ++ captured_segment way c ∷ []) keys (slice_set by_stream index new)
 unfolding MidEach
@@ -217,7 +217,7 @@ mid_done packets way c new d spell (suc index) (s ∷ keys) (p ∷ by_stream) mi
 
 -- ---- all streams
 
-pub mid_all : (packets : List Captured) (way : Direction) (c : CapturedSegment) (old new : Streams) (index : ℕ) → KeepsAll packets old → IsIndexed (stream_is way c) c.number old new index
+pub mid_all : (packets : List CapturedItem) (way : Direction) (c : CapturedSegment) (old new : Streams) (index : ℕ) → KeepsAll packets old → IsIndexed (stream_is way c) c.number old new index
     → MidEach packets way c new.names.keys new.by_stream.items × (new.names.keys ≡ streams (packets ++ captured_segment way c ∷ []))
 mid_all packets way c old new index k i =
     let stream = stream_is way c in
@@ -234,7 +234,7 @@ mid_all packets way c old new index k i =
     ))
     i.case
 
-pub keeps_streams : (packets : List Captured) (way : Direction) (c : CapturedSegment) (old mid new : Streams) (index packet : ℕ) (d added : StreamSegments) → KeepsAll packets old
+pub keeps_streams : (packets : List CapturedItem) (way : Direction) (c : CapturedSegment) (old mid new : Streams) (index packet : ℕ) (d added : StreamSegments) → KeepsAll packets old
     → IsIndexed (stream_is way c) c.number old mid index → Spell c.digits.now (length c.digits.now / 2)
     → packet ≡ length packets + 1 → IsAdded packet c d added → d ≡ get_or mid.by_stream.items index d
     → new.names.keys ≡ mid.names.keys → new.by_stream.items ≡ slice_set mid.by_stream.items index added

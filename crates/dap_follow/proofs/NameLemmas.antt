@@ -13,7 +13,7 @@ use Rattle.nsp_seg.specs.declared.packet.Packet.TheVariants.{Segment, DataAck}
 use Rattle.dap_listing.specs.declared.lines.Direction.{Direction}
 use Rattle.dap_listing.specs.declared.lines.Direction.TheVariants.{Right, Left}
 use Rattle.dap_listing.specs.Listing.{arrow_text}
-use Rattle.dap_follow.specs.Streams.{Captured, came_as, came_in, is_same, streams}
+use Rattle.dap_follow.specs.Streams.{CapturedItem, came_as, came_in, is_same, streams}
 use Rattle.dap_follow.specs.declared.streams.Stream.{Stream}
 use Rattle.dap_follow.specs.Inner.Keeping.{stream_of}
 use Rattle.dap_follow.specs.Segments.{NumberedSegment, HasStreamAt}
@@ -75,29 +75,29 @@ enumerate_from-snoc n (y ∷ xs) x =
     let same : n + 1 + length xs ≡ n + length (y ∷ xs) = omega arith in
     ap (λ l. (n, y) ∷ l) (enumerate_from-snoc (n + 1) xs x ∙ ap (λ (k : ℕ). enumerate_from (n + 1) xs ++ (k, x) ∷ []) same)
 
-abbrev came_at : Stream → ℕ × Captured → Option NumberedSegment
+abbrev came_at : Stream → ℕ × CapturedItem → Option NumberedSegment
 came_at stream = λ (number, packet). came_as stream number packet
 
-came_in-both : (stream : Stream) (packets : List Captured) (x : Captured)
+came_in-both : (stream : Stream) (packets : List CapturedItem) (x : CapturedItem)
     → came_in stream (packets ++ x ∷ []) ≡ came_in stream packets ++ filter_map (came_at stream) ((1 + length packets, x) ∷ [])
 came_in-both stream packets x =
     ap (filter_map (came_at stream)) (enumerate_from-snoc 1 packets x) ∙ filter_map-append (came_at stream) (enumerate_from 1 packets) ((1 + length packets, x) ∷ [])
 
-pub came_in-more : (stream : Stream) (packets : List Captured) (x : Captured) (c : NumberedSegment) → came_as stream (1 + length packets) x ≡ Some c
+pub came_in-more : (stream : Stream) (packets : List CapturedItem) (x : CapturedItem) (c : NumberedSegment) → came_as stream (1 + length packets) x ≡ Some c
     → came_in stream (packets ++ x ∷ []) ≡ came_in stream packets ++ c ∷ []
 came_in-more stream packets x c is = came_in-both stream packets x ∙ ap (λ (o : Option NumberedSegment). came_in stream packets ++ cons_option o []) is
 
-pub came_in-none : (stream : Stream) (packets : List Captured) (x : Captured) → came_as stream (1 + length packets) x ≡ None
+pub came_in-none : (stream : Stream) (packets : List CapturedItem) (x : CapturedItem) → came_as stream (1 + length packets) x ≡ None
     → came_in stream (packets ++ x ∷ []) ≡ came_in stream packets
 came_in-none stream packets x is = came_in-both stream packets x ∙ ap (λ (o : Option NumberedSegment). came_in stream packets ++ cons_option o []) is ∙ append-nil (came_in stream packets)
 
-pub streams-more : (packets : List Captured) (x : Captured) (stream : Stream) → stream_of x ≡ Some stream
+pub streams-more : (packets : List CapturedItem) (x : CapturedItem) (stream : Stream) → stream_of x ≡ Some stream
     → streams (packets ++ x ∷ []) ≡ insert_key is_same (streams packets) stream
 streams-more packets x stream is =
     ap (insert_all is_same []) (filter_map-append stream_of packets (x ∷ []) ∙ ap (λ (o : Option Stream). filter_map stream_of packets ++ cons_option o []) is)
     ∙ fold-append (insert_key is_same) [] (filter_map stream_of packets) (stream ∷ [])
 
-pub streams-none : (packets : List Captured) (x : Captured) → stream_of x ≡ None → streams (packets ++ x ∷ []) ≡ streams packets
+pub streams-none : (packets : List CapturedItem) (x : CapturedItem) → stream_of x ≡ None → streams (packets ++ x ∷ []) ≡ streams packets
 streams-none packets x is =
     ap (insert_all is_same []) (filter_map-append stream_of packets (x ∷ []) ∙ ap (λ (o : Option Stream). filter_map stream_of packets ++ cons_option o []) is ∙ append-nil (filter_map stream_of packets))
 
@@ -124,7 +124,7 @@ inserts_all k (x ∷ xs) keys none =
     let here = inserts k keys x rest.0 in
     (here.0, or_from (is_same k x) (list_any (is_same k) xs) here.1 rest.1)
 
-no_came : (k : Stream) (packets : List Captured) (n : ℕ) → list_any (is_same k) (filter_map stream_of packets) ≡ false → filter_map (came_at k) (enumerate_from n packets) ≡ []
+no_came : (k : Stream) (packets : List CapturedItem) (n : ℕ) → list_any (is_same k) (filter_map stream_of packets) ≡ false → filter_map (came_at k) (enumerate_from n packets) ≡ []
 no_came k [] n none = refl
 no_came k ((way, Ok (Segment v)) ∷ packets) n none =
     let parts = or_parts (is_same k (record { way = way; dst = v.dst; src = v.src })) (list_any (is_same k) (filter_map stream_of packets)) none in
@@ -132,7 +132,7 @@ no_came k ((way, Ok (Segment v)) ∷ packets) n none =
 no_came k ((way, Ok (DataAck v)) ∷ packets) n none = no_came k packets (n + 1) none
 no_came k ((way, Err fault) ∷ packets) n none = no_came k packets (n + 1) none
 
-pub unseen : (k : Stream) (packets : List Captured) → list_any (is_same k) (streams packets) ≡ false → came_in k packets ≡ []
+pub unseen : (k : Stream) (packets : List CapturedItem) → list_any (is_same k) (streams packets) ≡ false → came_in k packets ≡ []
 unseen k packets none = no_came k packets 1 (inserts_all k (filter_map stream_of packets) [] none).1
 
 -- ---- answers of the program

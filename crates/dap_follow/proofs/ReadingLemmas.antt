@@ -9,16 +9,16 @@ use Rattle.linewise.specs.declared.fault.CaptureFault.{CaptureFault}
 use Rattle.linewise.specs.declared.fault.CaptureFault.TheVariants.{BadLine, TooLarge, ReadFailed, WriteFailed, NoMemory}
 use Rattle.linewise.specs.Firsts.{IsFirst}
 use Rattle.dap_listing.specs.Lines.{Capture}
-use Rattle.dap_listing.specs.Packets.{IsSeen, Seen}
+use Rattle.dap_listing.specs.Packets.{IsSeen, DecodedPacket}
 use Rattle.dap_listing.specs.declared.lines.Direction.{Direction}
-use Rattle.dap_follow.specs.Streams.{Captured, came_as}
+use Rattle.dap_follow.specs.Streams.{CapturedItem, came_as}
 use Rattle.dap_follow.specs.Following.{IsCaptured, frame_of, packet_line}
 use Rattle.dap_follow.specs.Inner.Keeping.{stream_of, KeepsAll}
 use Rattle.dap_follow.specs.Inner.Reading.{ReadsPackets, line_texts}
 use Rattle.dap_follow.specs.declared.reading.Reading.{Reading}
 use Rattle.dap_follow.proofs.KeepingLemmas.{keeps_aside}
 
-line_texts-snoc : (in_words : Bool) (told : List (List (List ℕ))) (n : ℕ) (packets : List Captured) (x : Captured)
+line_texts-snoc : (in_words : Bool) (told : List (List (List ℕ))) (n : ℕ) (packets : List CapturedItem) (x : CapturedItem)
     → line_texts in_words told n (packets ++ x ∷ []) ≡ line_texts in_words told n packets ++ packet_line in_words (frame_of told (n + length packets)) (n + length packets) x ∷ []
 line_texts-snoc in_words told n [] x = ap (λ (k : ℕ). packet_line in_words (frame_of told k) k x ∷ []) (sym (add-zero n))
 line_texts-snoc in_words told n (p ∷ packets) x =
@@ -26,14 +26,14 @@ line_texts-snoc in_words told n (p ∷ packets) x =
     ap (λ l. packet_line in_words (frame_of told n) n p ∷ l)
     (line_texts-snoc in_words told (n + 1) packets x ∙ ap (λ (k : ℕ). line_texts in_words told (n + 1) packets ++ packet_line in_words (frame_of told k) k x ∷ []) same)
 
-length-line_texts : (in_words : Bool) (told : List (List (List ℕ))) (n : ℕ) (packets : List Captured) → length (line_texts in_words told n packets) ≡ length packets
+length-line_texts : (in_words : Bool) (told : List (List (List ℕ))) (n : ℕ) (packets : List CapturedItem) → length (line_texts in_words told n packets) ≡ length packets
 length-line_texts in_words told n [] = refl
 length-line_texts in_words told n (p ∷ packets) = ap suc (length-line_texts in_words told (n + 1) packets)
 
-pub count_is : (in_words : Bool) (told : List (List (List ℕ))) (packets : List Captured) (r : Reading) → ReadsPackets in_words told packets r → length r.lines.items ≡ length packets
+pub count_is : (in_words : Bool) (told : List (List (List ℕ))) (packets : List CapturedItem) (r : Reading) → ReadsPackets in_words told packets r → length r.lines.items ≡ length packets
 count_is in_words told packets r reads = sym (length-map r.lines.items (λ (line : Vec ℕ). line.items)) ∙ ap length reads.lines ∙ length-line_texts in_words told 1 packets
 
-pub reads_more : (in_words : Bool) (told : List (List (List ℕ))) (frame : List (List ℕ)) (packets : List Captured) (way : Direction) (seen : Seen) (old new : Reading) (line : Vec ℕ) (number : ℕ)
+pub reads_more : (in_words : Bool) (told : List (List (List ℕ))) (frame : List (List ℕ)) (packets : List CapturedItem) (way : Direction) (seen : DecodedPacket) (old new : Reading) (line : Vec ℕ) (number : ℕ)
     → frame_of told (length packets + 1) ≡ frame → ReadsPackets in_words told packets old
     → KeepsAll (packets ++ (way, seen) ∷ []) new.streams → new.lines.items ≡ old.lines.items ++ line ∷ [] → line.items ≡ packet_line in_words frame number (way, seen)
     → number ≡ length old.lines.items + 1 → ReadsPackets in_words told (packets ++ (way, seen) ∷ []) new
@@ -49,13 +49,13 @@ reads_more in_words told frame packets way seen old new line number framed reads
       streams = streams;
     }
 
-pub aside_fault : (packets : List Captured) (way : Direction) (seen : Seen) (old new : Reading) (kept : KeepsAll packets old.streams) → (stream_of (way, seen) ≡ None)
+pub aside_fault : (packets : List CapturedItem) (way : Direction) (seen : DecodedPacket) (old new : Reading) (kept : KeepsAll packets old.streams) → (stream_of (way, seen) ≡ None)
     → ((s : _) → came_as s (1 + length packets) (way, seen) ≡ None) → new.streams ≡ old.streams → KeepsAll (packets ++ (way, seen) ∷ []) new.streams
 aside_fault packets way seen old new kept of_none none same = rw same (keeps_aside packets (way, seen) old.streams of_none none kept)
 
 -- ---- the packets of captures
 
-pub seen_more : (captures : List Capture) (packets : List Captured) (way : Direction) (digits bytes : List ℕ) (seen : Seen) → AllZip IsCaptured captures packets
+pub seen_more : (captures : List Capture) (packets : List CapturedItem) (way : Direction) (digits bytes : List ℕ) (seen : DecodedPacket) → AllZip IsCaptured captures packets
     → decode_of digits ≡ Ok bytes → IsSeen seen bytes → AllZip IsCaptured (captures ++ (way, digits) ∷ []) (packets ++ (way, seen) ∷ [])
 seen_more [] [] way digits bytes seen all decoded is = ((refl, (bytes, decoded, is)), tt)
 seen_more [] (p ∷ packets) way digits bytes seen all decoded is = absurd all

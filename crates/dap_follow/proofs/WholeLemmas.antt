@@ -12,7 +12,7 @@ use Rattle.std.proofs.lemmas.Bool.Decides.{nat_tests}
 use Rattle.std.proofs.lemmas.Grind.{flat_map-append}
 use Rattle.std.proofs.lemmas.List.{append_assoc, append-nil, map-append, take_all}
 use Rattle.std.proofs.lemmas.Map.Keys.{IsStrictlyIncreasing-from_sorted}
-use Rattle.dap_follow.specs.Streams.{AreSequenced, IsOrdered, Captured, came_in, first_sequence}
+use Rattle.dap_follow.specs.Streams.{AreSequenced, IsOrdered, CapturedItem, came_in, first_sequence}
 use Rattle.dap_follow.specs.Joined.{Message, messages, fragments_of}
 use Rattle.dap_follow.specs.Following.{IsMessageText, IsFollowedPacketText, frame_of, packet_line, rest_lines}
 use Rattle.dap_follow.specs.Inner.Keeping.{KeepsEach, KeepsStream}
@@ -31,7 +31,7 @@ use Rattle.dap_follow.proofs.JoiningLemmas.{under_both}
 none_some : {X : Type 0} (x : X) → None ≡ Some x → ⊥
 none_some x e = cc
 
-pub kept_one : (packets : List Captured) (i : ℕ) (keys : List Stream) (by_stream : List StreamSegments) (d : StreamSegments) → KeepsEach packets keys by_stream → i < length by_stream
+pub kept_one : (packets : List CapturedItem) (i : ℕ) (keys : List Stream) (by_stream : List StreamSegments) (d : StreamSegments) → KeepsEach packets keys by_stream → i < length by_stream
     → (s : Stream) × (slice_get keys i ≡ Some s) × KeepsStream packets s (get_or by_stream i d)
 kept_one packets i [] [] d each below = absurd (omega arith)
 kept_one packets i [] (p ∷ by_stream) d each below = absurd each
@@ -84,7 +84,7 @@ unfolding IsStrictlySortedBy
 sorted_sequences [] rises = tt
 sorted_sequences (c ∷ cs) rises = (sorted_each c.sequence cs rises.0, sorted_sequences cs rises.1)
 
-is_ordered : (packets : List Captured) (s : Stream) (p : StreamSegments) → KeepsStream packets s p → IsOrdered (came_in s packets) (values p.ordered.items)
+is_ordered : (packets : List CapturedItem) (s : Stream) (p : StreamSegments) → KeepsStream packets s p → IsOrdered (came_in s packets) (values p.ordered.items)
 is_ordered packets s p k = record {
   sequenced = k.keeps.sequenced;
   are_sequenced = subst (λ (l : List NumberedSegment). AreSequenced (first_sequence l) l k.keeps.sequenced) (sym k.are) k.keeps.are_sequenced;
@@ -92,7 +92,7 @@ is_ordered packets s p k = record {
   same = k.keeps.same;
 }
 
-pub are_ordered : (packets : List Captured) (keys : List Stream) (by_stream : List StreamSegments) → KeepsEach packets keys by_stream → AllZip (λ stream. IsOrdered (came_in stream packets)) keys (ordered_of by_stream)
+pub are_ordered : (packets : List CapturedItem) (keys : List Stream) (by_stream : List StreamSegments) → KeepsEach packets keys by_stream → AllZip (λ stream. IsOrdered (came_in stream packets)) keys (ordered_of by_stream)
 are_ordered packets [] [] each = tt
 are_ordered packets [] (p ∷ by_stream) each = absurd each
 are_ordered packets (s ∷ keys) [] each = absurd each
@@ -117,7 +117,7 @@ message_texts in_words (m ∷ ms) _ (one_message_more lines rest is others) =
     let head = message_heading m.piece in
     ((head ++ lines) ∷ each.0, ((lines, is, refl), each.1), ap (λ (l : List ℕ). (head ++ lines) ++ l) each.2)
 
-pub packet_texts : (in_words : Bool) (told : List (List (List ℕ))) (all : List Message) (n : ℕ) (packets : List Captured) (olds news : List (Vec ℕ))
+pub packet_texts : (in_words : Bool) (told : List (List (List ℕ))) (all : List Message) (n : ℕ) (packets : List CapturedItem) (olds news : List (Vec ℕ))
     → map (λ (v : Vec ℕ). v.items) olds ≡ line_texts in_words told n packets → UnderAll in_words all n olds news
     → AllZip (IsFollowedPacketText in_words told all) (enumerate_from n packets) (map (λ (v : Vec ℕ). v.items) news)
 packet_texts in_words told all n [] [] [] are under = tt
@@ -137,7 +137,7 @@ pub texts_joined : (vs : List (Vec ℕ)) → joined_texts vs ≡ concat (map (λ
 texts_joined [] = refl
 texts_joined (v ∷ vs) = ap (λ (l : List ℕ). v.items ++ l) (texts_joined vs)
 
-pub key_there : (packets : List Captured) (i : ℕ) (keys : List Stream) (by_stream : List StreamSegments) → KeepsEach packets keys by_stream → i < length by_stream → slice_get keys i ≡ None → ⊥
+pub key_there : (packets : List CapturedItem) (i : ℕ) (keys : List Stream) (by_stream : List StreamSegments) → KeepsEach packets keys by_stream → i < length by_stream → slice_get keys i ≡ None → ⊥
 key_there packets i [] [] each below none = absurd (omega arith)
 key_there packets i [] (p ∷ by_stream) each below none = each
 key_there packets i (s ∷ keys) [] each below none = each

@@ -13,12 +13,12 @@ use Rattle.dap_listing.specs.Packets.{IsSeen, seen_line}
 use Rattle.linewise.specs.declared.fault.CaptureFault.{CaptureFault}
 use Rattle.linewise.specs.declared.fault.Outcome.{Outcome}
 use Rattle.linewise.specs.declared.fault.Outcome.TheVariants.{Good}
-use Rattle.dap_follow.specs.Streams.{IsOrdered, Captured, Sequenced, came_in, streams}
+use Rattle.dap_follow.specs.Streams.{IsOrdered, CapturedItem, Sequenced, came_in, streams}
 use Rattle.dap_follow.specs.Joined.{Message, Fragment, is_message, messages, payload, fragments_of, tail}
 use Rattle.dap_follow.specs.declared.streams.Stream.{Stream}
 
 -- the captured bytes are this packet or have this fault
-abbrev pub IsCaptured : Capture → Captured → Type 0
+abbrev pub IsCaptured : Capture → CapturedItem → Type 0
 IsCaptured capture packet =
     (packet.0 ≡ capture.0) × ((bytes : List ℕ) × (decode_of capture.1 ≡ Ok bytes) × IsSeen packet.1 bytes)
 
@@ -39,11 +39,11 @@ abbrev pub IsMessageText : (in_words : Bool) → Fragment → List ℕ → Type 
 IsMessageText in_words p text = (lines : List ℕ) × IsMessagesText in_words (payload p) lines × (text ≡ piece_text (codes "  message") p ++ lines)
 
 -- the line of a packet without words
-abbrev pub plain_line : ℕ → Captured → List ℕ
+abbrev pub plain_line : ℕ → CapturedItem → List ℕ
 plain_line number packet = heading number packet.0 ++ seen_line packet.1
 
 -- the line of a packet; where words are wanted, with those of the line directly before it, and of what is no segment
-abbrev pub packet_line : (in_words : Bool) → (frame : List (List ℕ)) → ℕ → Captured → List ℕ
+abbrev pub packet_line : (in_words : Bool) → (frame : List (List ℕ)) → ℕ → CapturedItem → List ℕ
 packet_line in_words frame number packet =
     if in_words then with_words (frame ++ packet_words packet.1) (plain_line number packet) else plain_line number packet
 
@@ -52,7 +52,7 @@ abbrev pub frame_of : List (List (List ℕ)) → ℕ → List (List ℕ)
 frame_of frames number = get_or frames (number - 1) []
 
 -- the lines of a packet: the line of the packet itself, and those of the messages that it completes
-abbrev pub IsFollowedPacketText : (in_words : Bool) → (frames : List (List (List ℕ))) → (all : List Message) → ℕ × Captured → List ℕ → Type 0
+abbrev pub IsFollowedPacketText : (in_words : Bool) → (frames : List (List (List ℕ))) → (all : List Message) → ℕ × CapturedItem → List ℕ → Type 0
 IsFollowedPacketText in_words frames all (number, packet) text =
     (texts : List (List ℕ)) × AllZip (λ m. IsMessageText in_words m.piece) (filter (λ m. m.packet == number) all) texts
     × (text ≡ packet_line in_words (frame_of frames number) number packet ++ concat texts)
@@ -79,7 +79,7 @@ rest_lines stream (p ∷ others) = part_line stream p ++ gap_line stream p other
 
 -- the lines of the packets, and after them the parts and gaps of each stream
 pub record IsFollowed (in_words : Bool) (captured : List Capture) (frames : List (List (List ℕ))) (text : List ℕ) : Type 0 where
-  pub packets : List Captured
+  pub packets : List CapturedItem
   pub ordered : List (List Sequenced)
   pub texts : List (List ℕ)
   pub are_seen : AllZip IsCaptured captured packets

@@ -5,7 +5,7 @@ use Rattle.nsp_seg.specs.declared.packet.SegmentFields.{SegmentFields}
 use Rattle.dap_listing.specs.Captured.{segment_fields}
 use Rattle.dap_listing.specs.declared.captured.CapturedSegment.{CapturedSegment}
 use Rattle.dap_listing.specs.declared.lines.Direction.{Direction}
-use Rattle.dap_follow.specs.Streams.{Captured, Sequenced, is_same}
+use Rattle.dap_follow.specs.Streams.{CapturedItem, Sequenced, is_same}
 use Rattle.dap_follow.specs.declared.streams.Stream.{Stream}
 
 -- a segment, and the number of its packet
@@ -21,7 +21,7 @@ abbrev pub numbered_segment : ℕ → CapturedSegment → NumberedSegment
 numbered_segment packet c = (packet, segment_fields c)
 
 -- the captured packet of a segment
-abbrev pub captured_segment : Direction → CapturedSegment → Captured
+abbrev pub captured_segment : Direction → CapturedSegment → CapturedItem
 captured_segment way c = (way, Ok (Segment (segment_fields c)))
 
 -- the highest of their sequence numbers, and of one before them

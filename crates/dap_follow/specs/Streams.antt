@@ -7,18 +7,18 @@ use Rattle.indexmap.specs.IndexSet.{insert_all}
 use Rattle.nsp_seg.specs.declared.packet.SegmentFields.{SegmentFields}
 use Rattle.nsp_seg.specs.declared.packet.Packet.TheVariants.{Segment}
 use Rattle.dap_listing.specs.Listing.{arrow_text}
-use Rattle.dap_listing.specs.Packets.{Seen}
+use Rattle.dap_listing.specs.Packets.{DecodedPacket}
 use Rattle.dap_listing.specs.declared.lines.Direction.{Direction}
 use Rattle.dap_follow.specs.declared.streams.Stream.{Stream}
 
 -- a captured packet or fault, and its direction
-abbrev pub Captured : Type 0
-Captured = Direction × Seen
+abbrev pub CapturedItem : Type 0
+CapturedItem = Direction × DecodedPacket
 
 -- ---- streams: the segments that go one way between two ends
 
 -- the stream of a captured segment, and the segment
-abbrev pub segment_in : Captured → Option (Stream × SegmentFields)
+abbrev pub segment_in : CapturedItem → Option (Stream × SegmentFields)
 segment_in (way, Ok (Segment s)) = Some (record { way = way; dst = s.dst; src = s.src }, s)
 segment_in _ = None
 
@@ -27,16 +27,16 @@ abbrev pub is_same : Stream → Stream → Bool
 is_same a b = bytes_eq (arrow_text a.way) (arrow_text b.way) && (a.dst == b.dst) && (a.src == b.src)
 
 -- the streams, each once, in the order in which they appear
-abbrev pub streams : List Captured → List Stream
+abbrev pub streams : List CapturedItem → List Stream
 streams packets = insert_all is_same [] (filter_map (λ packet. option_map (λ p. p.0) (segment_in packet)) packets)
 
 -- the segment of a packet, if it is of the stream, with the number of the packet
-abbrev pub came_as : Stream → ℕ → Captured → Option (ℕ × SegmentFields)
+abbrev pub came_as : Stream → ℕ → CapturedItem → Option (ℕ × SegmentFields)
 came_as stream number packet =
     option_and_then (λ p. if is_same stream p.0 then Some (number, p.1) else None) (segment_in packet)
 
 -- the segments of a stream, in the order of the capture
-abbrev pub came_in : Stream → List Captured → List (ℕ × SegmentFields)
+abbrev pub came_in : Stream → List CapturedItem → List (ℕ × SegmentFields)
 came_in stream packets = filter_map (λ (number, packet). came_as stream number packet) (enumerate_from 1 packets)
 
 -- ---- sequence numbers

@@ -2,7 +2,7 @@
 
 ghost use Rattle.std.specs.Prelude.{◌≡◌, ◌<◌, ◌+◌, ◌/◌, ◌^◌, ◌++◌, ◌∷◌, [], List, IfOk, OnOk, length};
 ghost use Rattle.dap_listing.specs.Captured.{Spell};
-ghost use Rattle.dap_follow.specs.Streams.{Captured};
+ghost use Rattle.dap_follow.specs.Streams.{CapturedItem};
 ghost use Rattle.dap_follow.specs.Inner.Keeping.{IsIndexed, KeepsAll, KeepsSome};
 ghost use Rattle.dap_follow.specs.Segments.{captured_segment};
 
@@ -62,7 +62,7 @@ impl<'a> Streams<'a> {
         segment: &CapturedSegment<'a>,
     ) -> Result<(), AllocError>
         requires { KeepsSome packet self.old }
-        ensures { OnOk result ((packets : List Captured)
+        ensures { OnOk result ((packets : List CapturedItem)
             → KeepsAll packets self.old → packet ≡ length packets + 1
             → Spell segment.now.digits.now (length segment.now.digits.now / 2)
             → KeepsAll (packets ++ captured_segment way segment.now ∷ []) self.new) }

@@ -10,7 +10,7 @@ use Rattle.nsp_seg.specs.declared.packet.Packet.TheVariants.{Segment, DataAck}
 use Rattle.std.specs.Int.{w16, to_le_bytes}
 use Rattle.nsp_seg.proofs.ForCallers.{spells-one, spells-apart, fault-one}
 use Rattle.dap_listing.specs.Messages.{IsMessagesText, item_line_in}
-use Rattle.dap_listing.specs.Packets.{IsPacketText, IsSeen, Seen, SeenMessages, seen_line}
+use Rattle.dap_listing.specs.Packets.{IsPacketText, IsSeen, DecodedPacket, SeenMessages, seen_line}
 use Rattle.dap_listing.specs.Inner.Messages.{SegmentMessages}
 use Rattle.dap_listing.specs.Listing.{CaptureLines, IsCapturedText, no_capture_more, one_capture_more, captures, heading, line_limit}
 use Rattle.dap_listing.specs.Lines.{Capture}
@@ -41,13 +41,13 @@ payload_of s bytes are spelled =
     behind (marks s.first s.last ∷ [] ++ to_le_bytes w16 s.dst ++ to_le_bytes w16 s.src ++ optional_ack s.ack1 ++ optional_ack s.ack2
     ++ to_le_bytes w16 (0x1000 * spelled.free + s.number)) s.payload (subst AreBytes spelled.spelled are)
 
-one_seen : (bytes : List ℕ) (a b : Seen) → AreBytes bytes → IsSeen a bytes → IsSeen b bytes → a ≡ b
+one_seen : (bytes : List ℕ) (a b : DecodedPacket) → AreBytes bytes → IsSeen a bytes → IsSeen b bytes → a ≡ b
 one_seen bytes (Ok p) (Ok q) are is other = ap Ok (spells-one p q bytes is other)
 one_seen bytes (Ok p) (Err fault) are is other = absurd (spells-apart p fault bytes are is other)
 one_seen bytes (Err fault) (Ok p) are is other = absurd (spells-apart p fault bytes are other is)
 one_seen bytes (Err fault) (Err fault') are is other = ap Err (fault-one fault fault' bytes are is other)
 
-one_of_seen : (seen : Seen) (bytes a b : List ℕ) → AreBytes bytes → IsSeen seen bytes → SeenMessages seen a → SeenMessages seen b → a ≡ b
+one_of_seen : (seen : DecodedPacket) (bytes a b : List ℕ) → AreBytes bytes → IsSeen seen bytes → SeenMessages seen a → SeenMessages seen b → a ≡ b
 one_of_seen (Ok (Segment s)) bytes a b are is lines lines' = one_of_segment s.first s.last s.payload a b (payload_of s bytes are is) lines lines'
 one_of_seen (Ok (DataAck v)) bytes a b are is none none' = none ∙ sym none'
 one_of_seen (Err fault) bytes a b are is none none' = none ∙ sym none'
@@ -55,9 +55,9 @@ one_of_seen (Err fault) bytes a b are is none none' = none ∙ sym none'
 one_packet : (bytes a b : List ℕ) → AreBytes bytes → IsPacketText bytes a → IsPacketText bytes b → a ≡ b
 one_packet bytes a b are text text' =
     let same : text'.seen ≡ text.seen = one_seen bytes text'.seen text.seen are text'.is text.is in
-    let listed = subst (λ (seen : Seen). SeenMessages seen text'.messages) same text'.listed in
+    let listed = subst (λ (seen : DecodedPacket). SeenMessages seen text'.messages) same text'.listed in
     let equal : text.messages ≡ text'.messages = one_of_seen text.seen bytes text.messages text'.messages are text.is text.listed listed in
-    text.joined ∙ ap (λ (m : List ℕ). seen_line text.seen ++ m) equal ∙ ap (λ (seen : Seen). seen_line seen ++ text'.messages) (sym same) ∙ sym text'.joined
+    text.joined ∙ ap (λ (m : List ℕ). seen_line text.seen ++ m) equal ∙ ap (λ (seen : DecodedPacket). seen_line seen ++ text'.messages) (sym same) ∙ sym text'.joined
 
 one_message : (bytes a b : List ℕ) → AreBytes bytes → IsCapturedText Messages bytes a → IsCapturedText Messages bytes b → a ≡ b
 one_message bytes a b are text text' =

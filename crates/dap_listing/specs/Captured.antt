@@ -9,7 +9,7 @@ use Rattle.nsp_seg.specs.declared.packet.SegFault.{SegFault}
 use Rattle.dap_listing.specs.declared.captured.CapturedPacket.{CapturedPacket}
 use Rattle.dap_listing.specs.declared.captured.CapturedPacket.TheVariants as captured
 use Rattle.dap_listing.specs.declared.captured.CapturedSegment.{CapturedSegment}
-use Rattle.dap_listing.specs.Packets.{Seen}
+use Rattle.dap_listing.specs.Packets.{DecodedPacket}
 
 -- hex digits of this many bytes
 abbrev pub Spell : List ℕ → ℕ → Type 0
@@ -38,7 +38,7 @@ segment_fields c = record {
 }
 
 -- the packet or the fault that was read, with the bytes of a payload in place of its digits
-abbrev pub seen_value : Result CapturedPacket SegFault → Seen
+abbrev pub seen_value : Result CapturedPacket SegFault → DecodedPacket
 seen_value (Ok (captured.Segment c)) = Ok (Segment (segment_fields c))
 seen_value (Ok (captured.DataAck ack)) = Ok (DataAck ack)
 seen_value (Err fault) = Err fault

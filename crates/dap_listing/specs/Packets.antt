@@ -29,16 +29,16 @@ mark_text false true = codes "last"
 mark_text false false = codes "middle"
 
 -- a packet, or why the bytes are none
-abbrev pub Seen : Type 0
-Seen = Result Packet SegFault
+abbrev pub DecodedPacket : Type 0
+DecodedPacket = Result Packet SegFault
 
 -- the bytes are this packet, or have this fault
-abbrev pub IsSeen : Seen → List ℕ → Type 0
+abbrev pub IsSeen : DecodedPacket → List ℕ → Type 0
 IsSeen (Ok packet) bytes = Spells packet bytes
 IsSeen (Err fault) bytes = HasFault fault bytes
 
 -- the line of a packet, or of a fault
-abbrev pub seen_line : Seen → List ℕ
+abbrev pub seen_line : DecodedPacket → List ℕ
 seen_line (Ok (Segment s)) = concat (
     codes "segment " ∷ mark_text s.first s.last ∷ codes " dst=" ∷ word_text s.dst ∷ codes " src=" ∷ word_text s.src
     ∷ codes " seg=" ∷ decimal s.number ∷ codes " acks=" ∷ acks_text s.ack1 s.ack2 ∷ codes " len=" ∷ decimal (length s.payload) ∷ line_feed ∷ [])
@@ -47,13 +47,13 @@ seen_line (Ok (DataAck a)) = concat (
 seen_line (Err fault) = fault_line fault
 
 -- the lines of the messages in a segment that is a whole NSP message
-abbrev pub SeenMessages : Seen → List ℕ → Type 0
+abbrev pub SeenMessages : DecodedPacket → List ℕ → Type 0
 SeenMessages (Ok (Segment s)) lines = MatchBool (s.first && s.last) (IsMessagesText false s.payload lines) (lines ≡ [])
 SeenMessages _ lines = lines ≡ []
 
 -- the line of what the bytes are, and the lines of its messages
 pub record IsPacketText (bytes text : List ℕ) : Type 0 where
-  pub seen : Seen
+  pub seen : DecodedPacket
   pub messages : List ℕ
   pub is : IsSeen seen bytes
   pub listed : SeenMessages seen messages

@@ -60,7 +60,8 @@ fn push_wanted(text: &mut Vec<u8>, fac: u32, shr: u32, display: u32) -> Result<(
     push_number(text, " display=", display)
 }
 
-/// Appends the line of a message. The digits are those of its record, where it is a Data message.
+/// Appends the line of a message. The record of a Data message is taken from these hex digits of it, since its bytes
+/// may not be decoded.
 #[inline(always)]
 fn push_message(
     text: &mut Vec<u8>,
@@ -208,7 +209,7 @@ fn push_fault(text: &mut Vec<u8>, fault: MsgFault) -> Result<(), AllocError>
     push_str(text, "\n")
 }
 
-/// Returns how many bytes of a record end an item: only a Data message has some.
+/// Returns how many bytes at the end of an item are its record: only a Data message has one.
 fn record_size(item: &Item<'_>) -> usize
     ensures { result ≡ size_of_record item.now }
 {

@@ -50,7 +50,7 @@ use Rattle.dap_live.specs.NodeOrders.{address_alone, filing_forms, links_order_o
 use Rattle.dap_live.specs.Orders.{anew_of, between_of, hex_alone, most_anew, most_beside, setup_anew, setup_beside}
 use Rattle.dap_live.specs.Texts.{LineAnswer, add_refusal, done_said, link_refusal, locked_text, packets_text, remove_refusal, taken_said}
 use Rattle.dap_live.specs.Both.{DoneOr, LeavesEnd}
-use Rattle.dap_live.specs.Node.{AddsLink, AddsRecordTo, BeginsOn, NodeDoes, DoesNodeOrder, DropsFile, Dropped, EndsOn, FileNotGiven, FindsLink, GivenTo, GivesFile, GivesNext, GivesRecordTo, GoesOnWith, HasRun, HasSent, IsNewNode, NoLink, RecordNotGiven, RefusesLink, RenewsOn, ResendsOn, Says, TakesOn, TakesPacketBy, about, answered, before_line, first_events, is_alone, is_work_left_at, is_used, meant, one_link, receiver_of, sender_of, ungiven, used_by, waiting, waits_on}
+use Rattle.dap_live.specs.Node.{AddsLink, AddsRecordTo, BeginsOn, NodeDoes, DoesNodeOrder, DropsFile, DropsNamedFile, EndsOn, FileNotGiven, FindsLink, GivenTo, GivesFile, GivesNext, GivesRecordTo, GoesOnWith, HasRun, HasSent, IsNewNode, NoLink, RecordNotGiven, RefusesLink, RenewsOn, ResendsOn, Says, TakesOn, TakesPacketBy, about, answered, before_line, first_events, is_alone, is_work_left_at, is_used, meant, one_link, receiver_of, sender_of, node_without_file, used_by, waiting, waits_on}
 use Rattle.dap_live.specs.Inner.OneText.{AreSameNodes, HasCarried}
 use Rattle.dap_live.proofs.OneLine.{HexFits, ack_one, all_again, gone_wants, hex_fits, setup_apart, setup_one, taken_wants}
 use Rattle.dap_live.proofs.OneLine.{one_answer}
@@ -406,8 +406,8 @@ module _ (old : Node) (name : List ℕ) (shape : Shape) where
       (λ u v. given-why (index_by names name files ≡ None) (NotAdded names files name) (file-apart names files name) (file-why names files name) old.node f g nf ng u v) x y
 
   give-file : (one two : Node) (said more : List ℕ) (b c : Became) → HasRun old.node → b ≢ NoMemory → c ≢ NoMemory
-      → DoneOr (λ became. became) (GivesFile name shape old one) (FileNotGiven name old) add_refusal (ungiven old) one said b
-      → DoneOr (λ became. became) (GivesFile name shape old two) (FileNotGiven name old) add_refusal (ungiven old) two more c → Same one two said more b c
+      → DoneOr (λ became. became) (GivesFile name shape old one) (FileNotGiven name old) add_refusal (node_without_file old) one said b
+      → DoneOr (λ became. became) (GivesFile name shape old two) (FileNotGiven name old) add_refusal (node_without_file old) two more c → Same one two said more b c
   give-file one two said more b c h nb nc (inl x) (inl y) =
       let t = given-one (with_new_file name shape files) (Gives name shape) old.node one.node two.node h x.0.given y.0.given in (
         x.0.rest ∙ ap (λ (n : NodeValue). record old { node = n; given = one.given }) t.0
@@ -419,14 +419,14 @@ module _ (old : Node) (name : List ℕ) (shape : Shape) where
   give-file one two said more b c h nb nc (inl x) (inr y) = absurd (file-not one y.0 (add-want y.0 (λ e. nc (y.4 ∙ e))) x.0 y.1)
   give-file one two said more b c h nb nc (inr x) (inl y) = absurd (file-not two x.0 (add-want x.0 (λ e. nb (x.4 ∙ e))) y.0 x.1)
   give-file one two said more b c h nb nc (inr x) (inr y) =
-      why-one add_refusal (ungiven old) one two said more b c x.0 y.0 h
+      why-one add_refusal (node_without_file old) one two said more b c x.0 y.0 h
       (files-why x.0 y.0 (add-want x.0 (λ e. nb (x.4 ∙ e))) (add-want y.0 (λ e. nc (y.4 ∙ e))) x.1 y.1) (x.2, x.3, x.4) (y.2, y.3, y.4)
 
 file-by : (o : Option Shape) (why : LineAnswer) (old one two : Node) (name said more : List ℕ) (b c : Became) → HasRun old.node → b ≢ NoMemory → c ≢ NoMemory
-    → MatchOption o (Says why (ungiven old) one said b) (λ shape. DoneOr (λ became. became) (GivesFile name shape old one) (FileNotGiven name old) add_refusal (ungiven old) one said b)
-    → MatchOption o (Says why (ungiven old) two more c) (λ shape. DoneOr (λ became. became) (GivesFile name shape old two) (FileNotGiven name old) add_refusal (ungiven old) two more c)
+    → MatchOption o (Says why (node_without_file old) one said b) (λ shape. DoneOr (λ became. became) (GivesFile name shape old one) (FileNotGiven name old) add_refusal (node_without_file old) one said b)
+    → MatchOption o (Says why (node_without_file old) two more c) (λ shape. DoneOr (λ became. became) (GivesFile name shape old two) (FileNotGiven name old) add_refusal (node_without_file old) two more c)
     → Same one two said more b c
-file-by None why old one two name said more b c h nb nc x y = says-one why (ungiven old) one two said more b c h x y
+file-by None why old one two name said more b c h nb nc x y = says-one why (node_without_file old) one two said more b c h x y
 file-by (Some shape) why old one two name said more b c h nb nc x y = give-file old name shape one two said more b c h nb nc x y
 
 -- ---- A record.
@@ -529,7 +529,7 @@ module _ (old : Node) (name : List ℕ) where
   abbrev at-name : Option ℕ
   at-name = index_by shared.setup.names name shared.files
 
-  drop-not : (one : Node) (f : RemoveFault) → Dropped name old one → NotRemoved shared name f → ⊥
+  drop-not : (one : Node) (f : RemoveFault) → DropsNamedFile name old one → NotRemoved shared name f → ⊥
   drop-not one removing.NoFile x h = no-index at-name x.drops.0 x.drops.1 h
   drop-not one removing.Busy x h =
       let same : h.0 ≡ x.drops.0 = one-index at-name h.0 x.drops.0 h.1 x.drops.1 in

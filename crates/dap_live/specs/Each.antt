@@ -35,23 +35,23 @@ each_text told report = report_line report
 -- ---- What waits to be reported.
 
 -- the records so far of a batch under way
-abbrev pub kept : Asking → List (ℕ × List ℕ)
-kept asking = records_kept asking.end.present.pending
+abbrev pub batch_so_far : Asking → List (ℕ × List ℕ)
+batch_so_far asking = records_kept asking.end.present.pending
 
 -- the reports that wait; where each record is reported by itself, also those of a batch under way that weren't reported
 abbrev pub told_text : Asking → List ℕ
 told_text asking =
     if asking.is_each
-    then flat_map (each_text asking.told) asking.reports.items ++ records_text (drop asking.told (kept asking))
+    then flat_map (each_text asking.told) asking.reports.items ++ records_text (drop asking.told (batch_so_far asking))
     else reports_text asking.reports.items
 
 -- there is something
 abbrev pub waits_told : Asking → Bool
-waits_told asking = nat_lt 0 (length asking.reports.items) || (asking.is_each && nat_lt asking.told (length (kept asking)))
+waits_told asking = nat_lt 0 (length asking.reports.items) || (asking.is_each && nat_lt asking.told (length (batch_so_far asking)))
 
 -- this many records of a batch under way are reported once all is reported that waits
 abbrev pub told_after : Asking → ℕ
-told_after asking = if asking.is_each then length (kept asking) else asking.told
+told_after asking = if asking.is_each then length (batch_so_far asking) else asking.told
 
 -- Each record is reported by itself after a request, where this one says so or this was so before. A fetch says it or
 -- doesn't, and a Continue goes on as the fetch before it.

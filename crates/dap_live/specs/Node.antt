@@ -238,8 +238,8 @@ pub record EndsOn (link : ℕ) (old new : Node) : Type 0 where
 -- ---- Files that it is given.
 
 -- no file takes records
-abbrev pub ungiven : Node → Node
-ungiven node = record node { given = None }
+abbrev pub node_without_file : Node → Node
+node_without_file node = record node { given = None }
 
 -- A file or record was added, these are the files now, and no link moved.
 pub record GivenTo (made : Files) (event : Event) (old new : NodeValue) : Type 0 where
@@ -265,8 +265,8 @@ FileNotGiven name node f = MatchBool (is_used node) (f ≡ add.Busy)
 -- A file is added, or the reason why not is answered, and no file takes records. Bad attributes come first.
 abbrev pub AddsFileTo : Node → FileLine → Node → List ℕ → Became → Type 0
 AddsFileTo old file new text became = MatchOption (checked_shape file.org file.rfm file.mrs file.mrn)
-    (Says (status_line stscode.access_refused reasons.bad_attributes, Done) (ungiven old) new text became)
-    (λ shape. DoneOr (λ became. became) (GivesFile file.name shape old new) (FileNotGiven file.name old) add_refusal (ungiven old) new text became)
+    (Says (status_line stscode.access_refused reasons.bad_attributes, Done) (node_without_file old) new text became)
+    (λ shape. DoneOr (λ became. became) (GivesFile file.name shape old new) (FileNotGiven file.name old) add_refusal (node_without_file old) new text became)
 
 -- a record was added to the file of this name
 abbrev pub GivesRecordTo : (name : List ℕ) → (number : ℕ) → (body : List ℕ) → NodeValue → NodeValue → Type 0
@@ -300,7 +300,7 @@ given_beside names dropped None = None
 given_beside names dropped (Some given) = if same_name names dropped given then None else Some given
 
 -- The file of this name was dropped: no link had it open.
-pub record Dropped (name : List ℕ) (old new : Node) : Type 0 where
+pub record DropsNamedFile (name : List ℕ) (old new : Node) : Type 0 where
   pub drops : AtFile name old.node.noted.shared (λ at. SharedDrops at old.node.noted.shared new.node.noted.shared)
   pub notes : new.node.noted ≡ record old.node.noted { shared = new.node.noted.shared }
   pub ports : new.node.ports ≡ old.node.ports
@@ -310,7 +310,7 @@ pub record Dropped (name : List ℕ) (old new : Node) : Type 0 where
 -- it is dropped, or the reason why not is answered
 abbrev pub DropsFile : Node → (name : List ℕ) → Node → List ℕ → Became → Type 0
 DropsFile old name new text became =
-    DoneOr (λ became. became) (Dropped name old new) (NotRemoved old.node.noted.shared name) remove_refusal old new text became
+    DoneOr (λ became. became) (DropsNamedFile name old new) (NotRemoved old.node.noted.shared name) remove_refusal old new text became
 
 -- ---- A line.
 
@@ -342,13 +342,13 @@ named_by node o = None
 
 -- the node where an order isn't done: the line concerns the link that it means, and a file that isn't added takes no
 -- records
-abbrev pub undone : Node → NodeOrder → Node
-undone old (order.File file) = ungiven old
-undone old o = about_any (named_by old o) old
+abbrev pub node_after_refusal : Node → NodeOrder → Node
+node_after_refusal old (order.File file) = node_without_file old
+node_after_refusal old o = about_any (named_by old o) old
 
 -- nothing is done
 abbrev pub IsNotDone : Node → NodeOrder → Node → Type 0
-IsNotDone old o new = new ≡ undone old o
+IsNotDone old o new = new ≡ node_after_refusal old o
 
 -- the node before a line, which concerns the only link, or none so far
 abbrev pub before_line : Node → Node

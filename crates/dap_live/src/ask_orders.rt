@@ -21,7 +21,7 @@ pub(crate) enum AskOrder<'a> {
     FetchEach,
 }
 
-/// Reads the end of a line with one word.
+/// Returns the order of a line of one word, which was read; None where more words follow.
 fn read_plain<'a>(words: Words<'a>, order: AskOrder<'a>) -> Option<AskOrder<'a>>
     ensures { result ≡ ends order.entry words.entry }
 {

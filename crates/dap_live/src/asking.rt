@@ -334,7 +334,8 @@ fn fetch_each(asking: &mut Asking, text: &mut Vec<u8>) -> Result<Came, AllocErro
     ask_running(asking, true, &Request::Fetch, text)
 }
 
-/// Makes the link anew.
+/// Begins a new link: as the last one was, or between these addresses. Nothing was asked on it, and the reports that
+/// wait are dropped.
 fn renew(asking: &mut Asking, anew: Option<Between>, text: &mut Vec<u8>) -> Result<Came, AllocError>
     requires { text.old.items ≡ [] }
     ensures ok { IfOk result (AskingDoes asking.old (AskOrder.New anew) asking.new text.new.items) }

@@ -28,7 +28,7 @@ pub(crate) enum NodeOrder<'a> {
     Drop(Text<'a>),
 }
 
-/// Reads `LOCAL`.
+/// Reads `LOCAL`, the address of a link, which is the last word of the line.
 fn read_address_alone(mut words: Words<'_>) -> Option<u16>
     ensures { result ≡ address_alone words.entry }
 {
@@ -46,7 +46,7 @@ fn read_text_alone<'a>(mut words: Words<'a>) -> Option<Text<'a>>
     Some(name)
 }
 
-/// Reads the end of a line with one word.
+/// Returns the order of a line of one word, which was read; None where more words follow.
 fn read_plain<'a>(words: Words<'a>, order: NodeOrder<'a>) -> Option<NodeOrder<'a>>
     ensures { result ≡ ends order.entry words.entry }
 {

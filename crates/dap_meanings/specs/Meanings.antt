@@ -15,7 +15,7 @@ use Rattle.nsp_seg.specs.declared.packet.SegFault.{SegFault}
 use Rattle.std.specs.Prelude.{Result}
 use Rattle.dap_text.specs.Text.{line_feed}
 use Rattle.dap_meanings.specs.Tables.{Table, word_in, access_functions, complete_functions, continue_functions, control_functions, control_packets, formats, organizations, other_types, reason_table, record_accesses, status_codes, status_kinds, systems}
-use Rattle.dap_meanings.specs.Quoted.{quoted}
+use Rattle.dap_meanings.specs.Quoted.{quoted_bytes}
 
 -- words, if a field is there
 abbrev pub if_there : {X : Type 0} → (X → List (List ℕ)) → Option X → List (List ℕ)
@@ -63,13 +63,13 @@ status_words code stv = first_words (word_in status_codes code) (first_words (re
 abbrev pub message_words : Message → List (List ℕ)
 message_words (Config c) = word_in systems c.ostype
 message_words (Attrib a) = if_there (word_in organizations) a.org ++ if_there (word_in formats) a.rfm
-message_words (Access a) = word_in access_functions a.func ++ (quoted a.name ++ rights_words a.fac)
+message_words (Access a) = word_in access_functions a.func ++ (quoted_bytes a.name ++ rights_words a.fac)
 message_words (Control c) =
     word_in control_functions c.func ++ (if_there (word_in record_accesses) c.rac ++ if_there record_words c.key)
 message_words (Contran func) = word_in continue_functions func
 message_words Ack = []
 message_words (Accomp c) = word_in complete_functions c.func
-message_words (Filedata recnum payload) = record_words recnum ++ quoted payload
+message_words (Filedata recnum payload) = record_words recnum ++ quoted_bytes payload
 message_words (Status s) = status_words s.code s.stv ++ record_words s.recnum
 message_words (Other number body) = word_in other_types number
 

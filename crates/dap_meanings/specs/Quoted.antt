@@ -7,8 +7,8 @@ abbrev pub is_printable : ℕ → Bool
 is_printable byte = nat_le 0x20 byte && nat_le byte 0x7E
 
 -- a quote or a backslash is after a backslash
-abbrev pub escaped : ℕ → List ℕ
-escaped byte = if byte == 34 || byte == 92 then 92 ∷ byte ∷ [] else byte ∷ []
+abbrev pub escaped_byte : ℕ → List ℕ
+escaped_byte byte = if byte == 34 || byte == 92 then 92 ∷ byte ∷ [] else byte ∷ []
 
 -- the maximum number of bytes that are quoted
 abbrev pub max_quoted : ℕ
@@ -20,8 +20,8 @@ closing bytes = if nat_lt max_quoted (length bytes) then codes "\".." else codes
 
 -- the first bytes in quotes
 abbrev pub quote : List ℕ → List ℕ
-quote bytes = codes "\"" ++ (flat_map escaped (take max_quoted bytes) ++ closing bytes)
+quote bytes = codes "\"" ++ (flat_map escaped_byte (take max_quoted bytes) ++ closing bytes)
 
 -- bytes that are all printable, in quotes; others have no words
-abbrev pub quoted : List ℕ → List (List ℕ)
-quoted bytes = if list_all is_printable bytes then quote bytes ∷ [] else []
+abbrev pub quoted_bytes : List ℕ → List (List ℕ)
+quoted_bytes bytes = if list_all is_printable bytes then quote bytes ∷ [] else []

@@ -3,7 +3,7 @@
 ghost use Rattle.std.specs.Prelude.{◌≡◌, OnOk, take};
 ghost use Rattle.std.specs.List.{flat_map, list_all};
 ghost use Rattle.dap_text.specs.Adding.{Adds};
-ghost use Rattle.dap_meanings.specs.Quoted.{closing, escaped, max_quoted, is_printable as printable, quote, quoted as quoted_words};
+ghost use Rattle.dap_meanings.specs.Quoted.{closing, escaped_byte, max_quoted, is_printable as printable, quote, quoted_bytes as quoted_words};
 ghost use Rattle.dap_meanings.specs.Inner.Words.{word_list};
 
 use crate::words::Word;
@@ -45,7 +45,7 @@ pub(crate) fn quoted(bytes: &[u8]) -> Word<'_>
 
 /// Appends bytes, with a backslash before each quote and each backslash.
 fn push_escaped(text: &mut Vec<u8>, bytes: &[u8]) -> Result<(), AllocError>
-    ensures { OnOk result (Adds text.old text.new (flat_map escaped bytes.now)) }
+    ensures { OnOk result (Adds text.old text.new (flat_map escaped_byte bytes.now)) }
 {
     for byte in bytes {
         if *byte == b'"' || *byte == b'\\' {

@@ -143,7 +143,7 @@ const TYPE_UNIT: u16 = 64;
 /// Returns the STSCODE where a message of this type asks for what is not supported: MACCODE 2 (DAP 5.6.0, Status
 /// message).
 pub fn unsupported(message_type: u8) -> u16
-    ensures { result ≡ codes.unsupported message_type }
+    ensures { result ≡ codes.unsupported_code message_type }
 {
     UNSUPPORTED + TYPE_UNIT * u16::from(message_type)
 }

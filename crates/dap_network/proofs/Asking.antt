@@ -7,7 +7,7 @@ use Rattle.dap_accessing.specs.Request.{Request}
 use Rattle.dap_accessing.specs.declared.report.Report.{Report}
 use Rattle.dap_end.specs.Calls.{AskingEvent, AskingRuns, AskingStepped, requests_in}
 use Rattle.dap_end.specs.Done.{AskingValue}
-use Rattle.dap_end.specs.Headline.{Arrival, Written}
+use Rattle.dap_end.specs.Headline.{Arrival, WrittenPacket}
 use Rattle.dap_end.specs.Joined.{IsBrought}
 use Rattle.dap_end.specs.Runs.{RunsBy}
 use Rattle.dap_end.proofs.ForCallers.{SoFar, asked_as, after_these, requests_of, runs_then}
@@ -37,7 +37,7 @@ module _ (link : ℕ) where
       let is : with_the_peer (with_the_peer old q) last ≡ with_the_peer old (peer_after peer (requests_in (event ∷ events)) now) = ap (λ (l : List (Option Peer)). record old { peers = l }) (set_again old.peers link (Some q) (Some last)) ∙ ap (λ (l : List Request). with_the_peer old (record last { requests = l })) requests in
       (with_the_peer old q, r.1, step, subst (NetworkRuns (with_the_peer old q) (map (AtPeer link) events)) is rest)
 
-  pub peer_leads : (old : Network) (peer : Peer) (client : AskingValue) (came : List Arrival) (requests : List Request) (reports : List Report) (wrote : List Written) → slice_get old.peers link ≡ Some (Some peer) → AllByRecursion (λ c. IsBrought peer.from_node c.0 c.1) came
+  pub peer_leads : (old : Network) (peer : Peer) (client : AskingValue) (came : List Arrival) (requests : List Request) (reports : List Report) (wrote : List WrittenPacket) → slice_get old.peers link ≡ Some (Some peer) → AllByRecursion (λ c. IsBrought peer.from_node c.0 c.1) came
       → AskingRuns came requests peer.client client reports wrote → Leads old (peer_then old link peer client requests reports wrote)
   peer_leads old peer client came requests reports wrote at brought run =
       let r = asked_as (IsBrought peer.from_node) came requests peer.client client reports wrote brought run in

@@ -14,7 +14,7 @@ use Rattle.dap_end.specs.declared.fault.TakeFault.{TakeFault}
 use Rattle.dap_end.specs.By.{ServedBy, TurnsBy, end_with}
 use Rattle.dap_end.specs.By as by
 use Rattle.dap_end.specs.Calls.{Came, EndEvent, EndStepped, GoesOn, Repeats}
-use Rattle.dap_end.specs.Headline.{Written, written_bytes}
+use Rattle.dap_end.specs.Headline.{WrittenPacket, written_bytes}
 use Rattle.dap_end.specs.Joined.{IsBrought}
 use Rattle.dap_end.specs.Node.{HasPort, NodeLinkValue, NodeValue, OnLink, without_notes, serves_on}
 use Rattle.dap_end.specs.Ports.{EndValue, HandsOver, PortValue}
@@ -72,26 +72,26 @@ did link most a b (Err (end_fault.Read f)) d = absurd d.2
 -- ---- Events of a link are events of the network.
 
 -- The peers, once the node wrote this on the link; and an event of the link leads from one to the other.
-module _ (link : ℕ) (comes : nsp.LinkValue → List ℕ → Type 0) (peers : List Written → List (Option Peer))
-    (step : (ws more : List Written) (old new : Network) (event : EndEvent) → old.peers ≡ peers ws → LinkStepped link comes old.node event more new.node → new.peers ≡ peers (ws ++ more) → NetworkStepped old (AtNode link event) more new) where
-  plain_event : (a b : NodeLinkValue) (event : EndEvent) (ws : List Written) → EndStepped (Unit {0}) (Does link) comes a event b ws → EndStepped (Unit {0}) (WorkedBy (SharedServed link)) comes (plain a) event (plain b) ws
+module _ (link : ℕ) (comes : nsp.LinkValue → List ℕ → Type 0) (peers : List WrittenPacket → List (Option Peer))
+    (step : (ws more : List WrittenPacket) (old new : Network) (event : EndEvent) → old.peers ≡ peers ws → LinkStepped link comes old.node event more new.node → new.peers ≡ peers (ws ++ more) → NetworkStepped old (AtNode link event) more new) where
+  plain_event : (a b : NodeLinkValue) (event : EndEvent) (ws : List WrittenPacket) → EndStepped (Unit {0}) (Does link) comes a event b ws → EndStepped (Unit {0}) (WorkedBy (SharedServed link)) comes (plain a) event (plain b) ws
   plain_event a b (Came bytes) ws t = (t.0, t.1, t.2, ap (λ (v : NodeLinkValue). plain v) t.3, t.4, t.5, t.6)
   plain_event a b GoesOn ws t = (plain t.0, t.1, t.2, t.3, ap (λ (v : NodeLinkValue). plain v) t.4, t.5)
   plain_event a b (Repeats k) ws t = (t.0, t.1, t.2, ap (λ (v : NodeLinkValue). plain v) t.3, t.4, t.5)
 
   -- The link is so in the network, and this was written on it.
-  pub record IsSo (net : Network) (v : NodeLinkValue) (ws : List Written) : Type 0 where
+  pub record IsSo (net : Network) (v : NodeLinkValue) (ws : List WrittenPacket) : Type 0 where
     pub there : HasPort link net.node v.port
     pub shared : net.node.noted.shared ≡ v.present.shared
     pub with_peers : net.peers ≡ peers ws
 
   -- the network then
-  pub record Then (net : Network) (v : NodeLinkValue) (ws : List Written) (new : Network) : Type 0 where
+  pub record Then (net : Network) (v : NodeLinkValue) (ws : List WrittenPacket) (new : Network) : Type 0 where
     pub ports : new.node.ports ≡ set net.node.ports link (Some v.port)
     pub shared : new.node.noted.shared ≡ v.present.shared
     pub with_peers : new.peers ≡ peers ws
 
-  stepped_to : (net new : Network) (a b : NodeLinkValue) (event : EndEvent) (ws more all : List Written) → IsSo net a ws → EndStepped (Unit {0}) (WorkedBy (SharedServed link)) comes (plain a) event (plain b) more → all ≡ ws ++ more → Then net b all new
+  stepped_to : (net new : Network) (a b : NodeLinkValue) (event : EndEvent) (ws more all : List WrittenPacket) → IsSo net a ws → EndStepped (Unit {0}) (WorkedBy (SharedServed link)) comes (plain a) event (plain b) more → all ≡ ws ++ more → Then net b all new
       → NetworkStepped net (AtNode link event) more new
   stepped_to net new a b event ws more all so t at to =
       step ws more net new event so.with_peers
@@ -106,19 +106,19 @@ module _ (link : ℕ) (comes : nsp.LinkValue → List ℕ → Type 0) (peers : L
       (to.with_peers ∙ ap peers at)
 
   -- it goes on, and does nothing
-  rests_so : (net new : Network) (v : NodeLinkValue) (ws : List Written) → IsSo net v ws → Then net v ws new → NetworkStepped net (AtNode link GoesOn) [] new
+  rests_so : (net new : Network) (v : NodeLinkValue) (ws : List WrittenPacket) → IsSo net v ws → Then net v ws new → NetworkStepped net (AtNode link GoesOn) [] new
   rests_so net new v ws so to = stepped_to net new v v GoesOn ws [] ws so (plain v, [], rests, wrote_nothing v.port, refl, refl) (sym (append-nil ws)) to
 
   -- the network in between
-  abbrev between : Network → NodeLinkValue → List Written → Network
+  abbrev between : Network → NodeLinkValue → List WrittenPacket → Network
   between net v ws = record { node = record { noted = v.present; ports = set net.node.ports link (Some v.port) }; peers = peers ws }
 
   -- the events, and one more in which it rests
-  leads_by : (events : List EndEvent) (net new : Network) (a b : NodeLinkValue) (ws all : List Written) → IsSo net a ws → RunsBy (SteppedBy (Does link) (nothing link) comes) (a, ws) events (b, all) → Then net b all new → Leads net new
+  leads_by : (events : List EndEvent) (net new : Network) (a b : NodeLinkValue) (ws all : List WrittenPacket) → IsSo net a ws → RunsBy (SteppedBy (Does link) (nothing link) comes) (a, ws) events (b, all) → Then net b all new → Leads net new
   leads_by [] net new a b ws all so r to =
-      let v : b ≡ a = ap (λ (x : NodeLinkValue × List Written). x.0) r in
-      let l : all ≡ ws = ap (λ (x : NodeLinkValue × List Written). x.1) r in
-      let here : Then net a ws new = subst (λ (x : NodeLinkValue). Then net x ws new) v (subst (λ (x : List Written). Then net b x new) l to) in
+      let v : b ≡ a = ap (λ (x : NodeLinkValue × List WrittenPacket). x.0) r in
+      let l : all ≡ ws = ap (λ (x : NodeLinkValue × List WrittenPacket). x.1) r in
+      let here : Then net a ws new = subst (λ (x : NodeLinkValue). Then net x ws new) v (subst (λ (x : List WrittenPacket). Then net b x new) l to) in
       (AtNode link GoesOn ∷ [], (new, [], rests_so net new a ws so here, refl))
   leads_by (event ∷ events) net new a b ws all so r to =
       let mid = r.0 in
@@ -132,17 +132,17 @@ module _ (link : ℕ) (comes : nsp.LinkValue → List ℕ → Type 0) (peers : L
   -- ---- Calls of the node.
 
   -- the network then
-  abbrev pub so_far : NodeValue → List Written → Network
+  abbrev pub so_far : NodeValue → List WrittenPacket → Network
   so_far node wrote = record { node = node; peers = peers wrote }
 
   -- calls on the link lead to the network with what they wrote
-  leads_on : (old : Network) (node : NodeValue) (a b : NodeLinkValue) (wrote : List Written) → old.peers ≡ peers [] → HasPort link old.node a.port → old.node.noted.shared ≡ a.present.shared → node.ports ≡ set old.node.ports link (Some b.port) → node.noted.shared ≡ b.present.shared
+  leads_on : (old : Network) (node : NodeValue) (a b : NodeLinkValue) (wrote : List WrittenPacket) → old.peers ≡ peers [] → HasPort link old.node a.port → old.node.noted.shared ≡ a.present.shared → node.ports ≡ set old.node.ports link (Some b.port) → node.noted.shared ≡ b.present.shared
       → RunsIn (Does link) (nothing link) comes a b wrote → Leads old (so_far node wrote)
   leads_on old node a b wrote at there shared ports then r =
       leads_by r.0 old (so_far node wrote) a b [] wrote (record { there = there; shared = shared; with_peers = at }) r.1 (record { ports = ports; shared = then; with_peers = refl })
 
   pub take_leads : (most : ℕ) (old : Network) (node : NodeValue) (bytes : List ℕ) (out all : List (List ℕ)) (r : Result Got TakeFault) → old.peers ≡ peers [] → ((p : PortValue) → HasPort link old.node p → comes p.link bytes)
-      → OnLink link (λ before after. TakesPacket (serves_on link most) before after bytes out all r) old.node node → (wrote : List Written) × Leads old (so_far node wrote) × (all ≡ out ++ written_bytes wrote)
+      → OnLink link (λ before after. TakesPacket (serves_on link most) before after bytes out all r) old.node node → (wrote : List WrittenPacket) × Leads old (so_far node wrote) × (all ≡ out ++ written_bytes wrote)
   take_leads most old node bytes out all r at brought on =
       let a : NodeLinkValue = end_with on.before (without_notes old.node.noted) in
       let b : NodeLinkValue = end_with on.after node.noted in
@@ -150,7 +150,7 @@ module _ (link : ℕ) (comes : nsp.LinkValue → List ℕ → Type 0) (peers : L
       (c.0, leads_on old node a b c.0 at on.there refl on.ports refl c.1, c.2)
 
   pub go_on_leads : (most : ℕ) (old : Network) (node : NodeValue) (out all : List (List ℕ)) (r : Result (Unit {0}) EndFault) → old.peers ≡ peers [] → OnLink link (λ before after. WentOn (serves_on link most) before after out all r) old.node node
-      → (wrote : List Written) × Leads old (so_far node wrote) × (all ≡ out ++ written_bytes wrote)
+      → (wrote : List WrittenPacket) × Leads old (so_far node wrote) × (all ≡ out ++ written_bytes wrote)
   go_on_leads most old node out all r at on =
       let a : NodeLinkValue = end_with on.before (without_notes old.node.noted) in
       let b : NodeLinkValue = end_with on.after node.noted in
@@ -174,11 +174,11 @@ module _ (link : ℕ) (comes : nsp.LinkValue → List ℕ → Type 0) (peers : L
 -- ---- Of a client, and of a stranger.
 
 -- the peers, once the node wrote this to the peer of a link
-abbrev pub peers_then : List (Option Peer) → ℕ → Peer → List Written → List (Option Peer)
+abbrev pub peers_then : List (Option Peer) → ℕ → Peer → List WrittenPacket → List (Option Peer)
 peers_then peers link peer ws = set peers link (Some (record peer { from_node = peer.from_node ++ ws }))
 
 module _ (link : ℕ) (peers : List (Option Peer)) (peer : Peer) (there : slice_get peers link ≡ Some (Some peer)) where
-  pub peer_step : (ws more : List Written) (old new : Network) (event : EndEvent) → old.peers ≡ peers_then peers link peer ws → LinkStepped link (IsBrought peer.from_peer) old.node event more new.node → new.peers ≡ peers_then peers link peer (ws ++ more)
+  pub peer_step : (ws more : List WrittenPacket) (old new : Network) (event : EndEvent) → old.peers ≡ peers_then peers link peer ws → LinkStepped link (IsBrought peer.from_peer) old.node event more new.node → new.peers ≡ peers_then peers link peer (ws ++ more)
       → NetworkStepped old (AtNode link event) more new
   peer_step ws more old new event before s after =
       let so : Peer = record peer { from_node = peer.from_node ++ ws } in
@@ -188,15 +188,15 @@ module _ (link : ℕ) (peers : List (Option Peer)) (peer : Peer) (there : slice_
         with_peer = ap (λ (l : List (Option Peer)). slice_get l link) before ∙ set_here peers link (Some peer) (Some so) there;
         stepped = s;
         peers =
-            after ∙ ap (λ (l : List Written). set peers link (Some (record peer { from_node = l }))) (sym (append_assoc peer.from_node ws more))
+            after ∙ ap (λ (l : List WrittenPacket). set peers link (Some (record peer { from_node = l }))) (sym (append_assoc peer.from_node ws more))
             ∙ sym (set_again peers link (Some so) (Some (record so { from_node = so.from_node ++ more })))
             ∙ ap (λ (l : List (Option Peer)). set l link (Some (record so { from_node = so.from_node ++ more }))) (sym before);
       })
 
   -- nothing was written
   pub peers_at_first : peers ≡ peers_then peers link peer []
-  peers_at_first = sym (set_same peers link (Some peer) there) ∙ ap (λ (l : List Written). set peers link (Some (record peer { from_node = l }))) (sym (append-nil peer.from_node))
+  peers_at_first = sym (set_same peers link (Some peer) there) ∙ ap (λ (l : List WrittenPacket). set peers link (Some (record peer { from_node = l }))) (sym (append-nil peer.from_node))
 
-pub stranger_step : (link : ℕ) (peers : List (Option Peer)) → slice_get peers link ≡ Some None → (ws more : List Written) (old new : Network) (event : EndEvent) → old.peers ≡ peers → LinkStepped link (λ _ _. Unit {0}) old.node event more new.node
+pub stranger_step : (link : ℕ) (peers : List (Option Peer)) → slice_get peers link ≡ Some None → (ws more : List WrittenPacket) (old new : Network) (event : EndEvent) → old.peers ≡ peers → LinkStepped link (λ _ _. Unit {0}) old.node event more new.node
     → new.peers ≡ peers → NetworkStepped old (AtNode link event) more new
 stranger_step link peers none ws more old new event before s after = inr (record { stranger = ap (λ (l : List (Option Peer)). slice_get l link) before ∙ none; stepped = s; peers = after ∙ sym before })

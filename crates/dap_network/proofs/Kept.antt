@@ -10,7 +10,7 @@ use Rattle.dap_msg.specs.Blocked.{Blocked, NspMessage, bodies}
 use Rattle.dap_msg.specs.Items.{ItemAt}
 use Rattle.dap_shared.specs.Keeping.{AreOf}
 use Rattle.nsp_link.specs.declared.link.LinkSetup.{LinkSetup}
-use Rattle.dap_accessed.specs.Served.{Answered}
+use Rattle.dap_accessed.specs.Served.{AreAnswers}
 use Rattle.rec_file.specs.declared.picks.Rights.{Rights}
 use Rattle.dap_accessed.specs.Setup.{all_rights}
 use Rattle.dap_accessed.specs.declared.setup.ServerSetup.{ServerSetup}
@@ -22,7 +22,7 @@ use Rattle.dap_shared.proofs.ForCallers.{answers-grow}
 use Rattle.dap_end.specs.By.{ServedBy}
 use Rattle.dap_end.specs.Calls.{AskingEvent, Came, EndEvent, GoesOn, Repeats, WroteOne}
 use Rattle.dap_end.specs.Going.{processed_after}
-use Rattle.dap_end.specs.Headline.{Written}
+use Rattle.dap_end.specs.Headline.{WrittenPacket}
 use Rattle.dap_end.specs.Moved.{with_link}
 use Rattle.dap_end.specs.Node.{EndedOn, HasPort, NodeValue}
 use Rattle.dap_end.specs.Ports.{EndValue, HandsOver, PortValue, gone_on, new_port}
@@ -44,11 +44,11 @@ module _ (own : ServerSetup) (links : ℕ) (first : Files) where
 
   -- the answers by the numbers of the node
   answered_here : (v : SharedValue) (link : ℕ) (history : List Event) (item : Item) (out : Vec (Vec ℕ)) → Holds history v
-      → Answered (limit_on link v.setup first (length v.sessions) history) (added_on link v.setup first (length v.sessions) history item) out
-      → Answered (limit_on link own first links history) (added_on link own first links history item) out
+      → AreAnswers (limit_on link v.setup first (length v.sessions) history) (added_on link v.setup first (length v.sessions) history item) out
+      → AreAnswers (limit_on link own first links history) (added_on link own first links history item) out
   answered_here v link history item out h a =
-      subst (λ (n : ℕ). Answered (limit_on link own first n history) (added_on link own first n history item) out) h.as_many
-      (subst (λ (o : ServerSetup). Answered (limit_on link o first (length v.sessions) history) (added_on link o first (length v.sessions) history item) out) h.is_own a)
+      subst (λ (n : ℕ). AreAnswers (limit_on link own first n history) (added_on link own first n history item) out) h.as_many
+      (subst (λ (o : ServerSetup). AreAnswers (limit_on link o first (length v.sessions) history) (added_on link o first (length v.sessions) history item) out) h.is_own a)
 
   -- ---- Items of a link are served.
 
@@ -198,7 +198,7 @@ module _ (own : ServerSetup) (links : ℕ) (first : Files) where
     stands : NetworkStands now new
 
   -- the node is called on a link, and no more is served
-  module _ (link : ℕ) (history : List Event) (old new : Network) (event : EndEvent) (more : List Written) (s : SteppedOn link old event more new) (h : NetworkStands history old) where
+  module _ (link : ℕ) (history : List Event) (old new : Network) (event : EndEvent) (more : List WrittenPacket) (s : SteppedOn link old event more new) (h : NetworkStands history old) where
     abbrev peer_then : Peer
     peer_then = record s.peer { from_node = s.peer.from_node ++ more }
 
@@ -227,14 +227,14 @@ module _ (own : ServerSetup) (links : ℕ) (first : Files) where
     same_shared e = subst (Holds history) (sym e) h.holds
 
   -- a packet is written again, or an acknowledgement
-  again : (link : ℕ) (history : List Event) (old new : Network) (event : EndEvent) (more : List Written) → (s : SteppedOn link old event more new) → NetworkStands history old → AddsToHistory (AtNode link event) [] → (w : Written) (k : Option ℕ) → WroteOne s.stepped.before.link k w
+  again : (link : ℕ) (history : List Event) (old new : Network) (event : EndEvent) (more : List WrittenPacket) → (s : SteppedOn link old event more new) → NetworkStands history old → AddsToHistory (AtNode link event) [] → (w : WrittenPacket) (k : Option ℕ) → WroteOne s.stepped.before.link k w
       → IfSome k (λ n. n ≤ s.stepped.before.link.sent) → end_of_link s.stepped.after new.node ≡ end_of_link s.stepped.before old.node → more ≡ w ∷ [] → Next (AtNode link event) history new
   again link history old new event more s h tells w k one was kept_so only =
       let before = before_it link history old new event more s h in
       let wrote = packet_again (items_on link history) (AnswersOn link own first links history) s.stepped.before s.peer before k w one was in
       let port : s.stepped.after ≡ s.stepped.before = ap (λ (v : EndValue SharedValue). v.port) kept_so in
       let here = subst (λ (p : PortValue). Linked link history p (record s.peer { from_node = s.peer.from_node ++ more })) (sym port)
-      (subst (λ (l : List Written). Linked link history s.stepped.before (record s.peer { from_node = s.peer.from_node ++ l })) (sym only) wrote) in
+      (subst (λ (l : List WrittenPacket). Linked link history s.stepped.before (record s.peer { from_node = s.peer.from_node ++ l })) (sym only) wrote) in
       record {
         told = [];
         tells = tells;
@@ -244,14 +244,14 @@ module _ (own : ServerSetup) (links : ℕ) (first : Files) where
       }
 
   -- each event on a link of a client
-  on_link : (link : ℕ) (history : List Event) (old new : Network) (event : EndEvent) (more : List Written) → SteppedOn link old event more new → NetworkStands history old → Next (AtNode link event) history new
+  on_link : (link : ℕ) (history : List Event) (old new : Network) (event : EndEvent) (more : List WrittenPacket) → SteppedOn link old event more new → NetworkStands history old → Next (AtNode link event) history new
   on_link link history old new (Came bytes) more s h =
       let t = s.stepped.steps in
       let same_ports : s.stepped.after ≡ with_link s.stepped.before t.1 = ap (λ (v : EndValue SharedValue). v.port) t.3 in
       let before = before_it link history old new (Came bytes) more s h in
       let came = packet_came (items_on link history) (AnswersOn link own first links history) s.stepped.before s.peer before t.1 bytes t.0 t.2 t.6 in
-      let wire : s.peer.from_node ++ more ≡ s.peer.from_node = ap (λ (l : List Written). s.peer.from_node ++ l) t.4 ∙ append-nil s.peer.from_node in
-      let here = subst (λ (p : PortValue). Linked link history p (record s.peer { from_node = s.peer.from_node ++ more })) (sym same_ports) (subst (λ (l : List Written). Linked link history (with_link s.stepped.before t.1) (record s.peer { from_node = l })) (sym wire) came) in
+      let wire : s.peer.from_node ++ more ≡ s.peer.from_node = ap (λ (l : List WrittenPacket). s.peer.from_node ++ l) t.4 ∙ append-nil s.peer.from_node in
+      let here = subst (λ (p : PortValue). Linked link history p (record s.peer { from_node = s.peer.from_node ++ more })) (sym same_ports) (subst (λ (l : List WrittenPacket). Linked link history (with_link s.stepped.before t.1) (record s.peer { from_node = l })) (sym wire) came) in
       record {
         told = [];
         tells = refl;
@@ -264,7 +264,7 @@ module _ (own : ServerSetup) (links : ℕ) (first : Files) where
       let before = before_it link history old new GoesOn more s h in
       let w = worked link history before.given before.handed before.packets (end_of_link s.stepped.before old.node) t.0 t.2 h.holds before.stands in
       let went = link_went (items_on link history) (AnswersOn link own first links history) s.stepped.before s.peer before w.left w.passed w.packets (items_on link w.now) (AnswersOn link own first links w.now) t.0.port s.stepped.after t.1 w.stands w.grew t.3 in
-      let here = subst (λ (l : List Written). Linked link w.now s.stepped.after (record s.peer { from_node = s.peer.from_node ++ l })) (sym t.5) went in
+      let here = subst (λ (l : List WrittenPacket). Linked link w.now s.stepped.after (record s.peer { from_node = s.peer.from_node ++ l })) (sym t.5) went in
       let holds : Holds w.now new.node.noted.shared = subst (Holds w.now) (sym (ap (λ (v : EndValue SharedValue). v.present) t.4)) w.holds in
       record {
         told = map (Serves link) w.items;
@@ -282,7 +282,7 @@ module _ (own : ServerSetup) (links : ℕ) (first : Files) where
   no_peer : {A : Type 0} (o : Option (Option A)) (a : A) → o ≡ Some None → o ≡ Some (Some a) → ⊥
   no_peer o a e f = cc
 
-  beside : (link : ℕ) (history now : List Event) (old new : Network) (event : EndEvent) (more : List Written) → SteppedBefore link old event more new → NetworkStands history old → Holds now new.node.noted.shared
+  beside : (link : ℕ) (history now : List Event) (old new : Network) (event : EndEvent) (more : List WrittenPacket) → SteppedBefore link old event more new → NetworkStands history old → Holds now new.node.noted.shared
       → ((other : ℕ) → other ≢ link → IsSame own links first other history now) → NetworkStands now new
   beside link history now old new event more s h holds others =
       moved link history now old new
@@ -295,7 +295,7 @@ module _ (own : ServerSetup) (links : ℕ) (first : Files) where
       })
       h
 
-  quiet_beside : (link : ℕ) (history : List Event) (old new : Network) (event : EndEvent) (more : List Written) → SteppedBefore link old event more new → NetworkStands history old → AddsToHistory (AtNode link event) [] → new.node.noted.shared ≡ old.node.noted.shared
+  quiet_beside : (link : ℕ) (history : List Event) (old new : Network) (event : EndEvent) (more : List WrittenPacket) → SteppedBefore link old event more new → NetworkStands history old → AddsToHistory (AtNode link event) [] → new.node.noted.shared ≡ old.node.noted.shared
       → Next (AtNode link event) history new
   quiet_beside link history old new event more s h tells is_same =
       record {
@@ -307,7 +307,7 @@ module _ (own : ServerSetup) (links : ℕ) (first : Files) where
       }
 
   -- each event on a link of a stranger
-  on_stranger : (link : ℕ) (history : List Event) (old new : Network) (event : EndEvent) (more : List Written) → SteppedBefore link old event more new → NetworkStands history old → Next (AtNode link event) history new
+  on_stranger : (link : ℕ) (history : List Event) (old new : Network) (event : EndEvent) (more : List WrittenPacket) → SteppedBefore link old event more new → NetworkStands history old → Next (AtNode link event) history new
   on_stranger link history old new (Came bytes) more s h =
       let t = s.stepped.steps in quiet_beside link history old new (Came bytes) more s h refl (ap (λ (v : EndValue SharedValue). v.present) t.3)
   on_stranger link history old new GoesOn more s h =
@@ -326,7 +326,7 @@ module _ (own : ServerSetup) (links : ℕ) (first : Files) where
 
   -- ---- The peer of a link is called.
 
-  on_peer : (link : ℕ) (history : List Event) (old new : Network) (event : AskingEvent) (more : List Written) → PeerStepped link old event more new → NetworkStands history old → Next (AtPeer link event) history new
+  on_peer : (link : ℕ) (history : List Event) (old new : Network) (event : AskingEvent) (more : List WrittenPacket) → PeerStepped link old event more new → NetworkStands history old → Next (AtPeer link event) history new
   on_peer link history old new event more s h =
       let nodes : new.node ≡ old.node = ap (λ (n : Network). n.node) s.is in
       let peers : new.peers ≡ set old.peers link (Some s.then) = ap (λ (n : Network). n.peers) s.is in
@@ -444,7 +444,7 @@ module _ (own : ServerSetup) (links : ℕ) (first : Files) where
 
   -- ---- All events.
 
-  next : (event : NetworkEvent) (history : List Event) (old new : Network) (more : List Written) → NetworkStepped old event more new → NetworkStands history old → Next event history new
+  next : (event : NetworkEvent) (history : List Event) (old new : Network) (more : List WrittenPacket) → NetworkStepped old event more new → NetworkStands history old → Next event history new
   next (AtPeer link event) history old new more s h = on_peer link history old new event more s h
   next (AtNode link event) history old new more (inl s) h = on_link link history old new event more s h
   next (AtNode link event) history old new more (inr s) h = on_stranger link history old new event more s h

@@ -14,7 +14,7 @@ use Rattle.dap_accessing.specs.Asked.{Asked}
 use Rattle.dap_accessing.specs.Request.{Request}
 use Rattle.dap_accessing.specs.Told.{Told}
 use Rattle.dap_end.specs.Calls.{AskingEvent, AskingStepped, WroteOne, numbered_packets, requests_in}
-use Rattle.dap_end.specs.Headline.{Written}
+use Rattle.dap_end.specs.Headline.{WrittenPacket}
 use Rattle.dap_end.specs.Joined.{IsBrought}
 use Rattle.dap_end.specs.Moved.{with_link}
 use Rattle.dap_end.specs.Ports.{PortValue, new_port}
@@ -75,7 +75,7 @@ link_new setup peer n =
       handed = [];
       packets = [];
       stands = stands_new setup;
-      joined = subst (λ (l : List Written). IsJoinedTo (new_port setup).link [] [] l (client_of peer)) (sym (ap (λ (p : Peer). p.from_node) n.none)) c;
+      joined = subst (λ (l : List WrittenPacket). IsJoinedTo (new_port setup).link [] [] l (client_of peer)) (sym (ap (λ (p : Peer). p.from_node) n.none)) c;
     }
 
 module _ (items : List Item) (answers : List Message) (port : PortValue) (peer : Peer) (j : LinkStands items answers port peer) where
@@ -86,11 +86,11 @@ module _ (items : List Item) (answers : List Message) (port : PortValue) (peer :
   a = peer.client.port.link
 
   -- the client joined to another link, and the same otherwise
-  joined_by : (link : LinkValue) (handed given : List (List ℕ)) (wire : List Written) → AreJoined a link c.asked.handed handed c.asked.given given peer.from_peer wire → IsJoinedTo link handed given wire (client_of peer)
+  joined_by : (link : LinkValue) (handed given : List (List ℕ)) (wire : List WrittenPacket) → AreJoined a link c.asked.handed handed c.asked.given given peer.from_peer wire → IsJoinedTo link handed given wire (client_of peer)
   joined_by link handed given wire ways = record { asked = c.asked; asking = c.asking; requests = c.requests; told = c.told; ways = ways }
 
   -- the peer is called
-  pub peer_called : (then : Peer) (event : AskingEvent) (more : List Written) → AskingStepped (IsBrought peer.from_node) (peer.client, peer.reports, peer.from_peer) event more (then.client, then.reports, then.from_peer) → then.requests ≡ peer.requests ++ requests_in (event ∷ [])
+  pub peer_called : (then : Peer) (event : AskingEvent) (more : List WrittenPacket) → AskingStepped (IsBrought peer.from_node) (peer.client, peer.reports, peer.from_peer) event more (then.client, then.reports, then.from_peer) → then.requests ≡ peer.requests ++ requests_in (event ∷ [])
       → then.from_node ≡ peer.from_node → LinkStands items answers port then
   peer_called then event more steps requests same =
       record {
@@ -98,7 +98,7 @@ module _ (items : List Item) (answers : List Message) (port : PortValue) (peer :
         handed = j.handed;
         packets = j.packets;
         stands = j.stands;
-        joined = subst (λ (l : List Written). IsJoinedTo port.link j.handed j.given l (client_of then)) (sym same) (asks port.link j.handed j.given peer.from_node (client_of peer) (client_of then) event more steps requests c);
+        joined = subst (λ (l : List WrittenPacket). IsJoinedTo port.link j.handed j.given l (client_of then)) (sym same) (asks port.link j.handed j.given peer.from_node (client_of peer) (client_of then) event more steps requests c);
       }
 
   -- a packet of the peer came
@@ -116,7 +116,7 @@ module _ (items : List Item) (answers : List Message) (port : PortValue) (peer :
       }
 
   -- a packet was written again, or an acknowledgement
-  pub packet_again : (k : Option ℕ) (w : Written) → WroteOne port.link k w → IfSome k (λ n. n ≤ port.link.sent) → LinkStands items answers port (record peer { from_node = peer.from_node ++ w ∷ [] })
+  pub packet_again : (k : Option ℕ) (w : WrittenPacket) → WroteOne port.link k w → IfSome k (λ n. n ≤ port.link.sent) → LinkStands items answers port (record peer { from_node = peer.from_node ++ w ∷ [] })
   packet_again k w one was =
       let back = swapped a port.link c.asked.handed j.handed c.asked.given j.given peer.from_peer peer.from_node c.ways in
       let ways = wrote_one port.link a j.handed c.asked.handed j.given c.asked.given peer.from_node peer.from_peer k w back j.stands.sends was one in

@@ -13,7 +13,7 @@ use Rattle.dap_msg.proofs.ForCallers.{messages_in-Blocked}
 use Rattle.nsp_link.specs.declared.link.LinkSetup.{LinkSetup}
 use Rattle.nsp_link.specs.Link.{AreShort, LinkValue, Sends, SendsStill, Stands, with_inbox}
 use Rattle.nsp_link.proofs.ForCallers.{may_queue_parts, sends_all, sends_new}
-use Rattle.dap_accessed.specs.Served.{Answered}
+use Rattle.dap_accessed.specs.Served.{AreAnswers}
 use Rattle.dap_end.specs.Going.{GoneThrough, processed_after}
 use Rattle.dap_end.specs.Moved.{with_outbox_sent, sent_more, with_link}
 use Rattle.dap_end.specs.Histories.{AreFull}
@@ -65,7 +65,7 @@ module _ (given handed : List (List ℕ)) (packets : List NspMessage) (items : L
 
   -- one item more was served, and these are its answers
   pub stands_served : (bytes : List ℕ) (later : List (List ℕ)) (item : Item) (next limit : ℕ) (more : List Message) (out : Vec (Vec ℕ)) → AreBytes bytes → port.link.coming.inbox ≡ bytes ∷ later → ItemAt bytes port.offset item next → next ≤ length bytes
-      → port.outbox ≡ [] → Answered limit more out
+      → port.outbox ≡ [] → AreAnswers limit more out
       → PortStands (processed_after given bytes next) handed (packets ++ Blocked limit more) (items ++ item ∷ []) (answers ++ more) (record (gone_on port bytes later next) { outbox = bodies out.items })
   stands_served bytes later item next limit more out fits came reads within idle a =
       let block = Blocked limit more in

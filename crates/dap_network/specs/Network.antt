@@ -15,7 +15,7 @@ use Rattle.dap_end.specs.Ports.{EndValue, HandsOver, PortValue, new_port}
 use Rattle.dap_end.specs.By.{ServedBy, ServesAt, end_with}
 use Rattle.dap_end.specs.Asking.{HasAsked}
 use Rattle.dap_end.specs.Done.{AskingValue, nothing_asked}
-use Rattle.dap_end.specs.Headline.{Written}
+use Rattle.dap_end.specs.Headline.{WrittenPacket}
 use Rattle.dap_end.specs.Joined.{IsBrought}
 use Rattle.dap_end.specs.Calls.{AskingEvent, AskingStepped, EndEvent, EndStepped, requests_in}
 use Rattle.dap_end.specs.Node.{BeganOn, EndedOn, HasPort, NodeValue}
@@ -25,8 +25,8 @@ use Rattle.dap_end.specs.Runs.{RunsBy}
 -- reported: all of it since the link began.
 pub record Peer : Type 0 where
   pub client : AskingValue
-  pub from_peer : List Written
-  pub from_node : List Written
+  pub from_peer : List WrittenPacket
+  pub from_node : List WrittenPacket
   pub requests : List Request
   pub reports : List Report
 
@@ -60,7 +60,7 @@ abbrev pub end_of_link : PortValue → NodeValue → EndValue SharedValue
 end_of_link port node = end_with port node.noted.shared
 
 -- On a link there is an event of the node, and it writes these packets. No other port moves. What comes, comes so.
-pub record LinkStepped (link : ℕ) (comes : LinkValue → List ℕ → Type 0) (old : NodeValue) (event : EndEvent) (more : List Written) (new : NodeValue) : Type 0 where
+pub record LinkStepped (link : ℕ) (comes : LinkValue → List ℕ → Type 0) (old : NodeValue) (event : EndEvent) (more : List WrittenPacket) (new : NodeValue) : Type 0 where
   pub before : PortValue
   pub after : PortValue
   pub there : HasPort link old before
@@ -69,21 +69,21 @@ pub record LinkStepped (link : ℕ) (comes : LinkValue → List ℕ → Type 0) 
 
 -- The packets follow those that the node wrote on the link before. What comes is a packet that the link's peer wrote,
 -- unaltered and not more than 2,047 numbers old.
-pub record SteppedOn (link : ℕ) (old : Network) (event : EndEvent) (more : List Written) (new : Network) : Type 0 where
+pub record SteppedOn (link : ℕ) (old : Network) (event : EndEvent) (more : List WrittenPacket) (new : Network) : Type 0 where
   pub peer : Peer
   pub with_peer : slice_get old.peers link ≡ Some (Some peer)
   pub stepped : LinkStepped link (IsBrought peer.from_peer) old.node event more new.node
   pub peers : new.peers ≡ set old.peers link (Some (record peer { from_node = peer.from_node ++ more }))
 
 -- The peer is a stranger: anything comes.
-pub record SteppedBefore (link : ℕ) (old : Network) (event : EndEvent) (more : List Written) (new : Network) : Type 0 where
+pub record SteppedBefore (link : ℕ) (old : Network) (event : EndEvent) (more : List WrittenPacket) (new : Network) : Type 0 where
   pub stranger : slice_get old.peers link ≡ Some None
   pub stepped : LinkStepped link (λ _ _. Unit {0}) old.node event more new.node
   pub peers : new.peers ≡ old.peers
 
 -- There is an event of the peer of a link, and its packets and reports follow those before. What comes is a packet that
 -- the node wrote on the link, unaltered and not more than 2,047 numbers old.
-pub record PeerStepped (link : ℕ) (old : Network) (event : AskingEvent) (more : List Written) (new : Network) : Type 0 where
+pub record PeerStepped (link : ℕ) (old : Network) (event : AskingEvent) (more : List WrittenPacket) (new : Network) : Type 0 where
   pub peer : Peer
   pub with_peer : slice_get old.peers link ≡ Some (Some peer)
   pub then : Peer
@@ -114,7 +114,7 @@ pub record LinkBegan (link : ℕ) (setup : LinkSetup) (most : Rights) (old new :
   pub peers : new.peers ≡ set old.peers link peer
 
 -- what each event does, and the packets that it writes
-abbrev pub NetworkStepped : Network → NetworkEvent → List Written → Network → Type 0
+abbrev pub NetworkStepped : Network → NetworkEvent → List WrittenPacket → Network → Type 0
 NetworkStepped old (AtPeer link event) more new = PeerStepped link old event more new
 NetworkStepped old (AtNode link event) more new = SteppedOn link old event more new ⊎ SteppedBefore link old event more new
 NetworkStepped old (LinkBegins link setup most) more new = LinkBegan link setup most old new × (more ≡ [])

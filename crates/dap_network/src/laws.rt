@@ -17,7 +17,7 @@ ghost use Rattle.dap_end.specs.declared.fault.EndFault.{EndFault as TheEndFault}
 ghost use Rattle.dap_end.specs.declared.fault.TakeFault.{TakeFault as TheTakeFault};
 ghost use Rattle.dap_end.specs.Calls.{AskingRuns};
 ghost use Rattle.dap_end.specs.Done.{AskingValue};
-ghost use Rattle.dap_end.specs.Headline.{Arrival, Written, written_bytes};
+ghost use Rattle.dap_end.specs.Headline.{Arrival, WrittenPacket, written_bytes};
 ghost use Rattle.dap_end.specs.Joined.{IsBrought};
 ghost use Rattle.dap_end.specs.Node.{HasPort, NodeValue, OnLink, serves_on};
 ghost use Rattle.dap_end.specs.Ports.{PortValue};
@@ -63,14 +63,14 @@ pub fn node_calls_are_events()
         → OnLink link (λ before after. TakesPacket (serves_on link most)
         before after bytes out all r)
         old.node node
-        → (wrote : List Written) × Leads old (node_then old node link peer wrote)
+        → (wrote : List WrittenPacket) × Leads old (node_then old node link peer wrote)
         × (all ≡ out ++ written_bytes wrote) }
     ensures go_on { (link most : ℕ) (old : Network) (node : NodeValue) (peer : Peer)
         (out all : List (List ℕ)) (r : Result (Unit {0}) TheEndFault)
         → slice_get old.peers link ≡ Some (Some peer)
         → OnLink link (λ before after. WentOn (serves_on link most) before after out all r)
         old.node node
-        → (wrote : List Written) × Leads old (node_then old node link peer wrote)
+        → (wrote : List WrittenPacket) × Leads old (node_then old node link peer wrote)
         × (all ≡ out ++ written_bytes wrote) }
     ensures resend { (link i : ℕ) (old : Network) (peer : Peer) (p : PortValue) (bytes : List ℕ)
         → slice_get old.peers link ≡ Some (Some peer) → HasPort link old.node p
@@ -116,7 +116,7 @@ pub fn strangers_are_taken()
 pub fn peer_calls_are_events()
     ensures { (link : ℕ) (old : Network) (peer : Peer) (client : AskingValue)
         (came : List Arrival) (requests : List TheRequest) (reports : List TheReport)
-        (wrote : List Written) → slice_get old.peers link ≡ Some (Some peer)
+        (wrote : List WrittenPacket) → slice_get old.peers link ≡ Some (Some peer)
         → AllByRecursion (λ c. IsBrought peer.from_node c.0 c.1) came
         → AskingRuns came requests peer.client client reports wrote
         → Leads old (peer_then old link peer client requests reports wrote) }

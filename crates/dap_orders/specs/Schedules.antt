@@ -33,6 +33,6 @@ schedule_faults [] = []
 schedule_faults (first ∷ others) =
     cons_option (fault_unless first.0 (world_setup_of first.1)) (filter_map event_fault others)
 
--- the first of the faults, where there is one
+-- it succeeds where there are no faults, and otherwise fails with the first of them
 abbrev pub GivesFirstFault : {X : Type 0} → Result X CaptureFault → List CaptureFault → Type 0
 GivesFirstFault result faults = MatchResult result (λ _. faults ≡ []) (λ fault. slice_get faults 0 ≡ Some fault)

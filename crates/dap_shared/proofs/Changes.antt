@@ -26,10 +26,10 @@ use Rattle.dap_accessed.specs.Past.{asked_shape, kept_attributes, is_dropping, o
 use Rattle.dap_accessed.specs.Accesses.{make_file, open_file, create_file, access_file, end_stream, complete, refuse_access, rights_to_create, rights_to_open}
 use Rattle.dap_accessed.specs.Replies.{opened_with, reason_of, refused_access}
 use Rattle.dap_accessed.specs.Setup.{lacks}
-use Rattle.dap_accessed.specs.Records.{at_number, verb_of, get_pick, got, record_got, settled, Change, Putting, Updating, changed, fits_limit, uncurrent}
+use Rattle.dap_accessed.specs.Records.{at_number, verb_of, get_pick, got, record_got, effect_of_outcome, Change, Putting, Updating, effect_of_change, fits_limit, stream_without_current}
 use Rattle.dap_accessed.specs.Transfers.{fetch, fetch_ends, continue_fetch, store_one}
 use Rattle.dap_accessed.specs.Effects.{Begun, Turn, Does, BeginsGroup, control_opened, control_connected, turn_in, turn_of, effect_with}
-use Rattle.dap_accessed.specs.Groups.{Grouped, after_two}
+use Rattle.dap_accessed.specs.Groups.{GroupedItems, after_two}
 use Rattle.dap_accessed.specs.Groups.{next_group, more_after, after_item}
 use Rattle.dap_accessed.proofs.ForCallers.{with-same}
 use Rattle.dap_accessed.proofs.ForCallers.{index-within}
@@ -191,20 +191,20 @@ module _ (scene : Scene) (asks : Option OpenFile) where
         (sym (ap (λ (f : FileVal). with_file o.at f scene.files) (unallowed op (the_file scene.files o) s e) ∙ with-same scene.files o.at))
         (keeps (Some o))
 
-    settling : (op : Operation) (s : StreamVal) → s.rights ≡ o.rights → Stays (settled scene o (act op (the_file scene.files o) s))
+    settling : (op : Operation) (s : StreamVal) → s.rights ≡ o.rights → Stays (effect_of_outcome scene o (act op (the_file scene.files o) s))
     settling op s r = record { moved = acted op s _ r refl; rights = act-rights op (the_file scene.files o) s ∙ r }
 
     getting : (reply : Result ℕ Refusal) (before after : StreamVal) → before.rights ≡ o.rights → after.rights ≡ o.rights → Stays (got reply scene o before after)
-    getting (Err refusal) before after r t = entering (Connected o (uncurrent before)) _ r
-    getting (Ok n) before after r t = either (Some o) _ _ _ (entering (Connected o after) _ t) (entering (Connected o (uncurrent before)) _ r)
+    getting (Err refusal) before after r t = entering (Connected o (stream_without_current before)) _ r
+    getting (Ok n) before after r t = either (Some o) _ _ _ (entering (Connected o after) _ t) (entering (Connected o (stream_without_current before)) _ r)
 
     picked : (pick : Result Pick Refusal) (s : StreamVal) → s.rights ≡ o.rights → Stays (record_got pick scene o s)
-    picked (Err refusal) s r = entering (Connected o (uncurrent s)) _ r
+    picked (Err refusal) s r = entering (Connected o (stream_without_current s)) _ r
     picked (Ok pick) s r =
         getting (act (get_record pick) (the_file scene.files o) s).reply s (act (get_record pick) (the_file scene.files o) s).stream r (act-rights (get_record pick) (the_file scene.files o) s ∙ r)
 
-    second : (change : Change) (s : StreamVal) (body : List ℕ) → s.rights ≡ o.rights → Stays (changed change scene o s body)
-    second (Putting (Err refusal)) s body r = entering (Connected o (uncurrent s)) _ r
+    second : (change : Change) (s : StreamVal) (body : List ℕ) → s.rights ≡ o.rights → Stays (effect_of_change change scene o s body)
+    second (Putting (Err refusal)) s body r = entering (Connected o (stream_without_current s)) _ r
     second (Putting (Ok key)) s body r = settling (put_record key body) s r
     second Updating s body r = settling (update_record body) s r
 
@@ -237,7 +237,7 @@ module _ (scene : Scene) (asks : Option OpenFile) where
 
     connected-control : (verb : Verb) (s : StreamVal) (c : ControlFields) → s.rights ≡ o.rights → LeftIn (Some o) (control_connected verb scene o s c)
     connected-control verbs.Get s c r = picked (get_pick (the_file scene.files o) s c) s r
-    connected-control verbs.Fetch s c r = either (Some o) s.rights.get _ _ (fetching s r) (entering (Connected o (uncurrent s)) _ r)
+    connected-control verbs.Fetch s c r = either (Some o) s.rights.get _ _ (fetching s r) (entering (Connected o (stream_without_current s)) _ r)
     connected-control verbs.Put s c r = (refl, r)
     connected-control verbs.Update s c r = (refl, r)
     connected-control verbs.Store s c r = entering (Store o s) _ r
@@ -277,11 +277,11 @@ module _ (scene : Scene) (asks : Option OpenFile) where
 -- ---- One item more.
 
 -- a link's stream has the rights of its Access, also inside a group of two
-pub record IsSteady (c : Grouped) : Type 0 where
+pub record IsSteady (c : GroupedItems) : Type 0 where
   pub rights : HasRights c.standing.state
   pub begun : IfSome c.begun (λ b. (open_in c.standing.state ≡ Some b.opened) × (b.stream.rights ≡ b.opened.rights))
 
-pub record Goes (c d : Grouped) (asks : Option OpenFile) : Type 0 where
+pub record Goes (c d : GroupedItems) (asks : Option OpenFile) : Type 0 where
   pub moved : Moved c.standing.scene.files asks (open_in c.standing.state) d.standing.scene.files (open_in d.standing.state)
   pub steady : IsSteady d
 
@@ -300,5 +300,5 @@ by-begun own s (Some b) item h n =
       steady = record { rights = l.rights; begun = tt };
     }
 
-pub one-goes : (own : ServerSetup) (c : Grouped) (item : Item) → IsSteady c → Goes c (after_item own c item) (asks_to_open own c.standing.scene.files c.standing.state item)
+pub one-goes : (own : ServerSetup) (c : GroupedItems) (item : Item) → IsSteady c → Goes c (after_item own c item) (asks_to_open own c.standing.scene.files c.standing.state item)
 one-goes own c item h = by-begun own c.standing c.begun item h.rights h.begun

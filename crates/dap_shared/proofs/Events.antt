@@ -9,7 +9,7 @@ use Rattle.dap_accessed.specs.declared.setup.ServerSetup.{ServerSetup}
 use Rattle.dap_msg.specs.declared.items.Item.{Item}
 use Rattle.dap_accessed.specs.declared.phase.OpenFile.{OpenFile}
 use Rattle.dap_accessed.specs.Replies.{bare_status}
-use Rattle.rec_file.specs.Files.{stored}
+use Rattle.rec_file.specs.Files.{file_with_record}
 use Rattle.rec_file.specs.declared.picks.Rights.{Rights}
 use Rattle.dap_accessed.specs.Adding.{with_new_file}
 use Rattle.dap_accessed.specs.Sessions.{moved_up}
@@ -18,7 +18,7 @@ use Rattle.dap_accessed.specs.Setup.{all_rights}
 use Rattle.dap_accessed.specs.Standing.{file_at, new_file, Files, ServerState, Fresh, Ready, Opened, Connected, Store, Stopped}
 use Rattle.dap_accessed.specs.Accesses.{refuse_access}
 use Rattle.dap_accessed.specs.Effects.{Begun, Does}
-use Rattle.dap_accessed.specs.Groups.{Grouped}
+use Rattle.dap_accessed.specs.Groups.{GroupedItems}
 use Rattle.dap_accessed.specs.Groups.{after_item, next_group}
 use Rattle.dap_shared.specs.Sharing.{open_in, has_alone, are_apart, bars, is_file, is_locked, asks_to_open, file_locked, state_moved_up}
 use Rattle.dap_shared.specs.Nodes.{Exchange, Node, new_exchange, no_exchange, new_node, exchange_at, exchange_of, end_at, before_files, open_on, open_beside, more_beside, begun_moved_up, exchange_moved_up, exchange_without, removed_by, is_open, without_file, with_record_at, setup_on, after_event, after_all, node_after, Event, Serves, Begins, Gives, GivesRecord, Drops}
@@ -110,7 +110,7 @@ nothing (Some o) = tt
 -- ---- An item.
 
 module _ (own : ServerSetup) (node : Node) (link : ℕ) (item : Item) (there : link < length node.exchanges) (h : IsShared node) where
-  abbrev old : Grouped
+  abbrev old : GroupedItems
   old = end_at link node
 
   abbrev others : List (Option OpenFile)
@@ -122,7 +122,7 @@ module _ (own : ServerSetup) (node : Node) (link : ℕ) (item : Item) (there : l
   abbrev most : Rights
   most = (exchange_at link node).most
 
-  abbrev new : Grouped
+  abbrev new : GroupedItems
   new = more_beside its others old item
 
   abbrev after : Node
@@ -365,7 +365,7 @@ all-share own links node (Gives name shape ∷ events) n o h =
     let longer = length-append node.files ((name, new_file shape) ∷ []) in
     all-share own links (after_event own node (Gives name shape)) events n o (given-shares node (with_new_file name shape node.files) (omega (arith, longer)) h)
 all-share own links node (GivesRecord at number body ∷ events) n o h =
-    let same = length-with node.files at (stored (file_at at node.files) number body) in
+    let same = length-with node.files at (file_with_record (file_at at node.files) number body) in
     all-share own links (after_event own node (GivesRecord at number body)) events n o (given-shares node (with_record_at at number body node.files) (omega (arith, same)) h)
 all-share own links node (Drops at ∷ events) n o h =
     all-share own links (after_event own node (Drops at)) events (count-drop own node at ∙ n) o (drop-shares own node at h)

@@ -10,7 +10,7 @@ use Rattle.rec_file.specs.declared.picks.Rights.{Rights}
 use Rattle.rec_file.specs.Files.{FileVal}
 use Rattle.dap_accessed.specs.declared.phase.OpenFile.{OpenFile}
 use Rattle.dap_accessed.specs.Standing.{plain_shape}
-use Rattle.dap_accessed.specs.Replies.{bare_status, refused_access, opened_with, completed}
+use Rattle.dap_accessed.specs.Replies.{bare_status, refused_access, opened_with, complete_response}
 use Rattle.dap_shared.specs.Nodes.{Event, Serves, Begins, Gives, Drops, AnswersOn, FilesAfter, node_after, exchange_at, open_on}
 
 abbrev hello : Item
@@ -38,10 +38,10 @@ b-is-told = refl
 abbrev readers : List Event
 readers = both (Serves 0 (accesses 2 65 0) ∷ Serves 0 (ends 1) ∷ Serves 0 (accesses 1 65 2) ∷ Serves 1 (accesses 1 65 0) ∷ Serves 0 (ends 1) ∷ Serves 0 (accesses 1 65 9) ∷ Serves 1 (ends 1) ∷ Serves 0 (accesses 1 65 9) ∷ [])
 
-readers-share : AnswersOn 1 (plain_setup 1024) [] 2 readers ≡ config_of 1024 ∷ (opened_with plain_shape ++ completed ∷ [])
+readers-share : AnswersOn 1 (plain_setup 1024) [] 2 readers ≡ config_of 1024 ∷ (opened_with plain_shape ++ complete_response ∷ [])
 readers-share = refl
 
-writer-waits : AnswersOn 0 (plain_setup 1024) [] 2 readers ≡ config_of 1024 ∷ (opened_with plain_shape ++ completed ∷ (opened_with plain_shape ++ completed ∷ bare_status 0x4030 ∷ opened_with plain_shape))
+writer-waits : AnswersOn 0 (plain_setup 1024) [] 2 readers ≡ config_of 1024 ∷ (opened_with plain_shape ++ complete_response ∷ (opened_with plain_shape ++ complete_response ∷ bare_status 0x4030 ∷ opened_with plain_shape))
 writer-waits = refl
 
 -- A makes 65, B makes 66 after it; A purges its file: B's is the first then, and still open

@@ -11,7 +11,7 @@ use Rattle.rec_file.specs.declared.picks.Rights.{Rights}
 use Rattle.dap_accessed.specs.declared.phase.OpenFile.{OpenFile}
 use Rattle.dap_accessed.specs.Standing.{Files}
 use Rattle.dap_accessed.specs.Replies.{bare_status}
-use Rattle.dap_accessed.specs.Groups.{Grouped, answers_in, answers_of, after_item}
+use Rattle.dap_accessed.specs.Groups.{GroupedItems, answers_in, answers_of, after_item}
 use Rattle.dap_accessed.proofs.ForCallers.{answers_after-more}
 use Rattle.dap_shared.specs.Sharing.{asks_to_open, file_locked, is_locked}
 use Rattle.dap_shared.specs.Nodes.{AnswersOn, Event, Exchange, Node, Serves, Begins, Gives, GivesRecord, Drops, added_on, after_all, after_event, answers_beside, end_at, exchange_at, exchange_moved_up, exchange_of, exchange_without, is_open, more_beside, most_on, new_exchange, new_node, no_exchange, node_after, open_beside, removed_by, setup_on, without_file}
@@ -27,13 +27,13 @@ count-all own node (Gives name shape ∷ events) = count-all own (after_event ow
 count-all own node (GivesRecord at number body ∷ events) = count-all own (after_event own node (GivesRecord at number body)) events
 count-all own node (Drops at ∷ events) = count-all own (after_event own node (Drops at)) events ∙ count-drop own node at
 
-by-lock : (own : ServerSetup) (c : Grouped) (item : Item) (locked : Bool) →
+by-lock : (own : ServerSetup) (c : GroupedItems) (item : Item) (locked : Bool) →
     answers_in (if locked then locked_group c.standing item else after_item own c item).standing.past ≡ answers_in c.standing.past ++ (if locked then bare_status file_locked ∷ [] else answers_of own c item)
 by-lock own c item true = refl
 by-lock own c item false = answers_after-more own c.standing c.begun item
 
 module _ (own : ServerSetup) (node : Node) (link : ℕ) (item : Item) where
-  abbrev before : Grouped
+  abbrev before : GroupedItems
   before = end_at link node
 
   abbrev others : List (Option OpenFile)
@@ -45,7 +45,7 @@ module _ (own : ServerSetup) (node : Node) (link : ℕ) (item : Item) where
   abbrev most : Rights
   most = (exchange_at link node).most
 
-  abbrev after : Grouped
+  abbrev after : GroupedItems
   after = more_beside its others before item
 
   abbrev removed : Option OpenFile

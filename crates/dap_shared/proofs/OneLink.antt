@@ -10,7 +10,7 @@ use Rattle.dap_accessed.specs.Replies.{bare_status}
 use Rattle.dap_accessed.specs.Accesses.{refuse_access}
 use Rattle.dap_accessed.specs.Effects.{Does}
 use Rattle.dap_accessed.specs.Standing.{Files, start}
-use Rattle.dap_accessed.specs.Groups.{Grouped, stands_after}
+use Rattle.dap_accessed.specs.Groups.{GroupedItems, stands_after}
 use Rattle.dap_accessed.specs.Groups.{after_item, next_group}
 use Rattle.dap_accessed.proofs.ForCallers.{cut-more}
 use Rattle.dap_shared.specs.Sharing.{is_locked, asks_to_open, file_locked}
@@ -25,24 +25,24 @@ module _ (own : ServerSetup) (most : Rights) where
   abbrev its : ServerSetup
   its = setup_with most own
 
-  abbrev pub node_of : Grouped → Node
+  abbrev pub node_of : GroupedItems → Node
   node_of c = record { files = c.standing.scene.files; exchanges = exchange_of most c ∷ [] }
 
-  pub alone : (c : Grouped) (item : Item) → more_beside its (None ∷ []) c item ≡ after_item its c item
+  pub alone : (c : GroupedItems) (item : Item) → more_beside its (None ∷ []) c item ≡ after_item its c item
   alone c item =
       let s = c.standing in
       ap (λ (b : Bool). if b then next_group s item (Does (refuse_access s.scene (bare_status file_locked))) else after_item its c item)
       (none-locked (asks_to_open its s.scene.files s.state item))
 
-  one-served : (c : Grouped) (item : Item) → after_event own (node_of c) (Serves 0 item) ≡ node_of (after_item its c item)
-  one-served c item = ap (λ (d : Grouped). after_more most 0 c d (exchange_of most c ∷ [])) (alone c item)
+  one-served : (c : GroupedItems) (item : Item) → after_event own (node_of c) (Serves 0 item) ≡ node_of (after_item its c item)
+  one-served c item = ap (λ (d : GroupedItems). after_more most 0 c d (exchange_of most c ∷ [])) (alone c item)
 
   pub served-on : (first : Files) (before more : List Item) →
       after_all own (node_of (stands_after its first before)) (map (Serves 0) more) ≡ node_of (stands_after its first (before ++ more))
   served-on first before [] = ap (λ (l : List Item). node_of (stands_after its first l)) (sym (append-nil before))
   served-on first before (item ∷ more) =
       ap (λ (n : Node). after_all own n (map (Serves 0) more)) (one-served (stands_after its first before) item)
-      ∙ ap (λ (c : Grouped). after_all own (node_of c) (map (Serves 0) more)) (sym (cut-more its (start first) before item))
+      ∙ ap (λ (c : GroupedItems). after_all own (node_of c) (map (Serves 0) more)) (sym (cut-more its (start first) before item))
       ∙ served-on first (before ++ item ∷ []) more
       ∙ ap (λ (l : List Item). node_of (stands_after its first l)) (append_assoc before (item ∷ []) more)
 

@@ -25,9 +25,9 @@ use Rattle.dap_accessed.specs.Records.{Change, Putting, Updating}
 use Rattle.dap_accessed.specs.Replies.{bare_status}
 use Rattle.dap_accessed.specs.Accesses.{refuse_access}
 use Rattle.dap_accessed.specs.Effects.{Begun, Does}
-use Rattle.dap_accessed.specs.Groups.{Grouped, answers_of, next_group, after_item}
+use Rattle.dap_accessed.specs.Groups.{GroupedItems, answers_of, next_group, after_item}
 use Rattle.dap_accessed.specs.Present.{Present, present_of, phase_of, phase_at, phase_within, looked_back}
-use Rattle.dap_accessed.specs.Served.{AllAtMost, Answered}
+use Rattle.dap_accessed.specs.Served.{AllAtMost, AreAnswers}
 use Rattle.dap_accessed.specs.Sessions.{SessionValue, asked_in, with_files, moved_up, session_with, open_at, phase_moved_up, session_of}
 use Rattle.dap_accessed.proofs.ForCallers.{access-keeps}
 use Rattle.dap_shared.specs.Sharing.{barred_by, bars, file_locked, is_file, open_in, state_moved_up, is_locked, asks_to_open}
@@ -212,7 +212,7 @@ locked-kept v link item first events h =
 
 -- ---- What is refused.
 
-abbrev pub locked_group : Standing → Item → Grouped
+abbrev pub locked_group : Standing → Item → GroupedItems
 locked_group s item = next_group s item (Does (refuse_access s.scene (bare_status file_locked)))
 
 refused-by : (own : ServerSetup) (others : List (Option OpenFile)) (scene : Scene) (past : List Group) (state : ServerState) (item : Item) → is_locked others (asks_to_open own scene.files state item) ≡ true →
@@ -241,7 +241,7 @@ module _ (own : ServerSetup) (node : Node) (link : ℕ) (item : Item) (h : IsSha
   abbrev most : Rights
   most = (exchange_at link node).most
 
-  abbrev before : Grouped
+  abbrev before : GroupedItems
   before = end_at link node
 
   abbrev kept : Exchange → SessionValue
@@ -270,10 +270,10 @@ module _ (own : ServerSetup) (node : Node) (link : ℕ) (item : Item) (h : IsSha
       ∙ barred-is own node.files asked (set node.exchanges link no_exchange) steady-beside
 
   -- where the code leaves these files, and this of the link
-  pub record Leaves (d : Grouped) (messages : List Message) (files : Files) (s : SessionValue) (answers : Vec (Vec ℕ)) : Type 0 where
+  pub record Leaves (d : GroupedItems) (messages : List Message) (files : Files) (s : SessionValue) (answers : Vec (Vec ℕ)) : Type 0 where
     pub same_files : files ≡ d.standing.scene.files
     pub same_session : s ≡ session_of (present_of its d)
-    pub answered : Answered before.standing.scene.limit messages answers
+    pub answered : AreAnswers before.standing.scene.limit messages answers
     pub within : AllAtMost max_nsp_message (bodies answers.items)
 
   by-lock : (locked : Bool) (files : Files) (s : SessionValue) (answers : Vec (Vec ℕ)) → locked ≡ is_locked others asked → beside.ServesOrRefuses locked item node.files session files s answers →
@@ -300,7 +300,7 @@ module _ (own : ServerSetup) (node : Node) (link : ℕ) (item : Item) (h : IsSha
       subst (λ (b : Bool). Leaves (if b then locked_group before.standing item else after_item its before item) (if b then bare_status file_locked ∷ [] else answers_of its before item) files s answers) lock-is
       (by-lock (is_barred kept_beside (asked_by session node.files item)) files s answers lock-is does)
 
-  abbrev after : Grouped
+  abbrev after : GroupedItems
   after = more_beside its others before item
 
   abbrev value : Files → List SessionValue → SharedValue

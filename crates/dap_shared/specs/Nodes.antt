@@ -9,7 +9,7 @@ use Rattle.dap_msg.specs.declared.message.Message.{Message}
 use Rattle.dap_msg.specs.declared.items.Item.{Item}
 use Rattle.rec_file.specs.declared.shapes.Shape.{Shape}
 use Rattle.rec_file.specs.declared.picks.Rights.{Rights}
-use Rattle.rec_file.specs.Files.{stored}
+use Rattle.rec_file.specs.Files.{file_with_record}
 use Rattle.dap_accessed.specs.declared.phase.OpenFile.{OpenFile}
 use Rattle.dap_accessed.specs.Setup.{all_rights}
 use Rattle.dap_accessed.specs.Standing.{Files, ServerState, Group, Fresh, file_at, with_file}
@@ -17,7 +17,7 @@ use Rattle.dap_accessed.specs.Sessions.{moved_up}
 use Rattle.dap_accessed.specs.Replies.{bare_status}
 use Rattle.dap_accessed.specs.Accesses.{refuse_access}
 use Rattle.dap_accessed.specs.Effects.{Begun, Does}
-use Rattle.dap_accessed.specs.Groups.{Grouped, answers_in, answers_of, next_group, after_item}
+use Rattle.dap_accessed.specs.Groups.{GroupedItems, answers_in, answers_of, next_group, after_item}
 use Rattle.dap_accessed.specs.Adding.{with_new_file}
 use Rattle.dap_shared.specs.Sharing.{file_locked, open_in, asks_to_open, barred_by, is_file, is_locked, state_moved_up}
 
@@ -48,12 +48,12 @@ abbrev pub new_node : (own : ServerSetup) → Files → (links : ℕ) → Node
 new_node own first links = record { files = first; exchanges = replicate links (new_exchange own.most) }
 
 -- a server of one link in this state
-abbrev pub before_files : Files → Exchange → Grouped
+abbrev pub before_files : Files → Exchange → GroupedItems
 before_files files exchange =
     record { standing = record { scene = record { limit = exchange.limit; files = files }; state = exchange.state; past = exchange.past }; begun = exchange.begun }
 
 -- without the files, on a link with these rights
-abbrev pub exchange_of : (most : Rights) → Grouped → Exchange
+abbrev pub exchange_of : (most : Rights) → GroupedItems → Exchange
 exchange_of most c = record { most = most; limit = c.standing.scene.limit; state = c.standing.state; past = c.standing.past; begun = c.begun }
 
 -- the exchange of a link
@@ -61,7 +61,7 @@ abbrev pub exchange_at : ℕ → Node → Exchange
 exchange_at link node = get_or node.exchanges link no_exchange
 
 -- a link's server of one link
-abbrev pub end_at : ℕ → Node → Grouped
+abbrev pub end_at : ℕ → Node → GroupedItems
 end_at link node = before_files node.files (exchange_at link node)
 
 -- with these rights
@@ -83,7 +83,7 @@ abbrev pub open_beside : ℕ → List Exchange → List (Option OpenFile)
 open_beside link exchanges = map open_on (set exchanges link no_exchange)
 
 -- one more item; an Access to a file that is locked is refused, and is a group as any other
-abbrev pub more_beside : (own : ServerSetup) → (others : List (Option OpenFile)) → Grouped → Item → Grouped
+abbrev pub more_beside : (own : ServerSetup) → (others : List (Option OpenFile)) → GroupedItems → Item → GroupedItems
 more_beside own others c item =
     let s = c.standing in
     if is_locked others (asks_to_open own s.scene.files s.state item)
@@ -91,7 +91,7 @@ more_beside own others c item =
     else after_item own c item
 
 -- its answers
-abbrev pub answers_beside : (own : ServerSetup) → (others : List (Option OpenFile)) → Grouped → Item → List Message
+abbrev pub answers_beside : (own : ServerSetup) → (others : List (Option OpenFile)) → GroupedItems → Item → List Message
 answers_beside own others c item =
     if is_locked others (asks_to_open own c.standing.scene.files c.standing.state item)
     then bare_status file_locked ∷ []
@@ -106,13 +106,13 @@ abbrev pub exchange_without : (removed : ℕ) → Exchange → Exchange
 exchange_without removed exchange =
     record exchange { state = state_moved_up removed exchange.state; begun = option_map (begun_moved_up removed) exchange.begun }
 
--- another link's exchange, where a file was removed
+-- another link's exchange after an item that removed this file, or removed none
 abbrev pub exchange_moved_up : Option OpenFile → Exchange → Exchange
 exchange_moved_up None exchange = exchange
 exchange_moved_up (Some removed) exchange = exchange_without removed.at exchange
 
 -- the file that an item removed: its link had it open
-abbrev pub removed_by : (before after : Grouped) → Option OpenFile
+abbrev pub removed_by : (before after : GroupedItems) → Option OpenFile
 removed_by before after =
     if nat_lt (length after.standing.scene.files) (length before.standing.scene.files) then open_in before.standing.state else None
 
@@ -142,7 +142,7 @@ without_file at node = record { files = remove node.files at; exchanges = map (e
 
 -- the file at this index has the record under this number
 abbrev pub with_record_at : (at number : ℕ) → (body : List ℕ) → Files → Files
-with_record_at at number body files = with_file at (stored (file_at at files) number body) files
+with_record_at at number body files = with_file at (file_with_record (file_at at files) number body) files
 
 -- ---- A history.
 
@@ -157,7 +157,7 @@ pub data Event : Type 0 where
   Drops : (at : ℕ) → Event
 
 -- after an item of this link, with these rights: it is in this state, the others in the one that they had
-abbrev pub after_more : (most : Rights) → (link : ℕ) → (before after : Grouped) → List Exchange → Node
+abbrev pub after_more : (most : Rights) → (link : ℕ) → (before after : GroupedItems) → List Exchange → Node
 after_more most link before after exchanges =
     record {
       files = after.standing.scene.files;

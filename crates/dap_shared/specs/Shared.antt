@@ -16,7 +16,7 @@ use Rattle.dap_accessed.specs.Standing.{Files, file_at, index_by}
 use Rattle.dap_accessed.specs.Setup.{all_rights}
 use Rattle.dap_accessed.specs.Storing.{StoreRefused}
 use Rattle.dap_accessed.specs.Present.{present_of}
-use Rattle.dap_accessed.specs.Served.{AllAtMost, Answered}
+use Rattle.dap_accessed.specs.Served.{AllAtMost, AreAnswers}
 use Rattle.dap_accessed.specs.Sessions.{SessionValue, open_at, phase_moved_up, session_of, session_with}
 use Rattle.dap_shared.specs.declared.fault.RemoveFault.{RemoveFault}
 use Rattle.dap_shared.specs.declared.fault.RemoveFault.TheVariants as removing
@@ -54,7 +54,7 @@ pub record SharedServes (link : ℕ) (item : Item) (old new : SharedValue) (answ
   pub stands : (first : Files) (events : List Event) → SharedAfter first events old →
       SharedAfter first (events ++ Serves link item ∷ []) new
   pub answered : (first : Files) (events : List Event) → SharedAfter first events old →
-      Answered (limit_on link old.setup first (length old.sessions) events)
+      AreAnswers (limit_on link old.setup first (length old.sessions) events)
       (added_on link old.setup first (length old.sessions) events item) answers
   pub within : AllAtMost max_nsp_message (bodies answers.items)
   pub same_own : new.own ≡ old.own

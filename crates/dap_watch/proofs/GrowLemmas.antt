@@ -9,7 +9,7 @@ use Rattle.std.proofs.lemmas.Map.Keys.{IsDistinct-head, IsDistinct-tail}
 use Rattle.indexmap.specs.IndexSet.{insert_key}
 use Rattle.dap_listing.specs.declared.lines.Direction.{Direction}
 use Rattle.dap_listing.specs.declared.captured.CapturedSegment.{CapturedSegment}
-use Rattle.dap_follow.specs.Streams.{AreSequenced, Captured, Sequenced, at, came_as, came_in, is_same, no_more, streams}
+use Rattle.dap_follow.specs.Streams.{AreSequenced, CapturedItem, Sequenced, at, came_as, came_in, is_same, no_more, streams}
 use Rattle.dap_follow.specs.Joined.{Message, Fragment, is_message, fragment_message, messages, fragments_of}
 use Rattle.dap_follow.specs.Inner.Keeping.{stream_of}
 use Rattle.dap_follow.specs.Segments.{NumberedSegment, HasStreamAt, numbered_segment, sequenced_at, captured_segment, highest_in}
@@ -26,10 +26,10 @@ use Rattle.dap_watch.proofs.OrderLemmas.{all_put, at_put, rises_put, sequenced_m
 
 -- ---- packets of others
 
-one_longer : (packets : List Captured) (x : Captured) → length (packets ++ x ∷ []) ≡ length packets + 1
+one_longer : (packets : List CapturedItem) (x : CapturedItem) → length (packets ++ x ∷ []) ≡ length packets + 1
 one_longer packets x = length-append packets (x ∷ [])
 
-keeps_stream : (packets : List Captured) (x : Captured) (s : Stream) (o : List Sequenced) (p : KeptSegments) → came_as s (1 + length packets) x ≡ None
+keeps_stream : (packets : List CapturedItem) (x : CapturedItem) (s : Stream) (o : List Sequenced) (p : KeptSegments) → came_as s (1 + length packets) x ≡ None
     → KeepsStreamOrdered packets s o p → KeepsStreamOrdered (packets ++ x ∷ []) s o p
 keeps_stream packets x s o p none k =
     let longer = one_longer packets x in
@@ -51,7 +51,7 @@ keeps_stream packets x s o p none k =
       most = omega (arith, k.most, longer);
     }
 
-keeps_each : (packets : List Captured) (x : Captured) (keys : List Stream) (orders : List (List Sequenced)) (by_stream : List KeptSegments)
+keeps_each : (packets : List CapturedItem) (x : CapturedItem) (keys : List Stream) (orders : List (List Sequenced)) (by_stream : List KeptSegments)
     → ((s : Stream) → came_as s (1 + length packets) x ≡ None) → KeepsEachOrdered packets keys orders by_stream → KeepsEachOrdered (packets ++ x ∷ []) keys orders by_stream
 keeps_each packets x [] [] [] none each = tt
 keeps_each packets x [] [] (p ∷ by_stream) none each = absurd each
@@ -61,14 +61,14 @@ keeps_each packets x (s ∷ keys) (o ∷ orders) [] none each = absurd each
 keeps_each packets x (s ∷ keys) (o ∷ orders) (p ∷ by_stream) none each = (keeps_stream packets x s o p (none s) each.0, keeps_each packets x keys orders by_stream none each.1)
 
 -- a packet that carries no segment
-pub keeps_aside : (packets : List Captured) (x : Captured) (ordered : List (List Sequenced)) (s : Streams) → stream_of x ≡ None
+pub keeps_aside : (packets : List CapturedItem) (x : CapturedItem) (ordered : List (List Sequenced)) (s : Streams) → stream_of x ≡ None
     → ((stream : Stream) → came_as stream (1 + length packets) x ≡ None) → KeepsAllOrdered packets ordered s → KeepsAllOrdered (packets ++ x ∷ []) ordered s
 keeps_aside packets x ordered s of_none none k = record {
   names = k.names ∙ sym (streams-none packets x of_none);
   each = keeps_each packets x s.names.keys ordered s.by_stream.items none k.each;
 }
 
-pub lengths : (packets : List Captured) (keys : List Stream) (orders : List (List Sequenced)) (by_stream : List KeptSegments) → KeepsEachOrdered packets keys orders by_stream → length keys ≡ length by_stream
+pub lengths : (packets : List CapturedItem) (keys : List Stream) (orders : List (List Sequenced)) (by_stream : List KeptSegments) → KeepsEachOrdered packets keys orders by_stream → length keys ≡ length by_stream
 lengths packets [] [] [] each = refl
 lengths packets [] [] (p ∷ by_stream) each = absurd each
 lengths packets [] (o ∷ orders) by_stream each = absurd each
@@ -88,7 +88,7 @@ of_it : (s : Stream) (way : Direction) (c : CapturedSegment) (n : ℕ) → is_sa
 of_it s way c n same = rw same refl
 
 -- the segments of the stream before the packet
-pub record Ready (packets : List Captured) (c : CapturedSegment) (s : Stream) (ordered : List Sequenced) (p : KeptSegments) : Type 0 where
+pub record Ready (packets : List CapturedItem) (c : CapturedSegment) (s : Stream) (ordered : List Sequenced) (p : KeptSegments) : Type 0 where
   pub before : List NumberedSegment
   pub are : came_in s packets ≡ before
   pub first : NumberedSegment
@@ -101,7 +101,7 @@ pub record Ready (packets : List Captured) (c : CapturedSegment) (s : Stream) (o
   pub keeps : KeepsSequenced (1 + length packets) ordered p
   pub most : p.highest ≤ 8192 + 2048 * length packets
 
-ready_known : (packets : List Captured) (c : CapturedSegment) (s : Stream) (o : List Sequenced) (p : KeptSegments) → KeepsStreamOrdered packets s o p → Ready packets c s o p
+ready_known : (packets : List CapturedItem) (c : CapturedSegment) (s : Stream) (o : List Sequenced) (p : KeptSegments) → KeepsStreamOrdered packets s o p → Ready packets c s o p
 ready_known packets c s o p k = record {
   before = k.first ∷ k.others;
   are = k.are;
@@ -116,7 +116,7 @@ ready_known packets c s o p k = record {
   most = k.most;
 }
 
-ready_new : (packets : List Captured) (c : CapturedSegment) (s : Stream) (p : KeptSegments) → came_in s packets ≡ [] → p.highest ≡ c.number + 4096 → c.number < 4096 → p.kept.items ≡ []
+ready_new : (packets : List CapturedItem) (c : CapturedSegment) (s : Stream) (p : KeptSegments) → came_in s packets ≡ [] → p.highest ≡ c.number + 4096 → c.number < 4096 → p.kept.items ≡ []
     → Ready packets c s [] p
 ready_new packets c s p none highest small empty = record {
   before = [];
@@ -132,7 +132,7 @@ ready_new packets c s p none highest small empty = record {
   most = omega (arith, highest, small);
 }
 
-ready_done : (packets : List Captured) (way : Direction) (c : CapturedSegment) (s : Stream) (ordered : List Sequenced) (old new : KeptSegments) (digits : List ℕ) (found : Option Whole)
+ready_done : (packets : List CapturedItem) (way : Direction) (c : CapturedSegment) (s : Stream) (ordered : List Sequenced) (old new : KeptSegments) (digits : List ℕ) (found : Option Whole)
     → is_same s (stream_is way c) ≡ true → Ready packets c s ordered old → (f : Found (1 + length packets) c ordered old new digits found)
     → KeepsStreamOrdered (packets ++ captured_segment way c ∷ []) s f.later new
 ready_done packets way c s ordered old new digits found same r f =
@@ -167,14 +167,14 @@ ready_done packets way c s ordered old new digits found same r f =
 
 -- ---- the streams before the packet was put into its own
 
-pub MidEach : List Captured → Direction → CapturedSegment → List Stream → List (List Sequenced) → List KeptSegments → Type 0
+pub MidEach : List CapturedItem → Direction → CapturedSegment → List Stream → List (List Sequenced) → List KeptSegments → Type 0
 MidEach packets way c [] [] [] = Unit {0}
 MidEach packets way c (s ∷ keys) (o ∷ orders) (p ∷ by_stream) =
     (((is_same s (stream_is way c) ≡ true) × Ready packets c s o p) ⊎ ((is_same s (stream_is way c) ≡ false) × KeepsStreamOrdered (packets ++ captured_segment way c ∷ []) s o p))
     × MidEach packets way c keys orders by_stream
 MidEach packets way c _ _ _ = ⊥
 
-mid_known : (packets : List Captured) (way : Direction) (c : CapturedSegment) (keys : List Stream) (orders : List (List Sequenced)) (by_stream : List KeptSegments)
+mid_known : (packets : List CapturedItem) (way : Direction) (c : CapturedSegment) (keys : List Stream) (orders : List (List Sequenced)) (by_stream : List KeptSegments)
     → KeepsEachOrdered packets keys orders by_stream → MidEach packets way c keys orders by_stream
 unfolding MidEach
 mid_known packets way c [] [] [] each = tt
@@ -189,7 +189,7 @@ mid_known packets way c (s ∷ keys) (o ∷ orders) (p ∷ by_stream) each = (
   mid_known packets way c keys orders by_stream each.1,
 )
 
-mid_new : (packets : List Captured) (way : Direction) (c : CapturedSegment) (new : KeptSegments) → Ready packets c (stream_is way c) [] new
+mid_new : (packets : List CapturedItem) (way : Direction) (c : CapturedSegment) (new : KeptSegments) → Ready packets c (stream_is way c) [] new
     → (keys : List Stream) (orders : List (List Sequenced)) (by_stream : List KeptSegments) → KeepsEachOrdered packets keys orders by_stream
     → MidEach packets way c (keys ++ stream_is way c ∷ []) (orders ++ [] ∷ []) (by_stream ++ new ∷ [])
 unfolding MidEach
@@ -212,7 +212,7 @@ other_at s k index [] all at = absurd (no_other at.0 at.1)
 other_at s k zero (y ∷ keys) all at = subst (λ (t : Stream). is_same s t ≡ false) (some_is y at.0 at.1 ∙ sym (same_is k at.0 at.2)) all.0
 other_at s k (suc index) (y ∷ keys) all at = other_at s k index keys all.1 at
 
-mid_rest : (packets : List Captured) (way : Direction) (c : CapturedSegment) (keys : List Stream) (orders : List (List Sequenced)) (by_stream : List KeptSegments)
+mid_rest : (packets : List CapturedItem) (way : Direction) (c : CapturedSegment) (keys : List Stream) (orders : List (List Sequenced)) (by_stream : List KeptSegments)
     → AllByRecursion (λ y. is_same (stream_is way c) y ≡ false) keys → MidEach packets way c keys orders by_stream → KeepsEachOrdered (packets ++ captured_segment way c ∷ []) keys orders by_stream
 unfolding MidEach
 mid_rest packets way c [] [] [] all mid = tt
@@ -258,12 +258,12 @@ added_behind packet digits found o old new a = record {
 
 -- ---- where the packet's stream stands
 
-record Done (packets : List Captured) (way : Direction) (c : CapturedSegment) (digits : List ℕ) (found : Option Whole) (keys : List Stream) (orders : List (List Sequenced)) (by_stream : List KeptSegments) : Type 0 where
+record Done (packets : List CapturedItem) (way : Direction) (c : CapturedSegment) (digits : List ℕ) (found : Option Whole) (keys : List Stream) (orders : List (List Sequenced)) (by_stream : List KeptSegments) : Type 0 where
   pub laters : List (List Sequenced)
   pub each : KeepsEachOrdered (packets ++ captured_segment way c ∷ []) keys laters by_stream
   pub added : AreAdded (1 + length packets) digits found (flat_map messages orders) (flat_map messages laters)
 
-mid_done : (packets : List Captured) (way : Direction) (c : CapturedSegment) (new d : KeptSegments) (digits : List ℕ) (found : Option Whole)
+mid_done : (packets : List CapturedItem) (way : Direction) (c : CapturedSegment) (new d : KeptSegments) (digits : List ℕ) (found : Option Whole)
     → (index : ℕ) (keys : List Stream) (orders : List (List Sequenced)) (by_stream : List KeptSegments) → MidEach packets way c keys orders by_stream → IsDistinct is_same keys → HasStreamAt (stream_is way c) index keys
     → ((o : List Sequenced) → KeepsSequenced (1 + length packets) o (get_or by_stream index d) → (get_or by_stream index d).highest ≤ 8192 + 2048 * length packets
     → Found (1 + length packets) c o (get_or by_stream index d) new digits found)
@@ -306,7 +306,7 @@ inserted_new : (s : Stream) (keys : List Stream) → list_any (is_same s) keys �
 inserted_new s keys none = rw none refl
 
 -- a segment was put into its stream
-pub grows : (packets : List Captured) (way : Direction) (c : CapturedSegment) (ordered : List (List Sequenced)) (old mid new : Streams) (index : ℕ) (one shown : KeptSegments) (digits : List ℕ) (found : Option Whole)
+pub grows : (packets : List CapturedItem) (way : Direction) (c : CapturedSegment) (ordered : List (List Sequenced)) (old mid new : Streams) (index : ℕ) (one shown : KeptSegments) (digits : List ℕ) (found : Option Whole)
     → KeepsAllOrdered packets ordered old → IsIndexedStream (stream_is way c) c.number old mid index → shown ≡ get_or mid.by_stream.items index shown → new.names.keys ≡ mid.names.keys
     → new.by_stream.items ≡ slice_set mid.by_stream.items index one
     → ((o : List Sequenced) → KeepsSequenced (1 + length packets) o shown → shown.highest ≤ 8192 + 2048 * length packets → Found (1 + length packets) c o shown one digits found)

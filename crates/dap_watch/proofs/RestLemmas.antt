@@ -6,7 +6,7 @@ use Rattle.std.proofs.lemmas.Bool.Decides.{nat_tests}
 use Rattle.std.proofs.lemmas.List.{length-replicate}
 use Rattle.dap_text.specs.Text.{line_feed}
 use Rattle.dap_listing.proofs.ForCallers.{count_of}
-use Rattle.dap_follow.specs.Streams.{Captured, Sequenced}
+use Rattle.dap_follow.specs.Streams.{CapturedItem, Sequenced}
 use Rattle.dap_follow.specs.Joined.{Fragment, is_message, payload, fragments_of, tail}
 use Rattle.dap_follow.specs.Following.{gap_line, length_text, part_line, range_text, rest_lines, stream_text}
 use Rattle.dap_follow.specs.declared.streams.Stream.{Stream}
@@ -101,7 +101,7 @@ rest_same stream ps (k ∷ ks) (held, rest, is, (inr (p, one, is_open), left), k
 
 -- ---- all streams
 
-pub all_same : (packets : List Captured) (keys : List Stream) (orders : List (List Sequenced)) (by_stream : List KeptSegments) → KeepsEachOrdered packets keys orders by_stream
+pub all_same : (packets : List CapturedItem) (keys : List Stream) (orders : List (List Sequenced)) (by_stream : List KeptSegments) → KeepsEachOrdered packets keys orders by_stream
     → flat_map (λ (stream, segments). rest_lines stream (fragments_of segments)) (zip keys orders) ≡ all_kept_rest keys by_stream
 all_same packets [] [] [] each = refl
 all_same packets [] [] (p ∷ by_stream) each = absurd each

@@ -12,7 +12,7 @@ use Rattle.std.proofs.lemmas.Bool.{false≢true}
 use Rattle.std.proofs.lemmas.Bool.Decides.{nat_tests}
 use Rattle.std.proofs.lemmas.List.Folds.{list_any-append}
 use Rattle.linewise.specs.Output.{WritesFront}
-use Rattle.linewise.specs.Talks.{AnswersLine, Fails, Talked, is_bad, is_given, is_skipped, max_line, said_of}
+use Rattle.linewise.specs.Talks.{AnswersLine, Fails, AnswersInput, is_bad, is_given, is_skipped, max_line, said_of}
 use Rattle.linewise.specs.declared.talking.Became.{Became}
 use Rattle.linewise.specs.declared.talking.Became.TheVariants.{Done, BadLine, NoMemory}
 use Rattle.linewise.specs.declared.fault.CaptureFault.{CaptureFault}
@@ -254,9 +254,9 @@ sates_back : (xs ys : List (Option Became)) → AllByRecursion (λ became. becam
 sates_back [] ys all = all
 sates_back (x ∷ xs) ys all = sates_back xs ys all.1
 
-talked_so : (first now : Watching) (input rest said : List ℕ) (were : List (Option Became)) → Talked answered waiting first input now rest said were → Starts first
+talked_so : (first now : Watching) (input rest said : List ℕ) (were : List (Option Became)) → AnswersInput answered waiting first input now rest said were → Starts first
     → AllByRecursion (λ became. became ≢ Some NoMemory) were → WatchedSo first.in_words input rest said were now
-talked_so first now input rest said were Talked.no_line_more start never = record {
+talked_so first now input rest said were AnswersInput.no_line_more start never = record {
   captured = [];
   watches = start.watches (heard_frames input);
   are = refl;
@@ -265,7 +265,7 @@ talked_so first now input rest said were Talked.no_line_more start never = recor
   many = sym start.packets;
   bad = refl;
 }
-talked_so first new input rest said were (Talked.one_line_more now left before_said more before became talked some says) start never =
+talked_so first new input rest said were (AnswersInput.one_line_more now left before_said more before became talked some says) start never =
     let w = talked_so first now input left before_said before talked start (sates_front before (became ∷ []) never) in
     let one = (sates_back before (became ∷ []) never).0 in
     subst (λ l. WatchedSo first.in_words input (drop_through 10 left) (before_said ++ l) (before ++ became ∷ []) new) (sym says.says)
@@ -288,10 +288,10 @@ all_read words input said were now w =
 
 -- what is known where a talk ended with its input
 abbrev pub HasEnded : Watching → Watching → (unread held mid : Option (List ℕ)) → Bool → Type 0
-HasEnded first now unread held mid bad = IfSome unread (λ input. (text : List ℕ) × (were : List (Option Became)) × Talked answered waiting first input now [] text were
+HasEnded first now unread held mid bad = IfSome unread (λ input. (text : List ℕ) × (were : List (Option Became)) × AnswersInput answered waiting first input now [] text were
     × Appends held mid text × (bad ≡ list_any is_bad were) × (((e : Watching) → waiting e ≡ None) → AllByRecursion (λ became. became ≢ Some NoMemory) were))
 
-so_far : (first now : Watching) (input text : List ℕ) (were : List (Option Became)) → Starts first → Talked answered waiting first input now [] text were
+so_far : (first now : Watching) (input text : List ℕ) (were : List (Option Became)) → Starts first → AnswersInput answered waiting first input now [] text were
     → (((e : Watching) → waiting e ≡ None) → AllByRecursion (λ became. became ≢ Some NoMemory) were) → WatchedSo first.in_words input [] text were now
 so_far first now input text were start talked unbroken = talked_so first now input [] text were talked start (unbroken (λ e. refl))
 
@@ -348,10 +348,10 @@ snoc_is (x ∷ xs) (y ∷ ys) a b e =
     let rest = snoc_is xs ys a b tail in
     (ap (λ z. z ∷ xs) head ∙ ap (λ l. y ∷ l) rest.0, rest.1)
 
-memory_last : (first now : Watching) (input rest said : List ℕ) (all were : List (Option Became)) → Talked answered waiting first input now rest said all → all ≡ were ++ Some NoMemory ∷ [] → Starts first
+memory_last : (first now : Watching) (input rest said : List ℕ) (all were : List (Option Became)) → AnswersInput answered waiting first input now rest said all → all ≡ were ++ Some NoMemory ∷ [] → Starts first
     → AllByRecursion (λ became. became ≢ Some NoMemory) were → (left : List Capture) × (after : List ℕ) × IsWatchedTo first.in_words input left said after
-memory_last first now input rest said all were Talked.no_line_more is start never = absurd (omega (arith, ap length is, length-append were (Some NoMemory ∷ [])))
-memory_last first new input rest said all were (Talked.one_line_more now left before_said more before became talked some says) is start never =
+memory_last first now input rest said all were AnswersInput.no_line_more is start never = absurd (omega (arith, ap length is, length-append were (Some NoMemory ∷ [])))
+memory_last first new input rest said all were (AnswersInput.one_line_more now left before_said more before became talked some says) is start never =
     let same = snoc_is before were became (Some NoMemory) is in
     let w = talked_so first now input left before_said before talked start (subst (λ (l : List (Option Became)). AllByRecursion (λ b. b ≢ Some NoMemory) l) (sym same.0) never) in
     let answers = subst (λ (b : Option Became). AnswersLine answered waiting now (first_line left) new says.text b) same.1 says.answers in

@@ -5,10 +5,10 @@ use Rattle.std.proofs.lemmas.Bool.Decides.{nat_tests}
 use Rattle.std.proofs.lemmas.List.Elements.{filter-append}
 use Rattle.dap_listing.specs.Captured.{Spell, digit_bytes}
 use Rattle.dap_listing.specs.Lines.{Capture}
-use Rattle.dap_listing.specs.Packets.{IsSeen, Seen}
+use Rattle.dap_listing.specs.Packets.{IsSeen, DecodedPacket}
 use Rattle.dap_listing.specs.declared.lines.Direction.{Direction}
 use Rattle.dap_listing.proofs.ForCallers.{decoded}
-use Rattle.dap_follow.specs.Streams.{Captured, IsOrdered, Sequenced, came_in, first_sequence, streams, AreSequenced}
+use Rattle.dap_follow.specs.Streams.{CapturedItem, IsOrdered, Sequenced, came_in, first_sequence, streams, AreSequenced}
 use Rattle.dap_follow.specs.Joined.{Message, Fragment, is_message, latest, fragment_message, messages, fragments_of}
 use Rattle.dap_meanings.specs.Frames.{frame_words}
 use Rattle.dap_follow.specs.Following.{IsMessageText, IsFollowedPacketText, frame_of, packet_line, rest_lines}
@@ -47,7 +47,7 @@ messages_append : (n : ℕ) (ms ns : List Message) → AllByRecursion (λ m. m.p
 messages_append n [] ns one two = two
 messages_append n (m ∷ ms) ns one two = (one.0, messages_append n ms ns one.1 two)
 
-upto : (packets : List Captured) (keys : List Stream) (orders : List (List Sequenced)) (by_stream : List KeptSegments) → KeepsEachOrdered packets keys orders by_stream
+upto : (packets : List CapturedItem) (keys : List Stream) (orders : List (List Sequenced)) (by_stream : List KeptSegments) → KeepsEachOrdered packets keys orders by_stream
     → AllByRecursion (λ m. m.packet ≤ length packets) (flat_map messages orders)
 upto packets [] [] [] each = tt
 upto packets [] [] (p ∷ by_stream) each = absurd each
@@ -119,20 +119,20 @@ these_under n old new front back ms before after all low =
 
 -- ---- texts
 
-one_text : (words : Bool) (frames : List (List (List ℕ))) (k : ℕ) (p : Captured) (text : List ℕ) (all later : List Message) → filter (λ m. m.packet == k) later ≡ filter (λ m. m.packet == k) all
+one_text : (words : Bool) (frames : List (List (List ℕ))) (k : ℕ) (p : CapturedItem) (text : List ℕ) (all later : List Message) → filter (λ m. m.packet == k) later ≡ filter (λ m. m.packet == k) all
     → IsFollowedPacketText words frames all (k, p) text → IsFollowedPacketText words frames later (k, p) text
 one_text words frames k p text all later same is = (is.0, subst (λ (l : List Message). AllZip (λ m. IsMessageText words m.piece) l is.0) (sym same) is.1, is.2)
 
 -- the texts of earlier packets stay
 retext : (words : Bool) (frames : List (List (List ℕ))) (n : ℕ) (all later : List Message) → ((k : ℕ) → k < n → filter (λ m. m.packet == k) later ≡ filter (λ m. m.packet == k) all)
-    → (k : ℕ) (packets : List Captured) (texts : List (List ℕ)) → k + length packets ≤ n → AllZip (IsFollowedPacketText words frames all) (enumerate_from k packets) texts → AllZip (IsFollowedPacketText words frames later) (enumerate_from k packets) texts
+    → (k : ℕ) (packets : List CapturedItem) (texts : List (List ℕ)) → k + length packets ≤ n → AllZip (IsFollowedPacketText words frames all) (enumerate_from k packets) texts → AllZip (IsFollowedPacketText words frames later) (enumerate_from k packets) texts
 retext words frames n all later same k [] [] within each = tt
 retext words frames n all later same k [] (t ∷ texts) within each = absurd each
 retext words frames n all later same k (p ∷ packets) [] within each = absurd each
 retext words frames n all later same k (p ∷ packets) (t ∷ texts) within each =
     (one_text words frames k p t all later (same k (omega arith)) each.0, retext words frames n all later same (k + 1) packets texts (omega arith) each.1)
 
-zip_snoc : (P : ℕ × Captured → List ℕ → Type 0) (xs : List (ℕ × Captured)) (ts : List (List ℕ)) (x : ℕ × Captured) (t : List ℕ) → AllZip P xs ts → P x t → AllZip P (xs ++ x ∷ []) (ts ++ t ∷ [])
+zip_snoc : (P : ℕ × CapturedItem → List ℕ → Type 0) (xs : List (ℕ × CapturedItem)) (ts : List (List ℕ)) (x : ℕ × CapturedItem) (t : List ℕ) → AllZip P xs ts → P x t → AllZip P (xs ++ x ∷ []) (ts ++ t ∷ [])
 zip_snoc P [] [] x t all one = (one, tt)
 zip_snoc P [] (u ∷ ts) x t all one = absurd all
 zip_snoc P (y ∷ xs) [] x t all one = absurd all
@@ -150,16 +150,16 @@ message_texts words (m ∷ ms) (t ∷ texts) all = (all.0, message_texts words m
 
 -- ---- one packet more
 
-pub watches_more : (words : Bool) (frames : List (List (List ℕ))) (captured : List Capture) (written : List ℕ) (old new : Watching) (way : Direction) (digits : List ℕ) (seen : Seen) (text first : List ℕ) (start : Streams)
+pub watches_more : (words : Bool) (frames : List (List (List ℕ))) (captured : List Capture) (written : List ℕ) (old new : Watching) (way : Direction) (digits : List ℕ) (seen : DecodedPacket) (text first : List ℕ) (start : Streams)
     → frame_of frames (old.packets + 1) ≡ frame_words old.before.items → Watches words frames captured written old → Spell digits (length digits / 2) → IsSeen seen (digit_bytes digits) → new.in_words ≡ old.in_words → new.packets ≡ old.packets + 1 → old.packets + 1 ≤ 2 ^ 50 → start ≡ old.streams
     → first ≡ packet_line old.in_words (frame_words old.before.items) (old.packets + 1) (way, seen)
-    → ((packets : List Captured) (ordered : List (List Sequenced)) → length packets < 2 ^ 50 → KeepsAllOrdered packets ordered start → TellsPacket old.in_words packets (way, seen) ordered new.streams first text)
+    → ((packets : List CapturedItem) (ordered : List (List Sequenced)) → length packets < 2 ^ 50 → KeepsAllOrdered packets ordered start → TellsPacket old.in_words packets (way, seen) ordered new.streams first text)
     → Watches words frames (captured ++ (way, digits) ∷ []) (written ++ text) new
 watches_more words frames captured written old new way digits seen text first start framed w spelled is wanted count most same line tells =
     let n : ℕ = length w.packets in
     let number : old.packets + 1 ≡ 1 + n = omega (arith, w.count) in
     let few : n < 2 ^ 50 = omega (arith, number, most) in
-    let x : Captured = (way, seen) in
+    let x : CapturedItem = (way, seen) in
     let told = tells w.packets w.ordered few (subst (λ (s : Streams). KeepsAllOrdered w.packets w.ordered s) (sym same) w.keeps) in
     let t = subst (λ (b : Bool). TellsPacket b w.packets x w.ordered new.streams first text) w.words told in
     let all = flat_map messages w.ordered in
@@ -181,7 +181,7 @@ watches_more words frames captured written old new way digits seen text first st
       ordered = t.later;
       texts = w.texts ++ text ∷ [];
       are_seen = seen_more captured w.packets way digits (digit_bytes digits) seen w.are_seen (decoded digits (length digits / 2) spelled) is;
-      are_texts = subst (λ (l : List (ℕ × Captured)). AllZip (IsFollowedPacketText words frames later) l (w.texts ++ text ∷ [])) (sym (enumerate_from-snoc 1 w.packets x))
+      are_texts = subst (λ (l : List (ℕ × CapturedItem)). AllZip (IsFollowedPacketText words frames later) l (w.texts ++ text ∷ [])) (sym (enumerate_from-snoc 1 w.packets x))
           (zip_snoc (IsFollowedPacketText words frames later) (enumerate_from 1 w.packets) w.texts (1 + n, x) text
           (retext words frames (1 + n) all later (λ k below. earlier (1 + n) k all later t.front t.back t.ms below t.before t.after t.whole) 1 w.packets w.texts (omega arith) w.are_texts) own);
       written_is = ap (λ l. l ++ text) w.written_is ∙ sym (concat_snoc w.texts text);
@@ -193,7 +193,7 @@ watches_more words frames captured written old new way digits seen text first st
 
 -- ---- what a packet tells
 
-pub tells_message : (words : Bool) (packets : List Captured) (x : Captured) (ordered : List (List Sequenced)) (new : Streams) (digits : List ℕ) (w : Whole) (old_text new_text : List ℕ)
+pub tells_message : (words : Bool) (packets : List CapturedItem) (x : CapturedItem) (ordered : List (List Sequenced)) (new : Streams) (digits : List ℕ) (w : Whole) (old_text new_text : List ℕ)
     → Grows packets x ordered new digits (Some w) → ((m : Fragment) → IsWholeMessage digits w m → (text : List ℕ) × IsMessageText words m text × (new_text ≡ old_text ++ text))
     → TellsPacket words packets x ordered new old_text new_text
 tells_message words packets x ordered new digits w old_text new_text g said =
@@ -215,7 +215,7 @@ tells_message words packets x ordered new digits w old_text new_text g said =
       added = text.2 ∙ ap (λ l. old_text ++ l) (sym (append-nil text.0));
     }
 
-pub tells_none : (words : Bool) (packets : List Captured) (x : Captured) (ordered : List (List Sequenced)) (new : Streams) (digits : List ℕ) (text : List ℕ)
+pub tells_none : (words : Bool) (packets : List CapturedItem) (x : CapturedItem) (ordered : List (List Sequenced)) (new : Streams) (digits : List ℕ) (text : List ℕ)
     → Grows packets x ordered new digits None → TellsPacket words packets x ordered new text text
 tells_none words packets x ordered new digits text g =
     let a = g.added in
@@ -234,7 +234,7 @@ tells_none words packets x ordered new digits text g =
       added = sym (append-nil text);
     }
 
-pub tells_aside : (words : Bool) (packets : List Captured) (x : Captured) (ordered : List (List Sequenced)) (new : Streams) (text : List ℕ) → KeepsAllOrdered (packets ++ x ∷ []) ordered new → TellsPacket words packets x ordered new text text
+pub tells_aside : (words : Bool) (packets : List CapturedItem) (x : CapturedItem) (ordered : List (List Sequenced)) (new : Streams) (text : List ℕ) → KeepsAllOrdered (packets ++ x ∷ []) ordered new → TellsPacket words packets x ordered new text text
 tells_aside words packets x ordered new text keeps = record {
   later = ordered;
   keeps = keeps;
@@ -251,7 +251,7 @@ tells_aside words packets x ordered new text keeps = record {
 
 -- ---- at the end
 
-is_ordered : (packets : List Captured) (s : Stream) (o : List Sequenced) (p : KeptSegments) → KeepsStreamOrdered packets s o p → IsOrdered (came_in s packets) o
+is_ordered : (packets : List CapturedItem) (s : Stream) (o : List Sequenced) (p : KeptSegments) → KeepsStreamOrdered packets s o p → IsOrdered (came_in s packets) o
 is_ordered packets s o p k = record {
   sequenced = k.sequenced;
   are_sequenced = subst (λ (l : List NumberedSegment). AreSequenced (first_sequence l) l k.sequenced) (sym k.are) k.are_sequenced;
@@ -259,7 +259,7 @@ is_ordered packets s o p k = record {
   same = k.same;
 }
 
-are_ordered : (packets : List Captured) (keys : List Stream) (orders : List (List Sequenced)) (by_stream : List KeptSegments) → KeepsEachOrdered packets keys orders by_stream
+are_ordered : (packets : List CapturedItem) (keys : List Stream) (orders : List (List Sequenced)) (by_stream : List KeptSegments) → KeepsEachOrdered packets keys orders by_stream
     → AllZip (λ stream. IsOrdered (came_in stream packets)) keys orders
 are_ordered packets [] [] [] each = tt
 are_ordered packets [] [] (p ∷ by_stream) each = absurd each

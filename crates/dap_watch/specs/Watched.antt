@@ -9,7 +9,7 @@ use Rattle.linewise.specs.declared.fault.CaptureFault.TheVariants.{BadLine, TooL
 use Rattle.dap_listing.specs.Lines.{Capture, line_of}
 use Rattle.std.specs.Str.Lines.{lines}
 use Rattle.dap_listing.specs.Listing.{captures, frames_after, packet_limit}
-use Rattle.dap_follow.specs.Streams.{IsOrdered, Captured, Sequenced, came_in, streams}
+use Rattle.dap_follow.specs.Streams.{IsOrdered, CapturedItem, Sequenced, came_in, streams}
 use Rattle.dap_follow.specs.Joined.{Fragment, is_message, latest, messages, fragments_of}
 use Rattle.dap_follow.specs.Following.{IsCaptured, IsFollowedPacketText, rest_lines}
 
@@ -29,7 +29,7 @@ whole_at packet ordered = filter (is_whole_with packet) (fragments_of ordered)
 -- `watched_captures_are_followed` both together are the listing of `follow`. The frames are the words of the line
 -- directly before each packet.
 pub record IsWatched (in_words : Bool) (captured : List Capture) (frames : List (List (List ℕ))) (written rest : List ℕ) : Type 0 where
-  pub packets : List Captured
+  pub packets : List CapturedItem
   pub ordered : List (List Sequenced)
   pub texts : List (List ℕ)
   pub are_seen : AllZip IsCaptured captured packets

@@ -3,7 +3,7 @@
 ghost use Rattle.std.specs.Prelude.{◌≡◌, ◌<◌, ◌/◌, ◌^◌, ◌∷◌, [], List, IfOk, IfSome, length};
 ghost use Rattle.dap_listing.specs.Captured.{Spell};
 ghost use Rattle.dap_follow.specs.Segments.{captured_segment};
-ghost use Rattle.dap_follow.specs.Streams.{Captured, Sequenced};
+ghost use Rattle.dap_follow.specs.Streams.{CapturedItem, Sequenced};
 ghost use Rattle.dap_watch.specs.Inner.Streams.{Grows, IsIndexedStream, KeepsAllOrdered};
 
 use crate::kept::{KeptSegments, Whole};
@@ -56,7 +56,7 @@ impl Streams {
     ) -> Result<Option<Whole>, AllocError>
         requires { Spell segment.now.digits.now (length segment.now.digits.now / 2) }
         ensures grows { IfOk result (λ found.
-            (packets : List Captured) (ordered : List (List Sequenced))
+            (packets : List CapturedItem) (ordered : List (List Sequenced))
             → length packets < 2 ^ 50 → KeepsAllOrdered packets ordered self.old
             → Grows packets (captured_segment way segment.now) ordered self.new digits.new.items
             found) }

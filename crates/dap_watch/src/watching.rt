@@ -11,7 +11,7 @@ ghost use Rattle.dap_listing.specs.Captured.{Spell};
 ghost use Rattle.dap_follow.specs.Following.{IsMessageText};
 ghost use Rattle.dap_follow.specs.Segments.{captured_segment};
 ghost use Rattle.dap_follow.specs.Joined.{Fragment};
-ghost use Rattle.dap_follow.specs.Streams.{Captured, Sequenced};
+ghost use Rattle.dap_follow.specs.Streams.{CapturedItem, Sequenced};
 ghost use Rattle.dap_watch.specs.Inner.Kept.{IsWholeMessage};
 ghost use Rattle.dap_watch.specs.Inner.Rest.{all_kept_rest};
 ghost use Rattle.dap_watch.specs.Inner.Streams.{KeepsAllOrdered};
@@ -96,7 +96,7 @@ impl Watching {
         ensures words { self.new.in_words ≡ self.old.in_words }
         ensures packets { self.new.packets ≡ self.old.packets }
         ensures before { self.new.before ≡ self.old.before }
-        ensures told { OnOk result ((packets : List Captured) (ordered : List (List Sequenced))
+        ensures told { OnOk result ((packets : List CapturedItem) (ordered : List (List Sequenced))
             → length packets < 2 ^ 50 → KeepsAllOrdered packets ordered self.old.streams
             → TellsPacket self.old.in_words packets (captured_segment way segment.now) ordered
             self.new.streams text.old.items text.new.items) }

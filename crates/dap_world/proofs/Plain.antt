@@ -12,7 +12,7 @@ use Rattle.dap_accessing.specs.Request.{Request}
 use Rattle.dap_end.specs.Histories.{AreFull}
 use Rattle.dap_end.proofs.ForCallers as ends
 use Rattle.dap_world.specs.Agreement.{IsBufsiz}
-use Rattle.dap_world.specs.Plain.{messages_of, Asked, Answers, added}
+use Rattle.dap_world.specs.Plain.{messages_of, Asked, Answers, answers_added}
 use Rattle.dap_world.specs.Inner.Parts.{answer_packets}
 
 -- the messages of one request more
@@ -20,7 +20,7 @@ pub Asked-more : (own : ℕ) (requests : List Request) (request : Request) → A
 Asked-more own requests request = ends.Asked-more (plain_identity own) requests request
 
 -- the answers to one item more
-pub Answers-more : (own : ℕ) (first : Files) (items : List Item) (item : Item) → Answers own first (items ++ item ∷ []) ≡ Answers own first items ++ added own first items item
+pub Answers-more : (own : ℕ) (first : Files) (items : List Item) (item : Item) → Answers own first (items ++ item ∷ []) ≡ Answers own first items ++ answers_added own first items item
 Answers-more own first items item = accessed.Answers-more (plain_setup own) first items item
 
 -- the same as NSP messages

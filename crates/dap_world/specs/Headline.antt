@@ -7,7 +7,7 @@ use Rattle.dap_world.specs.Plain.{Answers, After, Asked}
 use Rattle.dap_accessing.specs.Request.{Request}
 use Rattle.dap_accessing.specs.declared.report.Report.{Report}
 use Rattle.dap_accessing.specs.Told.{Told}
-use Rattle.dap_world.specs.Machine.{State, sent_by, served_by_b, files_of, reported}
+use Rattle.dap_world.specs.Machine.{State, sent_by, served_by_b, files_of, reports_by_a}
 
 -- The messages that A sent are a prefix of those that the requests ask. Those that B served are the first of these,
 -- each once and in order. The files are those after what was served. The reports are those of the requests and of the
@@ -24,4 +24,4 @@ pub record Headline (own_a own_b : ℕ) (requests : List Request) (sent taken : 
 -- readers (`taken_in_order`, `files_after`, `reports_told`); the other three are proved of every run.
 abbrev pub HeadlineOf : State → Type 0
 HeadlineOf s =
-    Headline s.own_a s.own_b s.requests (sent_by s.a) (served_by_b s) s.served (files_of s) (reported s) s.read
+    Headline s.own_a s.own_b s.requests (sent_by s.a) (served_by_b s) s.served (files_of s) (reports_by_a s) s.read

@@ -6,7 +6,7 @@ use Rattle.dap_msg.specs.declared.items.Item.{Item}
 use Rattle.dap_msg.specs.declared.items.Item.TheVariants.{Whole}
 use Rattle.dap_msg.specs.Blocked.{NspMessage, blocked_bytes, Blocked, messages_in}
 use Rattle.dap_accessed.specs.Standing.{Files}
-use Rattle.dap_world.specs.Plain.{Answers, After, added, limit_for, messages_of, IsAdmissible, IsRefused}
+use Rattle.dap_world.specs.Plain.{Answers, After, answers_added, limit_for, messages_of, IsAdmissible, IsRefused}
 use Rattle.dap_accessing.specs.Request.{Request}
 use Rattle.dap_accessing.specs.declared.report.Report.{Report}
 use Rattle.dap_accessing.specs.declared.fault.AskFault.TheVariants as ask_fault
@@ -60,8 +60,8 @@ abbrev pub idle : EndState
 idle = record { waiting = []; handed = []; sent = 0; acked = 0; taken = 0; held = []; wire = [] }
 
 -- a new world
-abbrev pub fresh : WorldSetup → State
-fresh setup =
+abbrev pub initial_state : WorldSetup → State
+initial_state setup =
     record {
       seg_size = setup.seg_size;
       window = setup.window;
@@ -97,11 +97,11 @@ segments_of seg_size [] = 0
 segments_of seg_size (message ∷ messages) = count_of seg_size (length (blocked_bytes message)) + segments_of seg_size messages
 
 -- the NSP messages that are whole in the first r segments
-abbrev pub arrived : ℕ → ℕ → List NspMessage → List NspMessage
-arrived seg_size r [] = []
-arrived seg_size r (message ∷ messages) =
+abbrev pub arrived_messages : ℕ → ℕ → List NspMessage → List NspMessage
+arrived_messages seg_size r [] = []
+arrived_messages seg_size r (message ∷ messages) =
     let n = count_of seg_size (length (blocked_bytes message)) in
-    if nat_le n r then message ∷ arrived seg_size (r - n) messages else []
+    if nat_le n r then message ∷ arrived_messages seg_size (r - n) messages else []
 
 -- the messages that an end passed to its link
 abbrev pub sent_by : EndState → List Message
@@ -109,7 +109,7 @@ sent_by e = messages_in e.handed
 
 -- those of the other end that have arrived whole at an end
 abbrev pub arrived_at : State → End → List Message
-arrived_at s end = messages_in (arrived s.seg_size (end_of s end).taken (end_of s (other_end end)).handed)
+arrived_at s end = messages_in (arrived_messages s.seg_size (end_of s end).taken (end_of s (other_end end)).handed)
 
 -- ---- What both ends did.
 
@@ -122,8 +122,8 @@ abbrev pub answers_read : State → List Item
 answers_read s = map Whole (take s.read (Answers s.own_b [] (map Whole (served_by_b s))))
 
 -- what A reported
-unfoldable pub reported : State → List Report
-reported s = Told s.requests (answers_read s)
+unfoldable pub reports_by_a : State → List Report
+reports_by_a s = Told s.requests (answers_read s)
 
 -- the files that B holds
 unfoldable pub files_of : State → Files
@@ -133,16 +133,16 @@ files_of s = After s.own_b [] (map Whole (served_by_b s))
 
 -- the NSP messages of a request, joined within the limit of B that A knows
 abbrev pub asking : State → Request → List NspMessage
-asking s request = Blocked (limit_after (reported s)) (messages_of s.own_a request)
+asking s request = Blocked (limit_after (reports_by_a s)) (messages_of s.own_a request)
 
 -- a request is asked: its messages wait
-abbrev pub asked : State → Request → State
-asked s request =
+abbrev pub world_after_request : State → Request → State
+world_after_request s request =
     record s { requests = s.requests ++ request ∷ []; a = record s.a { waiting = s.a.waiting ++ asking s request } }
 
 -- all that waits is passed to the link
-abbrev pub posted : EndState → EndState
-posted e = record e { waiting = []; handed = e.handed ++ e.waiting }
+abbrev pub end_after_post : EndState → EndState
+end_after_post e = record e { waiting = []; handed = e.handed ++ e.waiting }
 
 -- a packet with a segment, or without one, is written: it acknowledges what the end has taken, and is the last on its
 -- wire
@@ -157,8 +157,8 @@ taken_and_held keep taken held (Some k) =
     if k == taken + 1 then closed_up k held else (taken, if nat_lt taken k && keep then insert_key nat_cmp held k else held)
 
 -- a packet comes; the highest acknowledgement counts
-abbrev pub delivered : (keep : Bool) → EndState → Sending → EndState
-delivered keep e p =
+abbrev pub end_after_delivery : (keep : Bool) → EndState → Sending → EndState
+end_after_delivery keep e p =
     let got = taken_and_held keep e.taken e.held p.segment in record e { acked = max e.acked p.acks; taken = got.0; held = got.1 }
 
 -- more than 2,047 below
@@ -172,7 +172,7 @@ is_stale e p = option_map_or (λ k. is_old k (e.taken + 1)) p.segment false || i
 
 -- the answers to one more message, joined within the limit of A that B knows
 abbrev pub answering : State → Message → List NspMessage
-answering s m = let taken = map Whole (served_by_b s) in Blocked (limit_for s.own_b [] taken) (added s.own_b [] taken (Whole m))
+answering s m = let taken = map Whole (served_by_b s) in Blocked (limit_for s.own_b [] taken) (answers_added s.own_b [] taken (Whole m))
 
 -- B serves a message, and its answers wait
 abbrev pub served_one : State → Message → State
@@ -184,7 +184,7 @@ with_read s = record s { read = s.read + 1 }
 
 -- whether there is one more report
 abbrev pub told_by : State → State → Step
-told_by old new = if length (reported new) == length (reported old) then step.Nothing else step.Reported
+told_by old new = if length (reports_by_a new) == length (reports_by_a old) then step.Nothing else step.Reported
 
 -- ---- Conditions.
 
@@ -211,16 +211,16 @@ MayDeliver s end j p = (slice_get (end_of s (other_end end)).wire j ≡ Some p) 
 abbrev pub Delivers : (keep : Bool) → State → End → ℕ → Step → State → Type 0
 Delivers keep s end j answer new =
     let e = end_of s end in
-    (p : Sending) × MayDeliver s end j p × (answer ≡ step.Delivered (got_of e.taken p.segment)) × (new ≡ with_end s end (delivered keep e p))
+    (p : Sending) × MayDeliver s end j p × (answer ≡ step.Delivered (got_of e.taken p.segment)) × (new ≡ with_end s end (end_after_delivery keep e p))
 
 -- The event happens, has this answer, and leads from one state to another. Early segments are kept.
 unfoldable pub Steps : State → Event → Step → State → Type 0
 Steps s (event.Ask request) answer new =
-    IsAdmissible s.own_a s.requests (answers_read s) request × (answer ≡ step.Asked (length (asking s request))) × (new ≡ asked s request)
+    IsAdmissible s.own_a s.requests (answers_read s) request × (answer ≡ step.Asked (length (asking s request))) × (new ≡ world_after_request s request)
 Steps s (event.Post end) answer new =
     let e = end_of s end in
-    (0 < length e.waiting) × (segments_of s.seg_size (posted e).handed ≤ max_segments)
-    × (answer ≡ step.Posted (length e.waiting)) × (new ≡ with_end s end (posted e))
+    (0 < length e.waiting) × (segments_of s.seg_size (end_after_post e).handed ≤ max_segments)
+    × (answer ≡ step.Posted (length e.waiting)) × (new ≡ with_end s end (end_after_post e))
 Steps s (event.Emit end) answer new =
     let e = end_of s end in
     MayEmit s end × (answer ≡ step.Packet (length e.wire)) × (new ≡ with_end s end (wrote e (e.sent + 1) (Some (e.sent + 1))))
@@ -246,7 +246,7 @@ unfoldable pub RefusesEvent : State → Event → WorldFault → Type 0
 RefusesEvent s (event.Ask request) (fault.Ask ask_fault.NoMemory) = ⊥
 RefusesEvent s (event.Ask request) (fault.Ask f) = IsRefused s.own_a s.requests (answers_read s) request f
 RefusesEvent s (event.Post end) fault.NothingToDo = (end_of s end).waiting ≡ []
-RefusesEvent s (event.Post end) fault.Exhausted = (0 < length (end_of s end).waiting) × (max_segments < segments_of s.seg_size (posted (end_of s end)).handed)
+RefusesEvent s (event.Post end) fault.Exhausted = (0 < length (end_of s end).waiting) × (max_segments < segments_of s.seg_size (end_after_post (end_of s end)).handed)
 RefusesEvent s (event.Emit end) fault.NothingToDo = MayEmit s end → ⊥
 RefusesEvent s (event.Resend end i) fault.NothingToDo =
     (end_of s end).sent - (end_of s end).acked ≤ i

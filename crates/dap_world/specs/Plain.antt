@@ -6,7 +6,7 @@ use Rattle.dap_msg.specs.declared.message.Message.{Message}
 use Rattle.dap_msg.specs.declared.items.Item.{Item}
 use Rattle.dap_accessed.specs.Setup.{plain_setup}
 use Rattle.dap_accessed.specs.Standing.{Files}
-use Rattle.dap_accessed.specs.Groups.{Grouped}
+use Rattle.dap_accessed.specs.Groups.{GroupedItems}
 use Rattle.dap_accessed.specs.Groups as accessed
 use Rattle.dap_accessing.specs.Request.{Request}
 use Rattle.dap_accessing.specs.declared.fault.AskFault.{AskFault}
@@ -34,7 +34,7 @@ IsRefused own requests answers request fault = phase.IsRefused (plain_identity o
 -- ---- The server.
 
 -- its state after these items, with these files at first
-abbrev pub stands_after : (own : ℕ) → Files → List Item → Grouped
+abbrev pub stands_after : (own : ℕ) → Files → List Item → GroupedItems
 stands_after own first items = accessed.stands_after (plain_setup own) first items
 
 -- the maximum length of a message to the peer of such a server after these items
@@ -50,5 +50,5 @@ abbrev pub Answers : (own : ℕ) → Files → List Item → List Message
 Answers own first items = accessed.Answers (plain_setup own) first items
 
 -- the answers that one more item adds
-abbrev pub added : (own : ℕ) → Files → List Item → Item → List Message
-added own first items item = accessed.added (plain_setup own) first items item
+abbrev pub answers_added : (own : ℕ) → Files → List Item → Item → List Message
+answers_added own first items item = accessed.answers_added (plain_setup own) first items item

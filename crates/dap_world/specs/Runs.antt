@@ -9,7 +9,7 @@ use Rattle.dap_events.specs.declared.event.Step.{Step}
 use Rattle.dap_events.specs.declared.event.Step.TheVariants as step
 use Rattle.dap_events.specs.declared.event.WorldFault.{WorldFault}
 use Rattle.dap_events.specs.declared.event.WorldFault.TheVariants as fault
-use Rattle.dap_world.specs.Machine.{State, Steps, StepsFreely, RefusesEvent, fresh}
+use Rattle.dap_world.specs.Machine.{State, Steps, StepsFreely, RefusesEvent, initial_state}
 use Rattle.dap_world.specs.Setups.{IsWorldSetup}
 use Rattle.dap_events.specs.declared.setup.WorldSetup.{WorldSetup}
 
@@ -23,12 +23,12 @@ TakesMemory answer = Unit {0}
 abbrev pub WantsMemory : State → Event → Type 0
 WantsMemory s e = (answer : Step) × (new : State) × Steps s e answer new × TakesMemory answer
 
--- It is a step of the machine; or the machine has none, for this reason; or memory was refused. A refusal changes
--- nothing.
-abbrev pub Went : State → Event → Result Step WorldFault → State → Type 0
-Went old e (Ok answer) new = Steps old e answer new
-Went old e (Err fault.NoMemory) new = WantsMemory old e × (new ≡ old)
-Went old e (Err f) new = RefusesEvent old e f × (new ≡ old)
+-- An event came to this result: it is a step of the machine; or the machine has none, for this reason; or memory was
+-- refused. A refusal changes nothing.
+abbrev pub ComesTo : State → Event → Result Step WorldFault → State → Type 0
+ComesTo old e (Ok answer) new = Steps old e answer new
+ComesTo old e (Err fault.NoMemory) new = WantsMemory old e × (new ≡ old)
+ComesTo old e (Err f) new = RefusesEvent old e f × (new ≡ old)
 
 -- the end that an event lets write a packet
 abbrev pub writing_end : Event → Option End
@@ -43,11 +43,11 @@ Runs old events new = RunsBy Steps old events new
 
 -- events lead to this state from a new world, whatever early segments are kept
 abbrev pub IsReached : State → Type 0
-IsReached s = (setup : WorldSetup) × (events : List Event) × IsWorldSetup setup × RunsBy StepsFreely (fresh setup) events s
+IsReached s = (setup : WorldSetup) × (events : List Event) × IsWorldSetup setup × RunsBy StepsFreely (initial_state setup) events s
 
 -- the event at this index was refused, and those before it were run
 pub record StopsAt (events : List Event) (old new : State) (stop : ℕ × WorldFault) : Type 0 where
   pub ran : Runs old (take stop.0 events) new
   pub event : Event
   pub there : slice_get events stop.0 ≡ Some event
-  pub refused : Went new event (Err stop.1) new
+  pub refused : ComesTo new event (Err stop.1) new

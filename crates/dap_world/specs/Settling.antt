@@ -12,7 +12,7 @@ use Rattle.dap_events.specs.declared.event.Event.{Event}
 use Rattle.dap_events.specs.declared.event.Event.TheVariants as event
 use Rattle.dap_events.specs.declared.event.WorldFault.{WorldFault}
 use Rattle.dap_events.specs.declared.event.WorldFault.TheVariants as fault
-use Rattle.dap_world.specs.Machine.{State, RefusesEvent, end_of, segments_of, sent_by, served_by_b, answers_read, reported}
+use Rattle.dap_world.specs.Machine.{State, RefusesEvent, end_of, segments_of, sent_by, served_by_b, answers_read, reports_by_a}
 use Rattle.dap_world.specs.Runs.{Runs}
 
 -- n events lead from one state to another, and none of them asks.
@@ -23,8 +23,8 @@ pub record RanBy (old new : State) (n : ℕ) : Type 0 where
   pub quiet : new.requests ≡ old.requests
 
 -- how many of the segments that an end sent aren't acknowledged
-abbrev pub unacked : State → End → ℕ
-unacked s end = (end_of s end).sent - (end_of s end).acked
+abbrev pub unacked_count : State → End → ℕ
+unacked_count s end = (end_of s end).sent - (end_of s end).acked
 
 -- What was done so far, in events: four for each segment first sent, two for each message served and for each answer
 -- read.
@@ -35,10 +35,10 @@ work s = 4 * (s.a.sent + s.b.sent) + 2 * (s.served + s.read)
 
 -- After n events all segments that the end sent are acknowledged: 0 where all were before, else two for each that
 -- wasn't, and two more.
-pub record Settled (old new : State) (end : End) (n : ℕ) : Type 0 where
+pub record SettlesIn (old new : State) (end : End) (n : ℕ) : Type 0 where
   pub ran : RanBy old new n
-  pub done : unacked new end ≡ 0
-  pub count : n ≡ (if unacked old end == 0 then 0 else 2 * unacked old end + 2)
+  pub done : unacked_count new end ≡ 0
+  pub count : n ≡ (if unacked_count old end == 0 then 0 else 2 * unacked_count old end + 2)
 
 -- ---- Both ends are finished.
 
@@ -46,7 +46,7 @@ pub record Settled (old new : State) (end : End) (n : ℕ) : Type 0 where
 pub record IsEmpty (s : State) (end : End) : Type 0 where
   pub waiting : (end_of s end).waiting ≡ []
   pub sent : (end_of s end).sent ≡ segments_of s.seg_size (end_of s end).handed
-  pub acked : unacked s end ≡ 0
+  pub acked : unacked_count s end ≡ 0
 
 -- there is nothing to do: all that was sent was served, and all answers were read
 pub record IsFinished (s : State) : Type 0 where
@@ -59,11 +59,11 @@ pub record IsFinished (s : State) : Type 0 where
 pub record AllTold (s : State) : Type 0 where
   pub sent : sent_by s.a ≡ Asked s.own_a s.requests
   pub taken : served_by_b s ≡ Asked s.own_a s.requests
-  pub reports : reported s ≡ reports_of s.own_a s.own_b s.requests
-  pub each : length (reported s) ≡ length s.requests
+  pub reports : reports_by_a s ≡ reports_of s.own_a s.own_b s.requests
+  pub each : length (reports_by_a s) ≡ length s.requests
 
 -- After n events nothing is left to do, and each request has its report, whatever was lost before.
-pub record Finished (old new : State) (n : ℕ) : Type 0 where
+pub record FinishesIn (old new : State) (n : ℕ) : Type 0 where
   pub ran : RanBy old new n
   pub finished : IsFinished new
   pub told : AllTold new
@@ -73,8 +73,8 @@ pub record Finished (old new : State) (n : ℕ) : Type 0 where
 
 -- It is time to pass on what waits at an end: all that was sent is acknowledged, and for B nothing is left at A.
 abbrev pub IsPostDue : State → End → Type 0
-IsPostDue s A = (unacked s A ≡ 0) × (unacked s B ≡ 0)
-IsPostDue s B = IsEmpty s A × (unacked s B ≡ 0)
+IsPostDue s A = (unacked_count s A ≡ 0) × (unacked_count s B ≡ 0)
+IsPostDue s B = IsEmpty s A × (unacked_count s B ≡ 0)
 
 -- what is passed on then would make more than 2^40 segments
 abbrev pub IsExhausted : State → Type 0
@@ -112,7 +112,7 @@ pub record RanOut (requests : List Request) (new : State) (i : ℕ) (f : WorldFa
   pub there : i < length requests
   pub asked : (new.requests ≡ take i requests) ⊎ (new.requests ≡ take (i + 1) requests)
   pub admissible : AreAdmissible new.own_a new.own_b [] (take (i + 1) requests)
-  pub reports : reported new ≡ reports_of new.own_a new.own_b (take i requests)
+  pub reports : reports_by_a new ≡ reports_of new.own_a new.own_b (take i requests)
   pub why : FinishFault new f
 
 -- why a list of requests stops at this index; there is no other reason

@@ -26,25 +26,25 @@ use nsp_link::{Got, LinkFault};
 use std::alloc::Global;
 
 impl World {
-    ghost use Rattle.dap_world.specs.Runs.{Went};
+    ghost use Rattle.dap_world.specs.Runs.{ComesTo};
 
     /// Asks a copy of a request.
     pub(crate) fn ask_copy(&mut self, request: &Request) -> Result<Step, WorldFault>
-        ensures { Went self.old (Event.Ask request.now) result self.new }
+        ensures { ComesTo self.old (Event.Ask request.now) result self.new }
     {
         copy_and_ask(self.alloc, &mut self.asking, &mut self.requests, request)
     }
 
     /// Asks a request that the ledger gets.
     pub(crate) fn ask_owned(&mut self, request: Request) -> Result<Step, WorldFault>
-        ensures { Went self.old (Event.Ask request) result self.new }
+        ensures { ComesTo self.old (Event.Ask request) result self.new }
     {
         ask_next(&mut self.asking, &mut self.requests, request)
     }
 
     /// Serves the next message.
     pub(crate) fn serve(&mut self) -> Result<Step, WorldFault>
-        ensures { Went self.old Event.Serve result self.new }
+        ensures { ComesTo self.old Event.Serve result self.new }
     {
         match self.serving.serve() {
             Ok(Some(count)) => {
@@ -58,7 +58,7 @@ impl World {
 
     /// Reads the next answer.
     pub(crate) fn read(&mut self) -> Result<Step, WorldFault>
-        ensures { Went self.old Event.Read result self.new }
+        ensures { ComesTo self.old Event.Read result self.new }
     {
         if !self.asking.may_read() {
             return Err(WorldFault::NothingToDo);
@@ -77,7 +77,7 @@ impl World {
 
     /// Passes on what waits.
     pub(crate) fn post(&mut self, end: End) -> Result<Step, WorldFault>
-        ensures { Went self.old (Event.Post end) result self.new }
+        ensures { ComesTo self.old (Event.Post end) result self.new }
     {
         match end {
             End::A => post_a(
@@ -92,7 +92,7 @@ impl World {
 
     /// Writes the next segment.
     pub(crate) fn emit(&mut self, end: End) -> Result<Step, WorldFault>
-        ensures { Went self.old (Event.Emit end) result self.new }
+        ensures { ComesTo self.old (Event.Emit end) result self.new }
     {
         match end {
             End::A => emit_next(&mut self.asking, &mut self.wire_a),
@@ -102,7 +102,7 @@ impl World {
 
     /// Writes a segment again.
     pub(crate) fn resend(&mut self, end: End, index: usize) -> Result<Step, WorldFault>
-        ensures { Went self.old (Event.Resend end index) result self.new }
+        ensures { ComesTo self.old (Event.Resend end index) result self.new }
     {
         match end {
             End::A => {
@@ -118,7 +118,7 @@ impl World {
 
     /// Writes an acknowledgement.
     pub(crate) fn ack(&mut self, end: End) -> Result<Step, WorldFault>
-        ensures { Went self.old (Event.Ack end) result self.new }
+        ensures { ComesTo self.old (Event.Ack end) result self.new }
     {
         match end {
             End::A => {
@@ -134,7 +134,7 @@ impl World {
 
     /// Delivers a packet of the other end to an end.
     pub(crate) fn deliver(&mut self, end: End, j: usize) -> Result<Step, WorldFault>
-        ensures { Went self.old (Event.Deliver end j) result self.new }
+        ensures { ComesTo self.old (Event.Deliver end j) result self.new }
     {
         match end {
             End::A => deliver_to(&mut self.asking, &self.wire_b, j),

@@ -19,12 +19,12 @@ fn is_nothing(fault: WorldFault) -> bool
 impl World {
     ghost use Rattle.std.specs.Prelude.{◌≡◌, ◌≢◌, ◌<◌, ◌^◌, ℕ, List, [], length, IfOk, IfErr, IsOk, OnOk, OnErr};
     ghost use Rattle.dap_accessing.specs.Told.{due_after, Wrong};
-    ghost use Rattle.dap_world.specs.Machine.{MayEmit, answers_read, reported, end_of, sent_by};
+    ghost use Rattle.dap_world.specs.Machine.{MayEmit, answers_read, reports_by_a, end_of, sent_by};
     ghost use Rattle.dap_world.specs.Headline.{HeadlineOf};
     ghost use Rattle.dap_world.specs.Runs.{Runs};
     ghost use Rattle.dap_events.specs.declared.event.Event.{Event as TheEvent};
     ghost use Rattle.dap_world.specs.Inner.Worlds.{IsWorld};
-    ghost use Rattle.dap_world.specs.Settling.{AllDone, Finished, FinishFault, IsEmpty, IsFinished, IsUnused, IsPostDue, RanBy, StopsAtRequest, unacked};
+    ghost use Rattle.dap_world.specs.Settling.{AllDone, FinishesIn, FinishFault, IsEmpty, IsFinished, IsUnused, IsPostDue, RanBy, StopsAtRequest, unacked_count};
     ghost use Rattle.dap_world.specs.Inner.Settling.{AreEmpty, AreSettled, Brought, BroughtAll, Emptied, Halts, IsOneDue, IsQuiet, IsServed, NothingSent, PostedAll, RanTo, ReadEvery, ReadPart, RunsTo, SameBut, SentBoth, ServedEvery, SettledBoth};
     ghost use Rattle.dap_events.specs.declared.event.End.TheVariants.{A, B};
     ghost use Rattle.dap_events.specs.declared.event.WorldFault.TheVariants.{NoMemory};
@@ -44,7 +44,7 @@ impl World {
     /// Writes the next segment, delivers it, and has it acknowledged.
     fn send_one(&mut self, end: End) -> Result<(), WorldFault>
         requires world { IsWorld self.old }
-        requires settled { unacked self.old end ≡ 0 }
+        requires settled { unacked_count self.old end ≡ 0 }
         requires may { MayEmit self.old end }
         ensures ok { OnOk result (Brought self.old self.new end 1 × IsWorld self.new) }
         ensures same { SameBut self.old self.new }
@@ -69,7 +69,7 @@ impl World {
     /// Brings every segment of an end to the other. Returns how many events that were.
     fn send_every(&mut self, end: End) -> Result<usize, WorldFault>
         requires world { IsWorld self.old }
-        requires settled { unacked self.old end ≡ 0 }
+        requires settled { unacked_count self.old end ≡ 0 }
         ensures ok { IfOk result (λ n. BroughtAll self.old self.new end n × IsWorld self.new) }
         ensures same { SameBut self.old self.new }
         ensures err { IfErr result (λ f. (f ≡ NoMemory) × RanTo self.old self.new) }
@@ -200,8 +200,8 @@ impl World {
     /// Brings what waits at both ends to the other.
     fn send_both(&mut self) -> Result<usize, WorldFault>
         requires world { IsWorld self.old }
-        requires a { unacked self.old A ≡ 0 }
-        requires b { unacked self.old B ≡ 0 }
+        requires a { unacked_count self.old A ≡ 0 }
+        requires b { unacked_count self.old B ≡ 0 }
         ensures ok { IfOk result (λ n. SentBoth self.old self.new n × IsWorld self.new) }
         ensures read { self.new.read ≡ self.old.read }
         ensures err { IfErr result (Halts (AreEmpty self.old) self.old self.new) }
@@ -219,9 +219,9 @@ impl World {
     /// Settles both ends, brings what waits to the other, serves all, and reads all.
     fn finish_all(&mut self) -> Result<usize, WorldFault>
         requires { IsWorld self.old }
-        ensures ok { IfOk result (λ n. Finished self.old self.new n) }
+        ensures ok { IfOk result (λ n. FinishesIn self.old self.new n) }
         ensures err { IfErr result (Halts (IsFinished self.old) self.old self.new) }
-        ensures untold { OnErr result (IsOneDue self.old → reported self.new ≡ reported self.old) }
+        ensures untold { OnErr result (IsOneDue self.old → reports_by_a self.new ≡ reports_by_a self.old) }
     {
         let settled = match self.settle_both() {
             Ok(count) => count,
@@ -254,10 +254,10 @@ impl World {
     /// refused, or where a direction would have more than 2^40 segments: the world is then as the last event that
     /// wasn't refused left it, and no report was added.
     pub fn finish(&mut self) -> Result<usize, WorldFault>
-        ensures ok { IfOk result (λ n. Finished self.old self.new n) }
+        ensures ok { IfOk result (λ n. FinishesIn self.old self.new n) }
         ensures err { IfErr result (λ f. FinishFault self.new f
             × ((n : ℕ) × RanBy self.old self.new n)) }
-        ensures untold { OnErr result (reported self.new ≡ reported self.old) }
+        ensures untold { OnErr result (reports_by_a self.new ≡ reports_by_a self.old) }
         ensures nothing { IsFinished self.old → IsOk result }
         ensures headline { HeadlineOf self.new }
     {

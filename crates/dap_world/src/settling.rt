@@ -8,7 +8,7 @@ impl World {
     ghost use Rattle.std.specs.Prelude.{◌≡◌, ◌<◌, ◌≤◌, ◌+◌, ◌-◌, IfOk, IfErr, IsOk, OnOk, OnErr, length, ℕ};
     ghost use Rattle.dap_world.specs.Machine.{end_of, other_end};
     ghost use Rattle.dap_world.specs.Inner.Worlds.{IsWorld};
-    ghost use Rattle.dap_world.specs.Settling.{RanBy, Settled, unacked, work};
+    ghost use Rattle.dap_world.specs.Settling.{RanBy, SettlesIn, unacked_count, work};
     ghost use Rattle.dap_world.specs.Inner.Settling.{AllResent, AreThere, AllCame, NothingSent, RanTo};
     ghost use Rattle.dap_world.specs.Headline.{HeadlineOf};
     ghost use Rattle.dap_events.specs.declared.event.End.{End};
@@ -18,11 +18,11 @@ impl World {
     /// Writes the first segments of an end that aren't acknowledged again, in order.
     fn resend_all(&mut self, end: End, count: usize) -> Result<(), WorldFault>
         requires world { IsWorld self.old }
-        requires few { count ≤ unacked self.old end }
+        requires few { count ≤ unacked_count self.old end }
         ensures ok { OnOk result (AllResent self.old self.new end count × IsWorld self.new) }
         ensures rest { NothingSent self.old self.new }
         ensures err { IfErr result (λ f. (f ≡ NoMemory) × RanTo self.old self.new) }
-        ensures left { OnErr result (unacked self.new end ≡ unacked self.old end) }
+        ensures left { OnErr result (unacked_count self.new end ≡ unacked_count self.old end) }
     {
         for index in 0..count {
             match self.step(&Event::Resend(end, index)) {
@@ -37,12 +37,12 @@ impl World {
     fn deliver_all(&mut self, end: End, first: usize, last: usize) -> Result<(), WorldFault>
         requires world { IsWorld self.old }
         requires order { first ≤ last }
-        requires few { last - first ≤ unacked self.old end }
+        requires few { last - first ≤ unacked_count self.old end }
         requires there { AreThere self.old end first (last - first) }
         ensures ok { OnOk result (AllCame self.old self.new end (last - first) × IsWorld self.new) }
         ensures rest { NothingSent self.old self.new }
         ensures err { IfErr result (λ f. (f ≡ NoMemory) × RanTo self.old self.new) }
-        ensures left { OnErr result (unacked self.new end ≡ unacked self.old end) }
+        ensures left { OnErr result (unacked_count self.new end ≡ unacked_count self.old end) }
     {
         for j in first..last {
             match self.step(&Event::Deliver(other_end(end), j)) {
@@ -57,11 +57,11 @@ impl World {
     pub(crate) fn acknowledge(&mut self, end: End) -> Result<(), WorldFault>
         requires world { IsWorld self.old }
         requires taken { (end_of self.old end).sent ≤ (end_of self.old (other_end end)).taken }
-        ensures ok { OnOk result (RanBy self.old self.new 2 × (unacked self.new end ≡ 0)) }
+        ensures ok { OnOk result (RanBy self.old self.new 2 × (unacked_count self.new end ≡ 0)) }
         ensures rest { NothingSent self.old self.new }
         ensures world { OnOk result (IsWorld self.new) }
         ensures err { IfErr result (λ f. (f ≡ NoMemory) × RanTo self.old self.new) }
-        ensures left { OnErr result (unacked self.new end ≡ unacked self.old end) }
+        ensures left { OnErr result (unacked_count self.new end ≡ unacked_count self.old end) }
     {
         let index = self.wire(other_end(end)).len();
         match self.step(&Event::Ack(other_end(end))) {
@@ -77,13 +77,13 @@ impl World {
     /// Settles an end with this many segments that aren't acknowledged, and returns how many events that were.
     fn settle_some(&mut self, end: End, count: usize) -> Result<usize, WorldFault>
         requires world { IsWorld self.old }
-        requires all { count ≡ unacked self.old end }
+        requires all { count ≡ unacked_count self.old end }
         requires small { count ≤ max_window }
-        ensures ok { IfOk result (λ n. RanBy self.old self.new n × (unacked self.new end ≡ 0)
+        ensures ok { IfOk result (λ n. RanBy self.old self.new n × (unacked_count self.new end ≡ 0)
             × (n ≡ (count + count) + 2)) }
         ensures rest { NothingSent self.old self.new }
         ensures err { IfErr result (λ f. (f ≡ NoMemory) × RanTo self.old self.new) }
-        ensures left { OnErr result (unacked self.new end ≡ unacked self.old end) }
+        ensures left { OnErr result (unacked_count self.new end ≡ unacked_count self.old end) }
     {
         let first = self.wire(end).len();
         match self.resend_all(end, count) {
@@ -106,12 +106,12 @@ impl World {
     /// nothing to do, which takes no memory. Fails only if memory is refused, as the last event that wasn't refused
     /// left the world.
     pub fn settle(&mut self, end: End) -> Result<usize, WorldFault>
-        ensures ok { IfOk result (λ n. Settled self.old self.new end n) }
+        ensures ok { IfOk result (λ n. SettlesIn self.old self.new end n) }
         ensures work { work self.new ≡ work self.old }
         ensures handed { (e : End) → (end_of self.new e).handed ≡ (end_of self.old e).handed }
         ensures err { IfErr result (λ f. (f ≡ NoMemory)
             × ((n : ℕ) × RanBy self.old self.new n)) }
-        ensures nothing { unacked self.old end ≡ 0 → IsOk result }
+        ensures nothing { unacked_count self.old end ≡ 0 → IsOk result }
         ensures headline { HeadlineOf self.new }
     {
         self.sound();
@@ -123,11 +123,11 @@ impl World {
     /// Settles an end, and returns how many events that were: 0 where there was nothing to do.
     pub(crate) fn settle_end(&mut self, end: End) -> Result<usize, WorldFault>
         requires world { IsWorld self.old }
-        ensures ok { IfOk result (λ n. Settled self.old self.new end n) }
+        ensures ok { IfOk result (λ n. SettlesIn self.old self.new end n) }
         ensures rest { NothingSent self.old self.new }
         ensures err { IfErr result (λ f. (f ≡ NoMemory) × RanTo self.old self.new) }
-        ensures nothing { unacked self.old end ≡ 0 → IsOk result }
-        ensures left { OnErr result (0 < unacked self.new end) }
+        ensures nothing { unacked_count self.old end ≡ 0 → IsOk result }
+        ensures left { OnErr result (0 < unacked_count self.new end) }
     {
         let count = self.link(end).unacked();
         if count == 0 {

@@ -4,7 +4,7 @@ ghost use Rattle.std.specs.Prelude.{◌≡◌, IfOk, IfErr, false, true};
 ghost use Rattle.dap_world.specs.Setups.{IsWorldSetup, NewFault};
 ghost use Rattle.dap_world.specs.Wires.{end_address};
 ghost use Rattle.dap_world.specs.Inner.Setups.{link_setup_of};
-ghost use Rattle.dap_world.specs.Machine.{fresh};
+ghost use Rattle.dap_world.specs.Machine.{initial_state};
 ghost use Rattle.dap_world.specs.Headline.{HeadlineOf};
 ghost use Rattle.dap_world.specs.Settling.{IsUnused};
 ghost use Rattle.nsp_link.specs.declared.fault.LinkFault.TheVariants as link_fault;
@@ -56,7 +56,7 @@ impl World {
     /// Creates a world in which nothing happened. `BadSetup` where a number of the setup isn't in its range; else
     /// `NoMemory` alone.
     pub fn new(alloc: Global, setup: WorldSetup) -> Result<World, WorldFault>
-        ensures ok { IfOk result (λ w. IsWorldSetup setup × (w ≡ fresh setup)) }
+        ensures ok { IfOk result (λ w. IsWorldSetup setup × (w ≡ initial_state setup)) }
         ensures headline { IfOk result HeadlineOf }
         ensures err { IfErr result (NewFault setup) }
     {

@@ -45,8 +45,8 @@ impl World {
     ghost use Rattle.std.specs.Prelude.{◌≡◌, ◌-◌, ◌++◌, OnOk, IfErr, Some, map, max, slice_get, true, false};
     ghost use Rattle.dap_msg.specs.Blocked.{all_joined, bodies};
     ghost use Rattle.dap_msg.specs.Canon.{canon};
-    ghost use Rattle.dap_world.specs.Machine.{MayEmit, files_of, reported, end_of, other_end, sent_by, served_by_b};
-    ghost use Rattle.dap_world.specs.Runs.{Runs, StopsAt, Went};
+    ghost use Rattle.dap_world.specs.Machine.{MayEmit, files_of, reports_by_a, end_of, other_end, sent_by, served_by_b};
+    ghost use Rattle.dap_world.specs.Runs.{Runs, StopsAt, ComesTo};
     ghost use Rattle.dap_world.specs.Inner.Worlds.{IsWorld};
     ghost use Rattle.dap_world.specs.Links.{came_to, coming_to, left_link};
     ghost use Rattle.dap_world.specs.Wires.{IsOnWire, end_address, sending_of};
@@ -57,7 +57,7 @@ impl World {
 
     /// Lets one event happen, which changes nothing where it is refused.
     fn happen(&mut self, event: &Event) -> Result<Step, WorldFault>
-        ensures { Went self.old event.now result self.new }
+        ensures { ComesTo self.old event.now result self.new }
     {
         match event {
             Event::Ask(request) => self.ask_copy(request),
@@ -74,7 +74,7 @@ impl World {
     /// Applies one event: a step of the machine, or refused as there, or if memory is refused. A refusal changes
     /// nothing.
     pub fn apply(&mut self, event: &Event) -> Result<Step, WorldFault>
-        ensures went { Went self.old event.now result self.new }
+        ensures went { ComesTo self.old event.now result self.new }
         ensures headline { HeadlineOf self.new }
     {
         let result = self.happen(event);
@@ -85,7 +85,7 @@ impl World {
     /// Asks a request, as its event does, but makes no copy of it: it goes into the ledger. Refused as there; a
     /// refusal changes nothing, and drops the request.
     pub fn ask(&mut self, request: Request) -> Result<Step, WorldFault>
-        ensures went { Went self.old (Event.Ask request) result self.new }
+        ensures went { ComesTo self.old (Event.Ask request) result self.new }
         ensures headline { HeadlineOf self.new }
     {
         let result = self.ask_owned(request);
@@ -113,7 +113,7 @@ impl World {
 
     /// Applies one event, after which the same is true.
     pub(crate) fn step(&mut self, event: &Event) -> Result<Step, WorldFault>
-        ensures went { Went self.old event.now result self.new }
+        ensures went { ComesTo self.old event.now result self.new }
         ensures world { IsWorld self.new }
     {
         let result = self.happen(event);
@@ -176,7 +176,7 @@ impl World {
 
     /// Returns the reports of A.
     pub fn reports(&self) -> &[Report]
-        ensures told { result.now ≡ reported self.now }
+        ensures told { result.now ≡ reports_by_a self.now }
         ensures headline { HeadlineOf self.now }
     {
         &self.reports

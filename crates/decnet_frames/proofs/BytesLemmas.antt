@@ -6,7 +6,7 @@ use Rattle.byteorder.specs.Numbers.{little_from-lt}
 use Rattle.dap_fields.specs.Spelling.{AreBytes}
 use Rattle.dap_listing.specs.Listing.{packet_limit}
 use Rattle.capture_file.specs.Meanings.{Record}
-use Rattle.decnet_frames.specs.Frames.{Packet, and_then, counted, data_of, fitting, is_node, is_tag, long_of, routing_message, nsp_packet_of, routed, short_of, typed, unpadded, untagged, number_at}
+use Rattle.decnet_frames.specs.Frames.{Packet, and_then, bytes_by_length, data_of, fitting, is_node, is_tag, long_of, routing_message, nsp_packet_of, packet_by_flags, short_of, payload_by_type, packet_after_padding, bytes_after_tags, number_at}
 use Rattle.decnet_frames.specs.Lines.{packet_in}
 use Rattle.decnet_frames.specs.declared.packet.Passed.{Passed}
 
@@ -42,7 +42,7 @@ abbrev pub OkPacket : Result Packet Passed → Type 0
 OkPacket (Ok p) = IsPacket p
 OkPacket (Err e) = Unit {0}
 
-untagged_bytes : (xs : List ℕ) → AreBytes xs → AreBytes (untagged xs)
+untagged_bytes : (xs : List ℕ) → AreBytes xs → AreBytes (bytes_after_tags xs)
 untagged_bytes [] are = are
 untagged_bytes (a ∷ []) are = are
 untagged_bytes (a ∷ b ∷ []) are = are
@@ -50,14 +50,14 @@ untagged_bytes (a ∷ b ∷ c ∷ []) are = are
 untagged_bytes (a ∷ b ∷ c ∷ d ∷ rest) are =
     cond_both {A = List ℕ} (is_tag a b) _ _ (λ xs. AreBytes xs) (λ _. untagged_bytes rest (bytes_drop 4 (a ∷ b ∷ c ∷ d ∷ rest) are)) (λ _. are)
 
-counted_bytes : (xs : List ℕ) → AreBytes xs → OkBytes (counted xs)
+counted_bytes : (xs : List ℕ) → AreBytes xs → OkBytes (bytes_by_length xs)
 counted_bytes [] are = tt
 counted_bytes (a ∷ []) are = tt
 counted_bytes (a ∷ b ∷ rest) are =
     cond_both {A = Result (List ℕ) Passed} ((a + 256 * b == 0) || nat_lt (length rest) (a + 256 * b)) _ _ OkBytes (λ _. tt)
     (λ _. bytes_take (a + 256 * b) rest (bytes_drop 2 (a ∷ b ∷ rest) are))
 
-typed_bytes : (xs : List ℕ) → AreBytes xs → OkBytes (typed xs)
+typed_bytes : (xs : List ℕ) → AreBytes xs → OkBytes (payload_by_type xs)
 typed_bytes [] are = tt
 typed_bytes (a ∷ []) are = tt
 typed_bytes (a ∷ b ∷ rest) are =
@@ -66,9 +66,9 @@ typed_bytes (a ∷ b ∷ rest) are =
 message_bytes : (xs : List ℕ) → AreBytes xs → OkBytes (routing_message xs)
 message_bytes xs are =
     cond_both {A = Result (List ℕ) Passed} (nat_lt (length xs) 12) _ _ OkBytes (λ _. tt)
-    (λ _. typed_bytes (untagged (drop 12 xs)) (untagged_bytes (drop 12 xs) (bytes_drop 12 xs are)))
+    (λ _. typed_bytes (bytes_after_tags (drop 12 xs)) (untagged_bytes (drop 12 xs) (bytes_drop 12 xs are)))
 
-unpadded_bytes : (xs : List ℕ) → AreBytes xs → OkBytes (unpadded xs)
+unpadded_bytes : (xs : List ℕ) → AreBytes xs → OkBytes (packet_after_padding xs)
 unpadded_bytes [] are = tt
 unpadded_bytes (x ∷ xs) are =
     cond_both {A = Result (List ℕ) Passed} (nat_lt x 0x80) _ _ OkBytes (λ _. are)
@@ -89,7 +89,7 @@ short_packet m are =
     cond_both {A = Result Packet Passed} (nat_lt (length m) 7) _ _ OkPacket (λ _. tt)
     (λ few. record { source = word_small 3 m are; destination = word_small 1 m are; bytes = bytes_drop 6 m are; some = omega (arith, length-drop 6 m, ltb-false _ _ few) })
 
-routed_packet : (m : List ℕ) → AreBytes m → OkPacket (routed m)
+routed_packet : (m : List ℕ) → AreBytes m → OkPacket (packet_by_flags m)
 routed_packet [] are = tt
 routed_packet (flags ∷ rest) are =
     cond_both {A = Result Packet Passed} (nat_le 0x80 flags) _ _ OkPacket (λ _. tt)
@@ -111,8 +111,8 @@ fit_on (Err e) is = tt
 
 pub packet_bytes : (frame : List ℕ) → AreBytes frame → OkPacket (nsp_packet_of frame)
 packet_bytes frame are =
-    fit_on (data_of frame) (read_on (routing_message frame) (λ message. and_then (unpadded message) routed) (message_bytes frame are)
-    (λ message are. read_on (unpadded message) routed (unpadded_bytes message are) routed_packet))
+    fit_on (data_of frame) (read_on (routing_message frame) (λ message. and_then (packet_after_padding message) packet_by_flags) (message_bytes frame are)
+    (λ message are. read_on (packet_after_padding message) packet_by_flags (unpadded_bytes message are) routed_packet))
 
 pub packet_in_bytes : (r : Record) → AreBytes r.bytes → OkPacket (packet_in r)
 packet_in_bytes r are = cond_both {A = Result Packet Passed} r.is_ethernet _ _ OkPacket (λ _. packet_bytes r.bytes are) (λ _. tt)

@@ -3,7 +3,7 @@ use Rattle.std.proofs.Common.{◌≡◌, ℕ, suc, ◌+◌, ◌-◌, ◌≤◌, 
 use Rattle.std.specs.Prelude.{IfSome}
 use Rattle.std.specs.Io.KnownBytes.{Appends, Consumes, IsAtEnd, Keeps}
 use Rattle.std.proofs.KnownBytes.{Appends-kept, Appends-nil, Appends-trans, Consumes-nil, Consumes-trans, Consumes-whole}
-use Rattle.capture_file.specs.Files.{IsCutShort, IsWhole, Stops, clamped}
+use Rattle.capture_file.specs.Files.{IsCutShort, IsWhole, Stops, bounded_count}
 use Rattle.capture_file.proofs.ForCallers.{none_more}
 use Rattle.capture_file.specs.declared.reading.Reading.{Reading}
 use Rattle.capture_file.specs.declared.fault.FaultKind.{FaultKind}
@@ -11,7 +11,7 @@ use Rattle.capture_file.specs.declared.fault.FaultKind.TheVariants.{CutShort}
 use Rattle.capture_file.specs.Meanings.{Record}
 use Rattle.capture_file.specs.Reading.{HasRead}
 use Rattle.capture_file.specs.declared.fault.FileFault.{FileFault}
-use Rattle.decnet_frames.specs.Lines.{counts_of, ends_after, frame_lines, packets_from, record_packets, record_text, taken_with, Sent}
+use Rattle.decnet_frames.specs.Lines.{counts_of, ends_after, frame_lines, packets_from, record_packets, record_text, taken_with, ListedPacket}
 use Rattle.decnet_frames.specs.Inner.Progress.{HasListed, HasStopped, IsAt, IsEnded, StepFails, count_all, ends_all}
 use Rattle.decnet_frames.specs.Listed.{HasRecords, IsListed, IsListedTo}
 use Rattle.linewise.specs.Output.{WritesFront}
@@ -28,28 +28,28 @@ pub ends_more : (ends : Option Ends) (records : List Record) (r : Record) → en
 ends_more ends [] r = refl
 ends_more ends (x ∷ records) r = ends_more (ends_after ends x) records r
 
-pub count_more : (count : ℕ) (records : List Record) (r : Record) → count_all count (records ++ r ∷ []) ≡ clamped (count_all count records + 1)
+pub count_more : (count : ℕ) (records : List Record) (r : Record) → count_all count (records ++ r ∷ []) ≡ bounded_count (count_all count records + 1)
 count_more count [] r = refl
-count_more count (x ∷ records) r = count_more (clamped (count + 1)) records r
+count_more count (x ∷ records) r = count_more (bounded_count (count + 1)) records r
 
-sums : (count n : ℕ) → clamped (count + 1 + n) ≡ clamped (count + suc n)
+sums : (count n : ℕ) → bounded_count (count + 1 + n) ≡ bounded_count (count + suc n)
 sums count n = omega arith
 
 from_zero : (n : ℕ) → 0 + n ≡ n
 from_zero n = omega arith
 
 -- how many frames there are, without a step at each
-pub count_is : (count : ℕ) (records : List Record) → count_all (clamped count) records ≡ clamped (count + length records)
+pub count_is : (count : ℕ) (records : List Record) → count_all (bounded_count count) records ≡ bounded_count (count + length records)
 count_is count [] = omega arith
 count_is count (x ∷ records) =
-    let here : clamped (clamped count + 1) ≡ clamped (count + 1) = omega arith in
+    let here : bounded_count (bounded_count count + 1) ≡ bounded_count (count + 1) = omega arith in
     ap (λ n. count_all n records) here ∙ (count_is (count + 1) records ∙ sums count (length records))
 
 -- and how many are listed
-taken_is : (taken : ℕ) (sent : List Sent) → taken_with (clamped taken) sent ≡ clamped (taken + length sent)
+taken_is : (taken : ℕ) (sent : List ListedPacket) → taken_with (bounded_count taken) sent ≡ bounded_count (taken + length sent)
 taken_is taken [] = omega arith
 taken_is taken (x ∷ sent) =
-    let here : clamped (clamped taken + 1) ≡ clamped (taken + 1) = omega arith in
+    let here : bounded_count (bounded_count taken + 1) ≡ bounded_count (taken + 1) = omega arith in
     ap (λ n. taken_with n sent) here ∙ (taken_is (taken + 1) sent ∙ sums taken (length sent))
 
 pub packets_more : (ends : Option Ends) (records : List Record) (r : Record)
@@ -60,20 +60,20 @@ packets_more ends (x ∷ records) r =
     ∙ sym (append_assoc (record_packets ends x) (packets_from (ends_after ends x) records) (record_packets (ends_all (ends_after ends x) records) r))
 
 -- how many frames are listed with one more
-pub taken_more : (ends : Option Ends) (records : List Record) (r : Record) (taken : ℕ) → taken ≡ clamped (length (packets_from ends records))
-    → taken_with taken (record_packets (ends_all ends records) r) ≡ clamped (length (packets_from ends (records ++ r ∷ [])))
+pub taken_more : (ends : Option Ends) (records : List Record) (r : Record) (taken : ℕ) → taken ≡ bounded_count (length (packets_from ends records))
+    → taken_with taken (record_packets (ends_all ends records) r) ≡ bounded_count (length (packets_from ends (records ++ r ∷ [])))
 taken_more ends records r taken e =
     let long : length (packets_from ends (records ++ r ∷ [])) ≡ length (packets_from ends records) + length (record_packets (ends_all ends records) r) =
     ap length (packets_more ends records r) ∙ length-append (packets_from ends records) (record_packets (ends_all ends records) r) in
     ap (λ n. taken_with n (record_packets (ends_all ends records) r)) e
-    ∙ (taken_is (length (packets_from ends records)) (record_packets (ends_all ends records) r) ∙ ap clamped (sym long))
+    ∙ (taken_is (length (packets_from ends records)) (record_packets (ends_all ends records) r) ∙ ap bounded_count (sym long))
 
 pub lines_more : (ends : Option Ends) (count : ℕ) (records : List Record) (r : Record)
-    → frame_lines ends count (records ++ r ∷ []) ≡ frame_lines ends count records ++ record_text (ends_all ends records) (clamped (count_all count records + 1)) r
-lines_more ends count [] r = append-nil (record_text ends (clamped (count + 1)) r)
+    → frame_lines ends count (records ++ r ∷ []) ≡ frame_lines ends count records ++ record_text (ends_all ends records) (bounded_count (count_all count records + 1)) r
+lines_more ends count [] r = append-nil (record_text ends (bounded_count (count + 1)) r)
 lines_more ends count (x ∷ records) r =
-    ap (λ text. record_text ends (clamped (count + 1)) x ++ text) (lines_more (ends_after ends x) (clamped (count + 1)) records r)
-    ∙ sym (append_assoc (record_text ends (clamped (count + 1)) x) (frame_lines (ends_after ends x) (clamped (count + 1)) records) (record_text (ends_all (ends_after ends x) records) (clamped (count_all (clamped (count + 1)) records + 1)) r))
+    ap (λ text. record_text ends (bounded_count (count + 1)) x ++ text) (lines_more (ends_after ends x) (bounded_count (count + 1)) records r)
+    ∙ sym (append_assoc (record_text ends (bounded_count (count + 1)) x) (frame_lines (ends_after ends x) (bounded_count (count + 1)) records) (record_text (ends_all (ends_after ends x) records) (bounded_count (count_all (bounded_count (count + 1)) records + 1)) r))
 
 -- no frame came
 pub listed_none : (ends : Option Ends) (old new : Frames) (bytes part written : List ℕ) (h : HasListed ends old bytes written)
@@ -91,20 +91,20 @@ listed_none ends old new bytes part written h read listing text = record {
 -- a frame came
 pub listed_more : (ends : Option Ends) (old new : Frames) (bytes part written : List ℕ) (r : Record) (h : HasListed ends old bytes written)
     → HasRead new.reading (bytes ++ part) (h.records ++ r ∷ []) → new.listing.ends ≡ ends_after old.listing.ends r
-    → new.listing.count ≡ clamped (old.listing.count + 1)
+    → new.listing.count ≡ bounded_count (old.listing.count + 1)
     → new.listing.taken ≡ taken_with old.listing.taken (record_packets old.listing.ends r)
-    → new.text.items ≡ old.text.items ++ record_text old.listing.ends (clamped (old.listing.count + 1)) r
+    → new.text.items ≡ old.text.items ++ record_text old.listing.ends (bounded_count (old.listing.count + 1)) r
     → HasListed ends new (bytes ++ part) written
 listed_more ends old new bytes part written r h read ends_are counted taken text = record {
   records = h.records ++ r ∷ [];
   read = read;
   ends_are = ends_are ∙ (ap (λ e. ends_after e r) h.ends_are ∙ sym (ends_more ends h.records r));
-  counted = counted ∙ (ap (λ n. clamped (n + 1)) h.counted ∙ sym (count_more 0 h.records r));
+  counted = counted ∙ (ap (λ n. bounded_count (n + 1)) h.counted ∙ sym (count_more 0 h.records r));
   taken = taken ∙ (ap (λ e. taken_with old.listing.taken (record_packets e r)) h.ends_are ∙ taken_more ends h.records r old.listing.taken h.taken);
-  text_is = ap (λ t. written ++ t) text ∙ (sym (append_assoc written old.text.items (record_text old.listing.ends (clamped (old.listing.count + 1)) r))
-      ∙ (ap (λ t. t ++ record_text old.listing.ends (clamped (old.listing.count + 1)) r) h.text_is
-      ∙ (ap (λ e. frame_lines ends 0 h.records ++ record_text e (clamped (old.listing.count + 1)) r) h.ends_are
-      ∙ (ap (λ n. frame_lines ends 0 h.records ++ record_text (ends_all ends h.records) (clamped (n + 1)) r) h.counted
+  text_is = ap (λ t. written ++ t) text ∙ (sym (append_assoc written old.text.items (record_text old.listing.ends (bounded_count (old.listing.count + 1)) r))
+      ∙ (ap (λ t. t ++ record_text old.listing.ends (bounded_count (old.listing.count + 1)) r) h.text_is
+      ∙ (ap (λ e. frame_lines ends 0 h.records ++ record_text e (bounded_count (old.listing.count + 1)) r) h.ends_are
+      ∙ (ap (λ n. frame_lines ends 0 h.records ++ record_text (ends_all ends h.records) (bounded_count (n + 1)) r) h.counted
       ∙ sym (lines_more ends 0 h.records r)))));
 }
 
@@ -168,11 +168,11 @@ counts_by counts taken passed one two =
 
 -- the counts of a listing are those of its frames
 pub counts_are : (ends : Option Ends) (records : List Record) (count taken : ℕ) (counts : Counts) → count ≡ count_all 0 records
-    → taken ≡ clamped (length (packets_from ends records)) → counts.taken ≡ taken → counts.passed ≡ count - taken → counts ≡ counts_of ends records
+    → taken ≡ bounded_count (length (packets_from ends records)) → counts.taken ≡ taken → counts.passed ≡ count - taken → counts ≡ counts_of ends records
 counts_are ends records count taken counts counted taken_so first other =
-    let all : count ≡ clamped (length records) = counted ∙ (count_is 0 records ∙ ap clamped (from_zero (length records))) in
-    counts_by counts (clamped (length (packets_from ends records))) (clamped (length records) - clamped (length (packets_from ends records))) (first ∙ taken_so)
-    (other ∙ (ap (λ n. n - taken) all ∙ ap (λ n. clamped (length records) - n) taken_so))
+    let all : count ≡ bounded_count (length records) = counted ∙ (count_is 0 records ∙ ap bounded_count (from_zero (length records))) in
+    counts_by counts (bounded_count (length (packets_from ends records))) (bounded_count (length records) - bounded_count (length (packets_from ends records))) (first ∙ taken_so)
+    (other ∙ (ap (λ n. n - taken) all ∙ ap (λ n. bounded_count (length records) - n) taken_so))
 
 -- the input is over
 pub listed_whole : (ends : Option Ends) (f : Frames) (input unread left first holds : Option (List ℕ)) (piece : List ℕ) (counts : Counts)

@@ -22,11 +22,11 @@ use Rattle.dap_listing.specs.Listing.{arrow_text, captures, faults_from, packet_
 use Rattle.linewise.specs.declared.fault.CaptureFault.{CaptureFault}
 use Rattle.dap_listing.specs.declared.lines.Direction.{Direction}
 use Rattle.dap_listing.specs.declared.lines.Direction.TheVariants.{Right, Left}
-use Rattle.capture_file.specs.Files.{clamped}
+use Rattle.capture_file.specs.Files.{bounded_count}
 use Rattle.capture_file.specs.Meanings.{Record}
 use Rattle.capture_file.specs.declared.meaning.Time.{Time}
 use Rattle.decnet_frames.specs.Frames.{Packet}
-use Rattle.decnet_frames.specs.Lines.{Sent, captured, data_text, digits_after_first, ends_after, ends_with, heading_text, frame_lines, node_text, packet_in, packets_from, parts_in_second, record_packets, record_text, seconds_text, seen_packets, seen_text, shown_parts, time_text, way_of, way_packets, way_text}
+use Rattle.decnet_frames.specs.Lines.{ListedPacket, capture_of, data_text, digits_after_first, ends_after, ends_or_those_of, heading_text, frame_lines, node_text, packet_in, packets_from, parts_in_second, record_packets, record_text, seconds_text, seen_packets, seen_text, shown_parts, time_text, way_of, way_packets, way_text}
 use Rattle.decnet_frames.specs.declared.packet.Passed.{Passed}
 use Rattle.decnet_frames.specs.declared.text.Ends.{Ends}
 use Rattle.std.proofs.lemmas.Nat.{mod_below}
@@ -187,15 +187,15 @@ at_most a b h = grind (arith, nat_tests)
 few_digits : (bytes : List ℕ) → length bytes ≤ packet_limit → nat_le (length (encode_lower bytes)) (2 * packet_limit) ≡ true
 few_digits bytes few = at_most (length (encode_lower bytes)) (2 * packet_limit) (omega (arith, length-encode_with lower_digits bytes, few))
 
-data_line : (way : Direction) (p : Packet) → IsPacket p → length p.packet ≤ packet_limit → line_of packet_limit (concat (data_words way p.packet)) ≡ Ok (Some (captured (way, p.packet)))
+data_line : (way : Direction) (p : Packet) → IsPacket p → length p.packet ≤ packet_limit → line_of packet_limit (concat (data_words way p.packet)) ≡ Ok (Some (capture_of (way, p.packet)))
 data_line Right p is few =
     rw (append-nil (encode_lower p.packet), some_hex p.packet is.bytes is.some, few_digits p.packet few) refl
 data_line Left p is few =
     rw (append-nil (encode_lower p.packet), some_hex p.packet is.bytes is.some, few_digits p.packet few) refl
 
 -- what two lines and others have
-pub record ReadsOn (packets : List Sent) (text rest : List ℕ) : Type 0 where
-  pub captures_are : captures packet_limit (text ++ rest) ≡ map captured packets ++ captures packet_limit rest
+pub record ReadsOn (packets : List ListedPacket) (text rest : List ℕ) : Type 0 where
+  pub captures_are : captures packet_limit (text ++ rest) ≡ map capture_of packets ++ captures packet_limit rest
   pub clean : (number : ℕ) → (next : ℕ) × (faults_from packet_limit number (text ++ rest) ≡ faults_from packet_limit next rest)
 
 abbrev capture_in : List (List ℕ) → List Capture
@@ -224,7 +224,7 @@ way_reads (Some way) number time p rest small is few =
 
 seen_reads : (ends : Option Ends) (number : ℕ) (time : Option Time) (seen : Result Packet Passed) (rest : List ℕ) → number < 2 ^ 64 → OkPacket seen → OkShort seen
     → ReadsOn (seen_packets ends seen) (seen_text ends number time seen) rest
-seen_reads ends number time (Ok p) rest small is few = way_reads (way_of (ends_with ends p) p) number time p rest small is few
+seen_reads ends number time (Ok p) rest small is few = way_reads (way_of (ends_or_those_of ends p) p) number time p rest small is few
 seen_reads ends number time (Err e) rest small is few = record { captures_are = refl; clean = λ n. (n, refl) }
 
 record_reads : (ends : Option Ends) (number : ℕ) (r : Record) (rest : List ℕ) → number < 2 ^ 64 → AreBytes r.bytes → ReadsOn (record_packets ends r) (record_text ends number r) rest
@@ -232,23 +232,23 @@ record_reads ends number r rest small is = seen_reads ends number r.time (packet
 
 -- ---- all of them
 
-counted_small : (count : ℕ) → clamped (count + 1) < 2 ^ 64
+counted_small : (count : ℕ) → bounded_count (count + 1) < 2 ^ 64
 counted_small count = omega arith
 
 pub lines_read : (ends : Option Ends) (count : ℕ) (records : List Record) → AllByRecursion (λ r. AreBytes r.bytes) records
-    → captures packet_limit (frame_lines ends count records) ≡ map captured (packets_from ends records)
+    → captures packet_limit (frame_lines ends count records) ≡ map capture_of (packets_from ends records)
 lines_read ends count [] are = refl
 lines_read ends count (r ∷ records) are =
-    let number = clamped (count + 1) in
+    let number = bounded_count (count + 1) in
     let one = record_reads ends number r (frame_lines (ends_after ends r) number records) (counted_small count) are.0 in
-    one.captures_are ∙ (ap (λ cs. map captured (record_packets ends r) ++ cs) (lines_read (ends_after ends r) number records are.1)
-    ∙ sym (map-append captured (record_packets ends r) (packets_from (ends_after ends r) records)))
+    one.captures_are ∙ (ap (λ cs. map capture_of (record_packets ends r) ++ cs) (lines_read (ends_after ends r) number records are.1)
+    ∙ sym (map-append capture_of (record_packets ends r) (packets_from (ends_after ends r) records)))
 
 pub lines_clean : (ends : Option Ends) (count from : ℕ) (records : List Record) → AllByRecursion (λ r. AreBytes r.bytes) records
     → faults_from packet_limit from (frame_lines ends count records) ≡ []
 lines_clean ends count from [] are = refl
 lines_clean ends count from (r ∷ records) are =
-    let number = clamped (count + 1) in
+    let number = bounded_count (count + 1) in
     let one = record_reads ends number r (frame_lines (ends_after ends r) number records) (counted_small count) are.0 in
     let next = one.clean from in
     next.1 ∙ lines_clean (ends_after ends r) number next.0 records are.1

@@ -13,31 +13,31 @@ abbrev pub is_tag : ℕ → ℕ → Bool
 is_tag high low = (high == 0x81 && low == 0x00) || (high == 0x88 && low == 0xA8) || (high == 0x91 && low == 0x00)
 
 -- without the tags, of four bytes each
-abbrev pub untagged : List ℕ → List ℕ
-untagged (high ∷ low ∷ one ∷ other ∷ rest) = if is_tag high low then untagged rest else high ∷ low ∷ one ∷ other ∷ rest
-untagged bytes = bytes
+abbrev pub bytes_after_tags : List ℕ → List ℕ
+bytes_after_tags (high ∷ low ∷ one ∷ other ∷ rest) = if is_tag high low then bytes_after_tags rest else high ∷ low ∷ one ∷ other ∷ rest
+bytes_after_tags bytes = bytes
 
 -- two bytes of length, the lowest first, and that many bytes; what follows fills the frame
-abbrev pub counted : List ℕ → Result (List ℕ) Passed
-counted (low ∷ high ∷ rest) =
+abbrev pub bytes_by_length : List ℕ → Result (List ℕ) Passed
+bytes_by_length (low ∷ high ∷ rest) =
     if (low + 256 * high == 0) || nat_lt (length rest) (low + 256 * high) then Err CutShort else Ok (take (low + 256 * high) rest)
-counted bytes = Err CutShort
+bytes_by_length bytes = Err CutShort
 
 -- the type of DECnet Phase IV is 60-03
-abbrev pub typed : List ℕ → Result (List ℕ) Passed
-typed (high ∷ low ∷ rest) = if high == 0x60 && low == 0x03 then counted rest else Err OtherFrame
-typed bytes = Err OtherFrame
+abbrev pub payload_by_type : List ℕ → Result (List ℕ) Passed
+payload_by_type (high ∷ low ∷ rest) = if high == 0x60 && low == 0x03 then bytes_by_length rest else Err OtherFrame
+payload_by_type bytes = Err OtherFrame
 
 -- the routing message of a frame
 abbrev pub routing_message : List ℕ → Result (List ℕ) Passed
-routing_message frame = if nat_lt (length frame) 12 then Err OtherFrame else typed (untagged (drop 12 frame))
+routing_message frame = if nat_lt (length frame) 12 then Err OtherFrame else payload_by_type (bytes_after_tags (drop 12 frame))
 
 -- ---- the message: padding, a routing header, and an NSP packet
 
 -- A byte with bit 7 begins padding: the other bits count its bytes, with this one.
-abbrev pub unpadded : List ℕ → Result (List ℕ) Passed
-unpadded [] = Err CutShort
-unpadded (first ∷ rest) =
+abbrev pub packet_after_padding : List ℕ → Result (List ℕ) Passed
+packet_after_padding [] = Err CutShort
+packet_after_padding (first ∷ rest) =
     if nat_lt first 0x80 then Ok (first ∷ rest)
     else if nat_le (length (first ∷ rest)) (first - 0x80) then Err CutShort
     else Ok (drop (first - 0x80) (first ∷ rest))
@@ -71,9 +71,9 @@ short_of m =
     else Ok (record { source = number_at 3 m; destination = number_at 1 m; packet = drop 6 m })
 
 -- the lower three bits of the flags tell the header of data; bit 7 is for padding alone
-abbrev pub routed : List ℕ → Result Packet Passed
-routed [] = Err CutShort
-routed (flags ∷ rest) =
+abbrev pub packet_by_flags : List ℕ → Result Packet Passed
+packet_by_flags [] = Err CutShort
+packet_by_flags (flags ∷ rest) =
     if nat_le 0x80 flags then Err OtherMessage
     else if flags % 8 == 6 then long_of (flags ∷ rest)
     else if flags % 8 == 2 then short_of (flags ∷ rest)
@@ -86,7 +86,7 @@ and_then (Err e) f = Err e
 
 -- what a frame has after the padding and the routing header
 abbrev pub data_of : List ℕ → Result Packet Passed
-data_of frame = and_then (routing_message frame) (λ message. and_then (unpadded message) routed)
+data_of frame = and_then (routing_message frame) (λ message. and_then (packet_after_padding message) packet_by_flags)
 
 -- a packet that a line may have, between two nodes
 abbrev pub fitting : Packet → Result Packet Passed

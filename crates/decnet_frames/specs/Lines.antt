@@ -8,7 +8,7 @@ use Rattle.dap_listing.specs.Lines.{Capture}
 use Rattle.dap_listing.specs.Listing.{arrow_text}
 use Rattle.dap_listing.specs.declared.lines.Direction.{Direction}
 use Rattle.dap_listing.specs.declared.lines.Direction.TheVariants.{Right, Left}
-use Rattle.capture_file.specs.Files.{clamped}
+use Rattle.capture_file.specs.Files.{bounded_count}
 use Rattle.capture_file.specs.Meanings.{Record}
 use Rattle.capture_file.specs.declared.meaning.Time.{Time}
 use Rattle.decnet_frames.specs.Frames.{Packet, nsp_packet_of}
@@ -59,9 +59,9 @@ data_text way packet = concat (arrow_text way ∷ codes " " ∷ encode_lower pac
 -- ---- a packet
 
 -- both ends: those that are named, or those of the first packet
-abbrev pub ends_with : Option Ends → Packet → Ends
-ends_with None p = record { first = p.source; other = p.destination }
-ends_with (Some ends) p = ends
+abbrev pub ends_or_those_of : Option Ends → Packet → Ends
+ends_or_those_of None p = record { first = p.source; other = p.destination }
+ends_or_those_of (Some ends) p = ends
 
 -- the direction of a packet between the ends
 abbrev pub way_of : Ends → Packet → Option Direction
@@ -76,11 +76,11 @@ way_text None number time p = []
 way_text (Some way) number time p = heading_text number time p ++ data_text way p.packet
 
 -- a packet that is listed: its direction, and its bytes
-abbrev pub Sent : Type 0
-Sent = Direction × List ℕ
+abbrev pub ListedPacket : Type 0
+ListedPacket = Direction × List ℕ
 
 -- such a packet, if it goes between the ends
-abbrev pub way_packets : Option Direction → Packet → List Sent
+abbrev pub way_packets : Option Direction → Packet → List ListedPacket
 way_packets None p = []
 way_packets (Some way) p = (way, p.packet) ∷ []
 
@@ -92,7 +92,7 @@ packet_in r = if r.is_ethernet then nsp_packet_of r.bytes else Err OtherFrame
 
 -- the lines of what was read of a frame
 abbrev pub seen_text : Option Ends → ℕ → Option Time → Result Packet Passed → List ℕ
-seen_text ends number time (Ok p) = way_text (way_of (ends_with ends p) p) number time p
+seen_text ends number time (Ok p) = way_text (way_of (ends_or_those_of ends p) p) number time p
 seen_text ends number time (Err passed) = []
 
 -- the lines of a captured frame
@@ -101,7 +101,7 @@ record_text ends number r = seen_text ends number r.time (packet_in r)
 
 -- the ends, as far as they are known after what was read of a frame
 abbrev pub seen_ends : Option Ends → Result Packet Passed → Option Ends
-seen_ends ends (Ok p) = Some (ends_with ends p)
+seen_ends ends (Ok p) = Some (ends_or_those_of ends p)
 seen_ends ends (Err passed) = ends
 
 -- and after a captured frame
@@ -109,12 +109,12 @@ abbrev pub ends_after : Option Ends → Record → Option Ends
 ends_after ends r = seen_ends ends (packet_in r)
 
 -- the packet that is listed of what was read of a frame
-abbrev pub seen_packets : Option Ends → Result Packet Passed → List Sent
-seen_packets ends (Ok p) = way_packets (way_of (ends_with ends p) p) p
+abbrev pub seen_packets : Option Ends → Result Packet Passed → List ListedPacket
+seen_packets ends (Ok p) = way_packets (way_of (ends_or_those_of ends p) p) p
 seen_packets ends (Err passed) = []
 
 -- the packet that is listed of a captured frame
-abbrev pub record_packets : Option Ends → Record → List Sent
+abbrev pub record_packets : Option Ends → Record → List ListedPacket
 record_packets ends r = seen_packets ends (packet_in r)
 
 -- ---- captured frames
@@ -122,26 +122,26 @@ record_packets ends r = seen_packets ends (packet_in r)
 -- their lines, after this many frames
 abbrev pub frame_lines : Option Ends → ℕ → List Record → List ℕ
 frame_lines ends count [] = []
-frame_lines ends count (r ∷ records) = record_text ends (clamped (count + 1)) r ++ frame_lines (ends_after ends r) (clamped (count + 1)) records
+frame_lines ends count (r ∷ records) = record_text ends (bounded_count (count + 1)) r ++ frame_lines (ends_after ends r) (bounded_count (count + 1)) records
 
 -- their packets that are listed
-abbrev pub packets_from : Option Ends → List Record → List Sent
+abbrev pub packets_from : Option Ends → List Record → List ListedPacket
 packets_from ends [] = []
 packets_from ends (r ∷ records) = record_packets ends r ++ packets_from (ends_after ends r) records
 
 -- how many packets are listed after these, counted one by one
-abbrev pub taken_with : ℕ → List Sent → ℕ
+abbrev pub taken_with : ℕ → List ListedPacket → ℕ
 taken_with taken [] = taken
-taken_with taken (sent ∷ others) = taken_with (clamped (taken + 1)) others
+taken_with taken (sent ∷ others) = taken_with (bounded_count (taken + 1)) others
 
 -- how many frames are listed, and how many are passed over
 abbrev pub counts_of : Option Ends → List Record → Counts
 counts_of ends records =
-    let taken = clamped (length (packets_from ends records)) in
-    record { taken = taken; passed = clamped (length records) - taken }
+    let taken = bounded_count (length (packets_from ends records)) in
+    record { taken = taken; passed = bounded_count (length records) - taken }
 
 -- ---- reading them back
 
 -- a packet as a line of a capture has it
-abbrev pub captured : Sent → Capture
-captured (way, bytes) = (way, encode_lower bytes)
+abbrev pub capture_of : ListedPacket → Capture
+capture_of (way, bytes) = (way, encode_lower bytes)

@@ -1,7 +1,7 @@
 //! The NSP packet in a frame.
 
 ghost use Rattle.std.specs.Prelude.{◌≡◌, ◌≤◌, ◌+◌, length};
-ghost use Rattle.decnet_frames.specs.Frames.{carried_of, counted, data_of, fitting, is_node as the_node, is_tag as the_tag, long_of, routing_message, nsp_packet_of, routed, short_of, typed, unpadded as the_unpadded, untagged as the_untagged};
+ghost use Rattle.decnet_frames.specs.Frames.{carried_of, bytes_by_length, data_of, fitting, is_node as the_node, is_tag as the_tag, long_of, routing_message, nsp_packet_of, packet_by_flags, short_of, payload_by_type, packet_after_padding as the_unpadded, bytes_after_tags as the_untagged};
 ghost use Rattle.decnet_frames.specs.Frames.{FindsAs};
 
 use byteorder::{ByteOrder, LittleEndian};
@@ -69,7 +69,7 @@ fn untagged(bytes: &[u8]) -> &[u8]
 
 /// Returns as many bytes as the first two say, the lowest of which is first.
 fn take_counted(bytes: &[u8]) -> Result<&[u8], Passed>
-    ensures { FindsAs (λ x. x.now) result (counted bytes.now) }
+    ensures { FindsAs (λ x. x.now) result (bytes_by_length bytes.now) }
 {
     if bytes.len() < 2 {
         return Err(Passed::CutShort);
@@ -85,7 +85,7 @@ fn take_counted(bytes: &[u8]) -> Result<&[u8], Passed>
 
 /// Returns the routing message after a type.
 fn after_type(bytes: &[u8]) -> Result<&[u8], Passed>
-    ensures { FindsAs (λ x. x.now) result (typed bytes.now) }
+    ensures { FindsAs (λ x. x.now) result (payload_by_type bytes.now) }
 {
     let [high, low, rest @ ..] = bytes else {
         return Err(Passed::OtherFrame);
@@ -166,7 +166,7 @@ fn short(message: &[u8]) -> Result<Carried<'_>, Passed>
 
 /// Returns what is after the routing header.
 fn routed_message(message: &[u8]) -> Result<Carried<'_>, Passed>
-    ensures { FindsAs carried_of result (routed message.now) }
+    ensures { FindsAs carried_of result (packet_by_flags message.now) }
 {
     let Some(flags) = message.first() else {
         return Err(Passed::CutShort);

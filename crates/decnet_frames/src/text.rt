@@ -2,9 +2,9 @@
 
 ghost use Rattle.std.specs.Prelude.{◌≡◌, ◌<◌, ◌≤◌, ◌+◌, ◌-◌, ◌*◌, ◌/◌, ◌^◌, ◌++◌, OnOk, Some};
 ghost use Rattle.dap_text.specs.Adding.{Adds};
-ghost use Rattle.capture_file.specs.Files.{clamped};
+ghost use Rattle.capture_file.specs.Files.{bounded_count};
 ghost use Rattle.decnet_frames.specs.Frames.{carried_of};
-ghost use Rattle.decnet_frames.specs.Lines.{data_text, digits_after_first, ends_after, ends_with as the_ends_with, heading_text, node_text, parts_in_second as the_parts_in_second, record_packets, record_text, seconds_text, shown_parts as the_shown_parts, taken_with, time_text, way_of as the_way, way_packets, way_text};
+ghost use Rattle.decnet_frames.specs.Lines.{data_text, digits_after_first, ends_after, ends_or_those_of as the_ends, heading_text, node_text, parts_in_second as the_parts_in_second, record_packets, record_text, seconds_text, shown_parts as the_shown_parts, taken_with, time_text, way_of as the_way, way_packets, way_text};
 
 use crate::packet::{Carried, read_frame};
 use capture_file::Time;
@@ -191,8 +191,8 @@ impl Listing {
     }
 
     /// Returns both ends, those of the packet where none are known.
-    fn ends_with(&self, carried: &Carried<'_>) -> Ends
-        ensures { result ≡ the_ends_with self.now.ends (carried_of carried.now) }
+    fn ends_or_those_of(&self, carried: &Carried<'_>) -> Ends
+        ensures { result ≡ the_ends self.now.ends (carried_of carried.now) }
     {
         match self.ends {
             Some(ends) => ends,
@@ -211,16 +211,16 @@ impl Listing {
         carried: &Carried<'_>,
     ) -> Result<(), AllocError>
         ensures text { OnOk result (Adds text.old text.new
-            (way_text (the_way (the_ends_with self.old.ends (carried_of carried.now))
+            (way_text (the_way (the_ends self.old.ends (carried_of carried.now))
             (carried_of carried.now)) self.old.count time (carried_of carried.now))) }
         ensures ends { self.new.ends
-            ≡ Some (the_ends_with self.old.ends (carried_of carried.now)) }
+            ≡ Some (the_ends self.old.ends (carried_of carried.now)) }
         ensures count { self.new.count ≡ self.old.count }
         ensures taken { self.new.taken ≡ taken_with self.old.taken (way_packets
-            (the_way (the_ends_with self.old.ends (carried_of carried.now))
+            (the_way (the_ends self.old.ends (carried_of carried.now))
             (carried_of carried.now)) (carried_of carried.now)) }
     {
-        let ends = self.ends_with(carried);
+        let ends = self.ends_or_those_of(carried);
         self.ends = Some(ends);
         let Some(way) = way_of(ends, carried) else {
             return Ok(());
@@ -240,11 +240,11 @@ impl Listing {
         frame: &[u8],
     ) -> Result<(), AllocError>
         ensures text { OnOk result (Adds text.old text.new (record_text self.old.ends
-            (clamped (self.old.count + 1))
+            (bounded_count (self.old.count + 1))
             (record { time = time; is_ethernet = is_ethernet; bytes = frame.now }))) }
         ensures ends { OnOk result (self.new.ends ≡ ends_after self.old.ends
             (record { time = time; is_ethernet = is_ethernet; bytes = frame.now })) }
-        ensures count { OnOk result (self.new.count ≡ clamped (self.old.count + 1)) }
+        ensures count { OnOk result (self.new.count ≡ bounded_count (self.old.count + 1)) }
         ensures taken { OnOk result (self.new.taken ≡ taken_with self.old.taken
             (record_packets self.old.ends
             (record { time = time; is_ethernet = is_ethernet; bytes = frame.now }))) }

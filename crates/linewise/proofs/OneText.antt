@@ -5,7 +5,7 @@ use Rattle.std.specs.List.{AllByRecursion}
 use Rattle.std.specs.Io.BufRead.{first_line, drop_through}
 use Rattle.linewise.specs.declared.talking.Became.{Became}
 use Rattle.linewise.specs.declared.talking.Became.TheVariants.{NoMemory}
-use Rattle.linewise.specs.Talks.{Answering, SaysTo, Talked, HaveOneText}
+use Rattle.linewise.specs.Talks.{Answering, SaysTo, AnswersInput, HaveOneText}
 
 -- the lines, from the first on
 data Answers {E : Type 0} (answered : Answering E) (waiting : E → Option ℕ) : E → List ℕ → E → List ℕ → List ℕ → List (Option Became) → Type 0 where
@@ -35,10 +35,10 @@ module _ {E : Type 0} (answered : Answering E) (waiting : E → Option ℕ) wher
       (ap (λ (l : List ℕ). l ++ more) e ∙ append_assoc first others more)
       (ap (λ (l : List (Option Became)). l ++ became ∷ []) f)
 
-  from_front : (old new : E) (input rest text : List ℕ) (lines : List (Option Became)) → Talked answered waiting old input new rest text lines → Sates lines
+  from_front : (old new : E) (input rest text : List ℕ) (lines : List (Option Became)) → AnswersInput answered waiting old input new rest text lines → Sates lines
       → Answers answered waiting old input new rest text lines
-  from_front old new input rest text lines Talked.no_line_more never = over
-  from_front old new input rest text lines (Talked.one_line_more now left said more before became talked some says) never =
+  from_front old new input rest text lines AnswersInput.no_line_more never = over
+  from_front old new input rest text lines (AnswersInput.one_line_more now left said more before became talked some says) never =
       let each = parts before (became ∷ []) never in
       behind old now new input left said more before became (from_front old now input left said before talked each.0) some each.1.0 says
 

@@ -10,7 +10,7 @@ use Rattle.linewise.specs.declared.talking.Became.TheVariants.{NoMemory}
 use Rattle.linewise.specs.declared.fault.CaptureFault.{CaptureFault}
 use Rattle.linewise.specs.declared.fault.CaptureFault.TheVariants.{BadLine, TooLarge, ReadFailed, WriteFailed, NoMemory as OutOfMemory}
 use Rattle.linewise.specs.declared.talking.Next.TheVariants.{Over, Line}
-use Rattle.linewise.specs.Talks.{Answering, Fails, IsUnbroken, Talked, is_bad}
+use Rattle.linewise.specs.Talks.{Answering, Fails, IsUnbroken, AnswersInput, is_bad}
 use Rattle.linewise.specs.Inner.Steps.{HasTalked, Breaks, TurnGoes, TalkEnds}
 
 or_none : (b : Bool) → (b || false) ≡ b
@@ -29,7 +29,7 @@ unbroken_more (b ∷ lines) became all one = (all.0, unbroken_more lines became 
 module _ {E : Type 0} (answered : Answering E) (waiting : E → Option ℕ) where
   pub begins : (e : E) (unread written : Option (List ℕ)) → HasTalked answered waiting e unread written e unread written false
   begins e None written = _
-  begins e (Some input) written = (input, [], [], refl, Appends-nil written, Talked.no_line_more, refl, λ none. tt)
+  begins e (Some input) written = (input, [], [], refl, Appends-nil written, AnswersInput.no_line_more, refl, λ none. tt)
 
   -- one line more was answered
   pub goes_on : (old now next : E) (unread written left holds later_left later_holds : Option (List ℕ)) (bad : Bool) (became : Option Became)
@@ -45,7 +45,7 @@ module _ {E : Type 0} (answered : Answering E) (waiting : E → Option ℕ) wher
         before.2 ++ became ∷ [],
         dropped,
         Appends-trans written holds later_holds before.1 says.0 before.4 says.2,
-        Talked.one_line_more now before.0 before.1 says.0 before.2 became before.5 some says.1,
+        AnswersInput.one_line_more now before.0 before.1 says.0 before.2 became before.5 some says.1,
         bad_more bad before.2 became before.6,
         λ none. unbroken_more before.2 became (before.7 none) (going (none next)),
       )
@@ -55,14 +55,14 @@ module _ {E : Type 0} (answered : Answering E) (waiting : E → Option ℕ) wher
 
   pub ends : (old now next : E) (unread written left later holds last : Option (List ℕ)) (bad : Bool)
       → HasTalked answered waiting old unread written now left holds bad → TurnGoes answered waiting now next left later holds last Over
-      → IfSome unread (λ input. (text : List ℕ) × (lines : List (Option Became)) × Talked answered waiting old input next [] text lines × Appends written last text × (bad ≡ list_any is_bad lines)
+      → IfSome unread (λ input. (text : List ℕ) × (lines : List (Option Became)) × AnswersInput answered waiting old input next [] text lines × Appends written last text × (bad ≡ list_any is_bad lines)
       × IsUnbroken waiting lines)
   ends old now next None written left later holds last bad before over = _
   ends old now next (Some input) written left later holds last bad before over = (
     before.1,
     before.2,
-    subst (λ e. Talked answered waiting old input e [] before.1 before.2) (sym over.1)
-        (subst (λ rest. Talked answered waiting old input now rest before.1 before.2) (at_end left before.0 before.3 over.0) before.5),
+    subst (λ e. AnswersInput answered waiting old input e [] before.1 before.2) (sym over.1)
+        (subst (λ rest. AnswersInput answered waiting old input now rest before.1 before.2) (at_end left before.0 before.3 over.0) before.5),
     Appends-kept written holds last before.1 before.4 over.2,
     before.6,
     before.7,
@@ -83,7 +83,7 @@ module _ {E : Type 0} (answered : Answering E) (waiting : E → Option ℕ) wher
     before.0,
     before.1,
     before.2,
-    subst (λ e. Talked answered waiting old input e before.0 before.1 before.2) (sym end.0) before.5,
+    subst (λ e. AnswersInput answered waiting old input e before.0 before.1 before.2) (sym end.0) before.5,
     Appends-kept written holds last before.1 before.4 end.1,
     before.7,
   )
@@ -99,8 +99,8 @@ module _ {E : Type 0} (answered : Answering E) (waiting : E → Option ℕ) wher
         drop_through 10 before.0,
         before.1 ++ says.0,
         before.2,
-        subst (λ b. Talked answered waiting old input next (drop_through 10 before.0) (before.1 ++ says.0) (before.2 ++ b ∷ [])) memory
-            (Talked.one_line_more now before.0 before.1 says.0 before.2 became before.5 some says.1),
+        subst (λ b. AnswersInput answered waiting old input next (drop_through 10 before.0) (before.1 ++ says.0) (before.2 ++ b ∷ [])) memory
+            (AnswersInput.one_line_more now before.0 before.1 says.0 before.2 became before.5 some says.1),
         Appends-trans written holds later_holds before.1 says.0 before.4 says.2,
         none,
         before.7,

@@ -96,12 +96,12 @@ is_bad _ = false
 
 -- The end answered the lines of an input, one after another, up to this suffix. The text is its answers, joined, and
 -- the list is what became of the lines.
-pub data Talked {E : Type 0} (answered : Answering E) (waiting : E → Option ℕ) : E → List ℕ → E → List ℕ → List ℕ → List (Option Became) → Type 0 where
-  no_line_more : {e : E} {input : List ℕ} → Talked answered waiting e input e input [] []
+pub data AnswersInput {E : Type 0} (answered : Answering E) (waiting : E → Option ℕ) : E → List ℕ → E → List ℕ → List ℕ → List (Option Became) → Type 0 where
+  no_line_more : {e : E} {input : List ℕ} → AnswersInput answered waiting e input e input [] []
   one_line_more : {old new : E} {input : List ℕ} (now : E) (rest said more : List ℕ) (lines : List (Option Became)) (became : Option Became)
-      → Talked answered waiting old input now rest said lines → 0 < length rest
+      → AnswersInput answered waiting old input now rest said lines → 0 < length rest
       → SaysTo answered waiting now (first_line rest) new more became
-      → Talked answered waiting old input new (drop_through 10 rest) (said ++ more) (lines ++ became ∷ [])
+      → AnswersInput answered waiting old input new (drop_through 10 rest) (said ++ more) (lines ++ became ∷ [])
 
 -- An answerer whose answers never have an ending was out of memory at none of these lines: a conversation ends with
 -- such a line.
@@ -113,7 +113,7 @@ IsUnbroken {E} waiting lines = ((e : E) → waiting e ≡ None) → AllByRecursi
 abbrev pub HaveOneText : {E : Type 0} → Answering E → (E → Option ℕ) → (AreSame : E → E → Type 0) → Type 0
 HaveOneText answered waiting AreSame =
     (one other new end : _) (input text more : List ℕ) (lines others : List (Option Became)) → AreSame one other
-    → Talked answered waiting one input new [] text lines → Talked answered waiting other input end [] more others
+    → AnswersInput answered waiting one input new [] text lines → AnswersInput answered waiting other input end [] more others
     → AllByRecursion (λ became. became ≢ Some NoMemory) (lines ++ others) → (text ≡ more) × (lines ≡ others)
 
 -- What was written where a conversation ended before its input. The reader failed: the answers to all lines before.
@@ -121,13 +121,13 @@ HaveOneText answered waiting AreSame =
 -- so: all answers with that one. A conversation ends with no other fault.
 abbrev pub Fails : {E : Type 0} → Answering E → (E → Option ℕ) → E → List ℕ → E → Option (List ℕ) → Option (List ℕ) → CaptureFault → Type 0
 Fails answered waiting old input new written holds ReadFailed =
-    (rest said : List ℕ) × (lines : List (Option Became)) × Talked answered waiting old input new rest said lines × Appends written holds said
+    (rest said : List ℕ) × (lines : List (Option Became)) × AnswersInput answered waiting old input new rest said lines × Appends written holds said
     × IsUnbroken waiting lines
 Fails answered waiting old input new written holds OutOfMemory =
-    (rest said : List ℕ) × (lines : List (Option Became)) × Talked answered waiting old input new rest said (lines ++ Some NoMemory ∷ [])
+    (rest said : List ℕ) × (lines : List (Option Became)) × AnswersInput answered waiting old input new rest said (lines ++ Some NoMemory ∷ [])
     × Appends written holds said × (waiting new ≡ None) × IsUnbroken waiting lines
 Fails {E} answered waiting old input new written holds WriteFailed =
     (now : E) × (held : Option (List ℕ)) × (rest said more : List ℕ) × (lines : List (Option Became)) × (became : Option Became)
-    × Talked answered waiting old input now rest said lines × Appends written held said
+    × AnswersInput answered waiting old input now rest said lines × Appends written held said
     × SaysTo answered waiting now (first_line rest) new more became × WritesFront held holds more × IsUnbroken waiting lines
 Fails answered waiting old input new written holds _ = ⊥

@@ -5,7 +5,7 @@ ghost use Rattle.std.specs.List.{concat, list_any};
 ghost use Rattle.std.specs.Io.KnownBytes.{Appends, Keeps, IsAtEnd};
 ghost use Rattle.std.specs.Io.BufRead.{first_line, drop_through};
 ghost use Rattle.linewise.specs.Output.{WritesFront};
-ghost use Rattle.linewise.specs.Talks.{ComesIn, Fails, IsUnbroken, Talked, is_bad as is_bad_line, is_given as given_by};
+ghost use Rattle.linewise.specs.Talks.{ComesIn, Fails, IsUnbroken, AnswersInput, is_bad as is_bad_line, is_given as given_by};
 ghost use Rattle.linewise.specs.declared.talking.Answer.{Answer as TheAnswer};
 ghost use Rattle.linewise.specs.declared.talking.Became.{Became as TheBecame};
 ghost use Rattle.linewise.specs.Inner.Kept.{HoldsLine, without_end as ended};
@@ -303,7 +303,7 @@ pub fn talk<E: Answers, R: BufRead, W: Write, F: Write>(
 ) -> Result<bool, CaptureFault>
     ensures whole { IfOk result (λ bad. IfSome (R.remaining reader.old) (λ input. (text : List ℕ)
         × (lines : List (Option TheBecame))
-        × Talked E.answered E.waiting end.old input end.new [] text lines
+        × AnswersInput E.answered E.waiting end.old input end.new [] text lines
         × Appends (W.contents writer.old) (W.contents writer.new) text
         × (bad ≡ list_any is_bad_line lines) × IsUnbroken E.waiting lines)) }
     ensures fault { IfErr result (λ fault. IfSome (R.remaining reader.old) (λ input.

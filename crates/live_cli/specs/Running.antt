@@ -19,7 +19,7 @@ use Rattle.decnet_frames.specs.declared.run.FramesFault.{FramesFault}
 use Rattle.decnet_frames.specs.declared.run.FramesFault.TheVariants.{File}
 use Rattle.decnet_frames.specs.declared.text.Counts.{Counts}
 use Rattle.decnet_frames.specs.declared.text.Ends.{Ends}
-use Rattle.linewise.specs.Talks.{Answering, Talked, Fails, is_bad}
+use Rattle.linewise.specs.Talks.{Answering, AnswersInput, Fails, is_bad}
 use Rattle.linewise.specs.declared.talking.Became.{Became}
 use Rattle.linewise.specs.declared.fault.CaptureFault.{CaptureFault}
 use Rattle.dap_live.specs.declared.node.Node.{Node}
@@ -45,7 +45,7 @@ link_setup o = record { local = o.local; remote = o.remote; seg_size = o.segment
 -- the writer fails, and it is 3.
 abbrev pub AnswersAll : {E : Type 0} → Answering E → (E → Option ℕ) → E → List ℕ → (written holds : Option (List ℕ)) → ℕ → Type 0
 AnswersAll {E} answered waiting first input written holds status =
-    ((last : E) × (text : List ℕ) × (lines : List (Option Became)) × Talked answered waiting first input last [] text lines
+    ((last : E) × (text : List ℕ) × (lines : List (Option Became)) × AnswersInput answered waiting first input last [] text lines
     × Appends written holds text × (status ≡ (if list_any is_bad lines then 1 else 0)))
     ⊎ ((last : E) × (fault : CaptureFault) × Fails answered waiting first input last written holds fault × (status ≡ 3))
 

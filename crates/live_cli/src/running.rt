@@ -282,7 +282,7 @@ fn write_frames<R: BufRead, W: Write, E: Write>(
     }
 }
 
-/// Does what was named, and returns the exit status.
+/// Runs the task that the words name, and returns the exit status.
 fn run_task<R: BufRead, W: Write, E: Write>(
     alloc: Global,
     task: Task,

@@ -412,7 +412,7 @@ fn watch_command<'a>(alloc: Global) -> Result<Command<'a>, Error>
     Ok(command)
 }
 
-/// Returns the command line of the frames of a capture file.
+/// Returns the command line of `frames`, which writes the packets in a capture file as lines.
 fn frames_command<'a>(alloc: Global) -> Result<Command<'a>, Error>
     ensures line { IfOk result IsFramesLine }
     ensures memory { IfErr result (λ error. kind_of error ≡ ErrorKind.OutOfMemory) }

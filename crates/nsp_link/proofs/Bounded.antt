@@ -8,7 +8,7 @@ use Rattle.nsp_link.specs.declared.link.Got.{Got}
 use Rattle.nsp_link.specs.declared.fault.LinkFault.{LinkFault}
 use Rattle.nsp_link.specs.Link.{LinkValue, IsLink, Sends, first_ack, piece_of}
 use Rattle.nsp_link.specs.Due.{IsDue}
-use Rattle.nsp_link.specs.Receiving.{Received, Bounded, LetsGo, is_oversize, segment_number, stopped}
+use Rattle.nsp_link.specs.Receiving.{ReceivesPacket, ReceivesBounded, LetsGo, is_oversize, segment_number, end_after_refusal}
 use Rattle.nsp_link.proofs.Taken.{piece_short}
 use Rattle.nsp_link.proofs.Writing.{sends_received, sends_acked, sends_stopped}
 
@@ -21,7 +21,7 @@ none_oversize old size messages given (Segment s) None a due = absurd due.2.carr
 none_oversize old size messages given (DataAck s) k a due = refl
 
 -- so what is due is received as by any end
-pub due_received_as : (old new : LinkValue) (r : Result Got LinkFault) (size : ℕ) (messages given : List (List ℕ)) (p : Packet) (k : Option ℕ) (a : ℕ) → IsDue old size messages given p k a → Bounded old p r new → Received old p r new
+pub due_received_as : (old new : LinkValue) (r : Result Got LinkFault) (size : ℕ) (messages given : List (List ℕ)) (p : Packet) (k : Option ℕ) (a : ℕ) → IsDue old size messages given p k a → ReceivesBounded old p r new → ReceivesPacket old p r new
 due_received_as old new r size messages given p k a due (inl (long, _)) = let no = sym long ∙ none_oversize old size messages given p k a due in absurd cc
 due_received_as old new r size messages given p k a due (inr (_, h)) = h
 
@@ -31,6 +31,6 @@ sends_let_go old new (Segment s) (Err e) messages link (_, left) sends = rw left
 sends_let_go old new (DataAck s) r messages link h sends = absurd h
 
 -- whatever comes, the messages sent stay
-pub sends_bounded : (old new : LinkValue) (p : Packet) (r : Result Got LinkFault) (messages : List (List ℕ)) → IsLink old → Bounded old p r new → Sends old messages → Sends new messages
+pub sends_bounded : (old new : LinkValue) (p : Packet) (r : Result Got LinkFault) (messages : List (List ℕ)) → IsLink old → ReceivesBounded old p r new → Sends old messages → Sends new messages
 sends_bounded old new p r messages link (inl (_, h)) sends = sends_let_go old new p r messages link h sends
 sends_bounded old new p r messages link (inr (_, h)) sends = sends_received old new p r messages link h sends

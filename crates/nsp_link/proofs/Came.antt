@@ -14,14 +14,14 @@ use Rattle.nsp_link.specs.Cutting.{Piece}
 use Rattle.nsp_link.specs.Holding.{following}
 use Rattle.nsp_link.specs.Limits.{max_segments}
 use Rattle.nsp_link.specs.Link.{LinkValue, IsLink, Stands, KeepsEarly, got_of, held_after, piece_of, with_acked}
-use Rattle.nsp_link.specs.Receiving.{segment_number, taking_in, run, Received, Receives}
-use Rattle.nsp_link.specs.Due.{IsDue, Delivered, MayRefuse, taken_after}
+use Rattle.nsp_link.specs.Receiving.{segment_number, taking_in, run, ReceivesPacket, Receives}
+use Rattle.nsp_link.specs.Due.{IsDue, DeliversPacket, MayRefuse, taken_after}
 use Rattle.nsp_link.proofs.Taking.{received-all}
 use Rattle.nsp_link.proofs.Delivering.{segment_found, Due, due_received}
 
 -- an end that took in this, holds these early segments, and forgot what is acknowledged
 delivered_with : (old : LinkValue) (c : Coming) (held : List (ℕ × Piece)) (count : ℕ) (k : Option ℕ) (a : ℕ) (p : Piece) → count ≡ max old.acked a - old.acked → c.received ≡ taken_after old k → held ≡ held_after old k p
-    → Delivered old (with_acked (record old { coming = c; held = held }) count) k a
+    → DeliversPacket old (with_acked (record old { coming = c; held = held }) count) k a
 delivered_with old c held count k a p e on keeps =
     let same : count ≡ a - old.acked = omega arith in
     record {
@@ -34,7 +34,7 @@ delivered_with old c held count k a p e on keeps =
       failed = refl;
     }
 
-delivered_in : (old : LinkValue) (p : Piece) (count k a : ℕ) → count ≡ max old.acked a - old.acked → Delivered old (with_acked (taking_in old k p) count) (Some k) a
+delivered_in : (old : LinkValue) (p : Piece) (count k a : ℕ) → count ≡ max old.acked a - old.acked → DeliversPacket old (with_acked (taking_in old k p) count) (Some k) a
 delivered_in old p count k a e =
     let c : Coming = cond (k == old.coming.received + 1) (with_all_taken old.coming (run old p)) old.coming in
     let on : c.received ≡ taken_after old (Some k) = elim (cases_eq k (old.coming.received + 1)) [
@@ -49,7 +49,7 @@ found : (old : LinkValue) (size : ℕ) (messages given : List (List ℕ)) (s : S
 found old size messages given s n a due = rw due.2.carries.2 (segment_found old n due.2.fresh.0 due.2.near)
 
 -- it was taken in
-took : (old new : LinkValue) (got : Got) (size : ℕ) (messages given : List (List ℕ)) (p : Packet) (k : Option ℕ) (a : ℕ) → IsDue old size messages given p k a → new.acked ≡ max old.acked a → Received old p (Ok got) new → Delivered old new k a
+took : (old new : LinkValue) (got : Got) (size : ℕ) (messages given : List (List ℕ)) (p : Packet) (k : Option ℕ) (a : ℕ) → IsDue old size messages given p k a → new.acked ≡ max old.acked a → ReceivesPacket old p (Ok got) new → DeliversPacket old new k a
 took old new got size messages given (Segment s) (Some n) a due acked (_, (same, _, (count, newly, e))) =
     let left : new ≡ with_acked (taking_in old n (piece_of s)) count = e ∙ ap (λ (k : ℕ). with_acked (taking_in old k (piece_of s)) count) (found old size messages given s n a due) in
     let moved : new.acked ≡ old.acked + count = ap (λ (v : LinkValue). v.acked) e in
@@ -78,7 +78,7 @@ refused_next old p n e next (inr many) out =
     inr (many, next, rw (eq-eqb n (old.coming.received + 1) next) beyond)
 
 -- it was refused
-refused : (old new : LinkValue) (e : LinkFault) (size : ℕ) (messages given : List (List ℕ)) (p : Packet) (k : Option ℕ) (a : ℕ) → IsDue old size messages given p k a → old.coming.received ≤ max_segments → (e ≡ NoMemory) ⊎ (e ≡ Exhausted) → Received old p (Err e) new → MayRefuse old k e
+refused : (old new : LinkValue) (e : LinkFault) (size : ℕ) (messages given : List (List ℕ)) (p : Packet) (k : Option ℕ) (a : ℕ) → IsDue old size messages given p k a → old.coming.received ≤ max_segments → (e ≡ NoMemory) ⊎ (e ≡ Exhausted) → ReceivesPacket old p (Err e) new → MayRefuse old k e
 refused old new e size messages given p k a due few why (inl (out, _), _) = absurd (out due.2.way)
 refused old new e size messages given (DataAck s) k a due few why (inr (_, (_, bad)), _) = absurd (no_sequence e why bad)
 refused old new e size messages given (Segment s) k a due few why (inr (_, inl (_, bad)), _) = absurd (no_sequence e why bad)
@@ -90,8 +90,8 @@ refused old new e size messages given (Segment s) (Some n) a due few why (inr (_
 refused old new e size messages given (Segment s) None a due few why (inr (_, inr _), _) = absurd due.2.carries
 
 -- a packet that is due, by the counts
-pub due_counted : (old new : LinkValue) (r : Result Got LinkFault) (size : ℕ) (messages given : List (List ℕ)) (p : Packet) (k : Option ℕ) (a : ℕ) → IsLink old → IsDue old size messages given p k a → Received old p r new
-    → MatchResult r (λ got. (got ≡ got_of old.coming.received k) × Delivered old new k a × Stands new size messages given)
+pub due_counted : (old new : LinkValue) (r : Result Got LinkFault) (size : ℕ) (messages given : List (List ℕ)) (p : Packet) (k : Option ℕ) (a : ℕ) → IsLink old → IsDue old size messages given p k a → ReceivesPacket old p r new
+    → MatchResult r (λ got. (got ≡ got_of old.coming.received k) × DeliversPacket old new k a × Stands new size messages given)
     (λ e. MayRefuse old k e × (new ≡ old))
 due_counted old new (Ok got) size messages given p k a link due rec =
     let told : Due old new (Ok got) size messages given k a = due_received old new (Ok got) size messages given p k a link due rec in
@@ -107,7 +107,7 @@ taken_unrefused old (Some k) e before (inl (memory, inl next, few)) = omega (ari
 taken_unrefused old (Some k) e before (inl (memory, inr keeps, few)) = omega (arith, keeps.0, before)
 taken_unrefused old (Some k) e before (inr (many, next, over)) = omega (arith, next, before)
 
-pub unrefused : (old new : LinkValue) (r : Result Got LinkFault) (size : ℕ) (messages given : List (List ℕ)) (p : Packet) (k : Option ℕ) (a : ℕ) → IsLink old → IsDue old size messages given p k a → Received old p r new
+pub unrefused : (old new : LinkValue) (r : Result Got LinkFault) (size : ℕ) (messages given : List (List ℕ)) (p : Packet) (k : Option ℕ) (a : ℕ) → IsLink old → IsDue old size messages given p k a → ReceivesPacket old p r new
     → IfSome k (λ n. n ≤ old.coming.received) → IsOk r
 unrefused old new (Ok got) size messages given p k a link due rec before = search rules
 unrefused old new (Err e) size messages given p k a link due rec before =
@@ -115,6 +115,6 @@ unrefused old new (Err e) size messages given p k a link due rec before =
 
 -- what taking in any bytes comes to, where these are a packet that is due
 pub came_due : (old new : LinkValue) (bytes : List ℕ) (r : Result Got LinkFault) (size : ℕ) (messages given : List (List ℕ)) (p : Packet) (k : Option ℕ) (a : ℕ) → Receives old new bytes r → Spells p bytes → IsDue old size messages given p k a
-    → MatchResult r (λ got. (got ≡ got_of old.coming.received k) × Delivered old new k a × Stands new size messages given)
+    → MatchResult r (λ got. (got ≡ got_of old.coming.received k) × DeliversPacket old new k a × Stands new size messages given)
     (λ e. MayRefuse old k e × (new ≡ old))
 came_due old new bytes r size messages given p k a h spelled due = h.due size messages given p k a spelled due

@@ -18,7 +18,7 @@ use Rattle.nsp_link.specs.Holding.{following}
 use Rattle.nsp_link.specs.Link.{LinkValue, IsLink, Stands, got_of, piece_of, with_acked}
 use Rattle.nsp_link.specs.Due.{IsDue}
 use Rattle.nsp_link.specs.Inner.Whole.{HasTaken}
-use Rattle.nsp_link.specs.Receiving.{newly_acked, segment_number, taking_in, run, stopped, Received}
+use Rattle.nsp_link.specs.Receiving.{newly_acked, segment_number, taking_in, run, end_after_refusal, ReceivesPacket}
 use Rattle.nsp_link.proofs.Taking.{AreNext, fits_all, refuses-all}
 use Rattle.nsp_link.proofs.Taken.{taken_more, whole_of}
 use Rattle.nsp_link.proofs.Held.{inserted, following_next, all_drop, all_inserted}
@@ -72,7 +72,7 @@ count_some old size messages given p k a number link due e newly =
     let f = rw e at newly in
     cc
 
-due_ack : (old new : LinkValue) (r : Result Got LinkFault) (size : ℕ) (messages given : List (List ℕ)) (s : AckFields) (a : ℕ) → IsLink old → IsDue old size messages given (DataAck s) None a → Received old (DataAck s) r new → Due old new r size messages given None a
+due_ack : (old new : LinkValue) (r : Result Got LinkFault) (size : ℕ) (messages given : List (List ℕ)) (s : AckFields) (a : ℕ) → IsLink old → IsDue old size messages given (DataAck s) None a → ReceivesPacket old (DataAck s) r new → Due old new r size messages given None a
 due_ack old new (Ok got) size messages given s a link due (_, (same, (count, newly, e))) =
     let is = count_is old size messages given (DataAck s) None a count _ link due due.2.carries newly in
     (same, ap (λ (v : LinkValue). v.acked) e ∙ omega (arith, is), rw e (stands_forgotten old count size messages given due.1))
@@ -109,14 +109,14 @@ module _ (old : LinkValue) (size : ℕ) (messages given : List (List ℕ)) (s : 
   ]
 
   -- the next one isn't taken: what is refused leaves the end as it was
-  due_not_taken : (new : LinkValue) (e : LinkFault) → n ≡ old.coming.received + 1 → RefusesAll old.setup.max_message old.coming (run old (piece_of s)) e → new ≡ stopped e old → Due old new (Err e) size messages given (Some n) a
+  due_not_taken : (new : LinkValue) (e : LinkFault) → n ≡ old.coming.received + 1 → RefusesAll old.setup.max_message old.coming (run old (piece_of s)) e → new ≡ end_after_refusal e old → Due old new (Err e) size messages given (Some n) a
   due_not_taken new e next out left =
       elim (refuses-all old.setup.max_message old.coming (run old (piece_of s)) e (next_taken next).0 out) [
-        | inl m ↦ (inl m.0, left ∙ ap (λ (f : LinkFault). stopped f old) m.0)
-        | inr x ↦ (inr x.0, left ∙ ap (λ (f : LinkFault). stopped f old) x.0)
+        | inl m ↦ (inl m.0, left ∙ ap (λ (f : LinkFault). end_after_refusal f old) m.0)
+        | inr x ↦ (inr x.0, left ∙ ap (λ (f : LinkFault). end_after_refusal f old) x.0)
       ]
 
-  due_segment : (new : LinkValue) (r : Result Got LinkFault) → Received old (Segment s) r new → Due old new r size messages given (Some n) a
+  due_segment : (new : LinkValue) (r : Result Got LinkFault) → ReceivesPacket old (Segment s) r new → Due old new r size messages given (Some n) a
   due_segment new (Ok got) (_, (same, _, (count, newly, e))) =
       let is = count_is old size messages given (Segment s) (Some n) a count _ link due due.2.carries.3 newly in
       let left : new ≡ with_acked (taking_in old n (piece_of s)) count = e ∙ ap (λ (k : ℕ). with_acked (taking_in old k (piece_of s)) count) found in
@@ -124,17 +124,17 @@ module _ (old : LinkValue) (size : ℕ) (messages given : List (List ℕ)) (s : 
   due_segment new (Err e) (inl (out, _), _) = absurd (out due.2.way)
   due_segment new (Err e) (inr (_, inl (none, _)), _) = absurd (count_some old size messages given (Segment s) (Some n) a _ link due due.2.carries.3 none)
   due_segment new (Err e) (inr (_, inr (_, inl (next, out))), left) = due_not_taken new e (sym found ∙ next) out left
-  due_segment new (Err e) (inr (_, inr (_, inr (keeps, memory))), left) = (inl memory, left ∙ ap (λ (f : LinkFault). stopped f old) memory)
+  due_segment new (Err e) (inr (_, inr (_, inr (keeps, memory))), left) = (inl memory, left ∙ ap (λ (f : LinkFault). end_after_refusal f old) memory)
 
 -- a packet that is due does what the definition says
-pub due_received : (old new : LinkValue) (r : Result Got LinkFault) (size : ℕ) (messages given : List (List ℕ)) (p : Packet) (k : Option ℕ) (a : ℕ) → IsLink old → IsDue old size messages given p k a → Received old p r new → Due old new r size messages given k a
+pub due_received : (old new : LinkValue) (r : Result Got LinkFault) (size : ℕ) (messages given : List (List ℕ)) (p : Packet) (k : Option ℕ) (a : ℕ) → IsLink old → IsDue old size messages given p k a → ReceivesPacket old p r new → Due old new r size messages given k a
 due_received old new r size messages given (Segment s) (Some n) a link due rec = due_segment old size messages given s n a link due new r rec
 due_received old new r size messages given (Segment s) None a link due rec = absurd due.2.carries
 due_received old new r size messages given (DataAck s) None a link due rec = due_ack old new r size messages given s a link due rec
 due_received old new r size messages given (DataAck s) (Some n) a link due rec = absurd due.2.carries
 
 -- a packet that was read is not malformed
-pub received_read : (old new : LinkValue) (p : Packet) (r : Result Got LinkFault) (f : SegFault) → Received old p r new → r ≡ Err (Malformed f) → ⊥
+pub received_read : (old new : LinkValue) (p : Packet) (r : Result Got LinkFault) (f : SegFault) → ReceivesPacket old p r new → r ≡ Err (Malformed f) → ⊥
 received_read old new p (Ok got) f rec e = cc
 received_read old new p (Err g) f (inl out, _) e = cc
 received_read old new (Segment s) (Err g) f (inr (_, inl out), _) e = cc

@@ -14,7 +14,7 @@ use Rattle.nsp_link.specs.Cutting.{Piece}
 use Rattle.nsp_link.specs.Limits.{max_segments}
 use Rattle.nsp_link.specs.Coming.{Coming, with_taken, with_all_taken, FitsNext, AllFitInOrder, Misfits, MisfitsOne, RefusesAll}
 use Rattle.nsp_link.specs.Link.{LinkValue, IsBetween, first_ack, got_of, piece_of, with_acked}
-use Rattle.nsp_link.specs.Receiving.{newly_acked, Received, Refuses, Acknowledges, segment_number, taking_in, run, stopped, ReceivedBytes, LetsGo, Bounded, BoundedBytes, Receives}
+use Rattle.nsp_link.specs.Receiving.{newly_acked, ReceivesPacket, Refuses, Acknowledges, segment_number, taking_in, run, end_after_refusal, ReceivedBytes, LetsGo, ReceivesBounded, BoundedBytes, Receives}
 
 -- ---- Segments that follow one another.
 
@@ -86,7 +86,7 @@ acks_one old mid one two number a b =
     let counts : a.0 ≡ b.0 = (let both = sym a.1 ∙ b.1 in cc) in
     a.2 ∙ ap (with_acked mid) counts ∙ sym b.2
 
-received_one : (old one two : LinkValue) (p : Packet) (g h : Got) → Received old p (Ok g) one → Received old p (Ok h) two → (g ≡ h) × (one ≡ two)
+received_one : (old one two : LinkValue) (p : Packet) (g h : Got) → ReceivesPacket old p (Ok g) one → ReceivesPacket old p (Ok h) two → (g ≡ h) × (one ≡ two)
 received_one old one two (Segment s) g h (_, (a, _, acks)) (_, (b, _, others)) =
     (a ∙ sym b, acks_one old (taking_in old (segment_number old s.number) (piece_of s)) one two (first_ack s.ack1 s.ack2) acks others)
 received_one old one two (DataAck s) g h (_, (a, acks)) (_, (b, others)) = (a ∙ sym b, acks_one old old one two (first_ack (Some s.ack1) s.ack2) acks others)
@@ -101,7 +101,7 @@ next_apart old one k p g e count ne few next same fits left out =
     taken_apart old.setup.max_message old.coming (run old p) e ne (fits (same ∙ got)) (subst (λ (n : ℕ). n ≤ max_segments) (ap (λ (v : LinkValue). v.coming.received) left ∙ all) few) out
 
 -- a packet that was taken isn't refused
-taken_or_not : (old one two : LinkValue) (p : Packet) (g : Got) (e : LinkFault) → e ≢ NoMemory → one.coming.received ≤ max_segments → Received old p (Ok g) one → Received old p (Err e) two → ⊥
+taken_or_not : (old one two : LinkValue) (p : Packet) (g : Got) (e : LinkFault) → e ≢ NoMemory → one.coming.received ≤ max_segments → ReceivesPacket old p (Ok g) one → ReceivesPacket old p (Err e) two → ⊥
 taken_or_not old one two (Segment s) g e ne few a (inl (out, _), _) = out a.0
 taken_or_not old one two (Segment s) g e ne few (_, (_, _, acks)) (inr (_, inl (none, _)), _) = let none-is : ⊥ = (let both = sym none ∙ acks.1 in cc) in none-is
 taken_or_not old one two (Segment s) g e ne few (_, (same, fits, acks)) (inr (_, inr (_, inl (next, out))), _) =
@@ -119,10 +119,10 @@ refuses_same old (Segment s) e f ne nf (inr (_, inl a)) (inr (_, inr b)) = absur
 refuses_same old (Segment s) e f ne nf (inr (_, inr a)) (inr b) = absurd (ne a.1)
 refuses_same old (DataAck s) e f ne nf a b = a.1 ∙ sym b.1
 
-not_taken : (old one two : LinkValue) (p : Packet) (e f : LinkFault) → e ≢ NoMemory → f ≢ NoMemory → Received old p (Err e) one → Received old p (Err f) two → (e ≡ f) × (one ≡ two)
+not_taken : (old one two : LinkValue) (p : Packet) (e f : LinkFault) → e ≢ NoMemory → f ≢ NoMemory → ReceivesPacket old p (Err e) one → ReceivesPacket old p (Err f) two → (e ≡ f) × (one ≡ two)
 not_taken old one two p e f ne nf (out, left) (also, right) =
     let same : e ≡ f = reason out also in
-    (same, left ∙ ap (λ (x : LinkFault). stopped x old) same ∙ sym right)
+    (same, left ∙ ap (λ (x : LinkFault). end_after_refusal x old) same ∙ sym right)
   where
     reason : (((IsBetween old.setup.remote old.setup.local p → ⊥) × (e ≡ WrongLink)) ⊎ (IsBetween old.setup.remote old.setup.local p × Refuses old p e)) → (((IsBetween old.setup.remote old.setup.local p → ⊥) × (f ≡ WrongLink)) ⊎ (IsBetween old.setup.remote old.setup.local p × Refuses old p f)) → e ≡ f
     reason (inl a) (inl b) = a.1 ∙ sym b.1
@@ -140,7 +140,7 @@ abbrev malformed_by : SegFault → Result Got LinkFault
 malformed_by f = Err (Malformed f)
 
 packet_same : (old one two : LinkValue) (p : Packet) (r s : Result Got LinkFault) → r ≢ Err NoMemory → s ≢ Err NoMemory → one.coming.received ≤ max_segments → two.coming.received ≤ max_segments
-    → Received old p r one → Received old p s two → (r ≡ s) × (one ≡ two)
+    → ReceivesPacket old p r one → ReceivesPacket old p s two → (r ≡ s) × (one ≡ two)
 packet_same old one two p (Ok g) (Ok h) nr ns few less a b =
     let same = received_one old one two p g h a b in (ap got_by same.0, same.1)
 packet_same old one two p (Ok g) (Err f) nr ns few less a b = absurd (taken_or_not old one two p g f (λ k. ns (ap failed_by k)) few a b)
@@ -162,7 +162,7 @@ bytes_same old one two bytes r s fits nr ns few less (inl a) (inl b) =
 bytes_same old one two bytes r s fits nr ns few less (inl a) (inr b) = absurd (spells-apart b.0 a.0 bytes fits b.1 a.2)
 bytes_same old one two bytes r s fits nr ns few less (inr a) (inl b) = absurd (spells-apart a.0 b.0 bytes fits a.1 b.2)
 bytes_same old one two bytes r s fits nr ns few less (inr a) (inr b) =
-    packet_same old one two a.0 r s nr ns few less a.2 (subst (λ (p : Packet). Received old p s two) (spells-one b.0 a.0 bytes b.1 a.1) b.2)
+    packet_same old one two a.0 r s nr ns few less a.2 (subst (λ (p : Packet). ReceivesPacket old p s two) (spells-one b.0 a.0 bytes b.1 a.1) b.2)
 
 -- ---- An end that holds nothing oversize.
 
@@ -175,7 +175,7 @@ let_go_same old one two (Segment s) (Err e) (Ok h) (inl (out, _), _) (way, _, _)
 let_go_same old one two (Segment s) (Err e) (Ok h) (inr (_, none, _), _) (_, _, acks) = let both = sym none ∙ acks.1 in absurd cc
 let_go_same old one two (Segment s) (Err e) (Err f) (why, left) (also, right) =
     let same : e ≡ f = reason why also in
-    (ap failed_by same, left ∙ ap (λ (x : LinkFault). stopped x old) same ∙ sym right)
+    (ap failed_by same, left ∙ ap (λ (x : LinkFault). end_after_refusal x old) same ∙ sym right)
   where
     Why : LinkFault → Type 0
     Why x = ((IsBetween old.setup.remote old.setup.local (Segment s) → ⊥) × (x ≡ WrongLink)) ⊎ (IsBetween old.setup.remote old.setup.local (Segment s) × (newly_acked old (first_ack s.ack1 s.ack2) ≡ None) × (x ≡ BadSequence))
@@ -188,7 +188,7 @@ let_go_same old one two (Segment s) (Err e) (Err f) (why, left) (also, right) =
 let_go_same old one two (DataAck s) r t a b = absurd a
 
 bounded_same : (old one two : LinkValue) (p : Packet) (r s : Result Got LinkFault) → r ≢ Err NoMemory → s ≢ Err NoMemory → one.coming.received ≤ max_segments → two.coming.received ≤ max_segments
-    → Bounded old p r one → Bounded old p s two → (r ≡ s) × (one ≡ two)
+    → ReceivesBounded old p r one → ReceivesBounded old p s two → (r ≡ s) × (one ≡ two)
 bounded_same old one two p r s nr ns few less (inl (_, a)) (inl (_, b)) = let_go_same old one two p r s a b
 bounded_same old one two p r s nr ns few less (inl (long, _)) (inr (fits, _)) = let both = sym long ∙ fits in absurd cc
 bounded_same old one two p r s nr ns few less (inr (fits, _)) (inl (long, _)) = let both = sym long ∙ fits in absurd cc
@@ -201,7 +201,7 @@ bounded_bytes_same old one two bytes r s fits nr ns few less (inl a) (inl b) =
 bounded_bytes_same old one two bytes r s fits nr ns few less (inl a) (inr b) = absurd (spells-apart b.0 a.0 bytes fits b.1 a.2)
 bounded_bytes_same old one two bytes r s fits nr ns few less (inr a) (inl b) = absurd (spells-apart a.0 b.0 bytes fits a.1 b.2)
 bounded_bytes_same old one two bytes r s fits nr ns few less (inr a) (inr b) =
-    bounded_same old one two a.0 r s nr ns few less a.2 (subst (λ (p : Packet). Bounded old p s two) (spells-one b.0 a.0 bytes b.1 a.1) b.2)
+    bounded_same old one two a.0 r s nr ns few less a.2 (subst (λ (p : Packet). ReceivesBounded old p s two) (spells-one b.0 a.0 bytes b.1 a.1) b.2)
 
 receives_by : (failed : Bool) (old one two : LinkValue) (bytes : List ℕ) (r s : Result Got LinkFault) → old.failed ≡ failed → AreBytes bytes → r ≢ Err NoMemory → s ≢ Err NoMemory
     → Receives old one bytes r → Receives old two bytes s → (r ≡ s) × (one ≡ two)

@@ -18,7 +18,7 @@ use Rattle.nsp_seg.specs.declared.packet.Packet.TheVariants.{Segment as ASegment
 use Rattle.nsp_link.specs.declared.fault.LinkFault.{LinkFault}
 use Rattle.nsp_link.specs.declared.link.Got.{Got}
 use Rattle.nsp_link.specs.Link.{LinkValue, AreUnfinished, Sends, failed_link, first_ack, with_acked, piece_of, waiting_bytes}
-use Rattle.nsp_link.specs.Receiving.{Acknowledges, Received, LetsGo, Bounded, BoundedBytes, Receives, ends_link, segment_number, taking_in}
+use Rattle.nsp_link.specs.Receiving.{Acknowledges, ReceivesPacket, LetsGo, ReceivesBounded, BoundedBytes, Receives, ends_link, segment_number, taking_in}
 use Rattle.nsp_link.specs.Sending.{queued_link}
 use Rattle.nsp_link.proofs.Counts.{length-cut_message, length-cut-one}
 use Rattle.nsp_link.proofs.Several.{cut-none}
@@ -152,7 +152,7 @@ stopped_waits : (b : Bool) (v : LinkValue) → waiting_bytes (cond b (failed_lin
 stopped_waits true v = refl
 stopped_waits false v = refl
 
-received_waits : (old new : LinkValue) (p : Packet) (r : Result Got LinkFault) → Received old p r new → waiting_bytes new ≤ waiting_bytes old
+received_waits : (old new : LinkValue) (p : Packet) (r : Result Got LinkFault) → ReceivesPacket old p r new → waiting_bytes new ≤ waiting_bytes old
 received_waits old new (ASegment s) (Ok got) (_, (_, _, acks)) = acked_waits old (taking_in old (segment_number old s.number) (piece_of s)) new (first_ack s.ack1 s.ack2) refl acks
 received_waits old new (DataAck s) (Ok got) (_, (_, acks)) = acked_waits old old new (first_ack (Some s.ack1) s.ack2) refl acks
 received_waits old new p (Err e) (_, left) = let is = ap (λ (v : LinkValue). waiting_bytes v) left in omega (arith, is, stopped_waits (ends_link e) old)
@@ -162,7 +162,7 @@ let_go_waits old new (ASegment s) (Ok got) (_, _, acks) = acked_waits old old ne
 let_go_waits old new (ASegment s) (Err e) (_, left) = let is = ap (λ (v : LinkValue). waiting_bytes v) left in omega (arith, is, stopped_waits (ends_link e) old)
 let_go_waits old new (DataAck s) r h = absurd h
 
-bounded_waits : (old new : LinkValue) (p : Packet) (r : Result Got LinkFault) → Bounded old p r new → waiting_bytes new ≤ waiting_bytes old
+bounded_waits : (old new : LinkValue) (p : Packet) (r : Result Got LinkFault) → ReceivesBounded old p r new → waiting_bytes new ≤ waiting_bytes old
 bounded_waits old new p r (inl (_, h)) = let_go_waits old new p r h
 bounded_waits old new p r (inr (_, h)) = received_waits old new p r h
 

@@ -15,7 +15,7 @@ use Rattle.nsp_seg.specs.declared.packet.Packet.TheVariants.{Segment, DataAck}
 use Rattle.nsp_link.specs.declared.fault.LinkFault.{LinkFault}
 use Rattle.nsp_link.specs.declared.link.Got.{Got}
 use Rattle.nsp_link.specs.Link.{IsLink, failed_link, first_ack, piece_of}
-use Rattle.nsp_link.specs.Receiving.{newly_acked, Acknowledges, Received, segment_number, taking_in, stopped, ends_link}
+use Rattle.nsp_link.specs.Receiving.{newly_acked, Acknowledges, ReceivesPacket, segment_number, taking_in, end_after_refusal, ends_link}
 use Rattle.nsp_link.specs.Sending.{WritesQueued, segment_packet}
 
 pub writes_segment : (v : LinkValue) (messages : List (List ℕ)) (bytes : List ℕ) (index : ℕ) → index < length v.queue
@@ -70,14 +70,14 @@ sends_acked old mid new number messages link queue part acked size acks sends =
 sends_failed : (v : LinkValue) (messages : List (List ℕ)) → Sends v messages → Sends (failed_link v) messages
 sends_failed v messages sends = record { queue = sends.queue; acked = sends.acked; part = sends.part }
 
-pub sends_stopped : (v : LinkValue) (e : LinkFault) (messages : List (List ℕ)) → Sends v messages → Sends (stopped e v) messages
+pub sends_stopped : (v : LinkValue) (e : LinkFault) (messages : List (List ℕ)) → Sends v messages → Sends (end_after_refusal e v) messages
 sends_stopped v e messages sends = elim (ends_link e) as (λ b. Sends (cond b (failed_link v) v) messages) [
   | true ↦ sends_failed v messages sends
   | false ↦ sends
 ]
 
 -- whatever comes, the messages sent stay
-pub sends_received : (old new : LinkValue) (p : Packet) (r : Result Got LinkFault) (messages : List (List ℕ)) → IsLink old → Received old p r new → Sends old messages → Sends new messages
+pub sends_received : (old new : LinkValue) (p : Packet) (r : Result Got LinkFault) (messages : List (List ℕ)) → IsLink old → ReceivesPacket old p r new → Sends old messages → Sends new messages
 sends_received old new (Segment s) (Ok got) messages link (_, (_, _, acks)) sends = sends_acked old (taking_in old (segment_number old s.number) (piece_of s)) new (first_ack s.ack1 s.ack2) messages link refl refl refl refl acks sends
 sends_received old new (DataAck s) (Ok got) messages link (_, (_, acks)) sends = sends_acked old old new (first_ack (Some s.ack1) s.ack2) messages link refl refl refl refl acks sends
 sends_received old new p (Err e) messages link (_, left) sends = rw left (sends_stopped old e messages sends)

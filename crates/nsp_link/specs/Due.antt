@@ -22,7 +22,7 @@ taken_after v (Some k) = if k == v.coming.received + 1 then k + length (followin
 -- counts, and what is acknowledged leaves the queue. The next segment is taken with all held ones that follow it
 -- without a hole. An early one is held if the window has room for it and it isn't held yet. One that was taken
 -- changes nothing.
-pub record Delivered (old new : LinkValue) (k : Option ℕ) (a : ℕ) : Type 0 where
+pub record DeliversPacket (old new : LinkValue) (k : Option ℕ) (a : ℕ) : Type 0 where
   pub acked : new.acked ≡ max old.acked a
   pub queue : new.queue ≡ drop (a - old.acked) old.queue
   pub received : new.coming.received ≡ taken_after old k

@@ -15,7 +15,7 @@ use Rattle.nsp_link.specs.Coming.{with_all_taken, AllFitInOrder, RefusesAll}
 use Rattle.nsp_link.specs.Holding.{following}
 use Rattle.nsp_link.specs.Limits.{max_segments}
 use Rattle.nsp_link.specs.Link.{LinkValue, got_of, held_after, Stands, SendsStill, failed_link, first_ack, piece_of, IsBetween, KeepsEarly, with_acked}
-use Rattle.nsp_link.specs.Due.{IsDue, Delivered, MayRefuse}
+use Rattle.nsp_link.specs.Due.{IsDue, DeliversPacket, MayRefuse}
 
 -- How many segments a field acknowledges anew. A number that is 2,048 or more ahead is old, and acknowledges none;
 -- nor does a packet without a field. There is none where more are acknowledged than were sent: that is a bad
@@ -49,8 +49,8 @@ ends_link MessageTooLong = true
 ends_link _ = false
 
 -- the end after a refusal
-abbrev pub stopped : LinkFault → LinkValue → LinkValue
-stopped e v = if ends_link e then failed_link v else v
+abbrev pub end_after_refusal : LinkFault → LinkValue → LinkValue
+end_after_refusal e v = if ends_link e then failed_link v else v
 
 -- what an acknowledgement takes from an end
 abbrev pub Acknowledges : LinkValue → Option ℕ → LinkValue → LinkValue → Type 0
@@ -77,11 +77,11 @@ Takes old (Segment s) got new =
 Takes old (DataAck s) got new = (got ≡ AckOnly) × Acknowledges old (first_ack (Some s.ack1) s.ack2) old new
 
 -- What an end that hasn't failed does with any packet: what it returns, and what it is afterwards.
-abbrev pub Received : LinkValue → Packet → Result Got LinkFault → LinkValue → Type 0
-Received old p (Ok got) new = IsBetween old.setup.remote old.setup.local p × Takes old p got new
-Received old p (Err e) new =
+abbrev pub ReceivesPacket : LinkValue → Packet → Result Got LinkFault → LinkValue → Type 0
+ReceivesPacket old p (Ok got) new = IsBetween old.setup.remote old.setup.local p × Takes old p got new
+ReceivesPacket old p (Err e) new =
     let way = IsBetween old.setup.remote old.setup.local p in
-    (((way → ⊥) × (e ≡ WrongLink)) ⊎ (way × Refuses old p e)) × (new ≡ stopped e old)
+    (((way → ⊥) × (e ≡ WrongLink)) ⊎ (way × Refuses old p e)) × (new ≡ end_after_refusal e old)
 
 -- ---- What an end does with any bytes.
 
@@ -89,7 +89,7 @@ Received old p (Err e) new =
 abbrev pub ReceivedBytes : (old new : LinkValue) → List ℕ → Result Got LinkFault → Type 0
 ReceivedBytes old new bytes result =
     ((f : SegFault) × (result ≡ Err (Malformed f)) × HasFault f bytes × (new ≡ old))
-    ⊎ ((p : Packet) × Spells p bytes × Received old p result new)
+    ⊎ ((p : Packet) × Spells p bytes × ReceivesPacket old p result new)
 
 -- A packet that is due. The answer follows from the number k of its segment and the number of segments taken. The
 -- counts and what is held move as `Delivered` says. The end has still taken the first segments of the same messages,
@@ -100,7 +100,7 @@ ReceivedDue old new bytes result =
     (size : ℕ) (messages given : List (List ℕ)) (p : Packet) (k : Option ℕ) (a : ℕ)
     → Spells p bytes → IsDue old size messages given p k a
     → MatchResult result
-    (λ got. (got ≡ got_of old.coming.received k) × Delivered old new k a × Stands new size messages given)
+    (λ got. (got ≡ got_of old.coming.received k) × DeliversPacket old new k a × Stands new size messages given)
     (λ e. MayRefuse old k e × (new ≡ old))
 
 -- A packet that is due and only acknowledges, or whose segment was taken before, is never refused.
@@ -122,19 +122,19 @@ LetsGo old (Segment s) (Ok got) new =
     IsBetween old.setup.remote old.setup.local (Segment s) × (got ≡ Early) × Acknowledges old (first_ack s.ack1 s.ack2) old new
 LetsGo old (Segment s) (Err e) new =
     let way = IsBetween old.setup.remote old.setup.local (Segment s) in
-    (((way → ⊥) × (e ≡ WrongLink)) ⊎ (way × (newly_acked old (first_ack s.ack1 s.ack2) ≡ None) × (e ≡ BadSequence))) × (new ≡ stopped e old)
+    (((way → ⊥) × (e ≡ WrongLink)) ⊎ (way × (newly_acked old (first_ack s.ack1 s.ack2) ≡ None) × (e ≡ BadSequence))) × (new ≡ end_after_refusal e old)
 LetsGo old (DataAck s) result new = ⊥
 
 -- what such an end that hasn't failed does with any packet
-abbrev pub Bounded : LinkValue → Packet → Result Got LinkFault → LinkValue → Type 0
-Bounded old p result new =
-    ((is_oversize old p ≡ true) × LetsGo old p result new) ⊎ ((is_oversize old p ≡ false) × Received old p result new)
+abbrev pub ReceivesBounded : LinkValue → Packet → Result Got LinkFault → LinkValue → Type 0
+ReceivesBounded old p result new =
+    ((is_oversize old p ≡ true) × LetsGo old p result new) ⊎ ((is_oversize old p ≡ false) × ReceivesPacket old p result new)
 
 -- the bytes are malformed, which changes nothing, or they are a packet, and its numbers and length decide
 abbrev pub BoundedBytes : (old new : LinkValue) → List ℕ → Result Got LinkFault → Type 0
 BoundedBytes old new bytes result =
     ((f : SegFault) × (result ≡ Err (Malformed f)) × HasFault f bytes × (new ≡ old))
-    ⊎ ((p : Packet) × Spells p bytes × Bounded old p result new)
+    ⊎ ((p : Packet) × Spells p bytes × ReceivesBounded old p result new)
 
 -- All that such an end does with any bytes. By the law `receiving_is_determined` two outcomes of one call on the same
 -- end are equal, unless memory was refused.

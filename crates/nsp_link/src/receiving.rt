@@ -10,7 +10,7 @@ ghost use Rattle.nsp_link.specs.declared.link.Got.TheVariants.{Accepted};
 ghost use Rattle.nsp_link.specs.Coming.{AllFitInOrder, RefusesAll};
 ghost use Rattle.nsp_link.specs.Cutting.{bytes_in, part_after};
 ghost use Rattle.nsp_link.specs.Link.{Stands, SendsStill, HandsOut, KeepsEarly, got_of, first_ack, plain_ack, with_acked};
-ghost use Rattle.nsp_link.specs.Receiving.{newly_acked, run, segment_number, taking_in, ends_link, is_oversize, stopped, NotTaken, Received, ReceivedBytes, ReceivedDue, UnrefusedDue, LetsGo, Bounded, BoundedBytes};
+ghost use Rattle.nsp_link.specs.Receiving.{newly_acked, run, segment_number, taking_in, ends_link, is_oversize, end_after_refusal, NotTaken, ReceivesPacket, ReceivedBytes, ReceivedDue, UnrefusedDue, LetsGo, ReceivesBounded, BoundedBytes};
 ghost use Rattle.nsp_link.specs.Inner.Pieces.{lent_piece, piece_values};
 
 use crate::fault::LinkFault;
@@ -55,7 +55,7 @@ impl LinkEnd {
         ensures failed { IsTrue self.old.failed → (result ≡ Err Failed) × (self.new ≡ self.old) }
         // Any packet, by the numbers that it shows.
         ensures any { self.old.failed ≡ false → (p : Packet) → Spells p packet.now
-            → Received self.old p result self.new }
+            → ReceivesPacket self.old p result self.new }
         // All bytes: they are malformed, which changes nothing, or they are a packet.
         ensures whole { self.old.failed ≡ false
             → ReceivedBytes self.old self.new packet.now result }
@@ -87,7 +87,7 @@ impl LinkEnd {
         ensures failed { IsTrue self.old.failed → (result ≡ Err Failed) × (self.new ≡ self.old) }
         // Any packet, by the numbers that it shows, and its length.
         ensures any { self.old.failed ≡ false → (p : Packet) → Spells p packet.now
-            → Bounded self.old p result self.new }
+            → ReceivesBounded self.old p result self.new }
         // All bytes: they are malformed, which changes nothing, or they are a packet.
         ensures whole { self.old.failed ≡ false
             → BoundedBytes self.old self.new packet.now result }
@@ -114,7 +114,7 @@ impl LinkEnd {
 
     /// Takes in a packet that was read, and holds no segment that is longer than a message may be.
     fn receive_fitting(&mut self, packet: &PacketValue<'_>) -> Result<Got, LinkFault>
-        ensures { Bounded self.old packet.now result self.new }
+        ensures { ReceivesBounded self.old packet.now result self.new }
     {
         match packet {
             PacketValue::Segment(segment) if self.is_oversize(segment) => self.let_go(segment),
@@ -151,7 +151,7 @@ impl LinkEnd {
 
     /// Takes in a packet that was read. A fault which shows that the two ends have lost each other ends the link.
     fn receive_packet(&mut self, packet: &PacketValue<'_>) -> Result<Got, LinkFault>
-        ensures { Received self.old packet.now result self.new }
+        ensures { ReceivesPacket self.old packet.now result self.new }
     {
         let result = self.take_packet(packet);
         if let Err(fault) = result
@@ -164,9 +164,9 @@ impl LinkEnd {
 
     /// Takes in a packet that was read; where it is refused, nothing changes.
     fn take_packet(&mut self, packet: &PacketValue<'_>) -> Result<Got, LinkFault>
-        ensures ok { IfOk result (λ got. Received self.old packet.now (Ok got) self.new) }
+        ensures ok { IfOk result (λ got. ReceivesPacket self.old packet.now (Ok got) self.new) }
         ensures err { IfErr result
-            (λ e. Received self.old packet.now (Err e) (stopped e self.old)) }
+            (λ e. ReceivesPacket self.old packet.now (Err e) (end_after_refusal e self.old)) }
         ensures unchanged { OnErr result (self.new ≡ self.old) }
     {
         match packet {

@@ -9,7 +9,7 @@ use Rattle.std.proofs.lemmas.Bool.Decides.{nat_tests}
 use Rattle.rec_file.specs.declared.shapes.Shape.{Shape}
 use Rattle.rec_file.specs.Limits.{max_record_number, max_record}
 use Rattle.rec_file.specs.Shapes.{is_shape, has_length, is_seq, max_number, allows_length}
-use Rattle.rec_file.specs.Files.{FileVal, IsFile, Records, highest_of, stored, removed}
+use Rattle.rec_file.specs.Files.{FileVal, IsFile, Records, highest_of, file_with_record, file_without_record}
 use Rattle.rec_file.proofs.Rising.{same_or_not}
 use Rattle.rec_file.proofs.RecordsLaws.{is_highest, highest_is}
 
@@ -43,7 +43,7 @@ no_zero file h = none_unless _ (λ some. let least = h.above 0 some in omega ari
 pub IsFile-placed :
     (file : FileVal) (n : ℕ) (body : List ℕ) → IsFile file → 1 ≤ n → n ≤ max_number file.shape
     → (IsTrue (is_seq file.shape.org) → n ≡ highest_of file.records + 1)
-    → IsTrue (allows_length file.shape (length body)) → IsFile (stored file n body)
+    → IsTrue (allows_length file.shape (length body)) → IsFile (file_with_record file n body)
 IsFile-placed file n body h least most next allowed = record {
   shape = h.shape;
   above = λ q some. elim (same_or_not q n) [ inl same ↦ omega arith | inr other ↦ h.above q (subst IsSome (get_stored_other file.records n body q other) some) ];
@@ -70,7 +70,7 @@ IsFile-placed file n body h least most next allowed = record {
 -- another record in the place of one
 pub IsFile-replaced :
     (file : FileVal) (n : ℕ) (body : List ℕ) → IsFile file → IsSome (get file.records n)
-    → IsTrue (allows_length file.shape (length body)) → IsFile (stored file n body)
+    → IsTrue (allows_length file.shape (length body)) → IsFile (file_with_record file n body)
 IsFile-replaced file n body h there allowed = record {
   shape = h.shape;
   above = λ q some. elim (same_or_not q n) [ inl same ↦ h.above q (subst (λ k. IsSome (get file.records k)) (sym same) there) | inr other ↦ h.above q (subst IsSome (get_stored_other file.records n body q other) some) ];
@@ -103,7 +103,7 @@ pub get_removed_same : (m : Records) (n q : ℕ) → q ≡ n → get (remove m n
 get_removed_same m n q same = let e = get_removed m n q in grind (arith, nat_tests)
 
 -- a record less, in a relative file
-pub IsFile-removed : (file : FileVal) (n : ℕ) → IsFile file → is_seq file.shape.org ≡ false → IsFile (removed file n)
+pub IsFile-removed : (file : FileVal) (n : ℕ) → IsFile file → is_seq file.shape.org ≡ false → IsFile (file_without_record file n)
 IsFile-removed file n h rel = record {
   shape = h.shape;
   above = λ q some. elim (same_or_not q n) [ inl same ↦ cc (get_removed_same file.records n q same) | inr other ↦ h.above q (subst IsSome (get_removed_other file.records n q other) some) ];

@@ -11,7 +11,7 @@ use Rattle.std.proofs.lemmas.Bool.{cases_lt, eqb-true}
 use Rattle.std.proofs.lemmas.Bool.Decides.{nat_tests}
 use Rattle.rec_file.specs.declared.shapes.Shape.{Shape}
 use Rattle.rec_file.specs.Limits.{max_record_number}
-use Rattle.rec_file.specs.Files.{FileVal, IsFile, lowest_from, highest_of, stored, removed}
+use Rattle.rec_file.specs.Files.{FileVal, IsFile, lowest_from, highest_of, file_with_record, file_without_record}
 use Rattle.rec_file.specs.Inner.Pages.{Cells, cell, paged, put_entry, paged_file, page_cell, cell_of, IsPage, IsFirstIn, IsLastIn, empty_cells, last_page, IsSpot}
 use Rattle.rec_file.specs.Pages.{page_of}
 use Rattle.rec_file.proofs.Rising.{at, AllAbove, IsRising, rising_from_sorted, sorted_from_rising, find_is_at, same_or_not, at_first, at_tail, at_below}
@@ -302,7 +302,7 @@ module _ (s : Shape) (ps : List (ℕ × Cells)) (f : FileVal) (h : HoldsFile s p
 
   -- a record in a page that is there
   pub put_in_page : (n : ℕ) (cells : Cells) (body : List ℕ) → 1 ≤ n → at ps (page_of n) ≡ Some cells
-      → HoldsFile s (set_value (is_at (nat_cmp (page_of n))) ps (set cells (cell_of n) (Some body))) (stored f n body)
+      → HoldsFile s (set_value (is_at (nat_cmp (page_of n))) ps (set cells (cell_of n) (Some body))) (file_with_record f n body)
   put_in_page n cells body least is =
       let page = page_is ps (page_of n) cells h.all is in
       let size = page.size in
@@ -320,14 +320,14 @@ module _ (s : Shape) (ps : List (ℕ × Cells)) (f : FileVal) (h : HoldsFile s p
             ∙ ap (λ c. cond (eqb k (cell_of n)) (Some body) (page_cell c k)) (sym is))
             q
             ∙ sym (get_stored (from_entries {R = nat_cmp} (paged ps)) n body q)))
-            ∙ ap (λ g. stored g n body) h.same;
+            ∙ ap (λ g. file_with_record g n body) h.same;
         sorted = test_pages _ rise;
         all = every;
       }
 
   -- a record in a page that is there or a new one
   put_cells : (n : ℕ) (cells : Cells) (body : List ℕ) → 1 ≤ n → length cells ≡ 64 → ((k : ℕ) → page_cell (at ps (page_of n)) k ≡ cell cells k)
-      → HoldsFile s (insert_entry nat_cmp ps (page_of n) (set cells (cell_of n) (Some body))) (stored f n body)
+      → HoldsFile s (insert_entry nat_cmp ps (page_of n) (set cells (cell_of n) (Some body))) (file_with_record f n body)
   put_cells n cells body least size is =
       let cells' = set cells (cell_of n) (Some body) in
       let rise = rising-inserted ps (page_of n) cells' r in
@@ -342,15 +342,15 @@ module _ (s : Shape) (ps : List (ℕ × Cells)) (f : FileVal) (h : HoldsFile s p
             ∙ ap (cond (eqb k (cell_of n)) (Some body)) (sym (is k)))
             q
             ∙ sym (get_stored (from_entries {R = nat_cmp} (paged ps)) n body q)))
-            ∙ ap (λ g. stored g n body) h.same;
+            ∙ ap (λ g. file_with_record g n body) h.same;
         sorted = test_pages _ rise;
         all = every;
       }
 
-  pub put_page : (n : ℕ) (body : List ℕ) → 1 ≤ n → HoldsFile s (put_entry ps (page_of n) (cell_of n) body) (stored f n body)
+  pub put_page : (n : ℕ) (body : List ℕ) → 1 ≤ n → HoldsFile s (put_entry ps (page_of n) (cell_of n) body) (file_with_record f n body)
   put_page n body least = by (lookup (is_at (nat_cmp (page_of n))) ps) (sym (lookup_is_at ps (page_of n)))
     where
-      by : (o : Option Cells) → at ps (page_of n) ≡ o → HoldsFile s (insert_entry nat_cmp ps (page_of n) (set (unwrap_or o empty_cells) (cell_of n) (Some body))) (stored f n body)
+      by : (o : Option Cells) → at ps (page_of n) ≡ o → HoldsFile s (insert_entry nat_cmp ps (page_of n) (set (unwrap_or o empty_cells) (cell_of n) (Some body))) (file_with_record f n body)
       by None is = put_cells n empty_cells body least length-empty (λ k. ap (λ c. page_cell c k) is ∙ sym (cell-replicate 64 k))
       by (Some cells) is = put_cells n cells body least (page_is ps (page_of n) cells h.all is).size (λ k. ap (λ c. page_cell c k) is)
 
@@ -362,11 +362,11 @@ module _ (s : Shape) (ps : List (ℕ × Cells)) (f : FileVal) (h : HoldsFile s p
   -- a record that may be refused
   module _ {E : Type 0} (result : Result Bool E) (now : List (ℕ × Cells)) (n : ℕ) (body : List ℕ) (least : 1 ≤ n)
       (ok : IfOk result (λ empty. MatchBool empty (now ≡ put_entry ps (page_of n) (cell_of n) body) (now ≡ ps))) (err : OnErr result (now ≡ ps)) where
-    pub put_same : IfOk result (λ empty. MatchBool empty (paged_file s now ≡ stored f n body) (paged_file s now ≡ f))
+    pub put_same : IfOk result (λ empty. MatchBool empty (paged_file s now ≡ file_with_record f n body) (paged_file s now ≡ f))
     put_same = by result ok
       where
         by : (r : Result Bool E) → IfOk r (λ empty. MatchBool empty (now ≡ put_entry ps (page_of n) (cell_of n) body) (now ≡ ps))
-            → IfOk r (λ empty. MatchBool empty (paged_file s now ≡ stored f n body) (paged_file s now ≡ f))
+            → IfOk r (λ empty. MatchBool empty (paged_file s now ≡ file_with_record f n body) (paged_file s now ≡ f))
         by (Ok true) is = ap (paged_file s) is ∙ (put_page n body least).same
         by (Ok false) is = ap (paged_file s) is ∙ h.same
         by (Err e) is = tt
@@ -381,7 +381,7 @@ module _ (s : Shape) (ps : List (ℕ × Cells)) (f : FileVal) (h : HoldsFile s p
     abbrev Stands : List (ℕ × Cells) → Type 0
     Stands pages = IsFile (paged_file s pages) × (is_sorted nat_cmp pages ≡ true) × AllPages pages
 
-    pub put_stands : IsFile f → IsFile (stored f n body) → Stands now
+    pub put_stands : IsFile f → IsFile (file_with_record f n body) → Stands now
     put_stands before after = by result ok err
       where
         by : (r : Result Bool E) → IfOk r (λ empty. MatchBool empty (now ≡ put_entry ps (page_of n) (cell_of n) body) (now ≡ ps)) → OnErr r (now ≡ ps) → Stands now
@@ -391,7 +391,7 @@ module _ (s : Shape) (ps : List (ℕ × Cells)) (f : FileVal) (h : HoldsFile s p
 
   -- a record less in a page that stays
   pub clear_in_page : (n : ℕ) (cells : Cells) → 1 ≤ n → at ps (page_of n) ≡ Some cells → (((k : ℕ) → cell (set cells (cell_of n) None) k ≡ None) → ⊥)
-      → HoldsFile s (set_value (is_at (nat_cmp (page_of n))) ps (set cells (cell_of n) None)) (removed f n)
+      → HoldsFile s (set_value (is_at (nat_cmp (page_of n))) ps (set cells (cell_of n) None)) (file_without_record f n)
   clear_in_page n cells least is some =
       let page = page_is ps (page_of n) cells h.all is in
       let size = page.size in
@@ -409,14 +409,14 @@ module _ (s : Shape) (ps : List (ℕ × Cells)) (f : FileVal) (h : HoldsFile s p
             ∙ ap (λ c. cond (eqb k (cell_of n)) None (page_cell c k)) (sym is))
             q
             ∙ sym (get_removed (from_entries {R = nat_cmp} (paged ps)) n q)))
-            ∙ ap (λ g. removed g n) h.same;
+            ∙ ap (λ g. file_without_record g n) h.same;
         sorted = test_pages _ rise;
         all = every;
       }
 
   -- the last record of a page: the page goes
   pub drop_page : (n : ℕ) (cells : Cells) → 1 ≤ n → at ps (page_of n) ≡ Some cells → ((k : ℕ) → cell (set cells (cell_of n) None) k ≡ None)
-      → HoldsFile s (remove_entry (is_at (nat_cmp (page_of n))) ps) (removed f n)
+      → HoldsFile s (remove_entry (is_at (nat_cmp (page_of n))) ps) (file_without_record f n)
   drop_page n cells least is none =
       let size = (page_is ps (page_of n) cells h.all is).size in
       let t = is_at (nat_cmp (page_of n)) in
@@ -432,7 +432,7 @@ module _ (s : Shape) (ps : List (ℕ × Cells)) (f : FileVal) (h : HoldsFile s p
             ∙ ap (λ c. cond (eqb k (cell_of n)) None (page_cell c k)) (sym is))
             q
             ∙ sym (get_removed (from_entries {R = nat_cmp} (paged ps)) n q)))
-            ∙ ap (λ g. removed g n) h.same;
+            ∙ ap (λ g. file_without_record g n) h.same;
         sorted = test_pages _ rise;
         all = every;
       }

@@ -5,7 +5,7 @@ use Rattle.std.specs.Ordering.{nat_cmp}
 use Rattle.rec_file.specs.declared.shapes.Shape.{Shape}
 use Rattle.rec_file.specs.Limits.{max_record_number}
 use Rattle.rec_file.specs.Shapes.{is_seq}
-use Rattle.rec_file.specs.Files.{FileVal, IsFile, lowest_from, highest_of, stored}
+use Rattle.rec_file.specs.Files.{FileVal, IsFile, lowest_from, highest_of, file_with_record}
 use Rattle.rec_file.specs.Inner.Numbered.{numbered_records, sequential_file}
 use Rattle.rec_file.proofs.FileLaws.{limit_le, same_records}
 use Rattle.std.proofs.lemmas.List.{length-map, map-append, map-set}
@@ -66,19 +66,19 @@ module _ (s : Shape) (vs : List (Vec ℕ Global)) (f : FileVal) (e : sequential_
   pub within_occupied : (n : ℕ) → 1 ≤ n → n ≤ length vs → IsSome (get f.records n)
   within_occupied n least most = subst (λ m. IsSome (get m n)) records_are (some-numbered (bodies vs) n least (let same = size in omega arith))
 
-  pub pushed : (v : Vec ℕ Global) (n : ℕ) (body : List ℕ) → v.items ≡ body → n ≡ highest_of f.records + 1 → sequential_file s (bodies (vs ++ v ∷ [])) ≡ stored f n body
+  pub pushed : (v : Vec ℕ Global) (n : ℕ) (body : List ℕ) → v.items ≡ body → n ≡ highest_of f.records + 1 → sequential_file s (bodies (vs ++ v ∷ [])) ≡ file_with_record f n body
   pushed v n body is next =
       let top = highest_is_length (length vs) refl in
       let more : bodies (vs ++ v ∷ []) ≡ bodies vs ++ body ∷ [] = map-append _ vs (v ∷ []) ∙ ap (λ b. bodies vs ++ b ∷ []) is in
       ap (sequential_file s) more
       ∙ ap (λ m. record { shape = s; records = m }) (sym (numbered-push (bodies vs) body n (let same = size in omega arith)))
-      ∙ ap (λ g. stored g n body) e
+      ∙ ap (λ g. file_with_record g n body) e
 
-  pub replaced : (v : Vec ℕ Global) (i n : ℕ) (body : List ℕ) → v.items ≡ body → i + 1 ≡ n → i < length vs → sequential_file s (bodies (set vs i v)) ≡ stored f n body
+  pub replaced : (v : Vec ℕ Global) (i n : ℕ) (body : List ℕ) → v.items ≡ body → i + 1 ≡ n → i < length vs → sequential_file s (bodies (set vs i v)) ≡ file_with_record f n body
   replaced v i n body is at lt =
       ap (sequential_file s) (map-set (λ v. v.items) vs i v ∙ ap (set (bodies vs) i) is)
       ∙ ap (λ m. record { shape = s; records = m }) (sym (numbered-set (bodies vs) i body n at (let same = size in omega arith)))
-      ∙ ap (λ g. stored g n body) e
+      ∙ ap (λ g. file_with_record g n body) e
 
   pub stays_sequential : is_seq s.org ≡ true → is_seq f.shape.org ≡ true
   stays_sequential h = ap (λ g. is_seq g.shape.org) (sym e) ∙ h

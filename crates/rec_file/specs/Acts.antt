@@ -9,7 +9,7 @@ use Rattle.rec_file.specs.declared.picks.Rights.{Rights}
 use Rattle.rec_file.specs.declared.picks.Pick.{Pick}
 use Rattle.rec_file.specs.declared.picks.Pick.TheVariants.{Next, Key, Rfa}
 use Rattle.rec_file.specs.Shapes.{is_seq, max_number, allows_length}
-use Rattle.rec_file.specs.Files.{FileVal, lowest_from, highest_of, stored, removed}
+use Rattle.rec_file.specs.Files.{FileVal, lowest_from, highest_of, file_with_record, file_without_record}
 
 -- a stream: its user's rights, the number from which it reads next, and the number of its current record, or none
 pub record StreamVal : Type 0 where
@@ -123,9 +123,9 @@ leaves n file stream next current = record { file = file; stream = record stream
 abbrev pub effect_of : Operation → ℕ → FileVal → StreamVal → Outcome
 effect_of (get_record pick) n file stream = leaves n file stream (n + 1) (Some n)
 effect_of (put_record key body) n file stream =
-    leaves n (stored file n body) stream (option_map_or (λ k. stream.next) key (if is_seq file.shape.org then stream.next else stream.next + 1)) None
-effect_of (update_record body) n file stream = leaves n (stored file n body) stream stream.next None
-effect_of delete_record n file stream = leaves n (removed file n) stream stream.next None
+    leaves n (file_with_record file n body) stream (option_map_or (λ k. stream.next) key (if is_seq file.shape.org then stream.next else stream.next + 1)) None
+effect_of (update_record body) n file stream = leaves n (file_with_record file n body) stream stream.next None
+effect_of delete_record n file stream = leaves n (file_without_record file n) stream stream.next None
 
 -- a refused operation leaves the file, and no current record
 abbrev pub outcome_of : Option Refusal → Operation → FileVal → StreamVal → Outcome

@@ -37,12 +37,12 @@ pub record IsFile (file : FileVal) : Type 0 where
   pub lengths : (n : ℕ) → IfSome (get file.records n) (λ body. IsTrue (allows_length file.shape (length body)))
 
 -- the file with these bytes under n, whatever was there
-abbrev pub stored : FileVal → ℕ → List ℕ → FileVal
-stored file n body = record file { records = insert file.records n body }
+abbrev pub file_with_record : FileVal → ℕ → List ℕ → FileVal
+file_with_record file n body = record file { records = insert file.records n body }
 
 -- the file with nothing under n
-abbrev pub removed : FileVal → ℕ → FileVal
-removed file n = record file { records = remove file.records n }
+abbrev pub file_without_record : FileVal → ℕ → FileVal
+file_without_record file n = record file { records = remove file.records n }
 
 -- whether n is a number for a new record: 1 to the limit, and in a sequential file the next one
 abbrev pub takes_number : FileVal → ℕ → Bool

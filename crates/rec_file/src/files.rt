@@ -4,7 +4,7 @@ ghost use Rattle.std.specs.Option.{option_copied};
 ghost use Rattle.std.specs.FinMap as map;
 ghost use Rattle.rec_file.specs.Shapes.{max_number, allows_length, is_seq};
 ghost use Rattle.rec_file.specs.Limits.{max_record_number, max_record};
-ghost use Rattle.rec_file.specs.Files.{FileVal, IsFile, lowest_from, highest_of, records_from, stored, removed, may_place, may_replace, may_remove};
+ghost use Rattle.rec_file.specs.Files.{FileVal, IsFile, lowest_from, highest_of, records_from, file_with_record, file_without_record, may_place, may_replace, may_remove};
 
 use crate::shapes::Shape;
 use std::alloc::AllocError;
@@ -42,7 +42,7 @@ pub trait OneWalk {
         ensures free { IfOk result
             (λ free. free ≡ is_none (map.get (value self.old).records number)) }
         ensures ok { IfOk result (λ free. MatchBool free
-            (value self.new ≡ stored (value self.old) number body.now)
+            (value self.new ≡ file_with_record (value self.old) number body.now)
             (value self.new ≡ value self.old)) }
         ensures err { OnErr result (value self.new ≡ value self.old) }
         ensures wanted { OnErr result (map.get (value self.old).records number ≡ None) };
@@ -54,7 +54,7 @@ pub trait OneWalk {
         ensures occupied { IfOk result
             (λ had. had ≡ is_some (map.get (value self.old).records number)) }
         ensures ok { IfOk result (λ had. MatchBool had
-            (value self.new ≡ stored (value self.old) number body.now)
+            (value self.new ≡ file_with_record (value self.old) number body.now)
             (value self.new ≡ value self.old)) }
         ensures err { OnErr result (value self.new ≡ value self.old) }
         ensures wanted { OnErr result (IsSome (map.get (value self.old).records number)) };
@@ -65,7 +65,7 @@ pub trait OneWalk {
         requires relative { is_seq (value self.old).shape.org ≡ false }
         ensures occupied { result ≡ is_some (map.get (value self.old).records number) }
         ensures ok { MatchBool result
-            (value self.new ≡ removed (value self.old) number)
+            (value self.new ≡ file_without_record (value self.old) number)
             (value self.new ≡ value self.old) };
 }
 
@@ -103,7 +103,7 @@ pub trait RecordFile: OneWalk {
     /// the shape allows. Elsewhere nothing changes. An error is out of memory: nothing has changed.
     fn place(&mut self, number: u32, body: &[u8]) -> Result<(), AllocError>
         ensures ok { OnOk result (MatchBool (may_place (Self.value self.old) number (length body.now))
-            (Self.value self.new ≡ stored (Self.value self.old) number body.now)
+            (Self.value self.new ≡ file_with_record (Self.value self.old) number body.now)
             (Self.value self.new ≡ Self.value self.old)) }
         ensures err { OnErr result (Self.value self.new ≡ Self.value self.old) }
         ensures wanted { OnErr result (IsTrue (may_place (Self.value self.old) number (length body.now))) }
@@ -120,7 +120,7 @@ pub trait RecordFile: OneWalk {
     /// An error is out of memory: nothing has changed.
     fn replace(&mut self, number: u32, body: &[u8]) -> Result<(), AllocError>
         ensures ok { OnOk result (MatchBool (may_replace (Self.value self.old) number (length body.now))
-            (Self.value self.new ≡ stored (Self.value self.old) number body.now)
+            (Self.value self.new ≡ file_with_record (Self.value self.old) number body.now)
             (Self.value self.new ≡ Self.value self.old)) }
         ensures err { OnErr result (Self.value self.new ≡ Self.value self.old) }
         ensures wanted { OnErr result (IsTrue (may_replace (Self.value self.old) number (length body.now))) }
@@ -134,7 +134,7 @@ pub trait RecordFile: OneWalk {
     /// Removes the record of an occupied number of a relative file. Elsewhere nothing changes.
     fn remove(&mut self, number: u32)
         ensures { MatchBool (may_remove (Self.value self.old) number)
-            (Self.value self.new ≡ removed (Self.value self.old) number)
+            (Self.value self.new ≡ file_without_record (Self.value self.old) number)
             (Self.value self.new ≡ Self.value self.old) }
     {
         if !self.shape().is_sequential() {

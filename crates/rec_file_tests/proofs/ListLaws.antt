@@ -8,7 +8,7 @@ use Rattle.std.proofs.lemmas.List.{length-map}
 use Rattle.std.proofs.lemmas.Simd.{map-map}
 use Rattle.std.proofs.lemmas.Option.{slice_get_within, slice_get-map, slice_get_read}
 use Rattle.rec_file.specs.declared.shapes.Shape.{Shape}
-use Rattle.rec_file.specs.Files.{FileVal, lowest_from, highest_of, stored, removed}
+use Rattle.rec_file.specs.Files.{FileVal, lowest_from, highest_of, file_with_record, file_without_record}
 use Rattle.rec_file_tests.specs.Inner.Lists.{list_file}
 use Rattle.rec_file.specs.Inner.Sorted.{IsInOrder, IsIndexOf, IsGapFor}
 use Rattle.rec_file.proofs.ForCallers.{at, IsRising, find_is_at, sorted_from_rising, rising_from_sorted, same_or_not}
@@ -80,29 +80,29 @@ module _ (s : Shape) (es : List (ℕ × List ℕ)) (f : FileVal) (e : list_file 
   pub none_last : es ≡ [] → 0 ≡ highest_of f.records
   none_last is = sym (highest_of_none f.records (λ j. get_is j ∙ ap (λ l. at l j) is))
 
-  pub placed : (n i : ℕ) (body : List ℕ) → IsGapFor (numbers es) n i → list_file s (insert es i (n, body)) ≡ stored f n body
+  pub placed : (n i : ℕ) (body : List ℕ) → IsGapFor (numbers es) n i → list_file s (insert es i (n, body)) ≡ file_with_record f n body
   placed n i body g =
       ap (λ m. record { shape = s; records = m })
       (same_records (from_sorted {R = nat_cmp} (insert es i (n, body))) (put (from_sorted {R = nat_cmp} es) n body) (λ q.
       get_pairs (insert es i (n, body)) q (rising-insert es n i body r g) ∙ at-insert es n i body g q
       ∙ sym (get_stored (from_sorted {R = nat_cmp} es) n body q ∙ ap (cond (eqb q n) (Some body)) (get_pairs es q r))))
-      ∙ ap (λ g. stored g n body) e
+      ∙ ap (λ g. file_with_record g n body) e
 
-  pub set_is : (i : ℕ) (p : ℕ × List ℕ) (body : List ℕ) → slice_get es i ≡ Some p → list_file s (set es i (p.0, body)) ≡ stored f p.0 body
+  pub set_is : (i : ℕ) (p : ℕ × List ℕ) (body : List ℕ) → slice_get es i ≡ Some p → list_file s (set es i (p.0, body)) ≡ file_with_record f p.0 body
   set_is i p body is =
       ap (λ m. record { shape = s; records = m })
       (same_records (from_sorted {R = nat_cmp} (set es i (p.0, body))) (put (from_sorted {R = nat_cmp} es) p.0 body) (λ q.
       get_pairs (set es i (p.0, body)) q (rising-set es i p body r is) ∙ at-set es i p body r is q
       ∙ sym (get_stored (from_sorted {R = nat_cmp} es) p.0 body q ∙ ap (cond (eqb q p.0) (Some body)) (get_pairs es q r))))
-      ∙ ap (λ g. stored g p.0 body) e
+      ∙ ap (λ g. file_with_record g p.0 body) e
 
-  pub less : (i : ℕ) (p : ℕ × List ℕ) → slice_get es i ≡ Some p → list_file s (remove es i) ≡ removed f p.0
+  pub less : (i : ℕ) (p : ℕ × List ℕ) → slice_get es i ≡ Some p → list_file s (remove es i) ≡ file_without_record f p.0
   less i p is =
       ap (λ m. record { shape = s; records = m })
       (same_records (from_sorted {R = nat_cmp} (remove es i)) (take_out (from_sorted {R = nat_cmp} es) p.0) (λ q.
       get_pairs (remove es i) q (rising-remove es i r) ∙ at-remove es i p r is q
       ∙ sym (get_removed (from_sorted {R = nat_cmp} es) p.0 q ∙ ap (cond (eqb q p.0) None) (get_pairs es q r))))
-      ∙ ap (λ g. removed g p.0) e
+      ∙ ap (λ g. file_without_record g p.0) e
 
 -- the numbers and the bytes of entries
 abbrev pub pairs : List (ℕ × Vec ℕ Global) → List (ℕ × List ℕ)

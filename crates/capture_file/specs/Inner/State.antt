@@ -1,7 +1,7 @@
 -- One step of a reader.
 use Rattle.std.specs.Prelude.{◌≡◌, ℕ, ◌+◌, ◌-◌, nat_lt, Bool, true, false, List, ◌++◌, length, if◌then◌else◌, Option, Some, None}
 use Rattle.capture_file.specs.Units.{head_len}
-use Rattle.capture_file.specs.Files.{HasUnits, clamped}
+use Rattle.capture_file.specs.Files.{HasUnits, bounded_count}
 use Rattle.capture_file.specs.Meanings.{Record, format_after, interfaces_after}
 use Rattle.capture_file.specs.Reading.{Gathers}
 use Rattle.capture_file.specs.declared.units.Extent.{Extent}
@@ -39,7 +39,7 @@ given_by _ = None
 pub record ReadsUnit (old new : Reading) (meaning : Meaning) (frame : Option Given) : Type 0 where
   pub format : new.format ≡ format_after old.format meaning
   pub interfaces : new.interfaces.items ≡ interfaces_after old.interfaces.items meaning
-  pub offset : new.offset ≡ clamped (old.offset + old.seen)
+  pub offset : new.offset ≡ bounded_count (old.offset + old.seen)
   pub seen : new.seen ≡ 0
   pub extent : new.extent ≡ None
   pub kept : new.kept.items ≡ old.kept.items
@@ -51,4 +51,4 @@ pub record IsInUnits (r : Reading) (bytes : List ℕ) (records : List Record) (r
   pub joined : bytes ≡ front ++ rest
   pub units : HasUnits front records r.format r.interfaces.items
   pub gathers : Gathers r rest
-  pub offset : r.offset ≡ clamped (length front)
+  pub offset : r.offset ≡ bounded_count (length front)

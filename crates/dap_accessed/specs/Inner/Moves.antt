@@ -24,11 +24,11 @@ use Rattle.dap_msg.specs.BothEnds.{no_attributes}
 use Rattle.dap_accessed.specs.Past.{asked_shape, next_ordinal}
 use Rattle.dap_accessed.specs.Accesses.{refuse_access, open_file, create_file}
 use Rattle.dap_accessed.specs.Replies.{bare_status, too_large}
-use Rattle.dap_accessed.specs.Records.{verb_of, Putting, Updating, refused_effect, uncurrent}
+use Rattle.dap_accessed.specs.Records.{verb_of, Putting, Updating, refused_effect, stream_without_current}
 use Rattle.dap_accessed.specs.Transfers.{fetch}
 use Rattle.dap_accessed.specs.Effects.{Turn, Does, BeginsGroup, effect_fresh, effect_ready, effect_opened, turn_connected, effect_store, effect_stopped, effect_with}
 use Rattle.dap_accessed.specs.Present.{Present, Memory, phase_at, phase_within}
-use Rattle.dap_accessed.specs.Served.{Answered}
+use Rattle.dap_accessed.specs.Served.{AreAnswers}
 
 -- what an item leaves, and its answers
 pub record Move : Type 0 where
@@ -133,7 +133,7 @@ move p item = move_in p.phase p item
 -- The end moved so, and these are the answers, blocked by the peer's limit.
 pub record Moves (old : Present) (step : Move) (new : Present) (answers : Vec (Vec ℕ)) : Type 0 where
   pub present : new ≡ step.present
-  pub answered : Answered old.limit step.answers answers
+  pub answered : AreAnswers old.limit step.answers answers
 
 -- ---- What takes no memory.
 
@@ -178,11 +178,11 @@ refusal_move p opened stream refusal = does p (refused_effect (scene_in p) opene
 
 -- a record that is longer than the peer takes
 abbrev pub refuses_large : Present → OpenFile → StreamVal → Move
-refuses_large p opened stream = does p (enters (scene_in p) (Connected opened (uncurrent stream)) (too_large ∷ []))
+refuses_large p opened stream = does p (enters (scene_in p) (Connected opened (stream_without_current stream)) (too_large ∷ []))
 
 -- the phase after a fetch
 abbrev pub fetched_phase : Present → OpenFile → StreamVal → Phase
 fetched_phase p opened stream = phase_at (fetch (scene_in p) opened stream).state (plain_memory p.kept)
 
 abbrev pub HasFetched : Present → OpenFile → StreamVal → Vec (Vec ℕ) → Type 0
-HasFetched p opened stream answers = Answered p.limit (fetch (scene_in p) opened stream).answers answers
+HasFetched p opened stream answers = AreAnswers p.limit (fetch (scene_in p) opened stream).answers answers

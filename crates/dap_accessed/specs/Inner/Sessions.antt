@@ -9,7 +9,7 @@ use Rattle.rec_file.specs.declared.shapes.Shape.{Shape}
 use Rattle.rec_file.specs.Shapes.{is_shape}
 use Rattle.dap_accessed.specs.declared.setup.ServerSetup.{ServerSetup}
 use Rattle.dap_accessed.specs.declared.phase.Phase.{Phase}
-use Rattle.dap_accessed.specs.Served.{Answered}
+use Rattle.dap_accessed.specs.Served.{AreAnswers}
 use Rattle.dap_accessed.specs.Sessions.{SessionValue}
 
 pub record IsSession (own : ServerSetup) (limit : ℕ) (kept : Option Shape) : Type 0 where
@@ -21,4 +21,4 @@ pub record IsSession (own : ServerSetup) (limit : ℕ) (kept : Option Shape) : T
 -- the phase moved, and these are the answers
 pub record Enters (old : SessionValue) (phase : Phase) (messages : List Message) (new : SessionValue) (answers : Vec (Vec ℕ)) : Type 0 where
   pub session : new ≡ record old { phase = phase }
-  pub answered : Answered old.limit messages answers
+  pub answered : AreAnswers old.limit messages answers

@@ -13,10 +13,10 @@ use Rattle.dap_accessed.specs.declared.phase.Phase.TheVariants as phases
 use Rattle.dap_accessed.specs.declared.step.Step.{Step}
 use Rattle.dap_accessed.specs.declared.step.Step.TheVariants as steps
 use Rattle.dap_accessed.specs.Standing.{Files, the_file}
-use Rattle.dap_accessed.specs.Accesses.{purged}
-use Rattle.dap_accessed.specs.Replies.{bare_status, completed}
+use Rattle.dap_accessed.specs.Accesses.{files_after_purge}
+use Rattle.dap_accessed.specs.Replies.{bare_status, complete_response}
 use Rattle.dap_accessed.specs.Past.{next_ordinal}
-use Rattle.dap_accessed.specs.Records.{Putting, Updating, changed, get_pick, put_key, record_got, settled}
+use Rattle.dap_accessed.specs.Records.{Putting, Updating, effect_of_change, get_pick, put_key, record_got, effect_of_outcome}
 use Rattle.dap_accessed.specs.Transfers.{fetch, store_one}
 use Rattle.dap_accessed.specs.Present.{Present}
 use Rattle.dap_accessed.specs.Inner.Written.{IsShortReply, reply_message}
@@ -37,19 +37,19 @@ step_move (steps.Keep shape) p = record { present = record p { kept = shape; pha
 step_move (steps.Access func name fac) p =
     if func == codes.accfunc.opening then opens p name.now fac
     else if func == codes.accfunc.creating then creates p name.now fac
-    else opens_nothing p (bare_status (codes.unsupported codes.types.access))
+    else opens_nothing p (bare_status (codes.unsupported_code codes.types.access))
 step_move (steps.Purge opened) p =
-    record { present = record p { files = purged opened p.files; phase = phases.Ready }; answers = completed ∷ [] }
+    record { present = record p { files = files_after_purge opened p.files; phase = phases.Ready }; answers = complete_response ∷ [] }
 step_move (steps.Get opened stream control) p =
     does p (record_got (get_pick (the_file p.files opened) stream control) (scene_in p) opened stream)
 step_move (steps.Fetch opened stream) p = does p (fetch (scene_in p) opened stream)
 step_move (steps.Expect opened stream control) p =
     begins_group p (phases.PutDue opened stream (put_key (the_file p.files opened) stream control))
 step_move (steps.Put opened stream key body) p =
-    does p (changed (Putting key) (scene_in p) opened stream body.now)
-step_move (steps.Update opened stream body) p = does p (changed Updating (scene_in p) opened stream body.now)
+    does p (effect_of_change (Putting key) (scene_in p) opened stream body.now)
+step_move (steps.Update opened stream body) p = does p (effect_of_change Updating (scene_in p) opened stream body.now)
 step_move (steps.Delete opened stream) p =
-    does p (settled (scene_in p) opened (act delete_record (the_file p.files opened) stream))
+    does p (effect_of_outcome (scene_in p) opened (act delete_record (the_file p.files opened) stream))
 step_move (steps.Store opened stream ordinal body) p =
     let e = store_one ordinal (scene_in p) opened stream body.now in
     settles p (store_memory p.kept (nat_lt 0 (length e.answers)) (next_ordinal ordinal)) e

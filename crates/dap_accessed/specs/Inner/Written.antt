@@ -14,14 +14,14 @@ use Rattle.rec_file.specs.Limits.{max_record}
 use Rattle.dap_accessed.specs.declared.answers.Answer.{Answer}
 use Rattle.dap_accessed.specs.declared.answers.Answer.TheVariants as answer
 use Rattle.dap_accessed.specs.declared.fault.NoMemory.{NoMemory}
-use Rattle.dap_accessed.specs.Replies.{attributes_for, completed, status, bare_status}
-use Rattle.dap_accessed.specs.Served.{AllAtMost, Answered}
+use Rattle.dap_accessed.specs.Replies.{attributes_for, complete_response, status, bare_status}
+use Rattle.dap_accessed.specs.Served.{AllAtMost, AreAnswers}
 
 abbrev pub reply_message : Answer → Message
 reply_message (answer.Config own) = Config own
 reply_message (answer.Attributes shape mrn) = attributes_for shape
 reply_message answer.Ack = Ack
-reply_message answer.Complete = completed
+reply_message answer.Complete = complete_response
 reply_message (answer.Status code) = bare_status code
 reply_message (answer.Reason code reason) = status code [] [] reason
 reply_message (answer.StoreRefusal reason ordinal) = status codes.stscode.record_refused [] ordinal reason
@@ -55,7 +55,7 @@ IsAtMost most m = length (canon m) ≤ most
 -- where the call answers, the message follows those before
 abbrev pub AddsAnswer : ℕ → Message → Vec (Vec ℕ) → Vec (Vec ℕ) → Result (Unit {0}) NoMemory → Type 0
 AddsAnswer limit m old new result =
-    OnOk result ((messages : List Message) → Answered limit messages old → Answered limit (messages ++ m ∷ []) new)
+    OnOk result ((messages : List Message) → AreAnswers limit messages old → AreAnswers limit (messages ++ m ∷ []) new)
 
 -- it is empty, and this many more take no memory
 abbrev pub IsEmptyFor : {X : Type 0} → ℕ → Vec X → Type 0

@@ -7,7 +7,7 @@ use Rattle.dap_listing.specs.Captured.{Spell, segment_fields}
 use Rattle.dap_listing.specs.declared.captured.CapturedSegment.{CapturedSegment}
 use Rattle.nsp_seg.specs.declared.packet.SegmentFields.{SegmentFields}
 use Rattle.dap_follow.specs.Segments.{NumberedSegment, numbered_segment, sequenced_at, highest_in, HasStreamAt}
-use Rattle.dap_follow.specs.Streams.{AreSequenced, Captured, Sequenced, at, came_in, is_same, segment_in, streams}
+use Rattle.dap_follow.specs.Streams.{AreSequenced, CapturedItem, Sequenced, at, came_in, is_same, segment_in, streams}
 use Rattle.dap_follow.specs.Inner.InOrder.{IsPutIn, RisesCounted, counted_value}
 use Rattle.dap_follow.specs.declared.segments.Counted.{Counted}
 use Rattle.dap_follow.specs.declared.segments.StreamSegments.{StreamSegments}
@@ -15,7 +15,7 @@ use Rattle.dap_follow.specs.declared.streams.Stream.{Stream}
 use Rattle.dap_follow.specs.declared.streams.Streams.{Streams}
 
 -- the stream of a captured segment
-abbrev pub stream_of : Captured → Option Stream
+abbrev pub stream_of : CapturedItem → Option Stream
 stream_of packet = option_map (λ p. p.0) (segment_in packet)
 
 -- a segment was put under its sequence number, which is near the highest one before it
@@ -43,7 +43,7 @@ pub record KeepsSegments (start : ℕ) (before : List NumberedSegment) (p : Stre
   pub same : (sequence : ℕ) → at sequence (map counted_value p.ordered.items) ≡ at sequence sequenced
 
 -- the segments of a stream of some packets, of which there is a first
-pub record KeepsStream (packets : List Captured) (stream : Stream) (p : StreamSegments) : Type 0 where
+pub record KeepsStream (packets : List CapturedItem) (stream : Stream) (p : StreamSegments) : Type 0 where
   pub first : NumberedSegment
   pub others : List NumberedSegment
   pub are : came_in stream packets ≡ first ∷ others
@@ -53,20 +53,20 @@ pub record KeepsStream (packets : List Captured) (stream : Stream) (p : StreamSe
   pub high : p.highest ≤ 8192 + 2048 * length packets
 
 -- those of each stream
-abbrev pub KeepsEach : List Captured → List Stream → List StreamSegments → Type 0
+abbrev pub KeepsEach : List CapturedItem → List Stream → List StreamSegments → Type 0
 KeepsEach packets [] [] = ⊤
 KeepsEach packets (stream ∷ others) (p ∷ rest) = KeepsStream packets stream p × KeepsEach packets others rest
 KeepsEach packets [] (p ∷ rest) = ⊥
 KeepsEach packets (stream ∷ others) [] = ⊥
 
 -- the streams of packets, and the segments of each
-pub record KeepsAll (packets : List Captured) (s : Streams) : Type 0 where
+pub record KeepsAll (packets : List CapturedItem) (s : Streams) : Type 0 where
   pub names : s.names.keys ≡ streams packets
   pub each : KeepsEach packets (streams packets) s.by_stream.items
 
 -- some packets of which these are kept, and another after them, whose number is small
 abbrev pub KeepsSome : ℕ → Streams → Type 0
-KeepsSome packet s = (packets : List Captured) × KeepsAll packets s × (packet ≡ length packets + 1) × (packet < 2 ^ 32)
+KeepsSome packet s = (packets : List CapturedItem) × KeepsAll packets s × (packet ≡ length packets + 1) × (packet < 2 ^ 32)
 
 -- a stream has an index among the others; where the stream is new, no segment of it is kept yet
 pub record IsIndexed (stream : Stream) (number : ℕ) (old new : Streams) (index : ℕ) : Type 0 where

@@ -2,7 +2,7 @@
 use Rattle.std.specs.Prelude.{◌≡◌, ℕ, Bool, List, length, map}
 use Rattle.std.specs.List.{flat_map}
 use Rattle.std.specs.Global.{Vec}
-use Rattle.dap_follow.specs.Streams.{Captured, Sequenced}
+use Rattle.dap_follow.specs.Streams.{CapturedItem, Sequenced}
 use Rattle.dap_follow.specs.Joined.{messages}
 use Rattle.dap_follow.specs.Inner.Keeping.{KeepsAll}
 use Rattle.dap_follow.specs.Inner.Listing.{UnderAll, all_rest_lines, values}
@@ -11,7 +11,7 @@ use Rattle.dap_follow.specs.declared.streams.Streams.{Streams}
 
 -- this many packets
 abbrev pub KeepsFew : ℕ → Streams → Type 0
-KeepsFew count s = (packets : List Captured) × KeepsAll packets s × (length packets ≡ count)
+KeepsFew count s = (packets : List CapturedItem) × KeepsAll packets s × (length packets ≡ count)
 
 -- the segments of each stream, in order
 abbrev pub ordered_of : List StreamSegments → List (List Sequenced)

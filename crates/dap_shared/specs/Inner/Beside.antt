@@ -8,7 +8,7 @@ use Rattle.dap_accessed.specs.declared.phase.OpenFile.{OpenFile}
 use Rattle.dap_accessed.specs.declared.phase.Phase.{Phase}
 use Rattle.dap_accessed.specs.Standing.{Files}
 use Rattle.dap_accessed.specs.Replies.{bare_status}
-use Rattle.dap_accessed.specs.Served.{Answered}
+use Rattle.dap_accessed.specs.Served.{AreAnswers}
 use Rattle.dap_accessed.specs.Sessions.{SessionValue, IsOpenIn, ServesItem, asked_in, with_files, open_at, refused_session}
 use Rattle.dap_shared.specs.Sharing.{bars, file_locked}
 use Rattle.dap_shared.specs.Shared.{session_without}
@@ -30,7 +30,7 @@ gone_by before after phase = if nat_lt (length after) (length before) then open_
 -- refused as the file is locked, or served
 abbrev pub ServesOrRefuses : (locked : Bool) → Item → Files → SessionValue → Files → SessionValue → Vec (Vec ℕ) → Type 0
 ServesOrRefuses true item files s files' s' answers =
-    (files' ≡ files) × (s' ≡ refused_session s) × Answered s.limit (bare_status file_locked ∷ []) answers
+    (files' ≡ files) × (s' ≡ refused_session s) × AreAnswers s.limit (bare_status file_locked ∷ []) answers
     × (s.limit ≤ max_nsp_message)
 ServesOrRefuses false item files s files' s' answers = ServesItem item (with_files files s) (with_files files' s') answers
 

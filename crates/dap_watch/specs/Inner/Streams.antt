@@ -1,7 +1,7 @@
 -- What is kept of the streams of a capture.
 use Rattle.std.specs.Prelude.{◌≡◌, ◌⊎◌, ⊤, ℕ, ◌+◌, ◌*◌, ◌≤◌, ◌<◌, true, false, List, [], ◌∷◌, ◌++◌, length, map, Option}
 use Rattle.std.specs.List.{IsDistinct, flat_map, list_any}
-use Rattle.dap_follow.specs.Streams.{AreSequenced, Captured, Sequenced, at, came_in, is_same, streams}
+use Rattle.dap_follow.specs.Streams.{AreSequenced, CapturedItem, Sequenced, at, came_in, is_same, streams}
 use Rattle.dap_follow.specs.Joined.{Message, Fragment, fragment_message, messages}
 use Rattle.dap_follow.specs.Segments.{NumberedSegment, HasStreamAt, highest_in}
 use Rattle.dap_follow.specs.declared.streams.Stream.{Stream}
@@ -11,7 +11,7 @@ use Rattle.dap_watch.specs.declared.kept.Whole.{Whole}
 use Rattle.dap_watch.specs.declared.streams.Streams.{Streams}
 
 -- the segments of a stream of some packets, of which there is a first, in order, and what is kept of them
-pub record KeepsStreamOrdered (packets : List Captured) (stream : Stream) (ordered : List Sequenced) (p : KeptSegments) : Type 0 where
+pub record KeepsStreamOrdered (packets : List CapturedItem) (stream : Stream) (ordered : List Sequenced) (p : KeptSegments) : Type 0 where
   pub first : NumberedSegment
   pub others : List NumberedSegment
   pub are : came_in stream packets ≡ first ∷ others
@@ -23,14 +23,14 @@ pub record KeepsStreamOrdered (packets : List Captured) (stream : Stream) (order
   pub most : p.highest ≤ 8192 + 2048 * length packets
 
 -- those of each stream
-abbrev pub KeepsEachOrdered : List Captured → List Stream → List (List Sequenced) → List KeptSegments
+abbrev pub KeepsEachOrdered : List CapturedItem → List Stream → List (List Sequenced) → List KeptSegments
     → Type 0
 KeepsEachOrdered packets [] [] [] = ⊤
 KeepsEachOrdered packets (s ∷ keys) (o ∷ orders) (p ∷ by_stream) = KeepsStreamOrdered packets s o p × KeepsEachOrdered packets keys orders by_stream
 KeepsEachOrdered packets _ _ _ = ⊥
 
 -- the streams of packets, and the segments of each
-pub record KeepsAllOrdered (packets : List Captured) (ordered : List (List Sequenced)) (s : Streams) : Type 0 where
+pub record KeepsAllOrdered (packets : List CapturedItem) (ordered : List (List Sequenced)) (s : Streams) : Type 0 where
   pub names : s.names.keys ≡ streams packets
   pub each : KeepsEachOrdered packets s.names.keys ordered s.by_stream.items
 
@@ -54,7 +54,7 @@ pub record AreAdded (packet : ℕ) (digits : List ℕ) (found : Option Whole) (o
   pub told : AreTold packet digits found ms
 
 -- with one packet more
-pub record Grows (packets : List Captured) (packet : Captured) (ordered : List (List Sequenced)) (new : Streams) (digits : List ℕ) (found : Option Whole) : Type 0 where
+pub record Grows (packets : List CapturedItem) (packet : CapturedItem) (ordered : List (List Sequenced)) (new : Streams) (digits : List ℕ) (found : Option Whole) : Type 0 where
   pub later : List (List Sequenced)
   pub keeps : KeepsAllOrdered (packets ++ packet ∷ []) later new
   pub added : AreAdded (1 + length packets) digits found (flat_map messages ordered) (flat_map messages later)

@@ -3,7 +3,7 @@ use Rattle.std.specs.Prelude.{◌≡◌, ◌⊎◌, ⊤, ℕ, ◌+◌, ◌^◌, 
 use Rattle.std.specs.List.{AllByRecursion, AllZip, concat, enumerate_from, flat_map}
 use Rattle.dap_listing.specs.Lines.{Capture, line_of}
 use Rattle.dap_listing.specs.Listing.{packet_limit}
-use Rattle.dap_follow.specs.Streams.{Captured, Sequenced}
+use Rattle.dap_follow.specs.Streams.{CapturedItem, Sequenced}
 use Rattle.dap_follow.specs.Joined.{Message, Fragment, fragment_message, messages}
 use Rattle.dap_meanings.specs.Frames.{frame_words}
 use Rattle.dap_follow.specs.Following.{IsCaptured, IsMessageText, IsFollowedPacketText, frame_of}
@@ -15,7 +15,7 @@ use Rattle.dap_watch.specs.declared.streams.Streams.{Streams}
 use Rattle.dap_watch.specs.declared.watching.Watching.{Watching}
 
 -- a packet more, and the texts of the messages that are whole with it
-pub record TellsPacket (in_words : Bool) (packets : List Captured) (packet : Captured) (ordered : List (List Sequenced)) (new : Streams) (old_text new_text : List ℕ) : Type 0 where
+pub record TellsPacket (in_words : Bool) (packets : List CapturedItem) (packet : CapturedItem) (ordered : List (List Sequenced)) (new : Streams) (old_text new_text : List ℕ) : Type 0 where
   pub later : List (List Sequenced)
   pub keeps : KeepsAllOrdered (packets ++ packet ∷ []) later new
   pub front : List Message
@@ -30,7 +30,7 @@ pub record TellsPacket (in_words : Bool) (packets : List Captured) (packet : Cap
 
 -- what is kept after the lines so far; the frames are those of all packets
 pub record Watches (in_words : Bool) (frames : List (List (List ℕ))) (captured : List Capture) (written : List ℕ) (w : Watching) : Type 0 where
-  pub packets : List Captured
+  pub packets : List CapturedItem
   pub ordered : List (List Sequenced)
   pub texts : List (List ℕ)
   pub are_seen : AllZip IsCaptured captured packets

@@ -12,7 +12,7 @@ use Rattle.dap_msg.specs.Blocked.{NspMessage, blocked_bytes, Blocked, all_joined
 use Rattle.dap_msg.specs.Inner.Blocked.{IsWithinLimit, AllWithin}
 use Rattle.dap_msg.proofs.ForCallers.{messages_in-Blocked, within_limit}
 use Rattle.std.proofs.lemmas.List.{append-nil}
-use Rattle.dap_world.specs.Plain.{added, limit_for, Asked, messages_of}
+use Rattle.dap_world.specs.Plain.{answers_added, limit_for, Asked, messages_of}
 use Rattle.dap_accessed.specs.Served.{AllAtMost}
 use Rattle.dap_accessed.proofs.ForCallers.{HasShortType, added-sends, no-files}
 use Rattle.dap_accessing.specs.Request.{Request}
@@ -103,5 +103,5 @@ pub answers-blocked : (own_a own_b : ℕ) → IsBufsiz own_a → IsBufsiz own_b 
 answers-blocked own_a own_b a b rs = λ front back item e.
     let short = short-there front back item (subst AllShort (sym e) (short-asked own_a rs)) in
     let sends = added-sends (plain_setup own_b) (plain_fits own_b b) [] no-files front item short in
-    blocked-within (limit_for own_b [] front) own_a (added own_b [] front item) (answers-within own_a a own_b rs front (item ∷ back) e)
-    (sendable-within (limit_for own_b [] front) (added own_b [] front item) sends)
+    blocked-within (limit_for own_b [] front) own_a (answers_added own_b [] front item) (answers-within own_a a own_b rs front (item ∷ back) e)
+    (sendable-within (limit_for own_b [] front) (answers_added own_b [] front item) sends)

@@ -8,7 +8,7 @@ use Rattle.dap_msg.specs.declared.items.Item.{Item}
 use Rattle.dap_msg.specs.declared.items.Item.TheVariants.{Whole}
 use Rattle.dap_msg.specs.Blocked.{NspMessage, messages_in}
 use Rattle.dap_msg.proofs.ForCallers.{messages_in-Blocked}
-use Rattle.dap_world.specs.Plain.{Answers, added, messages_of, Asked, IsAdmissible}
+use Rattle.dap_world.specs.Plain.{Answers, answers_added, messages_of, Asked, IsAdmissible}
 use Rattle.dap_world.proofs.Plain.{Answers-more, Asked-more}
 use Rattle.dap_accessing.specs.Request.{Request}
 use Rattle.nsp_link.specs.Limits.{max_segments}
@@ -20,7 +20,7 @@ use Rattle.dap_events.specs.declared.event.Event.TheVariants as event
 use Rattle.dap_events.specs.declared.event.Step.{Step}
 use Rattle.dap_events.specs.declared.setup.WorldSetup.{WorldSetup}
 use Rattle.dap_world.specs.Setups.{IsWorldSetup}
-use Rattle.dap_world.specs.Machine.{files_of, reported, State, EndState, Sending, fresh, other_end, end_of, with_end, arrived, arrived_at, sent_by, served_by_b, answers_read, asking, asked, posted, wrote, delivered, answering, served_one, with_read, segments_of, Steps, StepsFreely}
+use Rattle.dap_world.specs.Machine.{files_of, reports_by_a, State, EndState, Sending, initial_state, other_end, end_of, with_end, arrived_messages, arrived_at, sent_by, served_by_b, answers_read, asking, world_after_request, end_after_post, wrote, end_after_delivery, answering, served_one, with_read, segments_of, Steps, StepsFreely}
 use Rattle.dap_end.specs.Runs.{RunsBy}
 use Rattle.dap_accessed.specs.Present as accessed
 use Rattle.dap_accessed.specs.Groups as of_any
@@ -45,7 +45,7 @@ came-handed s end =
     omega (arith, length-append (arrived_at s end) front.0, ap length front.1)
 
 pub headline_of : (s : State) → IsWorld s → HeadlineOf s
-unfolding files_of reported
+unfolding files_of reports_by_a
 headline_of s h =
     record {
       sent_in_order = (messages_in s.a.waiting, sym (in_append s.a.handed s.a.waiting) ∙ h.asked);
@@ -70,7 +70,7 @@ is_idle : (window : ℕ) → IsDirection window 0 0 0 0 [] 0 []
 is_idle window =
     record { counts = record { acked_taken = omega arith; taken_sent = omega arith; within_window = omega arith; sent_there = omega arith; few = omega arith }; early = tt; wire = tt }
 
-pub is_fresh : (setup : WorldSetup) → IsWorldSetup setup → IsWorld (fresh setup)
+pub is_fresh : (setup : WorldSetup) → IsWorldSetup setup → IsWorld (initial_state setup)
 is_fresh setup h =
     record {
       window = h.window_limit;
@@ -122,7 +122,7 @@ all-answers s r h m =
     let front = read-front s h in
     all_read s.own_a s.own_b s.requests (answers_read s) front.0 (none-unexpected s.own_a s.own_b h.own_a h.own_b s.requests h.admissible) front.1 m.0
 
-kept-asked : (s : State) (r : Request) → IsWorld s → IsAdmissible s.own_a s.requests (answers_read s) r → IsWorld (asked s r)
+kept-asked : (s : State) (r : Request) → IsWorld s → IsAdmissible s.own_a s.requests (answers_read s) r → IsWorld (world_after_request s r)
 kept-asked s r h m =
     let packets = asking s r in
     record {
@@ -179,9 +179,9 @@ record Moves (s : State) (end : End) (e : EndState) : Type 0 where
   taken : (end_of s end).taken ≤ e.taken
 
 -- no less came, once more was passed on or taken
-more_came : (seg taken n : ℕ) (handed more now : List NspMessage) → now ≡ handed ++ more → n ≤ length (messages_in (arrived seg taken handed)) → n ≤ length (messages_in (arrived seg taken now))
+more_came : (seg taken n : ℕ) (handed more now : List NspMessage) → now ≡ handed ++ more → n ≤ length (messages_in (arrived_messages seg taken handed)) → n ≤ length (messages_in (arrived_messages seg taken now))
 more_came seg taken n handed more now is le =
-    subst (λ (l : List NspMessage). n ≤ length (messages_in (arrived seg taken l))) (sym is) (omega (arith, le, arrived-more seg taken taken handed more (omega arith)))
+    subst (λ (l : List NspMessage). n ≤ length (messages_in (arrived_messages seg taken l))) (sym is) (omega (arith, le, arrived-more seg taken taken handed more (omega arith)))
 
 kept-moves : (s : State) (end : End) (e : EndState) → IsWorld s → Moves s end e → IsWorld (with_end s end e)
 kept-moves s A e h m =
@@ -214,12 +214,12 @@ kept-moves s B e h m =
       read = more_came s.seg_size s.a.taken s.read s.b.handed m.more e.handed m.handed h.read;
     }
 
-kept-posted : (s : State) (end : End) → IsWorld s → segments_of s.seg_size (posted (end_of s end)).handed ≤ max_segments → IsWorld (with_end s end (posted (end_of s end)))
+kept-posted : (s : State) (end : End) → IsWorld s → segments_of s.seg_size (end_after_post (end_of s end)).handed ≤ max_segments → IsWorld (with_end s end (end_after_post (end_of s end)))
 kept-posted s end h few =
     let e = end_of s end in
-    kept-moves s end (posted e) h
+    kept-moves s end (end_after_post e) h
     (record {
-      out = kept-there _ _ _ _ _ _ _ _ (direction s end h) (segments_of s.seg_size (posted (end_of s end)).handed) (omega (arith, segments_of-append s.seg_size e.handed e.waiting)) few;
+      out = kept-there _ _ _ _ _ _ _ _ (direction s end h) (segments_of s.seg_size (end_after_post (end_of s end)).handed) (omega (arith, segments_of-append s.seg_size e.handed e.waiting)) few;
       comes = back s end h;
       all = ap messages_in (append-nil (e.handed ++ e.waiting));
       more = e.waiting;
@@ -246,15 +246,15 @@ true_of s end j p h at = AreTrue-at (end_of s (other_end end)).wire j p (end_of 
 
 -- what is taken when it comes
 pub came_in : (s : State) (end : End) (keep : Bool) (j : ℕ) (p : Sending) → IsWorld s → slice_get (end_of s (other_end end)).wire j ≡ Some p
-    → ReachesPeer s.seg_size s.window (end_of s (other_end end)) (delivered keep (end_of s end) p) × ((end_of s end).taken ≤ (delivered keep (end_of s end) p).taken)
+    → ReachesPeer s.seg_size s.window (end_of s (other_end end)) (end_after_delivery keep (end_of s end) p) × ((end_of s end).taken ≤ (end_after_delivery keep (end_of s end) p).taken)
 came_in s end keep j p h at = kept-came _ _ _ _ _ _ _ _ (back s end h) keep p.segment (true_of s end j p h at).0
 
-kept-comes : (keep : Bool) (s : State) (end : End) (j : ℕ) (p : Sending) → IsWorld s → slice_get (end_of s (other_end end)).wire j ≡ Some p → IsWorld (with_end s end (delivered keep (end_of s end) p))
+kept-comes : (keep : Bool) (s : State) (end : End) (j : ℕ) (p : Sending) → IsWorld s → slice_get (end_of s (other_end end)).wire j ≡ Some p → IsWorld (with_end s end (end_after_delivery keep (end_of s end) p))
 kept-comes keep s end j p h at =
     let came = came_in s end keep j p h at in
-    kept-moves s end (delivered keep (end_of s end) p) h
+    kept-moves s end (end_after_delivery keep (end_of s end) p) h
     (record {
-      out = kept-acked _ _ _ _ _ _ _ _ (direction s end h) p.acks (delivered keep (end_of s end) p).taken (true_of s end j p h at).1 came.1;
+      out = kept-acked _ _ _ _ _ _ _ _ (direction s end h) p.acks (end_after_delivery keep (end_of s end) p).taken (true_of s end j p h at).1 came.1;
       comes = came.0;
       all = refl;
       more = [];
@@ -272,7 +272,7 @@ taken-more s m e =
 
 kept-served : (s : State) (m : Message) → IsWorld s → s.b.waiting ≡ [] → slice_get (arrived_at s B) s.served ≡ Some m → IsWorld (served_one s m)
 kept-served s m h empty e =
-    let answers = added s.own_b [] (map Whole (served_by_b s)) (Whole m) in
+    let answers = answers_added s.own_b [] (map Whole (served_by_b s)) (Whole m) in
     record {
       window = h.window;
       some = h.some;
@@ -349,9 +349,9 @@ kept-run [] old new run h = subst IsWorld (sym run) h
 kept-run (e ∷ events) old new run h = kept-run events run.0 new run.3 (kept-freely old run.0 e run.1 run.2 h)
 
 -- what is true of every world is true after every run from a new one
-pub runs_sound : (setup : WorldSetup) (events : List Event) (new : State) → IsWorldSetup setup → RunsBy StepsFreely (fresh setup) events new → IsWorld new
-runs_sound setup events new h run = kept-run events (fresh setup) new run (is_fresh setup h)
+pub runs_sound : (setup : WorldSetup) (events : List Event) (new : State) → IsWorldSetup setup → RunsBy StepsFreely (initial_state setup) events new → IsWorld new
+runs_sound setup events new h run = kept-run events (initial_state setup) new run (is_fresh setup h)
 
 -- the headline of every run from a new world
-pub headline : (setup : WorldSetup) (events : List Event) (new : State) → IsWorldSetup setup → RunsBy StepsFreely (fresh setup) events new → HeadlineOf new
+pub headline : (setup : WorldSetup) (events : List Event) (new : State) → IsWorldSetup setup → RunsBy StepsFreely (initial_state setup) events new → HeadlineOf new
 headline setup events new h run = headline_of new (runs_sound setup events new h run)

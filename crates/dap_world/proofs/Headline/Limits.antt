@@ -26,11 +26,11 @@ use Rattle.dap_accessed.specs.Replies.{bare_status}
 use Rattle.dap_accessed.specs.Standing.{index_by, the_file, ServerState, Fresh, Ready, Opened, Connected, Store, Stopped, Group, Standing, Scene, Effect, enters, start}
 use Rattle.dap_accessed.specs.Past.{asked_shape, kept_attributes, is_dropping}
 use Rattle.dap_accessed.specs.Accesses.{rights_to_create, rights_to_open, make_file, open_file, create_file, access_file, end_stream, complete}
-use Rattle.dap_accessed.specs.Records.{verb_of, get_pick, got, record_got, Change, Putting, Updating, changed, fits_limit, at_number}
+use Rattle.dap_accessed.specs.Records.{verb_of, get_pick, got, record_got, Change, Putting, Updating, effect_of_change, fits_limit, at_number}
 use Rattle.dap_accessed.specs.Transfers.{fetch, fetch_ends, continue_fetch}
 use Rattle.dap_msg.specs.BothEnds.{is_too_small}
 use Rattle.dap_accessed.specs.Effects.{Begun, Turn, Does, BeginsGroup, control_opened, control_connected, turn_in, turn_of, effect_with}
-use Rattle.dap_accessed.specs.Groups.{Grouped, stands_after}
+use Rattle.dap_accessed.specs.Groups.{GroupedItems, stands_after}
 use Rattle.dap_accessed.proofs.ForCallers.{cut-more, next_group, more_after}
 
 module _ (P : ℕ → Type 0) where
@@ -88,7 +88,7 @@ module _ (P : ℕ → Type 0) where
     of-pick (Err refusal) o s = p
     of-pick (Ok pick) o s = let outcome = act (get_record pick) (the_file scene.files o) s in of-got outcome.reply o s outcome.stream
 
-    of-change : (change : Change) (o : OpenFile) (s : StreamVal) (body : List ℕ) → P (changed change scene o s body).scene.limit
+    of-change : (change : Change) (o : OpenFile) (s : StreamVal) (body : List ℕ) → P (effect_of_change change scene o s body).scene.limit
     of-change (Putting (Err refusal)) o s body = p
     of-change (Putting (Ok key)) o s body = p
     of-change Updating o s body = p
@@ -169,7 +169,7 @@ module _ (P : ℕ → Type 0) where
   of-more own before [] p q = subst (λ (l : List Item). P (stands_after own [] l).standing.scene.limit) (sym (append-nil before)) p
   of-more own before (item ∷ more) p q =
       let c = stands_after own [] before in
-      let one : P (stands_after own [] (before ++ item ∷ [])).standing.scene.limit = subst (λ (c : Grouped). P c.standing.scene.limit) (sym (cut-more own (start []) before item)) (of-one own c.standing c.begun item p q.0) in
+      let one : P (stands_after own [] (before ++ item ∷ [])).standing.scene.limit = subst (λ (c : GroupedItems). P c.standing.scene.limit) (sym (cut-more own (start []) before item)) (of-one own c.standing c.begun item p q.0) in
       subst (λ (l : List Item). P (stands_after own [] l).standing.scene.limit) (append_assoc before (item ∷ []) more) (of-more own (before ++ item ∷ []) more one q.1)
 
   pub after-all : (own : ServerSetup) (items : List Item) → P 64 → AllFit items → P (stands_after own [] items).standing.scene.limit

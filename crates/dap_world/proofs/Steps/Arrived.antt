@@ -12,7 +12,7 @@ use Rattle.nsp_link.specs.Cutting.{cut, count_of}
 use Rattle.nsp_link.specs.Link.{LinkValue, with_inbox}
 use Rattle.nsp_link.specs.Inner.Whole.{AreWholeIn, HasWhole}
 use Rattle.nsp_link.proofs.ForCallers.{whole_of, stands_given}
-use Rattle.dap_world.specs.Machine.{arrived}
+use Rattle.dap_world.specs.Machine.{arrived_messages}
 use Rattle.dap_world.specs.Inner.Sides.{SideValue, port_of, side_of}
 use Rattle.dap_world.specs.Inner.Ways.{IsWay}
 use Rattle.dap_world.specs.Inner.Parts.{IsCarried}
@@ -35,7 +35,7 @@ just : (size : ℕ) (messages : List (List ℕ)) (r n : ℕ) → AreWholeIn size
 just size messages r n w =
     record { some = w.some; whole = w.whole; next = λ lt. subst (λ (k : ℕ). r < length (cut size (take k messages))) (add-one n) (w.next lt) }
 
-came : (size r n : ℕ) (xs : List NspMessage) → IsJust size (all_joined xs) r n → arrived size r xs ≡ take n xs
+came : (size r n : ℕ) (xs : List NspMessage) → IsJust size (all_joined xs) r n → arrived_messages size r xs ≡ take n xs
 came size r zero [] w = refl
 came size r (suc n) [] w = refl
 came size r zero (x ∷ xs) w =
@@ -44,7 +44,7 @@ came size r zero (x ∷ xs) w =
     let none = cut-none size in
     let past : r < length (cut size (blocked_bytes x ∷ [])) = w.next (omega arith) in
     let later : r < k = omega arith in
-    elim (nat_le k r) as (λ b. nat_le k r ≡ b → (if b then x ∷ arrived size (r - k) xs else []) ≡ []) [
+    elim (nat_le k r) as (λ b. nat_le k r ≡ b → (if b then x ∷ arrived_messages size (r - k) xs else []) ≡ []) [
       | true ↦ λ e. let wrong : ⊥ = grind (arith, e, later) in absurd wrong
       | false ↦ λ e. refl
     ] refl
@@ -56,12 +56,12 @@ came size r (suc n) (x ∷ xs) w =
     let some = w.some in
     let rest : IsJust size (all_joined xs) (r - k) n =
     record { some = omega arith; whole = omega arith; next = λ lt. (let past = w.next (omega arith) in omega arith) } in
-    elim (nat_le k r) as (λ b. nat_le k r ≡ b → (if b then x ∷ arrived size (r - k) xs else []) ≡ x ∷ take n xs) [
+    elim (nat_le k r) as (λ b. nat_le k r ≡ b → (if b then x ∷ arrived_messages size (r - k) xs else []) ≡ x ∷ take n xs) [
       | true ↦ λ e. ap (λ l. x ∷ l) (came size (r - k) n xs rest)
       | false ↦ λ e. let none : ⊥ = grind (arith, e, first, whole) in absurd none
     ] refl
 
-pub arrived_is : (size r n : ℕ) (xs : List NspMessage) → AreWholeIn size (all_joined xs) r n → arrived size r xs ≡ take n xs
+pub arrived_is : (size r n : ℕ) (xs : List NspMessage) → AreWholeIn size (all_joined xs) r n → arrived_messages size r xs ≡ take n xs
 arrived_is size r n xs w = came size r n xs (just size (all_joined xs) r n w)
 
 -- ---- The front of a list.
@@ -116,7 +116,7 @@ pub record Next (from to : SideValue) (packets : List NspMessage) (count : ℕ) 
   pub offset_is : to.offset ≡ length (blocked_bytes begun)
   pub way : IsWay from to.link handed (all_joined gone)
   pub fit : AllFit (begun ++ m ∷ more)
-  pub next : slice_get (messages_in (arrived from.link.setup.seg_size to.link.coming.received (take from.posted packets))) count ≡ Some m
+  pub next : slice_get (messages_in (arrived_messages from.link.setup.seg_size to.link.coming.received (take from.posted packets))) count ≡ Some m
 
 -- what an NSP message has, where the first messages were handled
 record Opened (begun : List Message) (p : NspMessage) : Type 0 where
@@ -178,7 +178,7 @@ module _ (from to : SideValue) (packets : List NspMessage) (count : ℕ) (h : Is
   given_and =
       whole.inbox ∙ ap (take whole.count) (handed_are ∙ ap all_joined h.among.split ∙ map-append blocked_bytes h.gone h.among.rest)
 
-  came_whole : arrived from.link.setup.seg_size to.link.coming.received (take from.posted packets) ≡ take whole.count (take from.posted packets)
+  came_whole : arrived_messages from.link.setup.seg_size to.link.coming.received (take from.posted packets) ≡ take whole.count (take from.posted packets)
   came_whole =
       arrived_is from.link.setup.seg_size to.link.coming.received whole.count (take from.posted packets)
       (subst (λ (l : List (List ℕ)). AreWholeIn from.link.setup.seg_size l to.link.coming.received whole.count) handed_are whole.whole)
@@ -218,7 +218,7 @@ module _ (from to : SideValue) (packets : List NspMessage) (count : ℕ) (h : Is
       }
 
   -- nothing waits: there is no next message
-  pub none_next : to.link.coming.inbox ≡ [] → slice_get (messages_in (arrived from.link.setup.seg_size to.link.coming.received (take from.posted packets))) count ≡ None
+  pub none_next : to.link.coming.inbox ≡ [] → slice_get (messages_in (arrived_messages from.link.setup.seg_size to.link.coming.received (take from.posted packets))) count ≡ None
   none_next empty =
       let c = whole.count in
       let some = whole.whole.some in

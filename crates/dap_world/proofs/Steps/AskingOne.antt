@@ -41,8 +41,8 @@ use Rattle.dap_events.specs.declared.event.Step.{Step}
 use Rattle.dap_events.specs.declared.event.Step.TheVariants as step
 use Rattle.dap_events.specs.declared.event.WorldFault.{WorldFault}
 use Rattle.dap_events.specs.declared.event.WorldFault.TheVariants as fault
-use Rattle.dap_world.specs.Machine.{State, sent_by, served_by_b, answers_read, asking as asking_of, asked, reported, Steps, RefusesEvent}
-use Rattle.dap_world.specs.Runs.{Went}
+use Rattle.dap_world.specs.Machine.{State, sent_by, served_by_b, answers_read, asking as asking_of, world_after_request, reports_by_a, Steps, RefusesEvent}
+use Rattle.dap_world.specs.Runs.{ComesTo}
 use Rattle.dap_world.specs.Inner.Worlds.{IsWorld}
 use Rattle.dap_end.specs.Ports.{PortValue}
 use Rattle.dap_end.specs.Asking.{AskedOne, HasAsked}
@@ -81,15 +81,15 @@ same-blocked own_a own_b Stopped state limit_b limit_a r h e = absurd h
 
 -- what is asked is blocked by B's buffer
 asking_is : (s : State) (r : Request) → IsWorld s → IsAdmissible s.own_a s.requests (answers_read s) r → asking_of s r ≡ Blocked s.own_b (messages_of s.own_a r)
-unfolding reported
+unfolding reports_by_a
 asking_is s r h m =
     let all = all-answers s r h m in
     let agree = both-agree s.own_a s.own_b h.own_a h.own_b s.requests h.admissible in
     let standing = (stands_after s.own_b [] (items_of s.own_a s.requests)).standing in
     let reports = reports_of s.own_a s.own_b s.requests in
-    let same : reported s ≡ reports = ap (Told s.requests) all in
+    let same : reports_by_a s ≡ reports = ap (Told s.requests) all in
     ap (λ (l : List Report). Blocked (limit_after l) (messages_of s.own_a r)) same
-    ∙ same-blocked s.own_a s.own_b (phase_after reports) standing.state standing.scene.limit (limit_after reports) r agree.states (ap (λ (l : List Report). phase_fits (phase_after l) r) (sym same) ∙ fits-where r (phase_after (reported s)) m.1)
+    ∙ same-blocked s.own_a s.own_b (phase_after reports) standing.state standing.scene.limit (limit_after reports) r agree.states (ap (λ (l : List Report). phase_fits (phase_after l) r) (sym same) ∙ fits-where r (phase_after (reports_by_a s)) m.1)
 
 -- ---- None is too long.
 
@@ -115,7 +115,7 @@ same_told rs answers v r stands none = (asked_one rs answers r none).told
 
 -- ---- The step.
 
-asks_one : (p : Parts) (r : Request) → IsAdmissible p.accessing.own p.requests (answers_read (state_of p)) r → Steps (state_of p) (event.Ask r) (step.Asked (length (asking_of (state_of p) r))) (asked (state_of p) r)
+asks_one : (p : Parts) (r : Request) → IsAdmissible p.accessing.own p.requests (answers_read (state_of p)) r → Steps (state_of p) (event.Ask r) (step.Asked (length (asking_of (state_of p) r))) (world_after_request (state_of p) r)
 unfolding Steps
 asks_one p r m = (m, refl, refl)
 
@@ -139,7 +139,7 @@ module _ (p : Parts) (h : AreParts p) (r : Request) (m : IsAdmissible p.accessin
   answers_same : answer_packets p.accessed.own [] (map Whole (take p.served (Asked p.accessing.own (p.requests ++ r ∷ [])))) ≡ answers p
   answers_same = ap (answer_packets p.accessed.own []) (served_same p r h)
 
-  state_asked : (outbox : List (List ℕ)) (after : accessing.ClientState) → state_of (q_of outbox after) ≡ asked (state_of p) r
+  state_asked : (outbox : List (List ℕ)) (after : accessing.ClientState) → state_of (q_of outbox after) ≡ world_after_request (state_of p) r
   state_asked outbox after =
       let s = state_of p in
       let n = counted p.a.posted h.from_a.handed p.a.outbox (asked_messages p) h.from_a.posted h.from_a.bytes in
@@ -151,12 +151,12 @@ module _ (p : Parts) (h : AreParts p) (r : Request) (m : IsAdmissible p.accessin
 
   parts_asked : (more : List (List ℕ)) (after : accessing.ClientState) → more ≡ all_joined (Blocked p.accessed.own (messages_of p.accessing.own r))
       → IsAskedAll (asking_end (q_of (p.a.outbox ++ more) after)) (p.requests ++ r ∷ []) (answers_read (state_of p)) → AreParts (q_of (p.a.outbox ++ more) after)
-  unfolding reported
+  unfolding reports_by_a
   parts_asked more after more_is asking =
       let s = state_of p in
       let outbox = p.a.outbox ++ more in
       let state = state_asked outbox after in
-      let world = kept-step s (asked s r) (event.Ask r) (step.Asked (length (asking_of s r))) (asks_one p r m) h.world in
+      let world = kept-step s (world_after_request s r) (event.Ask r) (step.Asked (length (asking_of s r))) (asks_one p r m) h.world in
       let all = messages_in-Blocked p.accessed.own (messages_of p.accessing.own r) in
       let admissible : IsAdmissible p.accessing.own p.requests (map Whole (request_answers p.accessing.own p.accessed.own p.requests)) r =
       subst (λ (l : List Item). IsAdmissible p.accessing.own p.requests l r) (all-answers s r h.world m) m in
@@ -176,7 +176,7 @@ module _ (p : Parts) (h : AreParts p) (r : Request) (m : IsAdmissible p.accessin
             (told_more p.a p.b (asked_messages p) block p.served p.a.link.coming.inbox p.a.offset outbox more h.from_a refl more_is fit short);
         from_b = subst (λ (l : List NspMessage). IsCarried p.b (record p.a { outbox = outbox }) l p.read) (sym answers_same) h.from_b;
         sent_is = h.sent_is ∙ ap (λ (x : State). map canon (sent_by x.a)) (sym state);
-        reports_is = h.reports_is ∙ sym (same_told p.requests (answers_read s) p.accessing r h.asking.1.asking m.0) ∙ ap reported (sym state);
+        reports_is = h.reports_is ∙ sym (same_told p.requests (answers_read s) p.accessing r h.asking.1.asking m.0) ∙ ap reports_by_a (sym state);
         asking = subst (λ (x : State). IsAskedAll (asking_end (q_of outbox after)) (p.requests ++ r ∷ []) (answers_read x)) (sym state) asking;
         serving = subst (λ (x : State). IsServedAll (serving_end p) (map Whole (served_by_b x))) (sym state) h.serving;
       }
@@ -196,7 +196,7 @@ refused_by p r ask_fault.WrongPhase h f refused = refused_so p r ask_fault.Wrong
 refused_by p r ask_fault.TooLarge h f refused = refused_so p r ask_fault.TooLarge h (refused.1 p.requests (answers_read (state_of p)) h.asking.1.asking)
 refused_by p r ask_fault.NoMemory h f refused = absurd (f refl)
 
-refused : (p : Parts) (r : Request) (f : WorldFault) → AreParts p → AskFaultOf r p.accessing f → Went (state_of p) (event.Ask r) (Err f) (state_of p)
+refused : (p : Parts) (r : Request) (f : WorldFault) → AreParts p → AskFaultOf r p.accessing f → ComesTo (state_of p) (event.Ask r) (Err f) (state_of p)
 unfolding Steps RefusesEvent
 refused p r (fault.Ask f) h why = (refused_by p r f h why.0 why.1, refl)
 refused p r fault.NoMemory h may = ((_, _, asks_one p r (admissible_so p r h (may p.requests (answers_read (state_of p)) h.asking.1.asking)), tt), refl)
@@ -208,7 +208,7 @@ refused p r fault.BadSetup h never = absurd never
 
 asked_step : (p : Parts) (r : Request) (v : AskingValue) (n : ℕ) (requests : List Request) → AreParts p → AskedOne r (asking_end p) v n → requests ≡ p.requests ++ r ∷ []
     → AreThen p (event.Ask r) (record (asking_parts p v p.a.posted p.a.wire) { requests = requests }) (Ok (step.Asked n))
-unfolding Steps RefusesEvent reported
+unfolding Steps RefusesEvent reports_by_a
 asked_step p r v n requests h o told =
     let read = answers_read (state_of p) in
     let stood = h.asking.1.asking in
@@ -229,7 +229,7 @@ asked_step p r v n requests h o told =
     let parts : AreParts q = parts_asked p h r m o.messages v.present more_is asking in
     let count : length (asking_of (state_of p) r) ≡ n = sym (length-map (asking_of (state_of p) r) blocked_bytes) ∙ ap length (sym spelled) ∙ sym o.count in
     let went : Steps (state_of p) (event.Ask r) (step.Asked n) (state_of q) =
-    subst (λ (y : State). Steps (state_of p) (event.Ask r) (step.Asked n) y) (sym (state_asked p h r m outbox v.present)) (subst (λ (k : ℕ). Steps (state_of p) (event.Ask r) (step.Asked k) (asked (state_of p) r)) count (asks_one p r m)) in
+    subst (λ (y : State). Steps (state_of p) (event.Ask r) (step.Asked n) y) (sym (state_asked p h r m outbox v.present)) (subst (λ (k : ℕ). Steps (state_of p) (event.Ask r) (step.Asked k) (world_after_request (state_of p) r)) count (asks_one p r m)) in
     subst (λ (l : List Request). AreThen p (event.Ask r) (record (asking_parts p v p.a.posted p.a.wire) { requests = l }) (Ok (step.Asked n))) (sym told)
     (subst (λ (port : PortValue). AreThen p (event.Ask r) (record p { a = side_of port p.a.posted p.a.wire; accessing = v.present; requests = p.requests ++ r ∷ [] }) (Ok (step.Asked n))) (sym o.port)
     (subst (λ (y : accessing.ClientState). AreThen p (event.Ask r) (record p { a = record p.a { outbox = outbox }; accessing = y; requests = p.requests ++ r ∷ [] }) (Ok (step.Asked n))) (sym own) (parts, went)))

@@ -10,7 +10,7 @@ use Rattle.std.specs.Map.{keys_of}
 use Rattle.nsp_link.specs.Limits.{max_segments, max_window, max_limit}
 use Rattle.nsp_link.specs.declared.link.LinkSetup.{LinkSetup}
 use Rattle.nsp_link.specs.Link.{LinkValue, Sends, KeepsEarly, got_of, held_after}
-use Rattle.nsp_link.specs.Due.{Delivered, MayRefuse, taken_after}
+use Rattle.nsp_link.specs.Due.{DeliversPacket, MayRefuse, taken_after}
 use Rattle.nsp_link.specs.declared.link.Got.{Got}
 use Rattle.nsp_link.specs.declared.fault.LinkFault.{LinkFault}
 use Rattle.dap_end.specs.Ports.{PortValue}
@@ -28,8 +28,8 @@ use Rattle.dap_events.specs.declared.event.Step.{Step}
 use Rattle.dap_events.specs.declared.event.Step.TheVariants as step
 use Rattle.dap_events.specs.declared.event.WorldFault.{WorldFault}
 use Rattle.dap_events.specs.declared.event.WorldFault.TheVariants as fault
-use Rattle.dap_world.specs.Machine.{reported, State, EndState, other_end, end_of, with_end, is_stale, taken_and_held, delivered, Steps, RefusesEvent}
-use Rattle.dap_world.specs.Runs.{TakesMemory, Went}
+use Rattle.dap_world.specs.Machine.{reports_by_a, State, EndState, other_end, end_of, with_end, is_stale, taken_and_held, end_after_delivery, Steps, RefusesEvent}
+use Rattle.dap_world.specs.Runs.{TakesMemory, ComesTo}
 use Rattle.dap_world.specs.Inner.Worlds.{IsWorld, AreTrue, AreEarly, WasSent}
 use Rattle.dap_world.specs.declared.side.Wired.{Wired}
 use Rattle.dap_world.specs.Wires.{sending_of}
@@ -141,22 +141,22 @@ abbrev with_link : Parts → End → LinkValue → Parts
 with_link p end v = with_side p end (record (side p end) { link = v })
 
 -- the state after a delivery
-comes_to : (s : SideValue) (packets : List NspMessage) (w : Wired) (v : LinkValue) → IfSome w.segment (λ n. n < s.link.coming.received + 1 + s.link.setup.window) → Delivered s.link v w.segment w.acks
-    → delivered true (end_state s packets) (sending_of w) ≡ end_state (record s { link = v }) packets
+comes_to : (s : SideValue) (packets : List NspMessage) (w : Wired) (v : LinkValue) → IfSome w.segment (λ n. n < s.link.coming.received + 1 + s.link.setup.window) → DeliversPacket s.link v w.segment w.acks
+    → end_after_delivery true (end_state s packets) (sending_of w) ≡ end_state (record s { link = v }) packets
 comes_to s packets w v near d =
     ap (λ (c : ℕ × List ℕ). record (end_state s packets) { acked = max s.link.acked w.acks; taken = c.0; held = c.1 }) (came_is s.link w.segment d.held.0 near)
     ∙ rw (d.sent, d.acked, d.received, d.held.1) refl
 
 delivered_is : (p : Parts) (end : End) (w : Wired) (v : LinkValue) → IfSome w.segment (λ n. n < (side p end).link.coming.received + 1 + (side p end).link.setup.window)
-    → Delivered (side p end).link v w.segment w.acks → with_end (state_of p) end (delivered true (end_of (state_of p) end) (sending_of w)) ≡ state_of (with_link p end v)
+    → DeliversPacket (side p end).link v w.segment w.acks → with_end (state_of p) end (end_after_delivery true (end_of (state_of p) end) (sending_of w)) ≡ state_of (with_link p end v)
 delivered_is p A w v near d = ap (λ (e : EndState). with_end (state_of p) A e) (comes_to p.a (asked_messages p) w v near d) ∙ rw d.setup refl
 delivered_is p B w v near d = ap (λ (e : EndState). with_end (state_of p) B e) (comes_to p.b (answers p) w v near d)
 
-parts_came : (p : Parts) (end : End) (w : Wired) (v : LinkValue) → AreParts p → Delivered (side p end).link v w.segment w.acks
+parts_came : (p : Parts) (end : End) (w : Wired) (v : LinkValue) → AreParts p → DeliversPacket (side p end).link v w.segment w.acks
     → ((messages given : List (List ℕ)) → IsWay (side p (other_end end)) (side p end).link messages given → IsWay (side p (other_end end)) v messages given)
     → ((messages : List (List ℕ)) → Sends (side p end).link messages → Sends v messages)
     → StaysAt p end (record (side p end) { link = v }) → IsWorld (state_of (with_link p end v)) → AreParts (with_link p end v)
-unfolding reported
+unfolding reports_by_a
 parts_came p A w v h d on sends still world =
     let same = d.setup in
     record {
@@ -195,7 +195,7 @@ taken_is p B = refl
 
 -- it is a step
 steps : (p : Parts) (end : End) (j : ℕ) (w : Wired) → slice_get (side p (other_end end)).wire j ≡ Some w → is_old_wired (side p end).link w ≡ false
-    → Steps (state_of p) (event.Deliver end j) (step.Delivered (got_of (side p end).link.coming.received w.segment)) (with_end (state_of p) end (delivered true (end_of (state_of p) end) (sending_of w)))
+    → Steps (state_of p) (event.Deliver end j) (step.Delivered (got_of (side p end).link.coming.received w.segment)) (with_end (state_of p) end (end_after_delivery true (end_of (state_of p) end) (sending_of w)))
 unfolding Steps
 steps p end j w at young =
     (sending_of w, (there p (other_end end) j (Some w) at, stale_is p end w ∙ young), ap (λ (n : ℕ). step.Delivered (got_of n w.segment)) (sym (taken_is p end)), refl)
@@ -231,7 +231,7 @@ not_due p end j (fault.Ask f) never = absurd never
 not_due p end j fault.Exhausted never = absurd never
 not_due p end j fault.BadSetup never = absurd never
 
-went_not : (p : Parts) (end : End) (j : ℕ) (f : WorldFault) → NotDue (side p end).link (side p (other_end end)).wire j f → Went (state_of p) (event.Deliver end j) (Err f) (state_of p)
+went_not : (p : Parts) (end : End) (j : ℕ) (f : WorldFault) → NotDue (side p end).link (side p (other_end end)).wire j f → ComesTo (state_of p) (event.Deliver end j) (Err f) (state_of p)
 went_not p end j fault.NoSuchPacket none = (not_due p end j fault.NoSuchPacket none, refl)
 went_not p end j fault.Stale old = (not_due p end j fault.Stale old, refl)
 went_not p end j fault.NoMemory never = absurd never
@@ -256,7 +256,7 @@ module _ (p : Parts) (end : End) (j : ℕ) (h : AreParts p) (w : Wired) (at : sl
       takes (side p (other_end end)) (side p end).link v messages given w.segment w.acks way came.1 (came_due _ v _ (Ok got) _ messages given d.value w.segment w.acks receives d.spelled d.due).2) in
       let went : Steps (state_of p) (event.Deliver end j) (step.Delivered got) (state_of (with_link p end v)) =
       subst (λ (x : State). Steps (state_of p) (event.Deliver end j) (step.Delivered got) x) (delivered_is p end w v (below p end j w h at) came.1)
-      (subst (λ (g : Got). Steps (state_of p) (event.Deliver end j) (step.Delivered g) (with_end (state_of p) end (delivered true (end_of (state_of p) end) (sending_of w)))) (sym came.0) (steps p end j w at young)) in
+      (subst (λ (g : Got). Steps (state_of p) (event.Deliver end j) (step.Delivered g) (with_end (state_of p) end (end_after_delivery true (end_of (state_of p) end) (sending_of w)))) (sym came.0) (steps p end j w at young)) in
       (parts_came p end w v h came.1 on receives.sends still (kept-step (state_of p) (state_of (with_link p end v)) (event.Deliver end j) (step.Delivered got) went h.world), went)
   took v (Err f) receives still =
       let way = any_way p end h in

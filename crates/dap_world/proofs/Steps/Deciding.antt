@@ -12,8 +12,8 @@ use Rattle.dap_msg.specs.declared.message.Message.{Message}
 use Rattle.nsp_link.specs.Link.{got_of}
 use Rattle.dap_events.specs.declared.event.Step.{Step}
 use Rattle.dap_events.specs.declared.event.Step.TheVariants as step
-use Rattle.dap_world.specs.Machine.{State, Sending, answering, delivered, end_of, with_end, served_one, is_stale, Steps, RefusesEvent}
-use Rattle.dap_world.specs.Runs.{Went}
+use Rattle.dap_world.specs.Machine.{State, Sending, answering, end_after_delivery, end_of, with_end, served_one, is_stale, Steps, RefusesEvent}
+use Rattle.dap_world.specs.Runs.{ComesTo}
 
 -- the event has a step
 abbrev pub MayHappen : State → Event → Type 0
@@ -63,7 +63,7 @@ one_step s (event.Ack end) a b m n one two = (one.0 ∙ sym two.0, one.1 ∙ sym
 one_step s (event.Deliver end j) a b m n one two =
     let same : one.0 ≡ two.0 = same_sending s one.0 two.0 _ one.1.0 two.1.0 in (
       one.2 ∙ ap (λ (p : Sending). step.Delivered (got_of (end_of s end).taken p.segment)) same ∙ sym two.2,
-      one.3 ∙ ap (λ (p : Sending). with_end s end (delivered true (end_of s end) p)) same ∙ sym two.3,
+      one.3 ∙ ap (λ (p : Sending). with_end s end (end_after_delivery true (end_of s end) p)) same ∙ sym two.3,
     )
 one_step s event.Serve a b m n one two =
     let same : one.0 ≡ two.0 = same_message one.0 two.0 _ one.2 two.2 in
@@ -115,7 +115,7 @@ one_reason s e f g one two = absurd one
 
 -- ---- Outcomes, out of memory aside.
 
-reason_of : (s n : State) (e : Event) (f : WorldFault) → f ≢ fault.NoMemory → Went s e (Err f) n → RefusesEvent s e f × (n ≡ s)
+reason_of : (s n : State) (e : Event) (f : WorldFault) → f ≢ fault.NoMemory → ComesTo s e (Err f) n → RefusesEvent s e f × (n ≡ s)
 reason_of s n e fault.NoMemory other w = absurd (other refl)
 reason_of s n e fault.NoSuchPacket other w = w
 reason_of s n e fault.Stale other w = w
@@ -131,7 +131,7 @@ abbrev failed : WorldFault → Result Step WorldFault
 failed f = Err f
 
 -- two outcomes of one event in one state are the same
-pub one_outcome : (s : State) (e : Event) (r t : Result Step WorldFault) (m n : State) → r ≢ Err fault.NoMemory → t ≢ Err fault.NoMemory → Went s e r m → Went s e t n → (r ≡ t) × (m ≡ n)
+pub one_outcome : (s : State) (e : Event) (r t : Result Step WorldFault) (m n : State) → r ≢ Err fault.NoMemory → t ≢ Err fault.NoMemory → ComesTo s e r m → ComesTo s e t n → (r ≡ t) × (m ≡ n)
 one_outcome s e (Ok a) (Ok b) m n nr nt x y = let same = one_step s e a b m n x y in (ap stepped same.0, same.1)
 one_outcome s e (Ok a) (Err g) m n nr nt x y = absurd (no_step s e g (reason_of s n e g (λ k. nt (ap failed k)) y).0 (a, m, x))
 one_outcome s e (Err f) (Ok b) m n nr nt x y = absurd (no_step s e f (reason_of s m e f (λ k. nr (ap failed k)) x).0 (b, n, y))

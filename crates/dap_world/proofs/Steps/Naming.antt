@@ -12,8 +12,8 @@ use Rattle.dap_events.specs.declared.event.Event.TheVariants as event
 use Rattle.dap_events.specs.declared.event.Step.{Step}
 use Rattle.dap_events.specs.declared.event.Step.TheVariants as step
 use Rattle.dap_events.specs.declared.event.WorldFault.{WorldFault}
-use Rattle.dap_world.specs.Machine.{State, EndState, end_of, with_end, wrote, served_by_b, answers_read, reported, with_read, told_by, Steps}
-use Rattle.dap_world.specs.Runs.{Went, writing_end}
+use Rattle.dap_world.specs.Machine.{State, EndState, end_of, with_end, wrote, served_by_b, answers_read, reports_by_a, with_read, told_by, Steps}
+use Rattle.dap_world.specs.Runs.{ComesTo, writing_end}
 use Rattle.dap_world.specs.Naming.{NamedIsThere}
 use Rattle.dap_world.proofs.Headline.Kept.{now_at}
 
@@ -26,11 +26,11 @@ packet_there : (e : Event) (s new : State) (end : End) (sent : ℕ) (k : Option 
 packet_there e s new end sent k answer by is went = subst (λ (a : Step). NamedIsThere e a new) (sym is) (end, by, wire_grew s new end sent k went)
 
 -- a report came of it only where there is one more
-report_there : (s new : State) (answer : Step) → answer ≡ told_by s (with_read s) → new ≡ with_read s → length (reported s) ≤ length (reported (with_read s)) → NamedIsThere event.Read answer new
+report_there : (s new : State) (answer : Step) → answer ≡ told_by s (with_read s) → new ≡ with_read s → length (reports_by_a s) ≤ length (reports_by_a (with_read s)) → NamedIsThere event.Read answer new
 report_there s new answer is went grew =
     subst (λ (a : Step). NamedIsThere event.Read a new) (sym is)
     (subst (λ (t : State). NamedIsThere event.Read (told_by s (with_read s)) t) (sym went)
-    (elim (length (reported (with_read s)) == length (reported s)) as (λ b. (length (reported (with_read s)) == length (reported s)) ≡ b → NamedIsThere event.Read (if b then step.Nothing else step.Reported) (with_read s)) [
+    (elim (length (reports_by_a (with_read s)) == length (reports_by_a s)) as (λ b. (length (reports_by_a (with_read s)) == length (reports_by_a s)) ≡ b → NamedIsThere event.Read (if b then step.Nothing else step.Reported) (with_read s)) [
       | true ↦ λ e. tt
       | false ↦ λ e. grind (arith, e, grew)
     ] refl))
@@ -45,8 +45,8 @@ front_more (x ∷ xs) zero = (x ∷ [], refl)
 front_more (x ∷ xs) (suc n) = let more = front_more xs n in (more.0, ap (λ l. x ∷ l) more.1)
 
 -- one answer more takes no report back
-grows : (s : State) → length (reported s) ≤ length (reported (with_read s))
-unfolding reported
+grows : (s : State) → length (reports_by_a s) ≤ length (reports_by_a (with_read s))
+unfolding reports_by_a
 grows s =
     let answers = Answered s.own_b [] (map Whole (served_by_b s)) in
     let more = front_more answers s.read in
@@ -66,6 +66,6 @@ answers_there s new (event.Deliver end j) answer step = subst (λ (a : Step). Na
 answers_there s new event.Serve answer step = subst (λ (a : Step). NamedIsThere event.Serve a new) (sym step.3) tt
 answers_there s new event.Read answer step = report_there s new answer step.2 step.3 (grows s)
 
-pub named : (s new : State) (e : Event) (r : Result Step WorldFault) → Went s e r new → IfOk r (λ answer. NamedIsThere e answer new)
+pub named : (s new : State) (e : Event) (r : Result Step WorldFault) → ComesTo s e r new → IfOk r (λ answer. NamedIsThere e answer new)
 named s new e (Ok answer) went = answers_there s new e answer went
 named s new e (Err f) went = tt

@@ -11,7 +11,7 @@ use Rattle.nsp_link.specs.Link.{IsSetup}
 use Rattle.dap_world.specs.declared.side.Wired.{Wired}
 use Rattle.dap_events.specs.declared.event.End.{End}
 use Rattle.dap_events.specs.declared.event.End.TheVariants.{A, B}
-use Rattle.dap_world.specs.Machine.{reported, fresh, other_end}
+use Rattle.dap_world.specs.Machine.{reports_by_a, initial_state, other_end}
 use Rattle.dap_world.specs.Setups.{IsWorldSetup}
 use Rattle.dap_end.specs.Ports.{PortValue, new_port}
 use Rattle.dap_end.specs.Asking.{HasAsked}
@@ -64,14 +64,14 @@ new_parts s asking serving =
     record { a = new_side (link_setup_of s A); b = new_side (link_setup_of s B); accessing = asking; accessed = serving; requests = []; sent = []; served = 0; reports = []; read = 0 }
 
 -- the parts of a new world, by what its ends keep
-made : (s : WorldSetup) (asking : accessing.ClientState) (serving : accessed.Present) → asking.own ≡ s.bufsiz_a → serving.own ≡ s.bufsiz_b → state_of (new_parts s asking serving) ≡ fresh s
-made s asking serving own_a own_b = ap (λ (n : ℕ). record (fresh s) { own_a = n; own_b = serving.own }) own_a ∙ ap (λ (n : ℕ). record (fresh s) { own_b = n }) own_b
+made : (s : WorldSetup) (asking : accessing.ClientState) (serving : accessed.Present) → asking.own ≡ s.bufsiz_a → serving.own ≡ s.bufsiz_b → state_of (new_parts s asking serving) ≡ initial_state s
+made s asking serving own_a own_b = ap (λ (n : ℕ). record (initial_state s) { own_a = n; own_b = serving.own }) own_a ∙ ap (λ (n : ℕ). record (initial_state s) { own_b = n }) own_b
 
 new_world : (s : WorldSetup) (asking : accessing.ClientState) (serving : accessed.Present) → IsWorldSetup s → asking.own ≡ s.bufsiz_a → serving.own ≡ s.bufsiz_b
     → asking.identity ≡ plain_identity s.bufsiz_a → serving.setup ≡ plain_setup s.bufsiz_b
     → HasAsked nothing_asked (record { port = new_port (link_setup_of s A); present = asking }) → IsAfter (nothing_yet []) (record { port = new_port (link_setup_of s B); present = serving })
     → AreParts (new_parts s asking serving)
-unfolding reported
+unfolding reports_by_a
 new_world s asking serving h own_a own_b plain_a plain_b a b =
     record {
       world = subst IsWorld (sym (made s asking serving own_a own_b)) (is_fresh s h);
@@ -93,11 +93,11 @@ pub new_sound : (s : WorldSetup) (v : AskingValue) (w : ServingValue) (wire_a wi
     → HasAsked nothing_asked v × (v.port ≡ new_port (link_setup_of s A)) × (v.present.own ≡ s.bufsiz_a) → IsAfter (nothing_yet []) w × (w.port ≡ new_port (link_setup_of s B)) × (w.present.own ≡ s.bufsiz_b)
     → v.present.identity ≡ plain_identity s.bufsiz_a → w.present.setup ≡ plain_setup s.bufsiz_b
     → (let p : Parts = record { a = side_of v.port 0 wire_a; b = side_of w.port 0 wire_b; accessing = v.present; accessed = w.present; requests = requests; sent = sent; served = 0; reports = reports; read = 0 } in
-    AreParts p × (state_of p ≡ fresh s))
+    AreParts p × (state_of p ≡ initial_state s))
 new_sound s v w wire_a wire_b requests sent reports ea eb er es ep h x y plain_a plain_b =
     let asking = subst (λ (port : PortValue). HasAsked nothing_asked (record { port = port; present = v.present })) x.1 x.0 in
     let serving = subst (λ (port : PortValue). IsAfter (nothing_yet []) (record { port = port; present = w.present })) y.1 y.0 in
-    let both : AreParts (new_parts s v.present w.present) × (state_of (new_parts s v.present w.present) ≡ fresh s) =
+    let both : AreParts (new_parts s v.present w.present) × (state_of (new_parts s v.present w.present) ≡ initial_state s) =
     (new_world s v.present w.present h x.2 y.2 plain_a plain_b asking serving, made s v.present w.present x.2 y.2) in
     rw (x.1, y.1, ea, eb, er, es, ep) both
 

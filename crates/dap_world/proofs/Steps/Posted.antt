@@ -30,8 +30,8 @@ use Rattle.dap_events.specs.declared.event.Step.{Step}
 use Rattle.dap_events.specs.declared.event.Step.TheVariants as step
 use Rattle.dap_events.specs.declared.event.WorldFault.{WorldFault}
 use Rattle.dap_events.specs.declared.event.WorldFault.TheVariants as fault
-use Rattle.dap_world.specs.Machine.{reported, EndState, end_of, with_end, posted, segments_of, Steps, RefusesEvent}
-use Rattle.dap_world.specs.Runs.{Went}
+use Rattle.dap_world.specs.Machine.{reports_by_a, EndState, end_of, with_end, end_after_post, segments_of, Steps, RefusesEvent}
+use Rattle.dap_world.specs.Runs.{ComesTo}
 use Rattle.dap_world.specs.Inner.Worlds.{IsWorld}
 use Rattle.dap_world.specs.declared.side.Wired.{Wired}
 use Rattle.dap_world.specs.Inner.Sides.{SideValue, AreWithinLimit, PostFault, PostedSo, port_of, side_of}
@@ -74,7 +74,7 @@ way_posted s to handed given way short room =
 
 -- ---- The state.
 
-posted_is : (s : SideValue) (packets : List NspMessage) → s.posted + length s.outbox ≡ length packets → posted (end_state s packets) ≡ end_state (new_side s) packets
+posted_is : (s : SideValue) (packets : List NspMessage) → s.posted + length s.outbox ≡ length packets → end_after_post (end_state s packets) ≡ end_state (new_side s) packets
 posted_is s packets n =
     let e = end_state s packets in
     ap (λ (l : List NspMessage). record e { waiting = []; handed = l }) (take-append-drop s.posted packets ∙ sym (take_all (s.posted + length s.outbox) packets (omega arith)))
@@ -95,7 +95,7 @@ segments_all size s handed packets same e sends =
     ap (segments_of size) (take-append-drop s.posted packets) ∙ segments-cut size packets ∙ ap (λ (l : List (List ℕ)). length (cut size l)) (sym e)
     ∙ ap (λ n. length (cut n (handed ++ s.outbox))) same ∙ all_segments s handed sends
 
-segments_are : (p : Parts) (end : End) → AreParts p → segments_of (state_of p).seg_size (posted (end_of (state_of p) end)).handed ≡ segments_queued (side p end)
+segments_are : (p : Parts) (end : End) → AreParts p → segments_of (state_of p).seg_size (end_after_post (end_of (state_of p) end)).handed ≡ segments_queued (side p end)
 segments_are p A h = segments_all p.a.link.setup.seg_size p.a h.from_a.handed (asked_messages p) refl h.from_a.bytes h.from_a.way.sends
 segments_are p B h = segments_all p.a.link.setup.seg_size p.b h.from_b.handed (answers p) (sym h.alike.size) h.from_b.bytes h.from_b.way.sends
 
@@ -118,7 +118,7 @@ abbrev pub SentMore : Parts → End → List (List ℕ) → Type 0
 SentMore p A more = SplitsAll p.a.outbox [] more
 SentMore p B more = Unit {0}
 
-state_posted : (p : Parts) (end : End) (more : List (List ℕ)) → AreParts p → with_end (state_of p) end (posted (end_of (state_of p) end)) ≡ state_of (posted_parts p end more)
+state_posted : (p : Parts) (end : End) (more : List (List ℕ)) → AreParts p → with_end (state_of p) end (end_after_post (end_of (state_of p) end)) ≡ state_of (posted_parts p end more)
 state_posted p A more h = ap (λ (e : EndState). with_end (state_of p) A e) (posted_is p.a (asked_messages p) (counted p.a.posted h.from_a.handed p.a.outbox (asked_messages p) h.from_a.posted h.from_a.bytes))
 state_posted p B more h = ap (λ (e : EndState). with_end (state_of p) B e) (posted_is p.b (answers p) (counted p.b.posted h.from_b.handed p.b.outbox (answers p) h.from_b.posted h.from_b.bytes))
 
@@ -194,7 +194,7 @@ HandsOver p A = (past : ClientHistory) → HasAsked past (asking_end p) → HasA
 HandsOver p B = (past : ServerHistory) → IsAfter past (serving_end p) → IsAfter (record past { handed = past.handed ++ p.b.outbox }) (record { port = port_posted (port_of p.b); present = p.accessed })
 
 parts_posted : (p : Parts) (end : End) (more : List (List ℕ)) → AreParts p → segments_queued (side p end) ≤ max_segments → SentMore p end more → HandsOver p end → IsWorld (state_of (posted_parts p end more)) → AreParts (posted_parts p end more)
-unfolding reported
+unfolding reports_by_a
 parts_posted p A more h room splits goes world =
     let short = subst (λ (n : ℕ). AreWithinLimit n p.a.outbox) (sym h.alike.limit) h.from_a.short in
     let same = served_same p h in
@@ -240,7 +240,7 @@ posted_step p end more h some room splits goes =
     )
 
 -- nothing was passed on
-pub post_refused : (p : Parts) (end : End) (f : WorldFault) → AreParts p → PostFault (side p end).link (side p end).outbox f → Went (state_of p) (event.Post end) (Err f) (state_of p)
+pub post_refused : (p : Parts) (end : End) (f : WorldFault) → AreParts p → PostFault (side p end).link (side p end).outbox f → ComesTo (state_of p) (event.Post end) (Err f) (state_of p)
 unfolding Steps RefusesEvent
 post_refused p end fault.NothingToDo h none = (no_length (end_of (state_of p) end).waiting (waiting_is p end h ∙ ap length none), refl)
 post_refused p end fault.Exhausted h many = let n = waiting_is p end h in let all = segments_are p end h in ((omega (arith, many.0), omega (arith, many.1)), refl)

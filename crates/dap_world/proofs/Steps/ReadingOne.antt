@@ -18,8 +18,8 @@ use Rattle.dap_events.specs.declared.event.Event.TheVariants as event
 use Rattle.dap_events.specs.declared.event.Step.{Step}
 use Rattle.dap_events.specs.declared.event.Step.TheVariants as step
 use Rattle.dap_events.specs.declared.event.WorldFault.TheVariants as fault
-use Rattle.dap_world.specs.Machine.{RefusesEvent, State, arrived, arrived_at, served_by_b, answers_read, with_read, next_to_read, told_by, reported, Steps}
-use Rattle.dap_world.specs.Runs.{Went, TakesMemory, WantsMemory}
+use Rattle.dap_world.specs.Machine.{RefusesEvent, State, arrived_messages, arrived_at, served_by_b, answers_read, with_read, next_to_read, told_by, reports_by_a, Steps}
+use Rattle.dap_world.specs.Runs.{ComesTo, TakesMemory, WantsMemory}
 use Rattle.dap_world.specs.Inner.Worlds.{IsWorld}
 use Rattle.dap_fields.specs.Spelling.{AreBytes}
 use Rattle.dap_accessing.specs.Calls.{ReadRefused}
@@ -57,7 +57,7 @@ next_answer p bytes later h inbox =
 
 next_read : (p : Parts) (bytes : List ℕ) → AreParts p → (n : Next p.b p.a (answers p) p.read bytes) → next_to_read (state_of p) ≡ Some n.m
 next_read p bytes h n =
-    subst (λ (size : ℕ). slice_get (messages_in (arrived size p.a.link.coming.received (take p.b.posted (answers p)))) p.read ≡ Some n.m) h.alike.size n.next
+    subst (λ (size : ℕ). slice_get (messages_in (arrived_messages size p.a.link.coming.received (take p.b.posted (answers p)))) p.read ≡ Some n.m) h.alike.size n.next
 
 -- the answers read, once one more is
 read-more : (p : Parts) (m : Message) → AreParts p → next_to_read (state_of p) ≡ Some m → answers_read (with_read (state_of p)) ≡ answers_read (state_of p) ++ Whole m ∷ []
@@ -88,23 +88,23 @@ few_read p h =
     let s = state_of p in
     let packets = take p.b.posted (answers p) in
     let front = arrived-front s.seg_size s.a.taken s.b.handed in
-    few_messages p.b.link.setup.seg_size packets p.read (omega (arith, h.world.read, ap length front.1, length-append (messages_in (arrived s.seg_size s.a.taken s.b.handed)) front.0))
+    few_messages p.b.link.setup.seg_size packets p.read (omega (arith, h.world.read, ap length front.1, length-append (messages_in (arrived_messages s.seg_size s.a.taken s.b.handed)) front.0))
     (fit-take p.b.posted (answers p) h.from_b.fit) p.a.link.setup.max_message
     (subst (AreWithinLimit p.a.link.setup.max_message) (handed-bytes p.b.posted h.from_b.handed p.b.outbox (answers p) h.from_b.posted h.from_b.bytes) h.from_b.way.short) h.most
     (subst (λ (l : List (List ℕ)). length (cut p.b.link.setup.seg_size l) ≤ max_segments) (handed-bytes p.b.posted h.from_b.handed p.b.outbox (answers p) h.from_b.posted h.from_b.bytes) h.from_b.way.few)
 
 -- ---- None is read.
 
-pub reads_nothing : (p : Parts) → AreParts p → p.a.link.coming.inbox ≡ [] → Went (state_of p) event.Read (Err fault.NothingToDo) (state_of p)
+pub reads_nothing : (p : Parts) → AreParts p → p.a.link.coming.inbox ≡ [] → ComesTo (state_of p) event.Read (Err fault.NothingToDo) (state_of p)
 unfolding RefusesEvent
 reads_nothing p h empty =
-    (subst (λ (size : ℕ). slice_get (messages_in (arrived size p.a.link.coming.received (take p.b.posted (answers p)))) p.read ≡ None) h.alike.size (none_next p.b p.a (answers p) p.read h.from_b empty), refl)
+    (subst (λ (size : ℕ). slice_get (messages_in (arrived_messages size p.a.link.coming.received (take p.b.posted (answers p)))) p.read ≡ None) h.alike.size (none_next p.b p.a (answers p) p.read h.from_b empty), refl)
 
 -- whatever a reading comes to, it may take memory
 told_takes_some : (old new : State) → TakesMemory (told_by old new)
-told_takes_some old new = elim (length (reported new) == length (reported old)) as (λ b. TakesMemory (if b then step.Nothing else step.Reported)) [ true ↦ tt | false ↦ tt ]
+told_takes_some old new = elim (length (reports_by_a new) == length (reports_by_a old)) as (λ b. TakesMemory (if b then step.Nothing else step.Reported)) [ true ↦ tt | false ↦ tt ]
 
-pub reads_later : (p : Parts) → AreParts p → 0 < length p.a.link.coming.inbox → Went (state_of p) event.Read (Err fault.NoMemory) (state_of p)
+pub reads_later : (p : Parts) → AreParts p → 0 < length p.a.link.coming.inbox → ComesTo (state_of p) event.Read (Err fault.NoMemory) (state_of p)
 unfolding Steps
 reads_later p h some = (may_read p.a.link.coming.inbox refl some, refl)
   where
@@ -148,7 +148,7 @@ told_is old new (Some report) e =
 
 read_so : (p : Parts) (v : AskingValue) (report : Option Report) (reports : List Report) → AreParts p → ReadOne (asking_end p) v report → reports ≡ p.reports ++ option_to_list report
     → AreThen p event.Read (record (asking_parts p v p.a.posted p.a.wire) { reports = reports; read = p.read + 1 }) (Ok (told_step report))
-unfolding reported
+unfolding reports_by_a
 read_so p v report reports h o kept =
     let x = next_answer p o.one.bytes o.one.later h o.one.came in
     let m = x.m in
@@ -167,7 +167,7 @@ read_so p v report reports h o kept =
       subst (λ (port : PortValue). HasAsked (record now { requests = p.requests; answers = old ++ o.one.item ∷ [] }) (record { port = port; present = as_client p v.present })) o.port
           (subst (λ (y : accessing.ClientState). HasAsked (record now { requests = p.requests; answers = old ++ o.one.item ∷ [] }) (record { port = v.port; present = y })) own (o.past past h.asking.1)),
     ) in
-    let adds : reported (with_read (state_of p)) ≡ reported (state_of p) ++ option_to_list report = ap (Told p.requests) (sym same) ∙ o.told past h.asking.1 in
+    let adds : reports_by_a (with_read (state_of p)) ≡ reports_by_a (state_of p) ++ option_to_list report = ap (Told p.requests) (sym same) ∙ o.told past h.asking.1 in
     let parts : AreParts q =
     record {
       world = world-read p m h next;
@@ -183,7 +183,7 @@ read_so p v report reports h o kept =
       asking = asking;
       serving = h.serving;
     } in
-    let answer : told_step report ≡ told_by (state_of p) (with_read (state_of p)) = told_is (reported (state_of p)) (reported (with_read (state_of p))) report adds in
+    let answer : told_step report ≡ told_by (state_of p) (with_read (state_of p)) = told_is (reports_by_a (state_of p)) (reports_by_a (with_read (state_of p))) report adds in
     let done : AreThen p event.Read q (Ok (told_step report)) = subst (λ (a : Step). AreThen p event.Read q (Ok a)) (sym answer) (parts, reads p m next) in
     subst (λ (port : PortValue). AreThen p event.Read (record p { a = side_of port p.a.posted p.a.wire; accessing = v.present; reports = reports; read = p.read + 1 }) (Ok (told_step report))) (sym o.port)
     (subst (λ (y : accessing.ClientState). AreThen p event.Read (record p { a = t; accessing = y; reports = reports; read = p.read + 1 }) (Ok (told_step report))) (sym own) done)

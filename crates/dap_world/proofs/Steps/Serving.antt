@@ -9,7 +9,7 @@ use Rattle.dap_msg.specs.declared.items.Item.TheVariants.{Whole}
 use Rattle.dap_msg.specs.Canon.{canon}
 use Rattle.dap_msg.specs.Blocked.{NspMessage, blocked_bytes, all_joined, messages_in, AllFit}
 use Rattle.dap_msg.proofs.ForCallers.{messages_in-Blocked}
-use Rattle.dap_world.specs.Plain.{Answers, added, stands_after, Asked}
+use Rattle.dap_world.specs.Plain.{Answers, answers_added, stands_after, Asked}
 use Rattle.dap_accessed.specs.Present as accessed
 use Rattle.dap_world.proofs.Plain.{Answers-more, answer_to, answers-more}
 use Rattle.dap_accessing.specs.Told.{Told}
@@ -17,8 +17,8 @@ use Rattle.dap_events.specs.declared.event.Event.TheVariants as event
 use Rattle.dap_events.specs.declared.event.Step.TheVariants as step
 use Rattle.dap_events.specs.declared.event.WorldFault.{WorldFault}
 use Rattle.dap_events.specs.declared.event.WorldFault.TheVariants as fault
-use Rattle.dap_world.specs.Machine.{State, arrived, served_by_b, answers_read, answering, served_one, next_to_serve, Steps, RefusesEvent, reported}
-use Rattle.dap_world.specs.Runs.{Went, WantsMemory}
+use Rattle.dap_world.specs.Machine.{State, arrived_messages, served_by_b, answers_read, answering, served_one, next_to_serve, Steps, RefusesEvent, reports_by_a}
+use Rattle.dap_world.specs.Runs.{ComesTo, WantsMemory}
 use Rattle.dap_world.specs.Inner.Worlds.{IsWorld}
 use Rattle.nsp_link.specs.Link.{with_inbox}
 use Rattle.dap_end.specs.Ports.{PortValue}
@@ -28,7 +28,7 @@ use Rattle.dap_accessed.specs.declared.setup.ServerSetup.{ServerSetup}
 use Rattle.dap_end.proofs.ForCallers.{back_fit, prefix_fit, prefix_full, in_append}
 use Rattle.dap_world.specs.Inner.Sides.{AreWithinLimit, side_of}
 use Rattle.dap_world.specs.Inner.Parts.{Parts, AreParts, IsAskedAll, IsServedAll, IsCarried, asked_messages, answers, asking_end, serving_end, served_items, answer_packets, end_state, state_of}
-use Rattle.dap_end.specs.Histories.{AreFull, served}
+use Rattle.dap_end.specs.Histories.{AreFull, history_after_item}
 use Rattle.dap_world.proofs.Steps.Counting.{counted}
 use Rattle.dap_world.proofs.Steps.Packets.{arrived-front, get-front, take-next}
 use Rattle.dap_world.proofs.Headline.Blocks.{asked-all, asked-full}
@@ -62,7 +62,7 @@ served_is p h =
     let front = arrived-front p.a.link.setup.seg_size p.b.link.coming.received handed in
     ap (λ (l : List Message). map Whole (take p.served l)) (sym (asked-split p))
     ∙ ap (map Whole) (take-append-le p.served (messages_in handed) (messages_in (drop p.a.posted (asked_messages p)))
-    (omega (arith, h.world.served, length-append (messages_in (arrived p.a.link.setup.seg_size p.b.link.coming.received handed)) front.0, ap length front.1)))
+    (omega (arith, h.world.served, length-append (messages_in (arrived_messages p.a.link.setup.seg_size p.b.link.coming.received handed)) front.0, ap length front.1)))
 
 -- one more
 served_more : (p : Parts) (m : Message) → next_to_serve (state_of p) ≡ Some m → take (p.served + 1) (Asked p.accessing.own p.requests) ≡ take p.served (Asked p.accessing.own p.requests) ++ m ∷ []
@@ -70,7 +70,7 @@ served_more p m next =
     let handed = take p.a.posted (asked_messages p) in
     let front = arrived-front p.a.link.setup.seg_size p.b.link.coming.received handed in
     let here : slice_get (messages_in handed) p.served ≡ Some m =
-    subst (λ (l : List Message). slice_get l p.served ≡ Some m) front.1 (get-front (messages_in (arrived p.a.link.setup.seg_size p.b.link.coming.received handed)) front.0 p.served m next) in
+    subst (λ (l : List Message). slice_get l p.served ≡ Some m) front.1 (get-front (messages_in (arrived_messages p.a.link.setup.seg_size p.b.link.coming.received handed)) front.0 p.served m next) in
     take-next (Asked p.accessing.own p.requests) p.served m
     (subst (λ (l : List Message). slice_get l p.served ≡ Some m) (asked-split p) (get-front (messages_in handed) (messages_in (drop p.a.posted (asked_messages p))) p.served m here))
 
@@ -85,13 +85,13 @@ read-stays p m h =
     let all = ap length (sym (in_append s.b.handed s.b.waiting) ∙ h.world.answered) in
     ap (λ l. take p.read (Answers p.accessed.own [] l)) (map-append Whole (served_by_b s) (m ∷ []))
     ∙ ap (take p.read) (Answers-more p.accessed.own [] items (Whole m))
-    ∙ take-append-le p.read (Answers p.accessed.own [] items) (added p.accessed.own [] items (Whole m))
+    ∙ take-append-le p.read (Answers p.accessed.own [] items) (answers_added p.accessed.own [] items (Whole m))
     (omega (
       arith,
       h.world.read,
       all,
       length-append (messages_in s.b.handed) (messages_in s.b.waiting),
-      length-append (messages_in (arrived s.seg_size s.a.taken s.b.handed)) front.0,
+      length-append (messages_in (arrived_messages s.seg_size s.a.taken s.b.handed)) front.0,
       ap length front.1,
     ))
 
@@ -154,10 +154,10 @@ module _ (p : Parts) (h : AreParts p) (m : Message) (next : next_to_serve (state
 
   parts_served : (bytes : List ℕ) (later outbox : List (List ℕ)) (next_offset : ℕ) (after : accessed.Present) (n : Next p.a p.b (asked_messages p) p.served bytes)
       → n.m ≡ m → p.b.link.coming.inbox ≡ bytes ∷ later → length (blocked_bytes n.begun) + length (canon n.m) ≡ next_offset
-      → outbox ≡ all_joined (answer_to p.accessed.own [] (map Whole (served_by_b (state_of p))) (Whole m)) → AllFit (added p.accessed.own [] (map Whole (served_by_b (state_of p))) (Whole m))
+      → outbox ≡ all_joined (answer_to p.accessed.own [] (map Whole (served_by_b (state_of p))) (Whole m)) → AllFit (answers_added p.accessed.own [] (map Whole (served_by_b (state_of p))) (Whole m))
       → (let s = handled_side p.b bytes later next_offset in
       IsServedAll (serving_end (q_of s.link.coming.inbox s.offset outbox after)) (map Whole (served_by_b (state_of p)) ++ Whole m ∷ []) → AreParts (q_of s.link.coming.inbox s.offset outbox after))
-  unfolding reported
+  unfolding reports_by_a
   parts_served bytes later outbox next_offset after n same inbox goes outbox_is fit serving =
       let s = handled_side p.b bytes later next_offset in
       let q = q_of s.link.coming.inbox s.offset outbox after in
@@ -165,8 +165,8 @@ module _ (p : Parts) (h : AreParts p) (m : Message) (next : next_to_serve (state
       let world = kept-step (state_of p) (served_one (state_of p) m) event.Serve (step.Served (length (answering (state_of p) m))) serves h.world in
       let taken : served_by_b (served_one (state_of p) m) ≡ served_by_b (state_of p) ++ m ∷ [] = taken-more (state_of p) m next in
       let b = answer_to p.accessed.own [] (served_items p) (Whole m) in
-      let all = messages_in-Blocked (stands_after p.accessed.own [] (served_items p)).standing.scene.limit (added p.accessed.own [] (served_items p) (Whole m)) in
-      let fit_block : AllFit (messages_in b) = subst AllFit (sym all) (subst (λ (l : List Item). AllFit (added p.accessed.own [] l (Whole m))) (sym (served_is p h)) fit) in
+      let all = messages_in-Blocked (stands_after p.accessed.own [] (served_items p)).standing.scene.limit (answers_added p.accessed.own [] (served_items p) (Whole m)) in
+      let fit_block : AllFit (messages_in b) = subst AllFit (sym all) (subst (λ (l : List Item). AllFit (answers_added p.accessed.own [] l (Whole m))) (sym (served_is p h)) fit) in
       let short : AreWithinLimit p.b.link.setup.max_message outbox = subst (AreWithinLimit p.b.link.setup.max_message) (sym outbox_is) block_short in
       let block_is : outbox ≡ all_joined b = outbox_is ∙ ap (λ (l : List Item). all_joined (answer_to p.accessed.own [] l (Whole m))) (sym (served_is p h)) in
       let read : answers_read (served_one (state_of p) m) ≡ answers_read (state_of p) =
@@ -182,7 +182,7 @@ module _ (p : Parts) (h : AreParts p) (m : Message) (next : next_to_serve (state
         from_b = subst (λ (l : List NspMessage). IsCarried q.b p.a l p.read) (sym answers_are)
             (told_more p.b p.a (answers p) b p.read s.link.coming.inbox s.offset outbox outbox h.from_b (ap (λ (l : List (List ℕ)). l ++ outbox) (sym idle)) block_is fit_block short);
         sent_is = h.sent_is;
-        reports_is = h.reports_is ∙ ap (Told p.requests) (sym read) ∙ ap reported (sym state);
+        reports_is = h.reports_is ∙ ap (Told p.requests) (sym read) ∙ ap reports_by_a (sym state);
         asking = subst (λ (x : State). IsAskedAll (asking_end p) p.requests (answers_read x)) (sym state)
             (subst (λ (l : List Item). IsAskedAll (asking_end p) p.requests l) (sym read) h.asking);
         serving = subst (λ (x : State). IsServedAll (serving_end q) (map Whole (served_by_b x))) (sym state)
@@ -201,15 +201,15 @@ unserved (x ∷ outbox) inbox denied = inl (omega arith)
 unserved [] [] denied = inr refl
 unserved [] (x ∷ inbox) denied = absurd (denied (refl, omega arith))
 
-pub serves_nothing : (p : Parts) → AreParts p → (MayServe (serving_end p) → ⊥) → Went (state_of p) event.Serve (Err fault.NothingToDo) (state_of p)
+pub serves_nothing : (p : Parts) → AreParts p → (MayServe (serving_end p) → ⊥) → ComesTo (state_of p) event.Serve (Err fault.NothingToDo) (state_of p)
 unfolding RefusesEvent
 serves_nothing p h denied =
-    elim (unserved p.b.outbox p.b.link.coming.inbox denied) as (λ _. Went (state_of p) event.Serve (Err fault.NothingToDo) (state_of p)) [
+    elim (unserved p.b.outbox p.b.link.coming.inbox denied) as (λ _. ComesTo (state_of p) event.Serve (Err fault.NothingToDo) (state_of p)) [
       | inl waiting ↦ (inl (omega (arith, waiting, waits p.b p.a (answers p) p.read h.from_b)), refl)
       | inr empty ↦ (inr (none_next p.a p.b (asked_messages p) p.served h.from_a empty), refl)
     ]
 
-pub serves_later : (p : Parts) → AreParts p → MayServe (serving_end p) → Went (state_of p) event.Serve (Err fault.NoMemory) (state_of p)
+pub serves_later : (p : Parts) → AreParts p → MayServe (serving_end p) → ComesTo (state_of p) event.Serve (Err fault.NoMemory) (state_of p)
 unfolding Steps
 serves_later p h may = (may_serve p.b.link.coming.inbox refl may.1, refl)
   where
@@ -217,7 +217,7 @@ serves_later p h may = (may_serve p.b.link.coming.inbox refl may.1, refl)
     may_serve [] e some = let none : ⊥ = omega arith in absurd none
     may_serve (bytes ∷ later) e some = let n = next_of p bytes later h e in (_, _, serves p h n.m n.next may.0, tt)
 
-pub not_served : (p : Parts) (v : ServingValue) (f : WorldFault) → AreParts p → v ≡ serving_end p → Went (state_of p) event.Serve (Err f) (state_of p)
+pub not_served : (p : Parts) (v : ServingValue) (f : WorldFault) → AreParts p → v ≡ serving_end p → ComesTo (state_of p) event.Serve (Err f) (state_of p)
     → AreThen p event.Serve (serving_parts p v p.b.posted p.b.wire) (Err f)
 not_served p v f h same went = subst (λ (x : ServingValue). AreThen p event.Serve (serving_parts p x p.b.posted p.b.wire) (Err f)) (sym same) (h, went)
 
@@ -230,7 +230,7 @@ module _ (p : Parts) (v : ServingValue) (n : ℕ) (h : AreParts p) (o : ServedOn
   past = record h.serving.0 { first = []; items = map Whole (served_by_b (state_of p)) }
 
   abbrev now : ServerHistory
-  now = served past o.one.bytes (Whole m) o.one.next
+  now = history_after_item past o.one.bytes (Whole m) o.one.next
 
   own_is : v.present ≡ as_server p v.present
   own_is = server_is p v h o.own o.setup
@@ -238,7 +238,7 @@ module _ (p : Parts) (v : ServingValue) (n : ℕ) (h : AreParts p) (o : ServedOn
   is_after : IsAfter now (record { port = v.port; present = as_server p v.present })
   is_after =
       subst (λ (x : accessed.Present). IsAfter now (record { port = v.port; present = x })) own_is
-      (subst (λ (i : Item). IsAfter (served past o.one.bytes i o.one.next) v) (sym is) (o.past past h.serving.1))
+      (subst (λ (i : Item). IsAfter (history_after_item past o.one.bytes i o.one.next) v) (sym is) (o.past past h.serving.1))
 
   -- what waits is its answers
   outbox_is : v.port.outbox ≡ all_joined (answer_to p.accessed.own [] taken (Whole m))
@@ -252,9 +252,9 @@ module _ (p : Parts) (v : ServingValue) (n : ℕ) (h : AreParts p) (o : ServedOn
       ∙ ap (λ (l : List (List ℕ)). l ++ all_joined block) (sym before) in
       sym (drop-append_seam handed v.port.outbox) ∙ ap (drop (length handed)) all ∙ drop-append_seam handed (all_joined block)
 
-  added_fit : AllFit (added p.accessed.own [] taken (Whole m))
+  added_fit : AllFit (answers_added p.accessed.own [] taken (Whole m))
   added_fit =
-      back_fit (Answers p.accessed.own [] taken) (added p.accessed.own [] taken (Whole m))
+      back_fit (Answers p.accessed.own [] taken) (answers_added p.accessed.own [] taken (Whole m))
       (subst AllFit (Answers-more p.accessed.own [] taken (Whole m)) is_after.fit)
 
 pub served_step : (p : Parts) (v : ServingValue) (n : ℕ) → AreParts p → ServedOne (serving_end p) v n

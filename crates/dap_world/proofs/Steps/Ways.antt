@@ -7,7 +7,7 @@ use Rattle.nsp_link.specs.Limits.{max_segments}
 use Rattle.nsp_link.specs.Cutting.{cut}
 use Rattle.nsp_link.specs.declared.link.LinkSetup.{LinkSetup}
 use Rattle.nsp_link.specs.Link.{LinkValue, Sends, Stands, Writes, IsWrittenPacket}
-use Rattle.nsp_link.specs.Due.{Delivered}
+use Rattle.nsp_link.specs.Due.{DeliversPacket}
 use Rattle.dap_world.specs.declared.side.Wired.{Wired}
 use Rattle.dap_world.specs.Inner.Sides.{SideValue, AreWithinLimit}
 use Rattle.dap_world.specs.Inner.Ways.{IsWay}
@@ -19,7 +19,7 @@ wrote_side s sent w = record s { link = record s.link { sent = sent }; wire = s.
 
 -- the taking link took a packet in
 pub takes : (from : SideValue) (v v' : LinkValue) (messages given : List (List ℕ)) (k : Option ℕ) (a : ℕ)
-    → IsWay from v messages given → Delivered v v' k a → Stands v' from.link.setup.seg_size messages given → IsWay from v' messages given
+    → IsWay from v messages given → DeliversPacket v v' k a → Stands v' from.link.setup.seg_size messages given → IsWay from v' messages given
 takes from v v' messages given k a way took stands =
     let d = took in
     record {
@@ -45,7 +45,7 @@ same_writes v v' messages same (w ∷ wire) h = (
 
 -- the sending link took a packet in: it sends what it sent
 pub gives : (from : SideValue) (v' to : LinkValue) (messages given : List (List ℕ)) (k : Option ℕ) (a : ℕ)
-    → IsWay from to messages given → Delivered from.link v' k a → Sends v' messages → IsWay (record from { link = v' }) to messages given
+    → IsWay from to messages given → DeliversPacket from.link v' k a → Sends v' messages → IsWay (record from { link = v' }) to messages given
 gives from v' to messages given k a way took sends =
     let d = took in
     record {
@@ -117,7 +117,7 @@ module _ (packets : List NspMessage) (count : ℕ) (from to : SideValue) (h : Is
   pub told_sent : (sent : ℕ) (w : Wired) → IsCarried from (wrote_side to sent w) packets count
   told_sent sent w = told_with h (still_way from to.link (record to.link { sent = sent }) h.handed _ refl h.way)
 
-  pub told_gives : (v : LinkValue) (k : Option ℕ) (a : ℕ) → Delivered from.link v k a → Sends v h.handed → IsCarried (record from { link = v }) to packets count
+  pub told_gives : (v : LinkValue) (k : Option ℕ) (a : ℕ) → DeliversPacket from.link v k a → Sends v h.handed → IsCarried (record from { link = v }) to packets count
   told_gives v k a d sends =
       subst (λ (most : ℕ). IsToldBy from.posted to.offset most from.outbox packets count (IsWay (record from { link = v }) to.link)) (sym (ap (λ (s : LinkSetup). s.max_message) d.setup))
       (told_with h (gives from v to.link h.handed _ k a h.way d sends))

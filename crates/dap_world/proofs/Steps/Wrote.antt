@@ -14,8 +14,8 @@ use Rattle.dap_events.specs.declared.event.Step.{Step}
 use Rattle.dap_events.specs.declared.event.Step.TheVariants as step
 use Rattle.dap_events.specs.declared.event.WorldFault.{WorldFault}
 use Rattle.dap_events.specs.declared.event.WorldFault.TheVariants as fault
-use Rattle.dap_world.specs.Machine.{reported, State, EndState, Sending, end_of, with_end, wrote, MayEmit, segments_of, Steps, RefusesEvent}
-use Rattle.dap_world.specs.Runs.{Went}
+use Rattle.dap_world.specs.Machine.{reports_by_a, State, EndState, Sending, end_of, with_end, wrote, MayEmit, segments_of, Steps, RefusesEvent}
+use Rattle.dap_world.specs.Runs.{ComesTo}
 use Rattle.dap_world.specs.Inner.Worlds.{IsWorld}
 use Rattle.dap_msg.specs.BothEnds.{plain_identity}
 use Rattle.dap_msg.specs.declared.message.Configuration.{Configuration}
@@ -64,7 +64,7 @@ index_is p B = length-map p.b.wire sending_of
 parts_wrote : (p : Parts) (end : End) (sent : ℕ) (w : Wired) → AreParts p → ((messages : List (List ℕ)) → Sends (side p end).link messages → Writes (side p end).link messages w.segment w.acks w.packet.items)
     → StaysAt p end (wrote_side (side p end) sent w)
     → IsWorld (state_of (with_side p end (wrote_side (side p end) sent w))) → AreParts (with_side p end (wrote_side (side p end) sent w))
-unfolding reported
+unfolding reports_by_a
 parts_wrote p A sent w h carries still world =
     record {
       world = world;
@@ -98,7 +98,7 @@ parts_wrote p B sent w h carries still world =
 
 -- what an event makes of parts whose one side moved
 abbrev pub AreAfter : Parts → End → Event → SideValue → Result Step WorldFault → Type 0
-AreAfter p end e s answer = AreParts (with_side p end s) × Went (state_of p) e answer (state_of (with_side p end s))
+AreAfter p end e s answer = AreParts (with_side p end s) × ComesTo (state_of p) e answer (state_of (with_side p end s))
 
 -- an end is this now, and sent this
 abbrev pub asking_parts : Parts → AskingValue → (posted : ℕ) → List Wired → Parts
@@ -125,7 +125,7 @@ server_is p v h own setup =
 
 -- what an event makes of parts
 abbrev pub AreThen : Parts → Event → Parts → Result Step WorldFault → Type 0
-AreThen p e q answer = AreParts q × Went (state_of p) e answer (state_of q)
+AreThen p e q answer = AreParts q × ComesTo (state_of p) e answer (state_of q)
 
 -- only the port of an end moved, and its wire
 pub at_a : (p : Parts) (e : Event) (v : AskingValue) (wire : List Wired) (r : Result Step WorldFault) → v ≡ record (asking_end p) { port = v.port } → Still HasAsked (asking_end p) v
@@ -147,11 +147,11 @@ same_side p A = refl
 same_side p B = refl
 
 -- nothing moved
-pub none_more : (p : Parts) (end : End) (e : Event) (s : SideValue) (f : WorldFault) → AreParts p → s ≡ side p end → Went (state_of p) e (Err f) (state_of p) → AreAfter p end e s (Err f)
+pub none_more : (p : Parts) (end : End) (e : Event) (s : SideValue) (f : WorldFault) → AreParts p → s ≡ side p end → ComesTo (state_of p) e (Err f) (state_of p) → AreAfter p end e s (Err f)
 unfolding Steps RefusesEvent
 none_more p end e s f h same went =
     subst (λ (x : SideValue). AreAfter p end e x (Err f)) (sym same)
-    (subst (λ (q : Parts). AreParts q × Went (state_of p) e (Err f) (state_of q)) (sym (same_side p end)) (h, went))
+    (subst (λ (q : Parts). AreParts q × ComesTo (state_of p) e (Err f) (state_of q)) (sym (same_side p end)) (h, went))
 
 -- the end wrote a packet where the machine does
 one_more : (p : Parts) (end : End) (e : Event) (sent : ℕ) (k : Option ℕ) (s : SideValue) (answer : Step) → AreParts p

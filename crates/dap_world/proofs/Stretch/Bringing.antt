@@ -7,11 +7,11 @@ use Rattle.dap_events.specs.declared.event.Event.TheVariants as event
 use Rattle.dap_events.specs.declared.event.Step.{Step}
 use Rattle.dap_events.specs.declared.event.WorldFault.{WorldFault}
 use Rattle.dap_events.specs.declared.event.WorldFault.TheVariants as fault
-use Rattle.dap_world.specs.Machine.{RefusesEvent, State, EndState, Sending, end_of, with_end, other_end, wrote, delivered, is_stale, MayEmit, segments_of, Steps}
+use Rattle.dap_world.specs.Machine.{RefusesEvent, State, EndState, Sending, end_of, with_end, other_end, wrote, end_after_delivery, is_stale, MayEmit, segments_of, Steps}
 use Rattle.dap_msg.specs.Blocked.{NspMessage}
-use Rattle.dap_world.specs.Runs.{Went}
+use Rattle.dap_world.specs.Runs.{ComesTo}
 use Rattle.dap_world.specs.Inner.Worlds.{IsWorld}
-use Rattle.dap_world.specs.Settling.{RanBy, unacked}
+use Rattle.dap_world.specs.Settling.{RanBy, unacked_count}
 use Rattle.dap_world.specs.Inner.Settling.{Brought, RanTo, SameBut}
 use Rattle.dap_world.proofs.Headline.Kept.{back, came_in, direction, now_at, other_still, still_at, twice}
 use Rattle.dap_world.proofs.Stretch.Settles.{ran_none, ran_one, ran_both, at_last, is_same, took}
@@ -112,13 +112,13 @@ unfolding Steps
 deliver_sent old new end e j answer step = sent_same old new end e _ step.3 refl
 
 -- it isn't acknowledged
-pub emit_unacked : (old mid : State) (end : End) (answer : Step) → IsWorld old → unacked old end ≡ 0 → Steps old (event.Emit end) answer mid → unacked mid end ≡ 1
+pub emit_unacked : (old mid : State) (end : End) (answer : Step) → IsWorld old → unacked_count old end ≡ 0 → Steps old (event.Emit end) answer mid → unacked_count mid end ≡ 1
 unfolding Steps
 emit_unacked old mid end answer h none step =
     let c = (direction old end h).counts in ap (λ (e : EndState). e.sent - e.acked) (now_at old mid end _ step.2) ∙ omega (arith, none, c.acked_taken, c.taken_sent)
 
 -- nor is it when it came
-pub deliver_unacked : (mid new : State) (end : End) (j : ℕ) (answer : Step) → Steps mid (event.Deliver (other_end end) j) answer new → unacked new end ≡ unacked mid end
+pub deliver_unacked : (mid new : State) (end : End) (j : ℕ) (answer : Step) → Steps mid (event.Deliver (other_end end) j) answer new → unacked_count new end ≡ unacked_count mid end
 unfolding Steps
 deliver_unacked mid new end j answer step = ap (λ (e : EndState). e.sent - e.acked) (still_at mid new end _ step.3)
 
@@ -133,7 +133,7 @@ there_first old mid end index answer step at =
     ap (λ (e : End). slice_get (end_of mid e).wire index) (twice end) ∙ ap (λ (e : EndState). slice_get e.wire index) (now_at old mid end _ step.2)
     ∙ at_last (end_of old end).wire index (first_sent old end) at
 
-pub emit_refused : (old new : State) (end : End) (f : WorldFault) → MayEmit old end → Went old (event.Emit end) (Err f) new → (f ≡ fault.NoMemory) × RanTo old new
+pub emit_refused : (old new : State) (end : End) (f : WorldFault) → MayEmit old end → ComesTo old (event.Emit end) (Err f) new → (f ≡ fault.NoMemory) × RanTo old new
 unfolding Steps RefusesEvent
 emit_refused old new end fault.NoMemory may went = (refl, (0, subst (λ (s : State). RanBy old s 0) (sym went.1) (ran_none old)))
 emit_refused old new end fault.NothingToDo may went = absurd (went.0 may)
@@ -153,7 +153,7 @@ fresh_first old mid end answer h step =
     ∙ rw (le-ltb ((end_of old end).sent + 1 + 2047) (to.taken + 1) (omega (arith, c.taken_sent)), le-ltb ((end_of old end).taken + 2047) to.acked (omega (arith, b.acked_taken))) refl
 
 pub first_refused : (old mid new : State) (end : End) (index : ℕ) (answer : Step) (f : WorldFault) → IsWorld old → IsWorld mid → Steps old (event.Emit end) answer mid → index ≡ length (end_of old end).wire
-    → Went mid (event.Deliver (other_end end) index) (Err f) new → (f ≡ fault.NoMemory) × RanTo old new
+    → ComesTo mid (event.Deliver (other_end end) index) (Err f) new → (f ≡ fault.NoMemory) × RanTo old new
 unfolding Steps RefusesEvent
 first_refused old mid new end index answer fault.NoMemory h w step at went = (refl, (1, subst (λ (s : State). RanBy old s 1) (sym went.1) (ran_one old mid (event.Emit end) answer tt step)))
 first_refused old mid new end index answer fault.NoSuchPacket h w step at went = let there = there_first old mid end index answer step at in let none = went.0 in absurd cc
@@ -167,14 +167,14 @@ first_refused old mid new end index answer fault.Exhausted h w step at went = ab
 first_refused old mid new end index answer fault.BadSetup h w step at went = absurd went.0
 
 -- all that was sent was taken
-pub arrived_all : (old mid new : State) (end : End) (index : ℕ) (one two : Step) → IsWorld old → IsWorld mid → unacked old end ≡ 0 → Steps old (event.Emit end) one mid → index ≡ length (end_of old end).wire
+pub arrived_all : (old mid new : State) (end : End) (index : ℕ) (one two : Step) → IsWorld old → IsWorld mid → unacked_count old end ≡ 0 → Steps old (event.Emit end) one mid → index ≡ length (end_of old end).wire
     → Steps mid (event.Deliver (other_end end) index) two new → (end_of new end).sent ≤ (end_of new (other_end end)).taken
 unfolding Steps
 arrived_all old mid new end index one two h w none first at second =
     let count = (end_of old end).sent in
     let to = end_of mid (other_end end) in
     let same : second.0 ≡ first_sent old end = is_same second.0 (first_sent old end) _ second.1.0 (there_first old mid end index one first at) in
-    let is = second.3 ∙ ap (λ (p : Sending). with_end mid (other_end end) (delivered true to p)) same in
+    let is = second.3 ∙ ap (λ (p : Sending). with_end mid (other_end end) (end_after_delivery true to p)) same in
     let sent : (end_of mid end).sent ≡ count + 1 = (emit_sent old mid end one first).0 in
     let taken = ap (λ (e : EndState). e.taken) (other_still old mid end _ first.2) in
     let grew = took to.taken (end_of mid end).sent to.held true (count + 1) count (direction mid end w).early refl (omega (arith, (direction old end h).counts.acked_taken, none, taken)) (omega (arith, sent)) in
@@ -184,7 +184,7 @@ arrived_all old mid new end index one two h w none first at second =
 -- ---- Together.
 
 pub brought_one : (old mid came new : State) (end : End) (index : ℕ) (one two : Step) → IsWorld mid → Steps old (event.Emit end) one mid → Steps mid (event.Deliver (other_end end) index) two came
-    → RanBy came new 2 → unacked new end ≡ 0 → SameBut came new → ((e : End) → (end_of new e).sent ≡ (end_of came e).sent) → Brought old new end 1
+    → RanBy came new 2 → unacked_count new end ≡ 0 → SameBut came new → ((e : End) → (end_of new e).sent ≡ (end_of came e).sent) → Brought old new end 1
 unfolding Steps
 brought_one old mid came new end index one two w first second ran done same sent =
     let counts = emit_sent old mid end one first in
@@ -208,7 +208,7 @@ brought_more old mid new end n a b =
     }
 
 -- where a segment may be sent later, one may be sent now
-pub could_emit : (old now : State) (end : End) (n : ℕ) → IsWorld old → unacked old end ≡ 0 → Brought old now end n → MayEmit now end → MayEmit old end
+pub could_emit : (old now : State) (end : End) (n : ℕ) → IsWorld old → unacked_count old end ≡ 0 → Brought old now end n → MayEmit now end → MayEmit old end
 could_emit old now end n h none b may = (
   subst (λ (l : List NspMessage). (end_of old end).sent < segments_of old.seg_size l) (b.same.handed end)
       (subst (λ (k : ℕ). (end_of old end).sent < segments_of k (end_of now end).handed) b.same.seg_size (omega (arith, may.0, b.sent))),

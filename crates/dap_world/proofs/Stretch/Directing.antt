@@ -16,10 +16,10 @@ use Rattle.dap_events.specs.declared.event.Event.TheVariants as event
 use Rattle.dap_events.specs.declared.event.Step.{Step}
 use Rattle.dap_events.specs.declared.event.WorldFault.{WorldFault}
 use Rattle.dap_events.specs.declared.event.WorldFault.TheVariants as fault
-use Rattle.dap_world.specs.Machine.{State, answers_read, asked, files_of, reported, sent_by, served_by_b, Steps, RefusesEvent}
-use Rattle.dap_world.specs.Runs.{Went}
+use Rattle.dap_world.specs.Machine.{State, answers_read, world_after_request, files_of, reports_by_a, sent_by, served_by_b, Steps, RefusesEvent}
+use Rattle.dap_world.specs.Runs.{ComesTo}
 use Rattle.dap_world.specs.Inner.Worlds.{IsWorld}
-use Rattle.dap_world.specs.Settling.{AllDone, AllTold, Finished, FinishFault, IsUnused, RanOut, StopsAtRequest}
+use Rattle.dap_world.specs.Settling.{AllDone, AllTold, FinishesIn, FinishFault, IsUnused, RanOut, StopsAtRequest}
 use Rattle.dap_world.specs.Inner.Settling.{IsQuiet, RanTo, RunsTo}
 use Rattle.dap_world.proofs.Stretch.Exhausting.{quiet_enough}
 use Rattle.dap_world.proofs.Headline.Kept.{headline_of, kept-step}
@@ -34,7 +34,7 @@ nothing [] rest ys e none = sym none
 nothing (x ∷ xs) rest ys e none = absurd cc
 
 fresh_told : (s : State) → IsWorld s → s.requests ≡ [] → AllTold s
-unfolding reported files_of
+unfolding reports_by_a files_of
 fresh_told s h none =
     let order = (headline_of s h).sent_in_order in
     let all : Asked s.own_a s.requests ≡ [] = ap (Asked s.own_a) none in
@@ -53,18 +53,18 @@ fresh_done s requests h f = record { asked = f.0; admissible = tt; told = fresh_
 -- ---- A request is asked.
 
 told_due : (s : State) → AllTold s → due_after s.requests (answers_read s) ≢ Wrong → IsNoneDue s.requests (answers_read s)
-unfolding reported
+unfolding reports_by_a
 told_due s told right = none_due s.requests (answers_read s) told.each right
 
 -- no report comes of it
-asked_told : (s : State) (r : Request) → AllTold s → due_after s.requests (answers_read s) ≢ Wrong → reported (asked s r) ≡ reported s
-unfolding reported
+asked_told : (s : State) (r : Request) → AllTold s → due_after s.requests (answers_read s) ≢ Wrong → reports_by_a (world_after_request s r) ≡ reports_by_a s
+unfolding reports_by_a
 asked_told s r told right = (asked_one s.requests (answers_read s) r (told_due s told right)).told
 
 take_one : (requests : List Request) (i : ℕ) (r : Request) → slice_get requests i ≡ Some r → take i requests ++ r ∷ [] ≡ take (i + 1) requests
 take_one requests i r there = sym (take_more requests i r (slice_get_within requests i r there) ∙ ap (λ (x : Request). take i requests ++ x ∷ []) (get_or_from_slice_get requests i r r there))
 
-asked_is : (s new : State) (r : Request) (answer : Step) → Steps s (event.Ask r) answer new → new ≡ asked s r
+asked_is : (s new : State) (r : Request) (answer : Step) → Steps s (event.Ask r) answer new → new ≡ world_after_request s r
 unfolding Steps
 asked_is s new r answer step = step.2
 
@@ -75,7 +75,7 @@ admissible_then s new r answer step h =
 
 -- ---- The reasons to stop.
 
-pub ask_stops : (s new : State) (requests : List Request) (i : ℕ) (r : Request) (f : WorldFault) → IsWorld s → IsQuiet s → due_after s.requests (answers_read s) ≢ Wrong → AllDone (take i requests) s → slice_get requests i ≡ Some r → Went s (event.Ask r) (Err f) new
+pub ask_stops : (s new : State) (requests : List Request) (i : ℕ) (r : Request) (f : WorldFault) → IsWorld s → IsQuiet s → due_after s.requests (answers_read s) ≢ Wrong → AllDone (take i requests) s → slice_get requests i ≡ Some r → ComesTo s (event.Ask r) (Err f) new
     → StopsAtRequest requests new (i, f)
 unfolding Steps RefusesEvent
 ask_stops s new requests i r fault.NoMemory h quiet right done there went =
@@ -114,19 +114,19 @@ module _ (s mid new : State) (requests : List Request) (i : ℕ) (r : Request) (
   requests_then : mid.requests ≡ take (i + 1) requests
   requests_then = ap (λ (t : State). t.requests) (asked_is s mid r answer step) ∙ ap (λ (l : List Request). l ++ r ∷ []) done.asked ∙ take_one requests i r there
 
-  pub done_more : (n : ℕ) → Finished mid new n → AllDone (take (i + 1) requests) new
+  pub done_more : (n : ℕ) → FinishesIn mid new n → AllDone (take (i + 1) requests) new
   done_more n f =
       let asked : new.requests ≡ take (i + 1) requests = (ran_on mid new n w f.ran).requests ∙ requests_then in
       record { asked = asked; admissible = subst (AreAdmissible new.own_a new.own_b []) asked (ran_world mid new n w f.ran).admissible; told = f.told }
 
-  pub finish_stops : (f : WorldFault) → due_after s.requests (answers_read s) ≢ Wrong → FinishFault new f → RanTo mid new → reported new ≡ reported mid → StopsAtRequest requests new (i, f)
+  pub finish_stops : (f : WorldFault) → due_after s.requests (answers_read s) ≢ Wrong → FinishFault new f → RanTo mid new → reports_by_a new ≡ reports_by_a mid → StopsAtRequest requests new (i, f)
   finish_stops f right why ran same =
       let on = ran_on mid new ran.0 w ran.1 in
       let is = asked_is s mid r answer step in
       let own_a : new.own_a ≡ s.own_a = on.own_a ∙ ap (λ (t : State). t.own_a) is in
       let own_b : new.own_b ≡ s.own_b = on.own_b ∙ ap (λ (t : State). t.own_b) is in
-      let reports : reported new ≡ reports_of new.own_a new.own_b (take i requests) =
-      same ∙ ap reported is ∙ asked_told s r done.told right ∙ done.told.reports ∙ ap (reports_of s.own_a s.own_b) done.asked
+      let reports : reports_by_a new ≡ reports_of new.own_a new.own_b (take i requests) =
+      same ∙ ap reports_by_a is ∙ asked_told s r done.told right ∙ done.told.reports ∙ ap (reports_of s.own_a s.own_b) done.asked
       ∙ sym (ap (λ (n : ℕ). reports_of n new.own_b (take i requests)) own_a ∙ ap (λ (n : ℕ). reports_of s.own_a n (take i requests)) own_b) in
       let asked : new.requests ≡ take (i + 1) requests = on.requests ∙ requests_then in
       ran_out requests new i f why
@@ -146,7 +146,7 @@ runs_none s = ([], refl)
 pub runs_asked : (old s mid : State) (r : Request) (answer : Step) → RunsTo old s → Steps s (event.Ask r) answer mid → RunsTo old mid
 runs_asked old s mid r answer run step = (run.0 ++ event.Ask r ∷ [], runs-both run.0 (event.Ask r ∷ []) old s mid run.1 (mid, answer, step, refl))
 
-pub runs_refused : (old s new : State) (r : Request) (f : WorldFault) → RunsTo old s → Went s (event.Ask r) (Err f) new → RunsTo old new
+pub runs_refused : (old s new : State) (r : Request) (f : WorldFault) → RunsTo old s → ComesTo s (event.Ask r) (Err f) new → RunsTo old new
 runs_refused old s new r f run went = subst (λ (t : State). RunsTo old t) (sym (refused_same s new (event.Ask r) f went)) run
 
 pub runs_to : (old mid new : State) → RunsTo old mid → RanTo mid new → RunsTo old new

@@ -7,7 +7,7 @@ use Rattle.dap_events.specs.declared.event.Step.{Step}
 use Rattle.dap_events.specs.declared.event.WorldFault.{WorldFault}
 use Rattle.dap_events.specs.declared.event.WorldFault.TheVariants as fault
 use Rattle.dap_world.specs.Machine.{RefusesEvent, State, Steps, arrived_at}
-use Rattle.dap_world.specs.Runs.{Went}
+use Rattle.dap_world.specs.Runs.{ComesTo}
 use Rattle.dap_world.specs.Inner.Worlds.{IsWorld}
 use Rattle.dap_world.specs.Settling.{RanBy}
 use Rattle.dap_world.specs.Inner.Settling.{ReadEvery, ReadPart}
@@ -38,14 +38,14 @@ fewer_left old now new n answer h world step =
     let same : length (arrived_at new A) ≡ length (arrived_at now A) = ap (λ (s : State). length (arrived_at s A)) step.3 in
     omega (arith, grew, same, world.read)
 
-pub read_ends : (old now new : State) (n k : ℕ) → ReadSome old now n → Went now event.Read (Err fault.NothingToDo) new → k ≡ new.read - old.read → ReadEvery old new k
+pub read_ends : (old now new : State) (n k : ℕ) → ReadSome old now n → ComesTo now event.Read (Err fault.NothingToDo) new → k ≡ new.read - old.read → ReadEvery old new k
 unfolding Steps RefusesEvent
 read_ends old now new n k h went is =
     let count : k ≡ n = omega (arith, h.count, is, ap (λ (s : State). s.read) went.1) in
     subst (λ (m : ℕ). ReadEvery old new m) (sym count)
     (subst (λ (s : State). ReadEvery old s n) (sym went.1) (record { ran = h.ran; read = h.read; count = h.count; none_left = went.0 }))
 
-pub read_refused : (old now new : State) (n : ℕ) (f : WorldFault) → (f ≡ fault.NothingToDo → ⊥) → IsWorld now → ReadSome old now n → Went now event.Read (Err f) new → (f ≡ fault.NoMemory) × ReadPart old new × IsWorld new
+pub read_refused : (old now new : State) (n : ℕ) (f : WorldFault) → (f ≡ fault.NothingToDo → ⊥) → IsWorld now → ReadSome old now n → ComesTo now event.Read (Err f) new → (f ≡ fault.NoMemory) × ReadPart old new × IsWorld new
 unfolding Steps RefusesEvent
 read_refused old now new n fault.NoMemory other w h went =
     let may = went.0.2 in

@@ -12,9 +12,9 @@ use Rattle.dap_events.specs.declared.event.Event.TheVariants as event
 use Rattle.dap_events.specs.declared.event.WorldFault.{WorldFault}
 use Rattle.dap_events.specs.declared.event.WorldFault.TheVariants as fault
 use Rattle.dap_world.specs.Machine.{State, MayEmit, end_of, Steps, RefusesEvent}
-use Rattle.dap_world.specs.Runs.{Went}
+use Rattle.dap_world.specs.Runs.{ComesTo}
 use Rattle.dap_world.specs.Inner.Parts.{Parts, answer_packets, asked_packets, state_of}
-use Rattle.dap_world.specs.Settling.{FinishFault, IsEmpty, IsExhausted, IsPostDue, unacked}
+use Rattle.dap_world.specs.Settling.{FinishFault, IsEmpty, IsExhausted, IsPostDue, unacked_count}
 use Rattle.dap_world.specs.Inner.Settling.{AreEmpty, IsQuiet, ReadPart}
 use Rattle.dap_world.proofs.Steps.Deciding.{MayHappen, no_step}
 
@@ -31,7 +31,7 @@ quiet_empty s empty A = empty.0.waiting
 quiet_empty s empty B = empty.1.waiting
 
 -- none is, where something isn't acknowledged
-pub unsettled : (s : State) (end : End) → 0 < unacked s end → IsExhausted s → ⊥
+pub unsettled : (s : State) (end : End) → 0 < unacked_count s end → IsExhausted s → ⊥
 unsettled s A some (A, due, why) = omega (arith, some, due.0)
 unsettled s A some (B, due, why) = omega (arith, some, due.0.acked)
 unsettled s B some (A, due, why) = omega (arith, some, due.1)
@@ -49,7 +49,7 @@ left_over s A left over (A, due, why) = omega (arith, why.0, ap length over)
 left_over s A left over (B, due, why) = left due.0
 left_over s B left over why = quiet_enough s over why
 
-pub due_settled : (s : State) (end : End) → IsPostDue s end → unacked s end ≡ 0
+pub due_settled : (s : State) (end : End) → IsPostDue s end → unacked_count s end ≡ 0
 due_settled s A due = due.0
 due_settled s B due = due.1
 
@@ -61,7 +61,7 @@ may_post s A due may (B, due', why) = let some = may.2.0 in omega (arith, some, 
 may_post s B due may (A, due', why) = omega (arith, why.0, ap length due.0.waiting)
 may_post s B due may (B, due', why) = no_step s (event.Post B) fault.Exhausted why may
 
-pub post_fault : (old new : State) (end : End) (f : WorldFault) → (f ≡ fault.NothingToDo → ⊥) → IsPostDue old end → Went old (event.Post end) (Err f) new → FinishFault new f
+pub post_fault : (old new : State) (end : End) (f : WorldFault) → (f ≡ fault.NothingToDo → ⊥) → IsPostDue old end → ComesTo old (event.Post end) (Err f) new → FinishFault new f
 unfolding RefusesEvent
 post_fault old new end fault.NoMemory some due went = subst (λ (s : State). IsExhausted s → ⊥) (sym went.1) (may_post old end due (went.0.0, went.0.1, went.0.2))
 post_fault old new end fault.Exhausted some due went = subst IsExhausted (sym went.1) (end, due, went.0)

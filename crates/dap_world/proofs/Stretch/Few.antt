@@ -8,7 +8,7 @@ use Rattle.std.specs.Prelude.{◌≢◌, Option, Some, None}
 use Rattle.dap_accessing.specs.declared.pending.Pending.{Pending}
 use Rattle.dap_accessing.specs.Present.{FitsDue}
 use Rattle.dap_accessing.specs.Told.{Due, NothingDue, AnswersDue, Wrong, due_after}
-use Rattle.dap_world.specs.Machine.{answers_read, arrived, reported}
+use Rattle.dap_world.specs.Machine.{answers_read, arrived_messages, reports_by_a}
 use Rattle.dap_world.specs.Inner.Settling.{IsOneDue}
 use Rattle.dap_world.specs.Inner.Parts.{Parts, AreParts, asked_messages, state_of}
 use Rattle.dap_world.specs.Inner.Sides.{AreWithinLimit}
@@ -22,14 +22,14 @@ few_served p h =
     let s = state_of p in
     let packets = take p.a.posted (asked_messages p) in
     let front = arrived-front s.seg_size s.b.taken s.a.handed in
-    few_messages p.a.link.setup.seg_size packets p.served (omega (arith, h.world.served, ap length front.1, length-append (messages_in (arrived s.seg_size s.b.taken s.a.handed)) front.0))
+    few_messages p.a.link.setup.seg_size packets p.served (omega (arith, h.world.served, ap length front.1, length-append (messages_in (arrived_messages s.seg_size s.b.taken s.a.handed)) front.0))
     (fit-take p.a.posted (asked_messages p) h.from_a.fit) p.b.link.setup.max_message
     (subst (AreWithinLimit p.b.link.setup.max_message) (handed-bytes p.a.posted h.from_a.handed p.a.outbox (asked_messages p) h.from_a.posted h.from_a.bytes) h.from_a.way.short) (omega (arith, h.most, h.alike.limit))
     (subst (λ (l : List (List ℕ)). length (cut p.a.link.setup.seg_size l) ≤ max_segments) (handed-bytes p.a.posted h.from_a.handed p.a.outbox (asked_messages p) h.from_a.posted h.from_a.bytes) h.from_a.way.few)
 
 -- at most one request has no report yet
 pub one_due : (p : Parts) → AreParts p → IsOneDue (state_of p)
-unfolding reported
+unfolding reports_by_a
 one_due p h = h.asking.1.asking.alone
 
 -- no answer was out of sequence

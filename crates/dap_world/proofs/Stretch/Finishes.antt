@@ -11,9 +11,9 @@ use Rattle.dap_accessing.specs.Told.{Told}
 use Rattle.dap_world.specs.Agreement.{reports_of}
 use Rattle.dap_events.specs.declared.event.End.{End}
 use Rattle.dap_events.specs.declared.event.End.TheVariants.{A, B}
-use Rattle.dap_world.specs.Machine.{State, arrived_at, answers_read, files_of, next_to_read, reported, segments_of, sent_by, served_by_b}
+use Rattle.dap_world.specs.Machine.{State, arrived_at, answers_read, files_of, next_to_read, reports_by_a, segments_of, sent_by, served_by_b}
 use Rattle.dap_world.specs.Inner.Worlds.{IsWorld}
-use Rattle.dap_world.specs.Settling.{AllTold, Finished, IsEmpty, IsFinished, RanBy, unacked}
+use Rattle.dap_world.specs.Settling.{AllTold, FinishesIn, IsEmpty, IsFinished, RanBy, unacked_count}
 use Rattle.dap_world.specs.Inner.Settling.{NothingSent}
 use Rattle.dap_world.specs.Inner.Settling.{AreEmpty, ReadEvery, ReadPart, SentBoth, ServedEvery, SettledBoth}
 use Rattle.dap_world.proofs.Headline.Agreeing.{one-report-each}
@@ -30,7 +30,7 @@ handed_all : (handed waiting : List NspMessage) (all : List Message) → waiting
 handed_all handed waiting all none is = ap messages_in (sym (append-nil handed) ∙ ap (λ (l : List NspMessage). handed ++ l) (sym none)) ∙ is
 
 pub all_told : (s : State) → IsWorld s → IsFinished s → AllTold s
-unfolding reported files_of
+unfolding reports_by_a files_of
 all_told s h f =
     let sent : sent_by s.a ≡ Asked s.own_a s.requests = handed_all s.a.handed s.a.waiting (Asked s.own_a s.requests) f.a.waiting h.asked in
     let taken : served_by_b s ≡ Asked s.own_a s.requests = f.served ∙ sent in
@@ -49,13 +49,13 @@ empty_read s new A is e =
     record {
       waiting = ap (λ (t : State). t.a.waiting) is ∙ e.waiting;
       sent = ap (λ (t : State). t.a.sent) is ∙ e.sent ∙ sym (ap (λ (t : State). segments_of t.seg_size t.a.handed) is);
-      acked = ap (λ (t : State). unacked t A) is ∙ e.acked;
+      acked = ap (λ (t : State). unacked_count t A) is ∙ e.acked;
     }
 empty_read s new B is e =
     record {
       waiting = ap (λ (t : State). t.b.waiting) is ∙ e.waiting;
       sent = ap (λ (t : State). t.b.sent) is ∙ e.sent ∙ sym (ap (λ (t : State). segments_of t.seg_size t.b.handed) is);
-      acked = ap (λ (t : State). unacked t B) is ∙ e.acked;
+      acked = ap (λ (t : State). unacked_count t B) is ∙ e.acked;
     }
 
 -- where all were read, no answer is left
@@ -137,7 +137,7 @@ module _ (old s1 s2 s3 : State) (n1 n2 n3 : ℕ) (h : IsWorld old) (a : SettledB
   pub still_four : IsFinished old → s3 ≡ old
   still_four f = let two = still_three f in still_served s2 s3 n3 (subst IsWorld (sym two) h) (subst IsFinished (sym two) f) c ∙ two
 
-  pub finished : (new : State) (n4 : ℕ) → NothingSent old s1 → IsWorld s3 → IsWorld new → ReadEvery s3 new n4 → Finished old new (((n1 + n2) + n3) + n4)
+  pub finished : (new : State) (n4 : ℕ) → NothingSent old s1 → IsWorld s3 → IsWorld new → ReadEvery s3 new n4 → FinishesIn old new (((n1 + n2) + n3) + n4)
   finished new n4 rest w3 w r =
       let done = is_finished s3 new n4 w c.done.empty c.all r in
       let ran = ran_both old s3 new ((n1 + n2) + n3) n4 ran_three r.ran in

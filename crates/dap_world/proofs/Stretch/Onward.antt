@@ -12,7 +12,7 @@ use Rattle.dap_events.specs.declared.event.End.TheVariants.{A, B}
 use Rattle.dap_events.specs.declared.event.Event.{Event}
 use Rattle.dap_events.specs.declared.event.Event.TheVariants as event
 use Rattle.dap_events.specs.declared.event.Step.{Step}
-use Rattle.dap_world.specs.Machine.{State, sent_by, served_by_b, answers_read, reported, Steps}
+use Rattle.dap_world.specs.Machine.{State, sent_by, served_by_b, answers_read, reports_by_a, Steps}
 use Rattle.dap_world.specs.Runs.{Runs}
 use Rattle.dap_world.specs.Inner.Worlds.{IsWorld}
 use Rattle.dap_world.specs.Settling.{RanBy}
@@ -145,8 +145,8 @@ answers_stay old new h on k le =
     ap (take k) all ∙ take-append-le k (Answers old.own_b [] items) front.0 (omega (arith, there, le))
 
 -- where no answer was read, nothing is reported
-pub told_same : (old new : State) (n : ℕ) → IsWorld old → RanBy old new n → new.read ≡ old.read → reported new ≡ reported old
-unfolding reported
+pub told_same : (old new : State) (n : ℕ) → IsWorld old → RanBy old new n → new.read ≡ old.read → reports_by_a new ≡ reports_by_a old
+unfolding reports_by_a
 told_same old new n h ran read =
     let on = ran_on old new n h ran in
     ap (λ (r : List Request). Told r (answers_read new)) on.requests

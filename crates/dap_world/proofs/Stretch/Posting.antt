@@ -10,10 +10,10 @@ use Rattle.dap_events.specs.declared.event.Event.TheVariants as event
 use Rattle.dap_events.specs.declared.event.Step.{Step}
 use Rattle.dap_events.specs.declared.event.WorldFault.{WorldFault}
 use Rattle.dap_events.specs.declared.event.WorldFault.TheVariants as fault
-use Rattle.dap_world.specs.Machine.{State, EndState, end_of, with_end, other_end, posted, segments_of, MayEmit, Steps, RefusesEvent}
-use Rattle.dap_world.specs.Runs.{Went}
+use Rattle.dap_world.specs.Machine.{State, EndState, end_of, with_end, other_end, end_after_post, segments_of, MayEmit, Steps, RefusesEvent}
+use Rattle.dap_world.specs.Runs.{ComesTo}
 use Rattle.dap_world.specs.Inner.Worlds.{IsWorld}
-use Rattle.dap_world.specs.Settling.{RanBy, IsEmpty, IsExhausted, IsPostDue, unacked}
+use Rattle.dap_world.specs.Settling.{RanBy, IsEmpty, IsExhausted, IsPostDue, unacked_count}
 use Rattle.dap_world.specs.Inner.Settling.{BroughtAll, Emptied, PostedAll, SameBut}
 use Rattle.dap_world.proofs.Stretch.Exhausting.{IsHandedOver, left_over}
 use Rattle.dap_world.proofs.Headline.Kept.{direction}
@@ -26,7 +26,7 @@ unfolding Steps
 posted_one old new end answer step =
     record { ran = ran_one old new (event.Post end) answer tt step; is = step.3; few = omega arith; nothing = λ none. absurd (omega (arith, step.0, ap length none)) }
 
-posted_still : (s : State) (end : End) → (end_of s end).waiting ≡ [] → s ≡ with_end s end (posted (end_of s end))
+posted_still : (s : State) (end : End) → (end_of s end).waiting ≡ [] → s ≡ with_end s end (end_after_post (end_of s end))
 posted_still s A none =
     ap (λ (l : List NspMessage). record s { a = record s.a { handed = l } }) (sym (append-nil s.a.handed) ∙ ap (λ (l : List NspMessage). s.a.handed ++ l) (sym none))
     ∙ ap (λ (l : List NspMessage). record s { a = record s.a { handed = s.a.handed ++ s.a.waiting; waiting = l } }) none
@@ -34,13 +34,13 @@ posted_still s B none =
     ap (λ (l : List NspMessage). record s { b = record s.b { handed = l } }) (sym (append-nil s.b.handed) ∙ ap (λ (l : List NspMessage). s.b.handed ++ l) (sym none))
     ∙ ap (λ (l : List NspMessage). record s { b = record s.b { handed = s.b.handed ++ s.b.waiting; waiting = l } }) none
 
-pub posted_none : (old new : State) (end : End) → Went old (event.Post end) (Err fault.NothingToDo) new → PostedAll old new end 0
+pub posted_none : (old new : State) (end : End) → ComesTo old (event.Post end) (Err fault.NothingToDo) new → PostedAll old new end 0
 unfolding RefusesEvent
 posted_none old new end went =
     subst (λ (s : State). PostedAll old s end 0) (sym went.1)
     (record { ran = ran_none old; is = posted_still old end went.0; few = omega arith; nothing = λ none. refl })
 
-pub post_refused : (old new : State) (end : End) (f : WorldFault) → (f ≡ fault.NothingToDo → ⊥) → Went old (event.Post end) (Err f) new → 0 < length (end_of old end).waiting
+pub post_refused : (old new : State) (end : End) (f : WorldFault) → (f ≡ fault.NothingToDo → ⊥) → ComesTo old (event.Post end) (Err f) new → 0 < length (end_of old end).waiting
 unfolding Steps RefusesEvent
 post_refused old new end fault.NoMemory other went = went.0.2.0
 post_refused old new end fault.Exhausted other went = went.0.0
@@ -63,7 +63,7 @@ record Moved (old mid : State) (end : End) : Type 0 where
   back : end_of mid (other_end end) ≡ end_of old (other_end end)
   seg_size : mid.seg_size ≡ old.seg_size
 
-moved : (old mid : State) (end : End) → mid ≡ with_end old end (posted (end_of old end)) → Moved old mid end
+moved : (old mid : State) (end : End) → mid ≡ with_end old end (end_after_post (end_of old end)) → Moved old mid end
 moved old mid A is = subst (λ (s : State). Moved old s A) (sym is) (record { waiting = refl; handed = refl; sent = refl; acked = refl; served = refl; read = refl; back = refl; seg_size = refl })
 moved old mid B is = subst (λ (s : State). Moved old s B) (sym is) (record { waiting = refl; handed = refl; sent = refl; acked = refl; served = refl; read = refl; back = refl; seg_size = refl })
 
@@ -87,11 +87,11 @@ pub posted_read : (old mid : State) (end : End) (n : ℕ) → PostedAll old mid 
 posted_read old mid end n p = (moved old mid end p.is).read
 
 -- nothing is unacknowledged still
-pub posted_settled : (old mid : State) (end : End) (n : ℕ) → PostedAll old mid end n → unacked old end ≡ 0 → unacked mid end ≡ 0
+pub posted_settled : (old mid : State) (end : End) (n : ℕ) → PostedAll old mid end n → unacked_count old end ≡ 0 → unacked_count mid end ≡ 0
 posted_settled old mid end n p none = let m = moved old mid end p.is in omega (arith, m.sent, m.acked, none)
 
 -- all was sent, where nothing more may be
-all_sent : (s : State) (end : End) → IsWorld s → unacked s end ≡ 0 → (MayEmit s end → ⊥) → (end_of s end).sent ≡ segments_of s.seg_size (end_of s end).handed
+all_sent : (s : State) (end : End) → IsWorld s → unacked_count s end ≡ 0 → (MayEmit s end → ⊥) → (end_of s end).sent ≡ segments_of s.seg_size (end_of s end).handed
 all_sent s end h none stop =
     elim (eq-or-lt_of_le (direction s end h).counts.sent_there) [
       | inl most ↦ most

@@ -2,12 +2,12 @@
 use Rattle.std.proofs.Common.{◌≡◌, ℕ, ◌+◌, arith, ◌∙◌}
 use Rattle.dap_events.specs.declared.event.End.TheVariants.{A, B}
 use Rattle.dap_world.specs.Machine.{State}
-use Rattle.dap_world.specs.Settling.{unacked}
+use Rattle.dap_world.specs.Settling.{unacked_count}
 use Rattle.dap_world.specs.Inner.Settling.{Emptied, SentBoth}
 use Rattle.dap_world.proofs.Stretch.Posting.{still_other}
 use Rattle.dap_world.proofs.Stretch.Settles.{ran_both}
 
-pub settled_b : (old new : State) (n : ℕ) → unacked old B ≡ 0 → Emptied old new A n → unacked new B ≡ 0
+pub settled_b : (old new : State) (n : ℕ) → unacked_count old B ≡ 0 → Emptied old new A n → unacked_count new B ≡ 0
 settled_b old new n none a = omega (arith, a.back_sent, a.back_acked, none)
 
 pub sent_both : (old mid new : State) (n k : ℕ) → Emptied old mid A n → Emptied mid new B k → SentBoth old new (n + k)

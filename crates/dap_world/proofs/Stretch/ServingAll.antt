@@ -10,8 +10,8 @@ use Rattle.dap_events.specs.declared.event.Event.TheVariants as event
 use Rattle.dap_events.specs.declared.event.Step.{Step}
 use Rattle.dap_events.specs.declared.event.WorldFault.{WorldFault}
 use Rattle.dap_events.specs.declared.event.WorldFault.TheVariants as fault
-use Rattle.dap_world.specs.Machine.{State, EndState, arrived, arrived_at, segments_of, sent_by, Steps, RefusesEvent}
-use Rattle.dap_world.specs.Runs.{Went}
+use Rattle.dap_world.specs.Machine.{State, EndState, arrived_messages, arrived_at, segments_of, sent_by, Steps, RefusesEvent}
+use Rattle.dap_world.specs.Runs.{ComesTo}
 use Rattle.dap_world.specs.Inner.Worlds.{IsWorld}
 use Rattle.dap_world.specs.Settling.{RanBy, IsEmpty, IsExhausted, IsPostDue}
 use Rattle.dap_world.specs.Inner.Settling.{AreEmpty, Emptied, Halts, IsServed, Served, ServedEvery}
@@ -21,11 +21,11 @@ use Rattle.dap_world.proofs.Stretch.Posting.{still_other}
 use Rattle.dap_world.proofs.Stretch.Settles.{ran_none, ran_one, ran_both}
 
 -- all came, where all segments were taken
-pub all_arrived : (seg r : ℕ) (xs : List NspMessage) → segments_of seg xs ≤ r → arrived seg r xs ≡ xs
+pub all_arrived : (seg r : ℕ) (xs : List NspMessage) → segments_of seg xs ≤ r → arrived_messages seg r xs ≡ xs
 all_arrived seg r [] le = refl
 all_arrived seg r (x ∷ xs) le =
     let n = count_of seg (length (blocked_bytes x)) in
-    elim (nat_le n r) as (λ b. nat_le n r ≡ b → (if b then x ∷ arrived seg (r - n) xs else []) ≡ x ∷ xs) [
+    elim (nat_le n r) as (λ b. nat_le n r ≡ b → (if b then x ∷ arrived_messages seg (r - n) xs else []) ≡ x ∷ xs) [
       | true ↦ λ e. ap (λ (l : List NspMessage). x ∷ l) (all_arrived seg (r - n) xs (omega arith))
       | false ↦ λ e. let no : ⊥ = grind (arith, e, le) in absurd no
     ] refl
@@ -117,7 +117,7 @@ nothing_left now w e (inr none) =
       | inr le ↦ le
     ]
 
-pub serve_refused : (old now new : State) (n k : ℕ) (f : WorldFault) → IsWorld now → Served old now n k → (f ≡ fault.NothingToDo → ⊥) → Went now event.Serve (Err f) new → Halts (IsServed old) old new f
+pub serve_refused : (old now new : State) (n k : ℕ) (f : WorldFault) → IsWorld now → Served old now n k → (f ≡ fault.NothingToDo → ⊥) → ComesTo now event.Serve (Err f) new → Halts (IsServed old) old new f
 unfolding Steps RefusesEvent
 serve_refused old now new n k fault.NoMemory w h some went = (
   subst (λ (s : State). IsExhausted s → ⊥) (sym went.1) (quiet_enough now (quiet_empty now h.empty)),

@@ -6,7 +6,7 @@ use Rattle.dap_events.specs.declared.event.End.TheVariants.{A, B}
 use Rattle.dap_events.specs.declared.event.WorldFault.{WorldFault}
 use Rattle.dap_world.specs.Machine.{State}
 use Rattle.dap_world.specs.Inner.Worlds.{IsWorld}
-use Rattle.dap_world.specs.Settling.{Settled, unacked}
+use Rattle.dap_world.specs.Settling.{SettlesIn, unacked_count}
 use Rattle.dap_world.specs.Inner.Settling.{NothingSent}
 use Rattle.dap_world.specs.Inner.Settling.{SettledBoth}
 use Rattle.dap_world.proofs.Stretch.Settles.{ran_both}
@@ -23,7 +23,7 @@ count_none : (u n : ℕ) → n ≡ (if u == 0 then 0 else 2 * u + 2) → u ≡ 0
 count_none zero n is none = is
 count_none (suc u) n is none = absurd (omega (arith, none))
 
-pub settled_both : (old mid new : State) (n k : ℕ) → IsWorld old → Settled old mid A n → NothingSent old mid → Settled mid new B k → NothingSent mid new → SettledBoth old new (n + k)
+pub settled_both : (old mid new : State) (n k : ℕ) → IsWorld old → SettlesIn old mid A n → NothingSent old mid → SettlesIn mid new B k → NothingSent mid new → SettledBoth old new (n + k)
 settled_both old mid new n k h a ra b rb =
     record {
       ran = ran_both old mid new n k a.ran b.ran;
@@ -31,10 +31,10 @@ settled_both old mid new n k h a ra b rb =
       b = b.done;
       count = omega (
         arith,
-        count_most (unacked old A) old.window n a.count (omega (arith, h.from_a.counts.within_window)),
-        count_most (unacked mid B) old.window k b.count (omega (arith, ra.sent B, ra.same.acked B, h.from_b.counts.within_window)),
+        count_most (unacked_count old A) old.window n a.count (omega (arith, h.from_a.counts.within_window)),
+        count_most (unacked_count mid B) old.window k b.count (omega (arith, ra.sent B, ra.same.acked B, h.from_b.counts.within_window)),
       );
-      nothing = λ x y. omega (arith, count_none (unacked old A) n a.count x, count_none (unacked mid B) k b.count (omega (arith, y, ra.sent B, ra.same.acked B)));
+      nothing = λ x y. omega (arith, count_none (unacked_count old A) n a.count x, count_none (unacked_count mid B) k b.count (omega (arith, y, ra.sent B, ra.same.acked B)));
     }
 
 pub settle_needs : (r : Result ℕ WorldFault) (f : WorldFault) → r ≡ Err f → IsOk r → ⊥

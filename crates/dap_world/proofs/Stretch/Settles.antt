@@ -12,12 +12,12 @@ use Rattle.dap_events.specs.declared.event.Event.TheVariants as event
 use Rattle.dap_events.specs.declared.event.Step.{Step}
 use Rattle.dap_events.specs.declared.event.WorldFault.{WorldFault}
 use Rattle.dap_events.specs.declared.event.WorldFault.TheVariants as fault
-use Rattle.dap_world.specs.Machine.{State, EndState, Sending, end_of, with_end, other_end, wrote, taken_and_held, delivered, is_stale, Steps, RefusesEvent}
-use Rattle.dap_world.specs.Runs.{Runs, Went}
+use Rattle.dap_world.specs.Machine.{State, EndState, Sending, end_of, with_end, other_end, wrote, taken_and_held, end_after_delivery, is_stale, Steps, RefusesEvent}
+use Rattle.dap_world.specs.Runs.{Runs, ComesTo}
 use Rattle.dap_world.specs.Inner.Worlds.{IsWorld, AreEarly}
 use Rattle.dap_world.specs.Wires as wires
 use Rattle.dap_world.specs.declared.side.Wired.{Wired}
-use Rattle.dap_world.specs.Settling.{RanBy, unacked}
+use Rattle.dap_world.specs.Settling.{RanBy, unacked_count}
 use Rattle.dap_world.specs.Inner.Settling.{AllResent, AreThere, AllCame, AsksNothing, RanTo}
 use Rattle.dap_world.proofs.Steps.Directions.{closed}
 use Rattle.dap_world.proofs.Headline.Kept.{back, direction, now_at, still_at, twice}
@@ -86,10 +86,10 @@ resent_more old now new end i answer h step =
     }
 
 -- the segment is there to be written again
-left : (old now : State) (end : End) (i : ℕ) → AllResent old now end i → i < unacked old end → i < unacked now end
+left : (old now : State) (end : End) (i : ℕ) → AllResent old now end i → i < unacked_count old end → i < unacked_count now end
 left old now end i h lt = subst (λ (e : EndState). i < e.sent - e.acked) (sym (now_at old now end _ h.wrote)) lt
 
-pub resend_refused : (old now new : State) (end : End) (i : ℕ) (f : WorldFault) → AllResent old now end i → i < unacked old end → Went now (event.Resend end i) (Err f) new → (f ≡ fault.NoMemory) × RanTo old new
+pub resend_refused : (old now new : State) (end : End) (i : ℕ) (f : WorldFault) → AllResent old now end i → i < unacked_count old end → ComesTo now (event.Resend end i) (Err f) new → (f ≡ fault.NoMemory) × RanTo old new
 unfolding Steps RefusesEvent
 resend_refused old now new end i fault.NoMemory h lt went = (refl, (i, subst (λ (s : State). RanBy old s i) (sym went.1) h.ran))
 resend_refused old now new end i fault.NothingToDo h lt went = absurd (omega (arith, went.0, left old now end i h lt))
@@ -134,14 +134,14 @@ fresh_again old now end n world h =
     ) refl
 
 -- one more was delivered
-pub came_more : (old now new : State) (end : End) (first last j : ℕ) (answer : Step) → IsWorld now → AllCame old now end (j - first) → AreThere old end first (last - first) → first ≤ j → j < last → last - first ≤ unacked old end
+pub came_more : (old now new : State) (end : End) (first last j : ℕ) (answer : Step) → IsWorld now → AllCame old now end (j - first) → AreThere old end first (last - first) → first ≤ j → j < last → last - first ≤ unacked_count old end
     → Steps now (event.Deliver (other_end end) j) answer new → AllCame old new end (j + 1 - first)
 unfolding Steps
 came_more old now new end first last j answer world h there le lt few step =
     let k = (end_of old end).acked + 1 + (j - first) in
     let to = end_of now (other_end end) in
     let same : step.0 ≡ again old end (j - first) = is_same step.0 (again old end (j - first)) _ step.1.0 (next_at old now end first last j h there le lt) in
-    let is = step.3 ∙ ap (λ (p : Sending). with_end now (other_end end) (delivered true to p)) same in
+    let is = step.3 ∙ ap (λ (p : Sending). with_end now (other_end end) (end_after_delivery true to p)) same in
     let grew : (end_of old end).acked + (j + 1 - first) ≤ (taken_and_held true to.taken to.held (Some k)).0 =
     omega (arith, took to.taken (end_of now end).sent to.held true k ((end_of old end).acked + (j - first)) (direction now end world).early (omega arith) h.taken (omega (arith, ap (λ (e : EndState). e.sent) h.still, few, lt))) in
     record {
@@ -151,7 +151,7 @@ came_more old now new end first last j answer world h there le lt few step =
     }
 
 pub came_refused : (old now new : State) (end : End) (first last j : ℕ) (f : WorldFault) → IsWorld now → AllCame old now end (j - first) → AreThere old end first (last - first) → first ≤ j → j < last
-    → Went now (event.Deliver (other_end end) j) (Err f) new → (f ≡ fault.NoMemory) × RanTo old new
+    → ComesTo now (event.Deliver (other_end end) j) (Err f) new → (f ≡ fault.NoMemory) × RanTo old new
 unfolding Steps RefusesEvent
 came_refused old now new end first last j fault.NoMemory world h there le lt went = (refl, (j - first, subst (λ (s : State). RanBy old s (j - first)) (sym went.1) h.ran))
 came_refused old now new end first last j fault.NoSuchPacket world h there le lt went =
@@ -182,7 +182,7 @@ acked_wire : (old mid : State) (end : End) (index : ℕ) → WroteAck old mid en
 acked_wire old mid end index is at = ap (λ (e : EndState). slice_get e.wire index) (now_at old mid (other_end end) _ is) ∙ at_last (end_of old (other_end end)).wire index (alone old end) at
 
 acked_all : (old mid new : State) (end : End) (keep : Bool) → IsWorld old → (end_of old end).sent ≤ (end_of old (other_end end)).taken → WroteAck old mid end
-    → new ≡ with_end mid end (delivered keep (end_of mid end) (alone old end)) → unacked new end ≡ 0
+    → new ≡ with_end mid end (end_after_delivery keep (end_of mid end) (alone old end)) → unacked_count new end ≡ 0
 acked_all old mid new end keep world all is came_is =
     let c = (direction old end world).counts in
     ap (λ (e : EndState). e.sent - e.acked) (now_at mid new end _ came_is) ∙ ap (λ (e : EndState). e.sent - max e.acked (end_of old (other_end end)).taken) (still_at old mid end _ is)
@@ -196,17 +196,17 @@ ack_wrote : (old mid : State) (end : End) (answer : Step) → AckStep old end an
 unfolding Steps
 ack_wrote old mid end answer step = step.1
 
-pub ack_unacked : (old mid : State) (end : End) (answer : Step) → AckStep old end answer mid → unacked mid end ≡ unacked old end
+pub ack_unacked : (old mid : State) (end : End) (answer : Step) → AckStep old end answer mid → unacked_count mid end ≡ unacked_count old end
 ack_unacked old mid end answer step = ap (λ (e : EndState). e.sent - e.acked) (still_at old mid end _ (ack_wrote old mid end answer step))
 
 pub acknowledged_all : (old mid new : State) (end : End) (index : ℕ) (one two : Step) → IsWorld old → (end_of old end).sent ≤ (end_of old (other_end end)).taken → index ≡ length (end_of old (other_end end)).wire
-    → Steps old (event.Ack (other_end end)) one mid → Steps mid (event.Deliver end index) two new → RanBy old new 2 × (unacked new end ≡ 0)
+    → Steps old (event.Ack (other_end end)) one mid → Steps mid (event.Deliver end index) two new → RanBy old new 2 × (unacked_count new end ≡ 0)
 unfolding Steps
 acknowledged_all old mid new end index one two world all at first second =
     let is = ack_wrote old mid end one first in
     let same : second.0 ≡ alone old end = is_same second.0 (alone old end) _ second.1.0 (acked_wire old mid end index is at) in (
       ran_both old mid new 1 1 (ran_one old mid (event.Ack (other_end end)) one tt first) (ran_one mid new (event.Deliver end index) two tt second),
-      acked_all old mid new end true world all is (second.3 ∙ ap (λ (p : Sending). with_end mid end (delivered true (end_of mid end) p)) same),
+      acked_all old mid new end true world all is (second.3 ∙ ap (λ (p : Sending). with_end mid end (end_after_delivery true (end_of mid end) p)) same),
     )
 
 fresh_alone : (old mid : State) (end : End) → IsWorld old → WroteAck old mid end → is_stale (end_of mid end) (alone old end) ≡ false
@@ -214,7 +214,7 @@ fresh_alone old mid end world is =
     let c = (direction old end world).counts in
     ap (λ (e : EndState). is_stale e (alone old end)) (still_at old mid end _ is) ∙ le-ltb ((end_of old (other_end end)).taken + 2047) (end_of old end).acked (omega (arith, c.acked_taken))
 
-pub ack_refused : (old new : State) (end : End) (f : WorldFault) → Went old (event.Ack (other_end end)) (Err f) new → (f ≡ fault.NoMemory) × RanTo old new
+pub ack_refused : (old new : State) (end : End) (f : WorldFault) → ComesTo old (event.Ack (other_end end)) (Err f) new → (f ≡ fault.NoMemory) × RanTo old new
 unfolding Steps RefusesEvent
 ack_refused old new end fault.NoMemory went = (refl, (0, subst (λ (s : State). RanBy old s 0) (sym went.1) (ran_none old)))
 ack_refused old new end fault.NoSuchPacket went = absurd went.0
@@ -225,7 +225,7 @@ ack_refused old new end fault.Exhausted went = absurd went.0
 ack_refused old new end fault.BadSetup went = absurd went.0
 
 pub back_refused : (old mid new : State) (end : End) (index : ℕ) (one : Step) (f : WorldFault) → IsWorld old → index ≡ length (end_of old (other_end end)).wire → Steps old (event.Ack (other_end end)) one mid
-    → Went mid (event.Deliver end index) (Err f) new → (f ≡ fault.NoMemory) × RanTo old new
+    → ComesTo mid (event.Deliver end index) (Err f) new → (f ≡ fault.NoMemory) × RanTo old new
 unfolding Steps RefusesEvent
 back_refused old mid new end index one fault.NoMemory world at first went = (refl, (1, subst (λ (s : State). RanBy old s 1) (sym went.1) (ran_one old mid (event.Ack (other_end end)) one tt first)))
 back_refused old mid new end index one fault.NoSuchPacket world at first went =
@@ -259,14 +259,14 @@ pub wire_grew : (old mid : State) (end : End) (count : ℕ) → AllResent old mi
 wire_grew old mid end count h =
     let wire = (end_of old end).wire in ap (λ (e : EndState). length e.wire) (now_at old mid end _ h.wrote) ∙ length-append wire h.more ∙ ap (λ (n : ℕ). length wire + n) h.long
 
-pub same_unacked : (old mid : State) (end : End) (count : ℕ) → AllResent old mid end count → unacked mid end ≡ unacked old end
+pub same_unacked : (old mid : State) (end : End) (count : ℕ) → AllResent old mid end count → unacked_count mid end ≡ unacked_count old end
 same_unacked old mid end count h = ap (λ (e : EndState). e.sent - e.acked) (now_at old mid end _ h.wrote)
 
-pub came_unacked : (old new : State) (end : End) (n : ℕ) → AllCame old new end n → unacked new end ≡ unacked old end
+pub came_unacked : (old new : State) (end : End) (n : ℕ) → AllCame old new end n → unacked_count new end ≡ unacked_count old end
 came_unacked old new end n h = ap (λ (e : EndState). e.sent - e.acked) h.still
 
 -- all that was sent was taken
-pub all_taken : (mid now : State) (end : End) (count : ℕ) → IsWorld mid → AllCame mid now end count → count ≡ unacked mid end → (end_of now end).sent ≤ (end_of now (other_end end)).taken
+pub all_taken : (mid now : State) (end : End) (count : ℕ) → IsWorld mid → AllCame mid now end count → count ≡ unacked_count mid end → (end_of now end).sent ≤ (end_of now (other_end end)).taken
 all_taken mid now end count world h is = let c = (direction mid end world).counts in omega (arith, h.taken, ap (λ (e : EndState). e.sent) h.still, is, c.acked_taken, c.taken_sent)
 
 -- as many packets are shown as stand on the wire

@@ -15,7 +15,7 @@ use Rattle.dap_accessing.proofs.ForCallers.{told_by, Told-told_by, reports_grow}
 use Rattle.dap_end.proofs.ForCallers.{in_append}
 use Rattle.dap_events.specs.declared.event.End.TheVariants.{A}
 use Rattle.dap_world.specs.Agreement.{request_answers}
-use Rattle.dap_world.specs.Machine.{State, arrived_at, sent_by, served_by_b, answers_read, reported}
+use Rattle.dap_world.specs.Machine.{State, arrived_at, sent_by, served_by_b, answers_read, reports_by_a}
 use Rattle.dap_world.specs.Inner.Worlds.{IsWorld}
 use Rattle.dap_world.specs.Settling.{RanBy}
 use Rattle.dap_world.specs.Inner.Settling.{IsOneDue}
@@ -91,8 +91,8 @@ told_read s new part h due =
     front_of : (xs : List Message) (i j : ℕ) → i ≤ j → take i xs ++ drop i (take j xs) ≡ take j xs
     front_of xs i j le = ap (λ (l : List Message). l ++ drop i (take j xs)) (sym (take-take i j xs le)) ∙ take-append-drop i (take j xs)
 
-pub untold : (old s new : State) (n : ℕ) → IsWorld old → RanBy old s n → s.read ≡ old.read → ReadPart s new → IsWorld new → IsOneDue old → reported new ≡ reported old
-unfolding reported
+pub untold : (old s new : State) (n : ℕ) → IsWorld old → RanBy old s n → s.read ≡ old.read → ReadPart s new → IsWorld new → IsOneDue old → reports_by_a new ≡ reports_by_a old
+unfolding reports_by_a
 untold old s new n h ran same part w due =
     let before : Told s.requests (answers_read s) ≡ Told old.requests (answers_read old) = told_same old s n h ran same in
     let requests : s.requests ≡ old.requests = (ran_on old s n h ran).requests in

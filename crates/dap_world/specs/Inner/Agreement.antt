@@ -7,7 +7,7 @@ use Rattle.dap_msg.specs.declared.items.Item.{Item}
 use Rattle.dap_msg.specs.declared.items.Item.TheVariants.{Whole}
 use Rattle.dap_accessed.specs.Standing as at
 use Rattle.dap_accessed.specs.Standing.{ServerState}
-use Rattle.dap_world.specs.Plain.{added, limit_for, stands_after, messages_of, IsAdmissible}
+use Rattle.dap_world.specs.Plain.{answers_added, limit_for, stands_after, messages_of, IsAdmissible}
 use Rattle.dap_accessed.specs.Served.{AllAtMost}
 use Rattle.dap_accessing.specs.Request.{Request}
 use Rattle.dap_accessing.specs.declared.phase.Phase.{Phase}
@@ -35,9 +35,9 @@ NextWithin own_a own_b requests =
     (request : Request) → IsNext own_a own_b requests request
     → AllAtMost own_b (all_joined (Blocked (limit_after (reports_of own_a own_b requests)) (messages_of own_a request)))
 
--- whatever part of the messages the server has served, none of the NSP messages with its answers to the next one is
--- longer than the client takes
+-- whatever prefix of these requests' messages the server has served, none of the NSP messages of its answers to the
+-- message after it is longer than the client takes
 abbrev pub AnswersWithin : (own_a own_b : ℕ) → List Request → Type 0
 AnswersWithin own_a own_b requests =
     (front back : List Item) (item : Item) → front ++ item ∷ back ≡ items_of own_a requests
-    → AllAtMost own_a (all_joined (Blocked (limit_for own_b [] front) (added own_b [] front item)))
+    → AllAtMost own_a (all_joined (Blocked (limit_for own_b [] front) (answers_added own_b [] front item)))

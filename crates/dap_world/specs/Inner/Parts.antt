@@ -17,7 +17,7 @@ use Rattle.dap_accessing.specs.declared.report.Report.{Report}
 use Rattle.dap_world.specs.Plain.{Asked, messages_of}
 use Rattle.dap_events.specs.declared.event.End.{End}
 use Rattle.dap_events.specs.declared.event.End.TheVariants.{A, B}
-use Rattle.dap_world.specs.Machine.{State, EndState, sent_by, served_by_b, answers_read, reported}
+use Rattle.dap_world.specs.Machine.{State, EndState, sent_by, served_by_b, answers_read, reports_by_a}
 use Rattle.dap_world.specs.Inner.Worlds.{IsWorld}
 use Rattle.dap_end.specs.Asking.{HasAsked}
 use Rattle.dap_end.specs.Done.{AskingValue, ClientHistory}
@@ -159,7 +159,7 @@ pub record AreParts (p : Parts) : Type 0 where
   pub from_a : IsCarried p.a p.b (asked_messages p) p.served
   pub from_b : IsCarried p.b p.a (answers p) p.read
   pub sent_is : p.sent ≡ map canon (sent_by (state_of p).a)
-  pub reports_is : p.reports ≡ reported (state_of p)
+  pub reports_is : p.reports ≡ reports_by_a (state_of p)
   -- the ends are as after what was asked, served and read
   pub asking : IsAskedAll (asking_end p) p.requests (answers_read (state_of p))
   pub serving : IsServedAll (serving_end p) (map Whole (served_by_b (state_of p)))

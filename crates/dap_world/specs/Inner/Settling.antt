@@ -5,9 +5,9 @@ use Rattle.dap_events.specs.declared.event.Event.{Event}
 use Rattle.dap_events.specs.declared.event.Event.TheVariants as event
 use Rattle.dap_events.specs.declared.event.WorldFault.{WorldFault}
 use Rattle.dap_world.specs.Runs.{Runs}
-use Rattle.dap_world.specs.Machine.{State, EndState, Sending, MayEmit, next_to_read, posted, reported, end_of, sent_by, other_end, with_end}
+use Rattle.dap_world.specs.Machine.{State, EndState, Sending, MayEmit, next_to_read, end_after_post, reports_by_a, end_of, sent_by, other_end, with_end}
 use Rattle.dap_msg.specs.declared.message.Message.{Message}
-use Rattle.dap_world.specs.Settling.{FinishFault, IsEmpty, RanBy, unacked}
+use Rattle.dap_world.specs.Settling.{FinishFault, IsEmpty, RanBy, unacked_count}
 use Rattle.dap_events.specs.declared.event.End.TheVariants.{A, B}
 
 -- some events lead from the one state to the other, and none of them asks
@@ -49,7 +49,7 @@ pub record NothingSent (old new : State) : Type 0 where
 
 -- at most one request has no report yet
 abbrev pub IsOneDue : State → Type 0
-IsOneDue s = length s.requests ≤ length (reported s) + 1
+IsOneDue s = length s.requests ≤ length (reports_by_a s) + 1
 
 -- The first of the segments that aren't acknowledged were written again, and nothing else happened.
 pub record AllResent (old new : State) (end : End) (count : ℕ) : Type 0 where
@@ -76,7 +76,7 @@ pub record Brought (old new : State) (end : End) (n : ℕ) : Type 0 where
   pub same : SameBut old new
   pub sent : (end_of new end).sent ≡ (end_of old end).sent + n
   pub back : (end_of new (other_end end)).sent ≡ (end_of old (other_end end)).sent
-  pub done : unacked new end ≡ 0
+  pub done : unacked_count new end ≡ 0
 
 -- All that there are were, by this many events.
 pub record BroughtAll (old new : State) (end : End) (n : ℕ) : Type 0 where
@@ -94,7 +94,7 @@ IsQuiet s = (end : End) → (end_of s end).waiting ≡ []
 -- All that waits was passed on, by one event or none.
 pub record PostedAll (old new : State) (end : End) (n : ℕ) : Type 0 where
   pub ran : RanBy old new n
-  pub is : new ≡ with_end old end (posted (end_of old end))
+  pub is : new ≡ with_end old end (end_after_post (end_of old end))
   pub few : n ≤ 1
   pub nothing : (end_of old end).waiting ≡ [] → n ≡ 0
 
@@ -122,7 +122,7 @@ abbrev pub Halts : (done : Type 0) → State → State → WorldFault → Type 0
 Halts done old new f = FinishFault new f × RanTo old new × (done → ⊥)
 
 abbrev pub AreSettled : State → Type 0
-AreSettled s = (unacked s A ≡ 0) × (unacked s B ≡ 0)
+AreSettled s = (unacked_count s A ≡ 0) × (unacked_count s B ≡ 0)
 
 -- all that was sent was served
 abbrev pub IsServed : State → Type 0
@@ -134,10 +134,10 @@ AreEmpty s = IsEmpty s A × IsEmpty s B
 -- Both ends were settled.
 pub record SettledBoth (old new : State) (n : ℕ) : Type 0 where
   pub ran : RanBy old new n
-  pub a : unacked new A ≡ 0
-  pub b : unacked new B ≡ 0
+  pub a : unacked_count new A ≡ 0
+  pub b : unacked_count new B ≡ 0
   pub count : n ≤ 4 * old.window + 4
-  pub nothing : unacked old A ≡ 0 → unacked old B ≡ 0 → n ≡ 0
+  pub nothing : unacked_count old A ≡ 0 → unacked_count old B ≡ 0 → n ≡ 0
 
 -- What waited was brought to the other end, both ways.
 pub record SentBoth (old new : State) (n : ℕ) : Type 0 where

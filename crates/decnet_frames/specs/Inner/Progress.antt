@@ -4,7 +4,7 @@ use Rattle.std.specs.Io.KnownBytes.{Appends, Consumes, Keeps}
 use Rattle.linewise.specs.Output.{WritesFront}
 use Rattle.decnet_frames.specs.declared.run.FramesFault.{FramesFault}
 use Rattle.decnet_frames.specs.declared.run.FramesFault.TheVariants.{File, WriteFailed, NoMemory as Wants}
-use Rattle.capture_file.specs.Files.{Stops, clamped}
+use Rattle.capture_file.specs.Files.{Stops, bounded_count}
 use Rattle.capture_file.specs.Meanings.{Record}
 use Rattle.capture_file.specs.Reading.{HasRead}
 use Rattle.capture_file.specs.declared.fault.FileFault.{FileFault}
@@ -22,7 +22,7 @@ ends_all ends (r ∷ records) = ends_all (ends_after ends r) records
 -- how many captured frames there are, after a count of earlier ones
 abbrev pub count_all : ℕ → List Record → ℕ
 count_all count [] = count
-count_all count (r ∷ records) = count_all (clamped (count + 1)) records
+count_all count (r ∷ records) = count_all (bounded_count (count + 1)) records
 
 -- These bytes were read. What was written of them, and what isn't written yet, are the lines of their frames.
 pub record HasListed (ends : Option Ends) (f : Frames) (bytes written : List ℕ) : Type 0 where
@@ -30,7 +30,7 @@ pub record HasListed (ends : Option Ends) (f : Frames) (bytes written : List ℕ
   pub read : HasRead f.reading bytes records
   pub ends_are : f.listing.ends ≡ ends_all ends records
   pub counted : f.listing.count ≡ count_all 0 records
-  pub taken : f.listing.taken ≡ clamped (length (packets_from ends records))
+  pub taken : f.listing.taken ≡ bounded_count (length (packets_from ends records))
   pub text_is : written ++ f.text.items ≡ frame_lines ends 0 records
 
 -- no fault was met
@@ -42,7 +42,7 @@ pub record HasStopped (ends : Option Ends) (f : Frames) (bytes written : List �
   pub records : List Record
   pub stops : Stops bytes records fault.kind fault.at
   pub counted : f.listing.count ≡ count_all 0 records
-  pub taken : f.listing.taken ≡ clamped (length (packets_from ends records))
+  pub taken : f.listing.taken ≡ bounded_count (length (packets_from ends records))
   pub text_is : written ++ f.text.items ≡ frame_lines ends 0 records
 
 -- a step over a piece of an input

@@ -4,7 +4,7 @@ use Rattle.std.specs.List.{list_any, concat}
 use Rattle.std.specs.Io.KnownBytes.{Appends, Keeps, IsAtEnd}
 use Rattle.std.specs.Io.BufRead.{first_line, drop_through}
 use Rattle.linewise.specs.Output.{WritesFront}
-use Rattle.linewise.specs.Talks.{Answering, AnswersLine, BeginsAnswer, ComesIn, IsUnbroken, SaysTo, Talked, is_bad}
+use Rattle.linewise.specs.Talks.{Answering, AnswersLine, BeginsAnswer, ComesIn, IsUnbroken, SaysTo, AnswersInput, is_bad}
 use Rattle.linewise.specs.declared.talking.Became.{Became}
 use Rattle.linewise.specs.declared.talking.Answer.{Answer}
 use Rattle.linewise.specs.declared.talking.Answer.TheVariants.{Whole, Begun}
@@ -58,4 +58,4 @@ TalkEnds answered waiting old new unread written holds _ = ⊥
 -- the lines up to what is left are answered, and the writer holds the answers
 abbrev pub HasTalked : {E : Type 0} → Answering E → (E → Option ℕ) → E → (unread written : Option (List ℕ)) → E → (left holds : Option (List ℕ)) → Bool → Type 0
 HasTalked answered waiting old unread written now left holds bad = IfSome unread (λ input. (rest said : List ℕ) × (lines : List (Option Became))
-    × (left ≡ Some rest) × Appends written holds said × Talked answered waiting old input now rest said lines × (bad ≡ list_any is_bad lines) × IsUnbroken waiting lines)
+    × (left ≡ Some rest) × Appends written holds said × AnswersInput answered waiting old input now rest said lines × (bad ≡ list_any is_bad lines) × IsUnbroken waiting lines)

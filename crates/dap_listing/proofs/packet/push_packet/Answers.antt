@@ -3,7 +3,7 @@ use Rattle.std.proofs.lemmas.List.{append-nil, take_all}
 use Rattle.std.proofs.lemmas.Result.{on_ok_weaker}
 use Rattle.nsp_seg.specs.declared.packet.Packet.TheVariants.{Segment, DataAck}
 use Rattle.nsp_seg.specs.declared.packet.SegFault.{SegFault}
-use Rattle.dap_listing.specs.Packets.{Seen, IsSeen, seen_line}
+use Rattle.dap_listing.specs.Packets.{DecodedPacket, IsSeen, seen_line}
 use Rattle.dap_listing.specs.Inner.Messages.{SegmentMessages}
 use Rattle.dap_listing.proofs.MessageLemmas.{appended_twice}
 use Rattle.dap_listing.specs.Captured.{HasDigits, Spell, digit_bytes, seen_value, segment_fields}
@@ -41,7 +41,7 @@ pub returns-in_ok-push_segment-in-Ok-Segment : goal.returns-in_ok-push_segment-i
 returns-in_ok-push_segment-in-Ok-Segment c =
     let line = c.in-Ok-Segment.line in
     let bytes = digit_bytes c.args.digits.now in
-    let told : Seen = Ok (Segment (segment_fields line)) in
+    let told : DecodedPacket = Ok (Segment (segment_fields line)) in
     let is : IsSeen told bytes =
     subst (λ (r : Result CapturedPacket SegFault). IsSeen (seen_value r) bytes) (c.in-Ok-Segment.is ∙ ap Ok c.in-Ok-Segment.field-0-is) c.see.ensures.seen in
     on_ok_weaker c.push_whole.result
@@ -56,7 +56,7 @@ returns-in_ok-push_segment-in-Ok-Segment c =
 pub returns-in-Ok-DataAck : goal.returns-in-Ok-DataAck
 returns-in-Ok-DataAck c =
     let bytes = digit_bytes c.args.digits.now in
-    let told : Seen = Ok (DataAck c.in-Ok-DataAck.ack) in
+    let told : DecodedPacket = Ok (DataAck c.in-Ok-DataAck.ack) in
     let is : IsSeen told bytes =
     subst (λ (r : Result CapturedPacket SegFault). IsSeen (seen_value r) bytes) (c.in-Ok-DataAck.is ∙ ap Ok c.in-Ok-DataAck.field-0-is) c.see.ensures.seen in
     on_ok_weaker c.push_ack.result

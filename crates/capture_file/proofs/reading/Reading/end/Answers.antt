@@ -1,7 +1,7 @@
 use Rattle.std.proofs.Common.{◌≡◌, ◌<◌, length, inr, sym, arith, subst, Option, ap, ◌∙◌}
 use Rattle.capture_file.specs.Meanings.{meaning_of}
 use Rattle.std.proofs.lemmas.Result.{IfOk-weaker}
-use Rattle.capture_file.specs.Reading.{wanted}
+use Rattle.capture_file.specs.Reading.{wanted_count}
 use Rattle.capture_file.specs.declared.units.Extent.{Extent}
 use Rattle.capture_file.proofs.StateLemmas.{none_of, read_more, read_on}
 use Rattle.capture_file.proofs.reading.Reading.end.Goals as goal
@@ -10,7 +10,7 @@ pub returns-then-self-extent-clause-read : goal.returns-then-self-extent-clause-
 returns-then-self-extent-clause-read c = λ bytes rest records s.
     let seen : c.args.self.now.seen ≡ length rest = s.gathers.seen in
     let short : length rest < c.in-Some.extent.long = omega (arith, c.if-self-extent.true) in
-    read_on c.args.self.now bytes rest records s (subst (λ (x : Option Extent). length rest < wanted c.args.self.now.format x) (sym c.in-Some.is) short)
+    read_on c.args.self.now bytes rest records s (subst (λ (x : Option Extent). length rest < wanted_count c.args.self.now.format x) (sym c.in-Some.is) short)
 
 pub returns-in-Ok-clause-read : goal.returns-in-Ok-clause-read
 returns-in-Ok-clause-read c =

@@ -12,7 +12,7 @@ use Rattle.dap_msg.specs.Canon.{canon}
 use Rattle.dap_msg.specs.declared.message.Message.{Message}
 use Rattle.dap_msg.specs.declared.message.Message.TheVariants.{Filedata}
 use Rattle.dap_accessed.specs.Sessions.{SessionValue, with_files}
-use Rattle.dap_accessed.specs.Served.{Answered}
+use Rattle.dap_accessed.specs.Served.{AreAnswers}
 use Rattle.dap_accessed.specs.Records.{filedata_of}
 use Rattle.dap_accessed.proofs.Fetching.{GoesOn, filedata_size, begins, goes_on, above_next, ends_there, stops_there}
 use Rattle.dap_accessed.proofs.session.Session.batch.Goals as goal
@@ -30,9 +30,9 @@ loop-number-preserved c =
     let fits : length (canon (filedata_of (c.in-Some.number, c.in-Some.body.now))) ≤ c.args.self.now.limit = omega (arith, filedata_size (c.in-Some.number, c.in-Some.body.now), c.if-filedata_len-from.false, c.filedata_len.ensures, c.from.ensures, limit) in
     goes_on c.args.self.now.limit (any_value c.file-file.result.now) c.args.stream.next c.loop-number.next c.loop-number.answers c.append-in-Some.new.answers
     (c.in-Some.number, c.in-Some.body.now) c.loop-number.invariant c.in-Some.ensures.some (le-leb _ _ fits) c.in-Some.ensures.within
-    (subst (λ (l : ℕ). Answered l (map filedata_of given ++ filedata_of (c.in-Some.number, c.in-Some.body.now) ∷ []) c.append-in-Some.new.answers) limit
-    (subst (λ (n : List ℕ). Answered c.self.inside.limit (map filedata_of given ++ Filedata n c.in-Some.body.now ∷ []) c.append-in-Some.new.answers) c.to_le_bytes.ensures
-    (c.in_ok-append-2.ensures (map filedata_of given) (subst (λ (l : ℕ). Answered l (map filedata_of given) c.loop-number.answers) (sym limit) c.loop-number.invariant.answered))))
+    (subst (λ (l : ℕ). AreAnswers l (map filedata_of given ++ filedata_of (c.in-Some.number, c.in-Some.body.now) ∷ []) c.append-in-Some.new.answers) limit
+    (subst (λ (n : List ℕ). AreAnswers c.self.inside.limit (map filedata_of given ++ Filedata n c.in-Some.body.now ∷ []) c.append-in-Some.new.answers) c.to_le_bytes.ensures
+    (c.in_ok-append-2.ensures (map filedata_of given) (subst (λ (l : ℕ). AreAnswers l (map filedata_of given) c.loop-number.answers) (sym limit) c.loop-number.invariant.answered))))
 
 pub at_number-requires-clause-above : goal.at_number-requires-clause-above
 at_number-requires-clause-above c =
@@ -56,11 +56,11 @@ returns-then-filedata_len-from-clause-answers c =
     let file = c.file-file.ensures in
     let large : c.args.self.now.limit < length (canon (filedata_of (c.in-Some.number, c.in-Some.body.now))) = omega (arith, filedata_size (c.in-Some.number, c.in-Some.body.now), c.if-filedata_len-from.true, c.filedata_len.ensures, c.from.ensures, limit) in
     let given = c.loop-number.invariant.given in
-    subst (λ (e : Effect). Answered c.args.self.now.limit e.answers c.append.new.answers)
+    subst (λ (e : Effect). AreAnswers c.args.self.now.limit e.answers c.append.new.answers)
     (sym (stops_there (scene_in (with_files c.args.files.now c.args.self.now)) c.args.opened c.args.stream (any_value c.file-file.result.now) c.loop-number.next c.loop-number.answers
     (c.in-Some.number, c.in-Some.body.now) (records_from (any_value c.file-file.result.now).records (c.in-Some.number + 1)) file c.loop-number.invariant c.in-Some.ensures.some (lt-leb _ _ large)))
-    (subst (λ (l : ℕ). Answered l (map filedata_of given ++ too_large ∷ []) c.append.new.answers) limit
-    (subst (λ (m : Message). Answered c.self.inside.limit (map filedata_of given ++ m ∷ []) c.append.new.answers) c.too_large.ensures.message (c.in_ok-append.ensures (map filedata_of given) (subst (λ (l : ℕ). Answered l (map filedata_of given) c.loop-number.answers) (sym limit) c.loop-number.invariant.answered))))
+    (subst (λ (l : ℕ). AreAnswers l (map filedata_of given ++ too_large ∷ []) c.append.new.answers) limit
+    (subst (λ (m : Message). AreAnswers c.self.inside.limit (map filedata_of given ++ m ∷ []) c.append.new.answers) c.too_large.ensures.message (c.in_ok-append.ensures (map filedata_of given) (subst (λ (l : ℕ). AreAnswers l (map filedata_of given) c.loop-number.answers) (sym limit) c.loop-number.invariant.answered))))
 
 pub returns-clause-phase : goal.returns-clause-phase
 returns-clause-phase c =
@@ -74,8 +74,8 @@ returns-clause-answers c =
     let limit : c.self.inside.limit ≡ c.args.self.now.limit = ap (λ (p : SessionValue). p.limit) c.self.view_is in
     let file = c.file-file.ensures in
     let given = c.loop-number.invariant.given in
-    subst (λ (e : Effect). Answered c.args.self.now.limit e.answers c.append-2.new.answers)
+    subst (λ (e : Effect). AreAnswers c.args.self.now.limit e.answers c.append-2.new.answers)
     (sym (ends_there (scene_in (with_files c.args.files.now c.args.self.now)) c.args.opened c.args.stream (any_value c.file-file.result.now) c.loop-number.next c.loop-number.answers
     file c.loop-number.invariant c.in_default.ensures.none))
-    (subst (λ (l : ℕ). Answered l (map filedata_of given ++ bare_status codes.stscode.end_of_file ∷ []) c.append-2.new.answers) limit
-    (c.in_ok-append-3.ensures (map filedata_of given) (subst (λ (l : ℕ). Answered l (map filedata_of given) c.loop-number.answers) (sym limit) c.loop-number.invariant.answered)))
+    (subst (λ (l : ℕ). AreAnswers l (map filedata_of given ++ bare_status codes.stscode.end_of_file ∷ []) c.append-2.new.answers) limit
+    (c.in_ok-append-3.ensures (map filedata_of given) (subst (λ (l : ℕ). AreAnswers l (map filedata_of given) c.loop-number.answers) (sym limit) c.loop-number.invariant.answered)))

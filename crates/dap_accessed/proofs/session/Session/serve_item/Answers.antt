@@ -3,7 +3,7 @@ use Rattle.std.specs.Prelude.{Result, Ok, Err, OnErr}
 use Rattle.dap_msg.specs.declared.message.Message.{Message}
 use Rattle.dap_msg.proofs.ForCallers.{item_fits}
 use Rattle.dap_accessed.specs.Present.{Present}
-use Rattle.dap_accessed.specs.Served.{Answered}
+use Rattle.dap_accessed.specs.Served.{AreAnswers}
 use Rattle.dap_accessed.specs.Sessions.{with_files, session_of}
 use Rattle.dap_accessed.proofs.StepIs.{answers-in, in-more, same-own, same-setup}
 use Rattle.dap_accessed.proofs.Silent.{silent-in}
@@ -23,7 +23,7 @@ returns-clause-serves c =
     let moves = c.in_ok-answers.ensures.ok in
     record {
       stands = λ s h. in-more old new c.args.item s moves.present h;
-      answered = λ s h. subst (λ (l : List Message). Answered old.limit l c.in_ok-answers.answers) (answers-in old c.args.item s h) moves.answered;
+      answered = λ s h. subst (λ (l : List Message). AreAnswers old.limit l c.in_ok-answers.answers) (answers-in old c.args.item s h) moves.answered;
       within = moves.answered.within;
       most = c.in_ok-answers.ensures.most;
       same_own = ap (λ (p : Present). p.own) moves.present ∙ same-own old c.args.item;

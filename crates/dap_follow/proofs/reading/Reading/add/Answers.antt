@@ -2,7 +2,7 @@ use Rattle.std.proofs.Common.{arith, rules, ◌≡◌, ◌+◌, ◌++◌, ◌∷
 use Rattle.std.proofs.lemmas.Result.{on_ok_weaker}
 use Rattle.dap_listing.specs.Captured.{HasDigits, seen_value}
 use Rattle.dap_meanings.specs.Frames.{frame_words}
-use Rattle.dap_listing.specs.Packets.{Seen}
+use Rattle.dap_listing.specs.Packets.{DecodedPacket}
 use Rattle.dap_follow.specs.Streams.{came_as}
 use Rattle.dap_follow.specs.Inner.Keeping.{stream_of, KeepsAll}
 use Rattle.dap_follow.proofs.KeepingLemmas.{keeps_aside}
@@ -34,7 +34,7 @@ returns-in-Ok-Segment-clause-more c =
       c.read_packet-seen.ensures.seen,
       λ told packets framed reads.
           reads_more words told frame packets way seen old _ c.push_packet_line.new.text number framed reads
-          (subst (λ (s : Seen). KeepsAll (packets ++ (way, s) ∷ []) c.add.new.self) (sym (ap seen_value whole)) (kept packets reads.streams (omega (arith, count, count_is words told packets old reads)) spell))
+          (subst (λ (s : DecodedPacket). KeepsAll (packets ++ (way, s) ∷ []) c.add.new.self) (sym (ap seen_value whole)) (kept packets reads.streams (omega (arith, count, count_is words told packets old reads)) spell))
           c.in_ok-push.ensures.items line (omega (arith, count)),
     ))
     c.add.ensures
@@ -51,12 +51,12 @@ returns-in-Ok-DataAck-clause-more c =
     let number : ℕ = c.len-number.result + 1 in
     let count : c.len-number.result ≡ length old.lines.items = search rules in
     let line = c.in_ok-push_packet_line.ensures in
-    let no_stream : stream_of (way, seen) ≡ None = ap (λ (s : Seen). stream_of (way, s)) is in (
+    let no_stream : stream_of (way, seen) ≡ None = ap (λ (s : DecodedPacket). stream_of (way, s)) is in (
       seen,
       c.read_packet-seen.ensures.seen,
       λ told packets framed reads.
           reads_more words told frame packets way seen old _ c.push_packet_line.new.text number framed reads
-          (keeps_aside packets (way, seen) old.streams no_stream (λ stream. ap (λ (s : Seen). came_as stream (1 + length packets) (way, s)) is) reads.streams)
+          (keeps_aside packets (way, seen) old.streams no_stream (λ stream. ap (λ (s : DecodedPacket). came_as stream (1 + length packets) (way, s)) is) reads.streams)
           c.in_ok-push.ensures.items line (omega (arith, count)),
     )
 
@@ -71,11 +71,11 @@ returns-in-Err-clause-more c =
     let number : ℕ = c.len-number.result + 1 in
     let count : c.len-number.result ≡ length old.lines.items = search rules in
     let line = c.in_ok-push_packet_line.ensures in
-    let no_stream : stream_of (way, seen) ≡ None = ap (λ (s : Seen). stream_of (way, s)) is in (
+    let no_stream : stream_of (way, seen) ≡ None = ap (λ (s : DecodedPacket). stream_of (way, s)) is in (
       seen,
       c.read_packet-seen.ensures.seen,
       λ told packets framed reads.
           reads_more words told frame packets way seen old _ c.push_packet_line.new.text number framed reads
-          (keeps_aside packets (way, seen) old.streams no_stream (λ stream. ap (λ (s : Seen). came_as stream (1 + length packets) (way, s)) is) reads.streams)
+          (keeps_aside packets (way, seen) old.streams no_stream (λ stream. ap (λ (s : DecodedPacket). came_as stream (1 + length packets) (way, s)) is) reads.streams)
           c.in_ok-push.ensures.items line (omega (arith, count)),
     )

@@ -2,9 +2,9 @@ use Rattle.std.proofs.Common.{◌≡◌, ◌∙◌, Err, ap, subst, length, map}
 use Rattle.dap_events.specs.declared.event.End.{End}
 use Rattle.dap_events.specs.declared.event.Event.TheVariants as event
 use Rattle.dap_world.specs.Machine.{State, Steps, end_of}
-use Rattle.dap_world.specs.Settling.{unacked}
+use Rattle.dap_world.specs.Settling.{unacked_count}
 use Rattle.dap_world.proofs.Steps.Others.{refused_same}
-use Rattle.dap_world.specs.Runs.{Went}
+use Rattle.dap_world.specs.Runs.{ComesTo}
 use Rattle.dap_world.specs.Wires.{sending_of}
 use Rattle.dap_world.proofs.Stretch.Settles.{acknowledged_all, ack_unacked, back_refused, ack_refused, wire_length}
 use Rattle.dap_world.proofs.Stretch.Resting.{rest_ack, rest_both, rest_deliver}
@@ -39,13 +39,13 @@ returns-clause-rest c =
 
 pub returns-in-Err-clause-err : goal.returns-in-Err-clause-err
 returns-in-Err-clause-err c =
-    ack_refused c.args.self.now c.step.new.self c.args.end c.in-Err.fault (subst (λ (e : End). Went c.args.self.now (event.Ack e) (Err c.in-Err.fault) c.step.new.self) c.other_end-2.ensures c.in-Err.ensures.went)
+    ack_refused c.args.self.now c.step.new.self c.args.end c.in-Err.fault (subst (λ (e : End). ComesTo c.args.self.now (event.Ack e) (Err c.in-Err.fault) c.step.new.self) c.other_end-2.ensures c.in-Err.ensures.went)
 
 pub returns-in-Err-clause-left : goal.returns-in-Err-clause-left
-returns-in-Err-clause-left c = ap (λ (s : State). unacked s c.args.end) (refused_same c.args.self.now c.step.new.self _ c.in-Err.fault c.in-Err.ensures.went)
+returns-in-Err-clause-left c = ap (λ (s : State). unacked_count s c.args.end) (refused_same c.args.self.now c.step.new.self _ c.in-Err.fault c.in-Err.ensures.went)
 
 pub returns-clause-left : goal.returns-clause-left
 returns-clause-left c =
     let first = subst (λ (e : End). Steps c.args.self.now (event.Ack e) c.in-Ok._step c.step.new.self) c.other_end-2.ensures c.in-Ok.ensures.went in
-    ap (λ (s : State). unacked s c.args.end) (refused_same c.step.new.self c.step-2.new.self _ c.in-Err-step.fault c.in-Err-step.ensures.went)
+    ap (λ (s : State). unacked_count s c.args.end) (refused_same c.step.new.self c.step-2.new.self _ c.in-Err-step.fault c.in-Err-step.ensures.went)
     ∙ ack_unacked c.args.self.now c.step.new.self c.args.end c.in-Ok._step first

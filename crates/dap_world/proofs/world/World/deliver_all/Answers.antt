@@ -2,9 +2,9 @@ use Rattle.std.proofs.Common.{◌≡◌, ◌-◌, ◌∙◌, ℕ, Err, ap, arith
 use Rattle.dap_events.specs.declared.event.End.{End}
 use Rattle.dap_events.specs.declared.event.Event.TheVariants as event
 use Rattle.dap_world.specs.Machine.{State, Steps}
-use Rattle.dap_world.specs.Settling.{unacked}
+use Rattle.dap_world.specs.Settling.{unacked_count}
 use Rattle.dap_world.proofs.Steps.Others.{refused_same}
-use Rattle.dap_world.specs.Runs.{Went}
+use Rattle.dap_world.specs.Runs.{ComesTo}
 use Rattle.dap_world.specs.Inner.Settling.{AllCame}
 use Rattle.dap_world.proofs.Stretch.Settles.{came_more, came_refused, came_unacked}
 use Rattle.dap_world.proofs.Stretch.Resting.{rest_both, rest_deliver}
@@ -24,7 +24,7 @@ pub returns-in-Err-clause-err : goal.returns-in-Err-clause-err
 returns-in-Err-clause-err c =
     came_refused c.args.self.now c.loop-j.self c.step.new.self c.args.end c.args.first c.args.last c.loop-j.j c.in-Err.fault c.loop-j.invariant.world c.loop-j.invariant.came c.requires.there
     c.loop-j.auto.j c.loop-j-test.true
-    (subst (λ (e : End). Went c.loop-j.self (event.Deliver e c.loop-j.j) (Err c.in-Err.fault) c.step.new.self) c.other_end.ensures c.in-Err.ensures.went)
+    (subst (λ (e : End). ComesTo c.loop-j.self (event.Deliver e c.loop-j.j) (Err c.in-Err.fault) c.step.new.self) c.other_end.ensures c.in-Err.ensures.went)
 
 pub returns-clause-ok : goal.returns-clause-ok
 returns-clause-ok c =
@@ -37,5 +37,5 @@ returns-in-Err-clause-rest c =
 
 pub returns-in-Err-clause-left : goal.returns-in-Err-clause-left
 returns-in-Err-clause-left c =
-    ap (λ (s : State). unacked s c.args.end) (refused_same c.loop-j.self c.step.new.self _ c.in-Err.fault c.in-Err.ensures.went)
+    ap (λ (s : State). unacked_count s c.args.end) (refused_same c.loop-j.self c.step.new.self _ c.in-Err.fault c.in-Err.ensures.went)
     ∙ came_unacked c.args.self.now c.loop-j.self c.args.end (c.loop-j.j - c.args.first) c.loop-j.invariant.came

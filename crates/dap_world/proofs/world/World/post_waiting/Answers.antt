@@ -3,7 +3,7 @@ use Rattle.std.specs.Prelude.{Result}
 use Rattle.dap_events.specs.declared.event.Event.TheVariants as event
 use Rattle.dap_events.specs.declared.event.Step.{Step}
 use Rattle.dap_events.specs.declared.event.WorldFault.{WorldFault}
-use Rattle.dap_world.specs.Runs.{Went}
+use Rattle.dap_world.specs.Runs.{ComesTo}
 use Rattle.dap_world.proofs.Stretch.Exhausting.{post_fault}
 use Rattle.dap_world.proofs.Steps.Others.{refused_same}
 use Rattle.dap_world.proofs.Stretch.Posting.{posted_one, posted_none, post_refused}
@@ -15,7 +15,7 @@ returns-in-Ok-clause-ok c = (posted_one c.args.self.now c.step.new.self c.args.e
 pub returns-then-is_nothing-clause-ok : goal.returns-then-is_nothing-clause-ok
 returns-then-is_nothing-clause-ok c = (
   posted_none c.args.self.now c.step.new.self c.args.end
-      (subst (λ (r : Result Step WorldFault). Went c.args.self.now (event.Post c.args.end) r c.step.new.self) (c.in-Err.is ∙ ap (λ (f : WorldFault). Err f) (c.is_nothing.ensures.yes c.if-is_nothing.true)) c.step.ensures.went),
+      (subst (λ (r : Result Step WorldFault). ComesTo c.args.self.now (event.Post c.args.end) r c.step.new.self) (c.in-Err.is ∙ ap (λ (f : WorldFault). Err f) (c.is_nothing.ensures.yes c.if-is_nothing.true)) c.step.ensures.went),
   c.step.ensures.world,
 )
 

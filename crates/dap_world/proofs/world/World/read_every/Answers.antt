@@ -3,7 +3,7 @@ use Rattle.std.specs.Prelude.{Result}
 use Rattle.dap_events.specs.declared.event.Event.TheVariants as event
 use Rattle.dap_events.specs.declared.event.Step.{Step}
 use Rattle.dap_events.specs.declared.event.WorldFault.{WorldFault}
-use Rattle.dap_world.specs.Runs.{Went}
+use Rattle.dap_world.specs.Runs.{ComesTo}
 use Rattle.dap_world.proofs.Stretch.Emptying.{read_more, fewer_left, read_ends, read_refused}
 use Rattle.dap_world.proofs.world.World.read_every.Goals as goal
 
@@ -21,7 +21,7 @@ pub returns-then-is_nothing-clause-ok : goal.returns-then-is_nothing-clause-ok
 returns-then-is_nothing-clause-ok c =
     let so_far = c.answers.invariant.so_far in (
       read_ends c.args.self.now c.answers.self c.step.new.self so_far.0 _ so_far.1
-          (subst (λ (r : Result Step WorldFault). Went c.answers.self event.Read r c.step.new.self) (c.in-Err.is ∙ ap (λ (f : WorldFault). Err f) (c.is_nothing.ensures.yes c.if-is_nothing.true)) c.step.ensures.went)
+          (subst (λ (r : Result Step WorldFault). ComesTo c.answers.self event.Read r c.step.new.self) (c.in-Err.is ∙ ap (λ (f : WorldFault). Err f) (c.is_nothing.ensures.yes c.if-is_nothing.true)) c.step.ensures.went)
           (omega (arith, c.read_count.ensures, c.read_count-before.ensures)),
       c.step.ensures.world,
     )

@@ -1,7 +1,7 @@
 use Rattle.std.proofs.Common.{◌∙◌, ap, arith}
 use Rattle.dap_events.specs.declared.event.Event.TheVariants as event
 use Rattle.dap_world.specs.Machine.{State}
-use Rattle.dap_world.specs.Settling.{unacked}
+use Rattle.dap_world.specs.Settling.{unacked_count}
 use Rattle.dap_world.proofs.Steps.Others.{refused_same}
 use Rattle.dap_world.proofs.Stretch.Settles.{resent_more, resend_refused, same_unacked}
 use Rattle.dap_world.proofs.Stretch.Resting.{rest_both, rest_resend}
@@ -24,5 +24,5 @@ returns-in-Err-clause-rest c =
 
 pub returns-in-Err-clause-left : goal.returns-in-Err-clause-left
 returns-in-Err-clause-left c =
-    ap (λ (s : State). unacked s c.args.end) (refused_same c.loop-index.self c.step.new.self (event.Resend c.args.end c.loop-index.index) c.in-Err.fault c.in-Err.ensures.went)
+    ap (λ (s : State). unacked_count s c.args.end) (refused_same c.loop-index.self c.step.new.self (event.Resend c.args.end c.loop-index.index) c.in-Err.fault c.in-Err.ensures.went)
     ∙ same_unacked c.args.self.now c.loop-index.self c.args.end c.loop-index.index c.loop-index.invariant.resent

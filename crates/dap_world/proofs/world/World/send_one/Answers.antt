@@ -2,12 +2,12 @@ use Rattle.std.proofs.Common.{◌+◌, Err, sym, ap, arith, subst, length}
 use Rattle.dap_events.specs.declared.event.End.{End}
 use Rattle.dap_events.specs.declared.event.Event.TheVariants as event
 use Rattle.dap_world.specs.Machine.{Steps, other_end}
-use Rattle.dap_world.specs.Runs.{Went}
+use Rattle.dap_world.specs.Runs.{ComesTo}
 use Rattle.dap_world.proofs.Stretch.Settles.{wire_length, ran_one, ran_both}
 use Rattle.dap_world.proofs.Stretch.Exhausting.{may_left}
 use Rattle.dap_world.proofs.Steps.Others.{refused_same}
 use Rattle.dap_world.specs.Machine.{State}
-use Rattle.dap_world.specs.Settling.{IsEmpty, unacked}
+use Rattle.dap_world.specs.Settling.{IsEmpty, unacked_count}
 use Rattle.dap_world.proofs.Stretch.Bringing.{deliver_unacked, emit_unacked, emit_refused, first_refused, arrived_all, brought_one}
 use Rattle.dap_world.proofs.Stretch.Bringing.{same_both}
 use Rattle.dap_world.proofs.Stretch.Resting.{same_emitted, rest_deliver}
@@ -20,7 +20,7 @@ pub returns-in-Err-step-clause-err : goal.returns-in-Err-step-clause-err
 returns-in-Err-step-clause-err c =
     let at = wire_length c.args.self.now c.args.end c.wire-index.result.now c.wire-index.ensures.sendings in
     first_refused c.args.self.now c.step.new.self c.step-2.new.self c.args.end (length c.wire-index.result.now) c.in-Ok._step c.in-Err-step.fault c.requires.world c.in-Ok.ensures.world c.in-Ok.ensures.went at
-    (subst (λ (e : End). Went c.step.new.self (event.Deliver e (length c.wire-index.result.now)) (Err c.in-Err-step.fault) c.step-2.new.self) c.other_end.ensures c.in-Err-step.ensures.went)
+    (subst (λ (e : End). ComesTo c.step.new.self (event.Deliver e (length c.wire-index.result.now)) (Err c.in-Err-step.fault) c.step-2.new.self) c.other_end.ensures c.in-Err-step.ensures.went)
 
 pub acknowledge-requires-clause-taken : goal.acknowledge-requires-clause-taken
 acknowledge-requires-clause-taken c =
@@ -78,7 +78,7 @@ returns-in-Err-clause-left c =
 
 pub returns-in-Err-step-clause-left : goal.returns-in-Err-step-clause-left
 returns-in-Err-step-clause-left c =
-    let same = ap (λ (s : State). unacked s c.args.end) (refused_same c.step.new.self c.step-2.new.self _ c.in-Err-step.fault c.in-Err-step.ensures.went) in
+    let same = ap (λ (s : State). unacked_count s c.args.end) (refused_same c.step.new.self c.step-2.new.self _ c.in-Err-step.fault c.in-Err-step.ensures.went) in
     λ empty. omega (arith, empty.acked, same, emit_unacked c.args.self.now c.step.new.self c.args.end c.in-Ok._step c.requires.world c.requires.settled c.in-Ok.ensures.went)
 
 pub returns-in-Err-acknowledge-clause-left : goal.returns-in-Err-acknowledge-clause-left

@@ -3,7 +3,7 @@ use Rattle.dap_msg.specs.Blocked.{NspMessage, messages_in}
 use Rattle.std.specs.Prelude.{Err}
 use Rattle.dap_events.specs.declared.event.Event.TheVariants as event
 use Rattle.dap_events.specs.declared.event.WorldFault.{WorldFault}
-use Rattle.dap_world.specs.Runs.{Went}
+use Rattle.dap_world.specs.Runs.{ComesTo}
 use Rattle.dap_world.specs.Machine.{State, EndState}
 use Rattle.dap_world.specs.Inner.Settling.{Served, ServedEvery}
 use Rattle.dap_world.specs.Inner.Worlds.{IsWorld}
@@ -19,7 +19,7 @@ messages-init c =
 pub returns-then-is_nothing-clause-ok : goal.returns-then-is_nothing-clause-ok
 returns-then-is_nothing-clause-ok c =
     let inv = c.messages.invariant in
-    let went = subst (λ (f : WorldFault). Went c.messages.self event.Serve (Err f) c.step.new.self) (c.is_nothing.ensures.yes c.if-is_nothing.true) c.in-Err.ensures.went in
+    let went = subst (λ (f : WorldFault). ComesTo c.messages.self event.Serve (Err f) c.step.new.self) (c.is_nothing.ensures.yes c.if-is_nothing.true) c.in-Err.ensures.went in
     let left = nothing_left c.messages.self inv.world inv.done.empty went.0 in
     subst (λ (s : State). ServedEvery c.args.self.now s c.messages.count × IsWorld s) (sym went.1)
     (served_every c.args.self.now c.messages.self c.messages.count _ inv.world inv.done (omega (arith, left, same_sent c.args.self.now c.messages.self c.messages.count _ inv.done)), inv.world)

@@ -1,5 +1,5 @@
 use Rattle.std.proofs.Common.{◌≡◌, inl, inr, take, ◌++◌, ◌+◌, ℕ, List, ap, subst, ◌∙◌, Option}
-use Rattle.capture_file.specs.Files.{clamped}
+use Rattle.capture_file.specs.Files.{bounded_count}
 use Rattle.capture_file.specs.Meanings.{Record, frame_record}
 use Rattle.capture_file.specs.Reading.{HasRead, given_in}
 use Rattle.capture_file.specs.declared.meaning.Given.{Given}
@@ -27,4 +27,4 @@ returns-in-Ok-push_frame-clause-listed c = λ ends bytes written h.
     (c.in-Ok-push_frame.ensures.ends ∙ ap (λ x. ends_after c.args.self.now.listing.ends x) framed)
     c.in-Ok-push_frame.ensures.count
     (c.in-Ok-push_frame.ensures.taken ∙ ap (λ x. taken_with c.args.self.now.listing.taken (record_packets c.args.self.now.listing.ends x)) framed)
-    (c.in-Ok-push_frame.ensures.text ∙ ap (λ x. c.args.self.now.text.items ++ record_text c.args.self.now.listing.ends (clamped (c.args.self.now.listing.count + 1)) x) framed)
+    (c.in-Ok-push_frame.ensures.text ∙ ap (λ x. c.args.self.now.text.items ++ record_text c.args.self.now.listing.ends (bounded_count (c.args.self.now.listing.count + 1)) x) framed)

@@ -1,7 +1,7 @@
 use Rattle.std.proofs.Common.{◌≡◌, Result, Ok, subst}
 use Rattle.nsp_seg.specs.declared.packet.Packet.{Packet}
 use Rattle.nsp_link.specs.Link.{LinkValue, IsLink}
-use Rattle.nsp_link.specs.Receiving.{Bounded}
+use Rattle.nsp_link.specs.Receiving.{ReceivesBounded}
 use Rattle.nsp_link.proofs.Bounded.{due_received_as, sends_bounded}
 use Rattle.nsp_link.proofs.Came.{due_counted, unrefused}
 use Rattle.nsp_link.proofs.link.LinkEnd.receive_bounded.Goals as goal
@@ -11,7 +11,7 @@ same_ok e = cc
 
 pub returns-in-Ok-clause-any : goal.returns-in-Ok-clause-any
 returns-in-Ok-clause-any c = λ running p spelled.
-    subst (λ (q : Packet). Bounded c.args.self.now q c.receive_fitting.result c.receive_fitting.new.self) (same_ok (c.in-Ok.ensures.only p spelled)) c.receive_fitting.ensures
+    subst (λ (q : Packet). ReceivesBounded c.args.self.now q c.receive_fitting.result c.receive_fitting.new.self) (same_ok (c.in-Ok.ensures.only p spelled)) c.receive_fitting.ensures
 
 pub returns-in-Err-clause-any : goal.returns-in-Err-clause-any
 returns-in-Err-clause-any c = λ running p spelled. let no = c.in-Err.ensures.only p spelled in absurd cc
@@ -20,7 +20,7 @@ pub returns-in-Ok-clause-due : goal.returns-in-Ok-clause-due
 returns-in-Ok-clause-due c = λ size messages given p k a spelled due.
     let link = subst (λ (v : LinkValue). IsLink v) c.self.view_is c.self.invariant.link in
     let same = same_ok (c.in-Ok.ensures.only p spelled) in
-    let all = subst (λ (q : Packet). Bounded c.args.self.now q c.receive_fitting.result c.receive_fitting.new.self) same c.receive_fitting.ensures in
+    let all = subst (λ (q : Packet). ReceivesBounded c.args.self.now q c.receive_fitting.result c.receive_fitting.new.self) same c.receive_fitting.ensures in
     let rec = due_received_as c.args.self.now c.receive_fitting.new.self c.receive_fitting.result size messages given p k a due all in
     due_counted c.args.self.now c.receive_fitting.new.self c.receive_fitting.result size messages given p k a link due rec
 
@@ -28,7 +28,7 @@ pub returns-in-Ok-clause-unrefused : goal.returns-in-Ok-clause-unrefused
 returns-in-Ok-clause-unrefused c = λ size messages given p k a spelled due before.
     let link = subst (λ (v : LinkValue). IsLink v) c.self.view_is c.self.invariant.link in
     let same = same_ok (c.in-Ok.ensures.only p spelled) in
-    let all = subst (λ (q : Packet). Bounded c.args.self.now q c.receive_fitting.result c.receive_fitting.new.self) same c.receive_fitting.ensures in
+    let all = subst (λ (q : Packet). ReceivesBounded c.args.self.now q c.receive_fitting.result c.receive_fitting.new.self) same c.receive_fitting.ensures in
     let rec = due_received_as c.args.self.now c.receive_fitting.new.self c.receive_fitting.result size messages given p k a due all in
     unrefused c.args.self.now c.receive_fitting.new.self c.receive_fitting.result size messages given p k a link due rec before
 

@@ -3,7 +3,7 @@ use Rattle.std.specs.Prelude.{MatchBool}
 use Rattle.slab.specs.Slab.{Slab, get, slab_len, with_value}
 use Rattle.rec_file.specs.declared.shapes.Shape.{Shape}
 use Rattle.rec_file.specs.Shapes.{is_seq}
-use Rattle.rec_file.specs.Files.{FileVal, IsFile, removed}
+use Rattle.rec_file.specs.Files.{FileVal, IsFile, file_without_record}
 use Rattle.rec_file.specs.Inner.Pages.{Cells, HaveOwnSlots, cell_of, page_cell, pages_at}
 use Rattle.rec_file.specs.Inner.Slots.{Clears, HasEmptied, slot_of}
 use Rattle.rec_file.specs.Pages.{page_of}
@@ -33,15 +33,15 @@ module _ (s : Shape) (pages pages' : Slab Cells) (es es' : List (ℕ × ℕ)) (f
       by (Some i) has none = of i (get pages i) has refl none
 
   -- the file without it
-  after : (own : HaveOwnSlots es) (b : Bool) → Clears es es' pages pages' (page_of n) (cell_of n) b → HoldsFile s (pages_at (get pages') es') (cond b (removed f n) f)
+  after : (own : HaveOwnSlots es) (b : Bool) → Clears es es' pages pages' (page_of n) (cell_of n) b → HoldsFile s (pages_at (get pages') es') (cond b (file_without_record f n) f)
   after own false (none, same, pages_same) =
       subst (λ p. HoldsFile s (pages_at (get p) es') f) (sym pages_same) (subst (λ l. HoldsFile s (pages_at (get pages) l) f) (sym same) h)
   after own true (e, inl stays) =
-      subst (λ ps. HoldsFile s ps (removed f n))
+      subst (λ ps. HoldsFile s ps (file_without_record f n))
       (sym (ap (λ p. pages_at (get p) es') stays.written ∙ ap (pages_at (get (with_value pages e.slot (set e.cells (cell_of n) None)))) stays.slots ∙ page-written pages es _ e.slot e.cells _ _ own e.has e.there refl))
       (clear_in_page _ _ f h n e.cells least (its e) stays.others)
   after own true (e, inr goes) =
-      subst (λ ps. HoldsFile s ps (removed f n)) (sym (page-removed pages pages' es es' _ e.slot e.cells _ own e.has e.there goes.free goes.slots)) (drop_page _ _ f h n e.cells least (its e) goes.none)
+      subst (λ ps. HoldsFile s ps (file_without_record f n)) (sym (page-removed pages pages' es es' _ e.slot e.cells _ own e.has e.there goes.free goes.slots)) (drop_page _ _ f h n e.cells least (its e) goes.none)
 
   -- the pages that are left have slots of their own
   kept : HaveOwnSlots es → slab_len pages ≡ length es → (b : Bool) → Clears es es' pages pages' (page_of n) (cell_of n) b → HaveOwnSlots es' × (slab_len pages' ≡ length es')
@@ -55,11 +55,11 @@ module _ (s : Shape) (pages pages' : Slab Cells) (es es' : List (ℕ × ℕ)) (f
       let gone = length-removed es (page_of n) e.slot (sym (lookup_is_at es _) ∙ e.has) in
       (own-less es es' _ goes.slots own, omega (arith, fewer, as_many, slots, gone))
 
-  whole : (b : Bool) → IsFile f → is_seq f.shape.org ≡ false → IsFile (cond b (removed f n) f)
+  whole : (b : Bool) → IsFile f → is_seq f.shape.org ≡ false → IsFile (cond b (file_without_record f n) f)
   whole true file rel = IsFile-removed f n file rel
   whole false file rel = file
 
-told : (b : Bool) (x f : FileVal) (n : ℕ) → x ≡ cond b (removed f n) f → MatchBool b (x ≡ removed f n) (x ≡ f)
+told : (b : Bool) (x f : FileVal) (n : ℕ) → x ≡ cond b (file_without_record f n) f → MatchBool b (x ≡ file_without_record f n) (x ≡ f)
 told true x f n is = is
 told false x f n is = is
 
