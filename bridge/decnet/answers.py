@@ -15,7 +15,7 @@ NOT_ASKED = {
 MICCODE_BITS = 12
 OF_FILES = {4, 5, 6, 7}  # kinds whose other bits are RMS's
 KINDS = {0x2: "it isn't supported there", 0x8: "a message that the other end can't read",
-         0x9: "a value that the other end doesn't take", 0xA: "a message out of its place"}
+         0x9: "a value that the other end doesn't take", 0xA: "a message out of sequence"}
 # those of RMS, from memory but for 047 and 062
 RMS = {0o31: "there is no current record", 0o40: "no such directory", 0o47: "no more records",
        0o54: "the file isn't open for that", 0o55: "a file of that name is there", 0o60: "the file is in use",

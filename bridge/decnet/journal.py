@@ -57,7 +57,7 @@ class Parsed:
     def __init__(self, path, data):
         """A KeptFault where damage is reported of what was on the disk."""
         self.lines, self.size, self.crc = [], 0, 0  # without the marks; in bytes; of these
-        self.first = self.first_size = 0  # how many of the lines, and of the bytes, are before the first mark ends
+        self.first = self.first_size = 0  # how many lines, and bytes, are before the end of the first mark
         crc, at, waiting = 0, 0, []
         while (end := data.find(b"\n", at) + 1) > 0:
             line = data[at:end]

@@ -1,7 +1,8 @@
 """Who may open a link: the users of a file, with their passwords as salted hashes, and nodes.
 
-A line of the file is `NAME HASH`, as `bridge.py password` prints it, or `- -` where a link without a user is taken too; after
-it may come the most that the link may do with files, as `get` or `get,put`. Empty lines, and those that begin with `#`, say nothing. Small letters and capitals are the same, in names and in passwords.
+A line of the file is `NAME HASH`, as `bridge.py password` prints it, or `- -` where a link without a user is taken
+too; after it may come the most that the link may do with files, as `get` or `get,put`. Empty lines, and those that
+begin with `#`, say nothing. Small letters and capitals are the same, in names and in passwords.
 """
 import collections
 import hashlib

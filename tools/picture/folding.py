@@ -40,7 +40,7 @@ def signature(packet):
 
 
 def word_of(one):
-    """A message's part of a signature; None where its row is alone by it."""
+    """A message's part of a signature; None where it keeps its row alone."""
     function = one.number("func")
     if one.word == "data":
         return "data"

@@ -1,4 +1,5 @@
--- Where a Config was served, no later item takes the end back; and before that nothing depends on the files that it has.
+-- Where a Config was served, no later item takes the end back; and before that nothing depends on the files that it
+-- has.
 use Rattle.std.proofs.Common.{◌≡◌, ℕ, ◌+◌, Bool, true, false, List, [], ◌∷◌, ◌++◌, Option, Some, None, Result, Ok, Err, refl, ap, sym, subst, ◌∙◌, append_assoc}
 use Rattle.dap_accessed.specs.Setup.{lacks}
 use Rattle.dap_accessed.specs.declared.setup.ServerSetup.{ServerSetup}

@@ -34,7 +34,7 @@ use Rattle.dap_end.specs.Agreement.{AgreeAt, AreLimits, AreAgreed, AreExpected}
 use Rattle.dap_end.proofs.Goes.{Goes, more_items, standing_at, connect_goes, close_opened, purge_opened, close_connected, purge_connected, close_stopped, purge_stopped, rewind_goes, delete_goes, update_goes, put_goes, get_goes, fetch_goes, continue_goes, open_goes, create_goes, hello_goes}
 use Rattle.dap_end.proofs.Stores.{store_goes}
 
--- ---- One request, in the place that it fits.
+-- ---- One request, in the phase that it fits.
 
 module _ (own_a : Configuration) (own_b : ServerSetup) (a : IsBufsiz own_a.bufsiz) (b : IsBufsiz own_b.identity.bufsiz) (files : Files) (all : AllFiles files) (limit : ℕ) (past : List Group) (limit_a : ℕ) where
   abbrev GoesAt : Phase → ServerState → Request → Type 0

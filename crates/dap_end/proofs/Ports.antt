@@ -13,13 +13,13 @@ use Rattle.dap_end.specs.Inner.NodeInside.{IsNode, IsTable}
 abbrev pub ArePorts : List (Option PortValue) → Type 0
 ArePorts ports = (link : ℕ) (p : PortValue) → slice_get ports link ≡ Some (Some p) → IsPort p
 
--- setting an index again
+-- setting an element again
 pub set-again : {A : Type 0} (xs : List A) (i : ℕ) (a b : A) → set (set xs i a) i b ≡ set xs i b
 set-again [] i a b = refl
 set-again (x ∷ xs) zero a b = refl
 set-again (x ∷ xs) (suc i) a b = ap (λ (l : List _). x ∷ l) (set-again xs i a b)
 
--- what is at an index of a list in which one was set
+-- what is at an index of a list in which one element was set
 set-get : (xs : List (Option PortValue)) (i j : ℕ) (a : Option PortValue) (p : PortValue) (P : PortValue → Type 0) → ((q : PortValue) → a ≡ Some q → P q) → (slice_get xs j ≡ Some (Some p) → P p) → slice_get (set xs i a) j ≡ Some (Some p) → P p
 set-get [] i j a p P n h e = h e
 set-get (x ∷ xs) zero zero a p P n h e = n p (let same : a ≡ Some p = cc in same)

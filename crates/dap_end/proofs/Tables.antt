@@ -1,4 +1,4 @@
--- The table of the own addresses of a node.
+-- The table of the local addresses of a node.
 use Rattle.std.proofs.Common.{◌≡◌, ◌≢◌, ◌⊎◌, inl, inr, ℕ, zero, suc, ◌<◌, arith, Bool, true, false, List, [], ◌∷◌, length, get_or, Option, Some, None, refl, ap, sym, subst, ◌∙◌, lt-ltb, eq-eqb}
 use Rattle.std.specs.Prelude.{◌==◌, ◌&&◌, IfErr, Result, Ok, Err, cond, nat_lt, replicate, set, slice_get}
 use Rattle.std.specs.List.{position, position_or_len}
@@ -62,7 +62,7 @@ between-local local remote None e = absurd (let none : ⊥ = cc in none)
 between-local local remote (Some p) e = and-left (p.link.setup.local == local) (p.link.setup.remote == remote) e
 
 module _ (table : List (Option ℕ)) (ports : PortList) (h : IsTable table ports) where
-  -- a port with this own address is where the table says
+  -- a port with this local address is where the table says
   listed-at : (local k : ℕ) (o : Option PortValue) → slice_get ports k ≡ Some o → has_local local o ≡ true → slice_get table local ≡ Some (Some k)
   listed-at local k o at passing =
       let s = local-some local o passing in
@@ -102,7 +102,7 @@ module _ (table : List (Option ℕ)) (ports : PortList) (h : IsTable table ports
       let same : Some r ≡ Some (Some link) = sym e ∙ listed-at local link (Some p) at (eq-eqb p.link.setup.local local is) in
       (let one : r ≡ Some link = cc in one)
 
--- ---- Lists in which one index was set.
+-- ---- Lists in which one element was set.
 
 set-here : {A : Type 0} (xs : List A) (i : ℕ) (a : A) → i < length xs → slice_get (set xs i a) i ≡ Some a
 set-here [] i a lt = absurd (omega (arith, lt))
@@ -132,7 +132,7 @@ apart i j = apart-by i j (eqb_tells i j)
 -- ---- What becomes of the table.
 
 module _ (table : List (Option ℕ)) (ports : PortList) (link : ℕ) (h : IsTable table ports) where
-  -- ---- The link has the port that it had, or one with the same own address.
+  -- ---- The link has the port that it had, or one with the same local address.
   module _ (p q : PortValue) (at : slice_get ports link ≡ Some (Some q)) (same : p.link.setup.local ≡ q.link.setup.local) where
     abbrev new-ports : PortList
     new-ports = set ports link (Some p)
@@ -213,7 +213,7 @@ module _ (table : List (Option ℕ)) (ports : PortList) (link : ℕ) (h : IsTabl
   table-ended None at = ended-none at
   table-ended (Some q) at = ended-some q at
 
--- ---- A link that wasn't there has an own address that none has.
+-- ---- A link that wasn't there has a local address that none has.
 
 module _ (table : List (Option ℕ)) (ports : PortList) (link local : ℕ) (p : PortValue) (h : IsTable table ports) (free : slice_get ports link ≡ Some None)
     (unused : slice_get table local ≡ Some None) (own : p.link.setup.local ≡ local) where
@@ -289,7 +289,7 @@ table-new table links is = record {
   there = λ local link e. absurd (none-listed 65536 local link (sym (ap (λ (l : List (Option ℕ)). slice_get l local) is) ∙ e));
 }
 
--- ---- Whether another link has an own address.
+-- ---- Whether another link has a local address.
 
 pub taken : (table : List (Option ℕ)) (v : NodeValue) (link local : ℕ) → IsTable table v.ports → (other : ℕ) × (slice_get table local ≡ Some (Some other)) × (other ≢ link) → IsTaken link local v
 taken table v link local h t = let s = h.there local t.0 t.1 in (t.0, s.0, s.1, s.2, t.2)

@@ -1,4 +1,5 @@
--- What both ends do alike: how it comes about, and that it follows from what the end did and what came, out of memory aside.
+-- What both ends do alike: how it comes about, and that it follows from what the end did and what came, out of memory
+-- aside.
 use Rattle.std.proofs.Common.{◌≡◌, ◌≢◌, ℕ, refl, sym, ◌∙◌, subst, ap, false, true≢false, List, ◌++◌, inl, inr, IsTrue}
 use Rattle.std.specs.Prelude.{Result, Ok, Err, OnOk, IfErr}
 use Rattle.dap_fields.specs.Spelling.{AreBytes}

@@ -1,4 +1,4 @@
--- Segments of a cut message in the places of a stream.
+-- Segments of a cut message under the sequence numbers of a stream.
 use Rattle.std.proofs.Common.{◌≡◌, ◌==◌, ◌<◌, ◌≤◌, ◌+◌, ◌*◌, ◌/◌, ◌%◌, ◌++◌, ℕ, Bool, true, false, List, [], ◌∷◌, map, max, Some, None, zero, suc, length, refl, sym, ap, ◌∙◌, subst, arith, ⊎_elim, ◌-◌, add-zero, take, drop}
 use Rattle.std.specs.Prelude.{slice_get}
 use Rattle.std.specs.List.{AllByRecursion, Contains}
@@ -101,7 +101,7 @@ found_in i j h k (c ∷ came) xs ys start (one_more x lx hx nx xs_more) (one_mor
 abbrev pub IsSegment : cutting.Piece → Sequenced → Type 0
 IsSegment c s = (s.first ≡ c.first) × (s.last ≡ c.last) × (s.payload ≡ c.payload)
 
--- they stand in the places that differ by whole rounds, too
+-- they stand at the sequence numbers that differ by whole rounds, too
 pub stand_too : (i j : ℕ) (xs ys : List Sequenced) → ((p : ℕ) (s : Sequenced) → at p xs ≡ Some s → IsFound i j p s ys) → (cut : List cutting.Piece) (p q : ℕ) → p + 4096 * i ≡ q + 4096 * j
     → StandFrom p cut xs → StandFrom q cut ys
 stand_too i j xs ys all [] p q same stand = tt

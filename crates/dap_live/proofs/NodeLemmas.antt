@@ -92,7 +92,7 @@ pub reaches-by : (old new : Node) (bytes : List ℕ) → None ≡ one_link old.n
 reaches-by old new bytes none (inl same) = inl same
 reaches-by old new bytes none (inr done) = inr (done.0, done.1, on-none _ none _ _ done.2)
 
--- ---- A link begins whose own address no other link has.
+-- ---- A link begins whose local address no other link has.
 
 fault-of : (link : ℕ) (setup : LinkSetup) (v : NodeValue) (f : LinkFault) → (IsTaken link setup.local v → ⊥) → (f ≡ BadSetup) × ((IsSetup setup → ⊥) ⊎ IsTaken link setup.local v) → SetupFault setup f
 fault-of link setup v f alone (is, inl bad) = inl (is, bad)
@@ -107,7 +107,7 @@ pub begun-err : (link : ℕ) (setup : LinkSetup) (old new : NodeValue) (r : Resu
 begun-err link setup old new (Ok u) alone h = tt
 begun-err link setup old new (Err f) alone h = (h.0, not-begun link setup old f (λ taken. taken.4 (alone taken.0 taken.1 taken.2 taken.3)) h.1)
 
--- the own address of such a setup
+-- the local address of such a setup
 pub beside-local : (setup : LinkSetup) (b : Between) → (setup_beside setup b).local ≡ b.local
 beside-local setup b = refl
 

@@ -63,7 +63,7 @@ Same one two said more b c = (one ≡ two) × (said ≡ more) × (b ≡ c) × Ha
 
 -- ---- The links of a node.
 
--- what is at an index of a list in which one was set
+-- what is at an index of a list in which one element was set
 set-get : (xs : List (Option PortValue)) (i j : ℕ) (a : Option PortValue) (p : PortValue) (P : PortValue → Type 0) → ((q : PortValue) → a ≡ Some q → P q) → (slice_get xs j ≡ Some (Some p) → P p) → slice_get (set xs i a) j ≡ Some (Some p) → P p
 set-get [] i j a p P n h e = h e
 set-get (x ∷ xs) zero zero a p P n h e = n p (let same : a ≡ Some p = cc in same)

@@ -1,4 +1,5 @@
--- What going on and a packet leave on one link of a node, and what is answered, follow from the node, out of memory aside.
+-- What going on and a packet leave on one link of a node, and what is answered, follow from the node, out of memory
+-- aside.
 use Rattle.std.proofs.Common.{◌≡◌, ◌≢◌, ℕ, ◌≤◌, arith, refl, sym, ◌∙◌, subst, ap, Bool, false, true≢false, List, [], ◌∷◌, ◌++◌, length, inl, inr}
 use Rattle.std.specs.Prelude.{IsTrue, Option, Some, None, Result, Ok, Err}
 use Rattle.std.specs.Option.{option_to_list}

@@ -1,4 +1,4 @@
--- Lists in which one index was set.
+-- Lists in which one element was set.
 use Rattle.std.proofs.Common.{◌≡◌, ◌≢◌, ℕ, zero, suc, List, [], ◌∷◌, Some, refl, ap}
 use Rattle.std.specs.Prelude.{set, slice_get}
 
@@ -26,7 +26,7 @@ set_same [] i a e = refl
 set_same (x ∷ xs) zero a e = let same : a ≡ x = cc in ap (λ (y : _). y ∷ xs) same
 set_same (x ∷ xs) (suc i) a e = ap (λ (l : List _). x ∷ l) (set_same xs i a e)
 
--- an index is set again
+-- an element is set again
 pub set_again : {A : Type 0} (xs : List A) (i : ℕ) (a b : A) → set (set xs i a) i b ≡ set xs i b
 set_again [] i a b = refl
 set_again (x ∷ xs) zero a b = refl

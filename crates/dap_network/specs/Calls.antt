@@ -15,8 +15,8 @@ Leads old new = (events : List NetworkEvent) × NetworkRuns old events new
 abbrev pub node_then : Network → NodeValue → (link : ℕ) → Peer → List WrittenPacket → Network
 node_then net node link peer wrote = record { node = node; peers = set net.peers link (Some (record peer { from_node = peer.from_node ++ wrote })) }
 
--- the client of the peer of a link then, of which this more was asked, and which made these reports more and wrote
--- these packets
+-- the client of the peer of a link then, of which these requests were asked too, and which made these reports too and
+-- wrote these packets
 abbrev pub peer_then : Network → (link : ℕ) → Peer → AskingValue → List Request → List Report → List WrittenPacket → Network
 peer_then net link peer client requests reports wrote =
     record net { peers = set net.peers link (Some (record peer { client = client; from_peer = peer.from_peer ++ wrote; requests = peer.requests ++ requests; reports = peer.reports ++ reports })) }

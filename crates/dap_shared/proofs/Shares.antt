@@ -1,4 +1,5 @@
--- No two links share a file that one of them may change, and what a link has open stays as it is while others are served.
+-- No two links share a file that one of them may change, and what a link has open stays as it is while others are
+-- served.
 use Rattle.std.proofs.Common.{◌≡◌, ◌≢◌, ℕ, suc, ◌+◌, ◌-◌, ◌<◌, ◌≤◌, Bool, true, false, [], ◌∷◌, ◌++◌, length, Option, Some, None, refl, ap, sym, subst, ◌∙◌, inl, inr, arith, eq-eqb}
 use Rattle.std.specs.Prelude.{IfSome, if◌then◌else◌, ◌==◌, ◌||◌, ◌&&◌, drop, nat_lt, option_map}
 use Rattle.std.specs.List.{remove}

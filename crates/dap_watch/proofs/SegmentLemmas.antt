@@ -1,4 +1,4 @@
--- A segment in its place.
+-- A segment under its sequence number.
 use Rattle.std.proofs.Common.{◌≡◌, inl, inr, ℕ, zero, suc, ◌+◌, ◌/◌, ◌<◌, ◌≤◌, true, false, List, [], ◌∷◌, ◌++◌, length, take, drop, get_or, max, arith, refl, ap, sym, subst, ◌∙◌, append-nil, append_assoc, take-append-drop, Option, Some, None, nat_le, nat_lt, if◌then◌else◌}
 use Rattle.std.specs.List.{AllByRecursion, filter}
 use Rattle.std.specs.List.Sorted.{IsPartitionPoint, IsPartitionedBy}

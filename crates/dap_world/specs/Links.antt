@@ -1,5 +1,5 @@
--- What the link of an end has of the other end's NSP messages, as far as it took their segments and the end went
--- through them.
+-- What the link of an end has of the other end's NSP messages, as far as it took their segments and the end
+-- processed them.
 use Rattle.std.specs.Prelude.{ℕ, ◌-◌, nat_le, if◌then◌else◌, List, [], ◌∷◌, length, take}
 use Rattle.dap_msg.specs.Blocked.{NspMessage, all_joined}
 use Rattle.nsp_link.specs.Cutting.{Piece, cut}

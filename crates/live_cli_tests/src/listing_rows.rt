@@ -305,7 +305,7 @@ part > dst=0202 src=0101 seg=3..3 len=5\n",
         b"1 > bad truncated at=1\n2 > ack dst=0202 src=0101 acks=0:1\n",
         b"bad line 2\nbad line 3\n",
     ),
-    // Those in words; and a frame that a bad line is after, which lists no packet.
+    // Those in words; and the line of a frame that a bad line follows, which describes no packet.
     (
         &["watch", "--words"],
         b"# frame 12 1600000000.123456 1.1 -> 1.2\n\

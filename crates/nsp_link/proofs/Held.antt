@@ -166,7 +166,7 @@ ring_step n cap first items e full lt =
     let zero-is : length (drop (n + 1) first ++ replicate (n + 1) None) - cap ≡ 0 = omega arith in
     rw (all, zero-is) refl
 
--- how many are held doesn't hang on the number of the first slot
+-- how many are held doesn't depend on the number of the first slot
 held_any : (n m : ℕ) (slots : List (Option Held)) → length (held_from n slots) ≡ length (held_from m slots)
 unfolding held_from
 held_any n m [] = refl

@@ -308,7 +308,7 @@ fn ends_link(fault: LinkFault) -> bool
 }
 
 /// Drops this many segments from the start of the queue. Returns how many bytes of the message to which the next one
-/// belongs are dropped, and how many bytes wait then, by how many these were before.
+/// belongs are dropped, and how many bytes wait then; `part` and `waiting` are these counts before.
 fn drop_front(queue: &mut VecDeque<Segment>, part: u64, waiting: u64, count: usize) -> (u64, u64)
     requires few { count ≤ length queue.old.items }
     requires counted { waiting ≡ part + bytes_in (piece_values queue.old.items) }

@@ -64,7 +64,7 @@ map-insert f xs i x = map-append f (take i xs) (x ∷ drop i xs) ∙ sym (rw (ta
 pub map-remove : {X Y : Type 0} (f : X → Y) (xs : List X) (i : ℕ) → map f (remove xs i) ≡ remove (map f xs) i
 map-remove f xs i = map-append f (take i xs) (drop (suc i) xs) ∙ sym (rw (take-map f i xs, drop-map f (suc i) xs) refl)
 
--- a list of the same length takes another's indices
+-- a list of the same length takes another's place
 refilled : {X : Type 0} (xs ws : List X) → length ws ≡ length xs → refill (length xs) xs ws ≡ ws
 refilled [] [] same = refl
 refilled [] (w ∷ ws) same = cc

@@ -72,7 +72,7 @@ fn put_step(step: &ReadStep, len: usize, out: &mut Out) {
         Some(report) => out.report(report),
         None => out.put("waits"),
     }
-    out.behind(step.next, len);
+    out.next_offset(step.next, len);
 }
 
 /// Reads an answer, and appends what it comes to, or why it isn't read.

@@ -150,7 +150,7 @@ impl Out {
     }
 
     /// Appends the offset at which the next message begins, if there is one.
-    pub fn behind(&mut self, next: usize, len: usize) {
+    pub fn next_offset(&mut self, next: usize, len: usize) {
         if next != len {
             self.number(" next ", next);
         }

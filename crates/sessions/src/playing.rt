@@ -147,13 +147,13 @@ impl Script {
 
 /// Appends what follows an opening brace, `PIECE*N}` and more, in full.
 fn push_repeated(spelled: &mut String, part: &str) -> Result<(), Trouble> {
-    let (inside, behind) = part.split_once('}').ok_or(Trouble::BadLine)?;
+    let (inside, after) = part.split_once('}').ok_or(Trouble::BadLine)?;
     let (piece, times) = inside.split_once('*').ok_or(Trouble::BadLine)?;
     let times: u32 = times.parse().ok().ok_or(Trouble::BadLine)?;
     for _ in 0..times {
         spelled.push_str(piece)?;
     }
-    spelled.push_str(behind)?;
+    spelled.push_str(after)?;
     Ok(())
 }
 

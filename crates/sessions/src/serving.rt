@@ -47,7 +47,7 @@ fn serve(end: &mut Accessed, call: &mut Call, out: &mut Out) {
     match serve_at(end, &message, at) {
         Ok(served) => {
             out.all(&served.answers);
-            out.behind(served.next, message.len());
+            out.next_offset(served.next, message.len());
         }
         Err(fault) => out.fault(&fault),
     }
