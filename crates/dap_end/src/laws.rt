@@ -260,7 +260,8 @@ pub fn asking_calls_are_runs()
 /// each packet that it wrote carries its segment of that.
 pub fn every_run_is_served()
     ensures { (came : List Arrival) (first : Files) (old new : ServingValue)
-        (wrote : List WrittenPacket) → IsAfter (nothing_yet first) old → ServerRuns came old new wrote
+        (wrote : List WrittenPacket)
+        → IsAfter (nothing_yet first) old → ServerRuns came old new wrote
         → (history : ServerHistory) × IsAfter history new × (history.first ≡ first)
         × (new.present.files ≡ After new.present.setup history.first history.items)
         × AreWrittenOf new.port.link history.handed wrote }

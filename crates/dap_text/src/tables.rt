@@ -119,7 +119,8 @@ fn push_record_from(
     from: u32,
 ) -> Result<Option<FilesCursor>, AllocError>
     ensures line { IfOk result (AddsLine files.now (FilesCursor.Record at from) text.old text.new) }
-    ensures refused { OnErr result (0 < length (lines_from files.now (FilesCursor.Record at from))) }
+    ensures refused { OnErr result
+        (0 < length (lines_from files.now (FilesCursor.Record at from))) }
     ensures kept { StillBegins text.old text.new }
 {
     if at >= files.count() {

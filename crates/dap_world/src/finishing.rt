@@ -221,7 +221,8 @@ impl World {
         requires { IsWorld self.old }
         ensures ok { IfOk result (λ n. FinishesIn self.old self.new n) }
         ensures err { IfErr result (Halts (IsFinished self.old) self.old self.new) }
-        ensures untold { OnErr result (IsOneDue self.old → reports_by_a self.new ≡ reports_by_a self.old) }
+        ensures untold { OnErr result (IsOneDue self.old
+            → reports_by_a self.new ≡ reports_by_a self.old) }
     {
         let settled = match self.settle_both() {
             Ok(count) => count,

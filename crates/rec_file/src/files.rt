@@ -102,11 +102,13 @@ pub trait RecordFile: OneWalk {
     /// Stores a record under a free number within the limit, in a sequential file under the next one, of a length that
     /// the shape allows. Elsewhere nothing changes. An error is out of memory: nothing has changed.
     fn place(&mut self, number: u32, body: &[u8]) -> Result<(), AllocError>
-        ensures ok { OnOk result (MatchBool (may_place (Self.value self.old) number (length body.now))
+        ensures ok { OnOk result (MatchBool
+            (may_place (Self.value self.old) number (length body.now))
             (Self.value self.new ≡ file_with_record (Self.value self.old) number body.now)
             (Self.value self.new ≡ Self.value self.old)) }
         ensures err { OnErr result (Self.value self.new ≡ Self.value self.old) }
-        ensures wanted { OnErr result (IsTrue (may_place (Self.value self.old) number (length body.now))) }
+        ensures wanted { OnErr result
+            (IsTrue (may_place (Self.value self.old) number (length body.now))) }
     {
         let shape = self.shape();
         let is_next = !shape.is_sequential() || number == self.highest() + 1;
@@ -119,11 +121,13 @@ pub trait RecordFile: OneWalk {
     /// Stores another record under an occupied number, of a length that the shape allows. Elsewhere nothing changes.
     /// An error is out of memory: nothing has changed.
     fn replace(&mut self, number: u32, body: &[u8]) -> Result<(), AllocError>
-        ensures ok { OnOk result (MatchBool (may_replace (Self.value self.old) number (length body.now))
+        ensures ok { OnOk result (MatchBool
+            (may_replace (Self.value self.old) number (length body.now))
             (Self.value self.new ≡ file_with_record (Self.value self.old) number body.now)
             (Self.value self.new ≡ Self.value self.old)) }
         ensures err { OnErr result (Self.value self.new ≡ Self.value self.old) }
-        ensures wanted { OnErr result (IsTrue (may_replace (Self.value self.old) number (length body.now))) }
+        ensures wanted { OnErr result
+            (IsTrue (may_replace (Self.value self.old) number (length body.now))) }
     {
         if self.shape().allows(body.len()) {
             let _occupied = self.replace_if_occupied(number, body)?;
