@@ -21,7 +21,7 @@ import sys
 from decnet import log, nsp, program
 from decnet import words as command
 from decnet.address import node_text
-from decnet.asker import Asker, InputFault, Requests
+from decnet.client import Client, InputFault, Requests
 from decnet.copying import copy
 from decnet.end import EndFault
 from decnet.hostfile import HostFault
@@ -73,7 +73,7 @@ def ask(words, opened, closed):
         if file in closed:
             raise InputFault(f"standard {name}: closed")
     node, end = open_node(words, opened), opened(start_end(words, signals))
-    role = Asker(node, end, settings_of(words), Requests(sys.stdin.fileno()), words.patience, words.go_on)
+    role = Client(node, end, settings_of(words), Requests(sys.stdin.fileno()), words.patience, words.go_on)
     node.start()
     role.open(words.to, nsp.session(*words.images))
     return carry(role, signals)

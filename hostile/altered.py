@@ -87,15 +87,15 @@ def tell(program, role, lines):
     return ran, answers_of(ran.stdout)
 
 
-def is_right(first, behind, plain):
+def is_right(first, after, plain):
     """Whether a packet that was altered, and then the packet as it was, are answered as they have to be."""
     if not ANSWERED.fullmatch(first[0]) and first[0] != UNEXPECTED:
         return False
     if first[0] in FAILS:
-        return behind[0] == FAILS[first[0]]
+        return after[0] == FAILS[first[0]]
     if UNEXPECTED in first:
-        return UNEXPECTED not in behind
-    return behind == plain if first[0].startswith(b"refused") else bool(ANSWERED.fullmatch(behind[0]))
+        return UNEXPECTED not in after
+    return after == plain if first[0].startswith(b"refused") else bool(ANSWERED.fullmatch(after[0]))
 
 
 def altered_packets(program, role):
@@ -114,10 +114,10 @@ def altered_packets(program, role):
             wrong += len(others)
             continue
         step = len(before) + 2
-        for place, other in enumerate(others):
-            first, behind = answers[place * step + step - 2 : place * step + step]
+        for index, other in enumerate(others):
+            first, after = answers[index * step + step - 2 : index * step + step]
             if other:
-                wrong += not is_right(first, behind, plain)
+                wrong += not is_right(first, after, plain)
             else:
-                wrong += first[0] != b"refused bad-line" or behind != plain
+                wrong += first[0] != b"refused bad-line" or after != plain
     return told, wrong

@@ -344,7 +344,7 @@ class LiveEnds:
             end.close()
             return end
 
-        name = f"daplive {role}, a resend behind one growth refused"
+        name = f"daplive {role}, a resend after one growth refused"
         self.suite.until_none(name, run, lambda end, _at: not end.wrong)
 
     def told_late(self, line):
@@ -359,7 +359,7 @@ class LiveEnds:
                 answers = answers[-1:] + [end.tell(said) for said in [line, b"resend", REPORTED[-1]]]
                 reports = [report for answer in answers for report in kinds(answer)[1]]
                 if reports != [REPORT]:
-                    end.wrong = f"{reports} behind {answers}"
+                    end.wrong = f"{reports} after {answers}"
             end.close()
             return end
 
@@ -367,7 +367,7 @@ class LiveEnds:
 
     def all_told_late(self):
         for what, line in REFUSED.items():
-            name = f"daplive ask, a report behind one growth refused and {what}"
+            name = f"daplive ask, a report after one growth refused and {what}"
             self.suite.until_none(name, self.told_late(line), lambda end, _at: not end.wrong)
 
     def lossy(self):

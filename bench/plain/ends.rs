@@ -307,10 +307,10 @@ impl File {
                     return Err(6);
                 }
                 check_length(self.rfm, self.mrs, body)?;
-                let std::collections::btree_map::Entry::Vacant(place) = records.entry(number) else {
+                let std::collections::btree_map::Entry::Vacant(slot) = records.entry(number) else {
                     return Err(5);
                 };
-                place.insert(body.into());
+                slot.insert(body.into());
                 Ok(number)
             }
         }

@@ -34,7 +34,7 @@ const BODY: &[u8] = b"a record of some thirty bytes.";
 
 type File = BTreeMap<u32, Box<[u8]>>;
 
-/// A place in a file.
+/// A stream over a file: its current record, and its next.
 struct Stream {
     current: Option<u32>,
     next: u32,
@@ -50,10 +50,10 @@ impl Stream {
             return None;
         }
         self.current = None;
-        let Entry::Vacant(place) = file.entry(number) else {
+        let Entry::Vacant(slot) = file.entry(number) else {
             return None;
         };
-        place.insert(body.into());
+        slot.insert(body.into());
         self.next = number + 1;
         Some(number)
     }
@@ -85,11 +85,11 @@ fn numbers(order: &str, count: u32) -> Vec<u32> {
     let range = count.saturating_mul(8).max(1);
     let mut seed = 1u32;
     (0..count)
-        .map(|place| {
+        .map(|index| {
             seed = seed.wrapping_mul(1664525).wrapping_add(1013904223);
             match order {
-                "rising" => place + 1,
-                "falling" => count - place,
+                "rising" => index + 1,
+                "falling" => count - index,
                 "dense" => (seed >> 8) % range + 1,
                 _ => (seed >> 1).max(1),
             }

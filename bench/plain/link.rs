@@ -41,7 +41,7 @@ pub struct Link {
     pub wire: Vec<Wired>,
     pub outbox: Vec<Vec<u8>>,
     /// Where the next DAP message begins in the oldest NSP message.
-    place: usize,
+    offset: usize,
 }
 
 const FIRST: u8 = 0x20;
@@ -67,7 +67,7 @@ impl Link {
             inbox: VecDeque::new(),
             wire: Vec::new(),
             outbox: Vec::new(),
-            place: 0,
+            offset: 0,
         }
     }
 
@@ -108,9 +108,9 @@ impl Link {
         self.wire.len() - 1
     }
 
-    fn write(&mut self, place: usize) -> usize {
-        let segment = &self.queue[place];
-        let number = self.acked + 1 + place as u64;
+    fn write(&mut self, index: usize) -> usize {
+        let segment = &self.queue[index];
+        let number = self.acked + 1 + index as u64;
         let mut packet = self.head(segment.marks, 2 + segment.range.len());
         packet.extend_from_slice(&((number & 0xfff) as u16).to_le_bytes());
         packet.extend_from_slice(&segment.message[segment.range.clone()]);
@@ -118,19 +118,19 @@ impl Link {
     }
 
     pub fn emit(&mut self) -> Result<usize, Word> {
-        let place = self.unacked();
-        if place >= self.queue.len() || place >= self.window {
+        let index = self.unacked();
+        if index >= self.queue.len() || index >= self.window {
             return Err(NOTHING);
         }
         self.sent += 1;
-        Ok(self.write(place))
+        Ok(self.write(index))
     }
 
-    pub fn resend(&mut self, place: usize) -> Result<usize, Word> {
-        if place >= self.unacked() {
+    pub fn resend(&mut self, index: usize) -> Result<usize, Word> {
+        if index >= self.unacked() {
             return Err(NOTHING);
         }
-        Ok(self.write(place))
+        Ok(self.write(index))
     }
 
     pub fn ack(&mut self) -> usize {
@@ -147,8 +147,8 @@ impl Link {
     }
 
     fn hold(&mut self, number: u64) -> &mut Option<Held> {
-        let place = number as usize % self.window;
-        &mut self.held[place]
+        let slot = number as usize % self.window;
+        &mut self.held[slot]
     }
 
     fn take_segment(&mut self, packet: &[u8]) -> Word {
@@ -176,9 +176,9 @@ impl Link {
         }
     }
 
-    /// Takes the packet of a place that the other end wrote.
-    pub fn deliver(&mut self, from: &Link, place: usize) -> Result<Word, Word> {
-        let wired = from.wire.get(place).ok_or("no-such-packet")?;
+    /// Takes the packet of this index that the other end wrote.
+    pub fn deliver(&mut self, from: &Link, index: usize) -> Result<Word, Word> {
+        let wired = from.wire.get(index).ok_or("no-such-packet")?;
         if wired.segment.is_some_and(|number| is_old(number, self.received + 1)) || is_old(wired.acks, self.acked) {
             return Err("stale");
         }
@@ -196,15 +196,15 @@ impl Link {
 
     /// The bytes from the next DAP message on.
     pub fn coming(&self) -> Result<&[u8], Word> {
-        Ok(&self.inbox.front().ok_or(NOTHING)?[self.place..])
+        Ok(&self.inbox.front().ok_or(NOTHING)?[self.offset..])
     }
 
     /// So many bytes were handled.
     pub fn handled(&mut self, count: usize) {
-        self.place += count;
-        if self.place == self.inbox[0].len() {
+        self.offset += count;
+        if self.offset == self.inbox[0].len() {
             self.inbox.pop_front();
-            self.place = 0;
+            self.offset = 0;
         }
     }
 }

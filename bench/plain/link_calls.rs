@@ -18,9 +18,9 @@ const LOST: u64 = 10;
 
 /// Fills the window: each new segment is written, and handed over unless it is lost.
 fn fill_window(from: &mut Link, to: &mut Link) {
-    while let Ok(place) = from.emit() {
+    while let Ok(index) = from.emit() {
         if from.sent % LOST != 0 {
-            to.deliver(from, place).unwrap();
+            to.deliver(from, index).unwrap();
         }
         from.wire.clear();
     }
@@ -29,13 +29,13 @@ fn fill_window(from: &mut Link, to: &mut Link) {
 /// Hands over an acknowledgement, and the oldest segment again as long as one isn't acknowledged.
 fn settle(from: &mut Link, to: &mut Link) {
     loop {
-        let place = to.ack();
-        from.deliver(to, place).unwrap();
+        let index = to.ack();
+        from.deliver(to, index).unwrap();
         to.wire.clear();
-        let Ok(place) = from.resend(0) else {
+        let Ok(index) = from.resend(0) else {
             return;
         };
-        to.deliver(from, place).unwrap();
+        to.deliver(from, index).unwrap();
         from.wire.clear();
     }
 }

@@ -6,16 +6,16 @@ use crate::text::{Text, decode, next_line};
 pub fn list(input: &[u8], limit: usize, list_one: fn(&mut Text, &[u8])) -> Result<Vec<u8>, Fault> {
     let mut text = Text(Vec::with_capacity(input.len() + 64));
     let mut bytes = Vec::with_capacity(limit);
-    let (mut rest, mut number, mut place) = (input, 0u64, 0);
+    let (mut rest, mut number, mut line_number) = (input, 0u64, 0);
     while let Some(line) = next_line(&mut rest) {
-        place += 1;
+        line_number += 1;
         let (sign, digits) = match line {
             [] | [b'#', ..] => continue,
             [sign @ (b'>' | b'<'), b' ', digits @ ..] => (*sign, digits),
-            _ => return Err(Fault::BadLine(place)),
+            _ => return Err(Fault::BadLine(line_number)),
         };
         bytes.clear();
-        decode(digits, &mut bytes).ok_or(Fault::BadLine(place))?;
+        decode(digits, &mut bytes).ok_or(Fault::BadLine(line_number))?;
         if bytes.len() > limit {
             return Err(Fault::TooLarge);
         }
@@ -39,7 +39,7 @@ fn ack(text: &mut Text, word: u16) {
     text.number(word & 0xfff);
 }
 
-/// The acknowledgement fields at a place, and where they end.
+/// The acknowledgement fields at an offset, and where they end.
 fn acks(text: &mut Text, bytes: &[u8], at: usize) -> usize {
     let is_field = |at: usize| at + 2 <= bytes.len() && bytes[at + 1] >= 0x80;
     if !is_field(at) {
@@ -119,11 +119,11 @@ impl<'a> Fields<'a> {
     }
 
     pub fn extensible(&mut self) -> u128 {
-        let (mut number, mut place) = (0, 0);
+        let (mut number, mut shift) = (0, 0);
         loop {
             let byte = self.byte();
-            number |= u128::from(byte & 0x7f) << place;
-            place += 7;
+            number |= u128::from(byte & 0x7f) << shift;
+            shift += 7;
             if byte < 0x80 {
                 return number;
             }

@@ -154,14 +154,14 @@ impl World {
         }
     }
 
-    fn say_packet(&mut self, text: &mut Text, end: End, place: usize) {
+    fn say_packet(&mut self, text: &mut Text, end: End, index: usize) {
         text.word(match end {
             End::A => "packet a ",
             End::B => "packet b ",
         });
-        text.number(place as u64);
+        text.number(index as u64);
         text.byte(b' ');
-        text.hex(&self.link(end).wire[place].packet);
+        text.hex(&self.link(end).wire[index].packet);
     }
 
     fn ask(&mut self, text: &mut Text, request: Request) -> Result<(), Word> {
@@ -196,21 +196,21 @@ impl World {
                 text.number(count as u64);
             }
             Event::Emit(end) => {
-                let place = self.link(end).emit()?;
-                self.say_packet(text, end, place);
+                let index = self.link(end).emit()?;
+                self.say_packet(text, end, index);
             }
-            Event::Resend(end, place) => {
-                let place = self.link(end).resend(place)?;
-                self.say_packet(text, end, place);
+            Event::Resend(end, index) => {
+                let index = self.link(end).resend(index)?;
+                self.say_packet(text, end, index);
             }
             Event::Ack(end) => {
-                let place = self.link(end).ack();
-                self.say_packet(text, end, place);
+                let index = self.link(end).ack();
+                self.say_packet(text, end, index);
             }
-            Event::Deliver(end, place) => {
+            Event::Deliver(end, index) => {
                 text.word(match end {
-                    End::A => self.a.link.deliver(&self.b.link, place)?,
-                    End::B => self.b.link.deliver(&self.a.link, place)?,
+                    End::A => self.a.link.deliver(&self.b.link, index)?,
+                    End::B => self.b.link.deliver(&self.a.link, index)?,
                 });
             }
             Event::Serve => {
@@ -233,8 +233,8 @@ pub fn play(input: &[u8]) -> Result<(Vec<u8>, i32), Fault> {
     };
     let [size, window, own_a, own_b] = read_setup(setup).ok_or(Fault::BadLine(first))?;
     if !(1..=1400).contains(&size) || !(1..=2047).contains(&window) || own_a < 64 || own_b < 64 {
-        for (place, line) in lines {
-            read_event(line).ok_or(Fault::BadLine(place))?;
+        for (line_number, line) in lines {
+            read_event(line).ok_or(Fault::BadLine(line_number))?;
         }
         text.word("0 refused bad-setup\n");
         return Ok((text.0, 1));
@@ -244,8 +244,8 @@ pub fn play(input: &[u8]) -> Result<(Vec<u8>, i32), Fault> {
     let b = Serving::new(Link::new(0x0202, 0x0101, size, window), own_b as u16);
     let mut world = World { a, b, requests: Vec::new() };
     let mut status = 0;
-    for (number, (place, line)) in (1u64..).zip(lines) {
-        let event = read_event(line).ok_or(Fault::BadLine(place))?;
+    for (number, (line_number, line)) in (1u64..).zip(lines) {
+        let event = read_event(line).ok_or(Fault::BadLine(line_number))?;
         if status == 1 {
             continue;
         }

@@ -1,6 +1,6 @@
 /* A plain partner for a live end (bench/live), by its first word:
  *
- *   echo                       writes each line back, and `waits 0` behind it, before it reads the next
+ *   echo                       writes each line back, and `waits 0` after it, before it reads the next
  *   drive FILE PROGRAM WORD..  tells the program the lines of a file, each when the one before it is answered, and
  *                              prints the microseconds from the first line to the last answer
  */

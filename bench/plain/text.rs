@@ -16,7 +16,7 @@ pub fn find(byte: u8, bytes: &[u8]) -> Option<usize> {
     }
 }
 
-/// The first line without its end, and what stands after it.
+/// The first line without its end, and what is after it.
 pub fn next_line<'a>(rest: &mut &'a [u8]) -> Option<&'a [u8]> {
     if rest.is_empty() {
         return None;
@@ -65,7 +65,7 @@ static PAIRS: [[u8; 2]; 100] = {
     pairs
 };
 
-/// Puts the bytes of an even number of hex digits, at least two, behind those that are there.
+/// Puts the bytes of an even number of hex digits, at least two, after those that are there.
 pub fn decode(digits: &[u8], bytes: &mut Vec<u8>) -> Option<()> {
     if digits.is_empty() || digits.len() % 2 == 1 {
         return None;

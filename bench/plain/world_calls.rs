@@ -37,8 +37,8 @@ fn bring(from: &mut Link, to: &mut Link) -> usize {
     while from.emit().is_ok() {
         events += 1;
     }
-    for place in first..from.wire.len() {
-        to.deliver(from, place).unwrap();
+    for index in first..from.wire.len() {
+        to.deliver(from, index).unwrap();
         events += 1;
     }
     events

@@ -1,6 +1,6 @@
 """What people ask for with a file of another node, by the words of the command line."""
 from decnet import nsp, scripts
-from decnet.asker import InputFault
+from decnet.client import InputFault
 from decnet.hostfile import STANDARD, HostFile, read_host
 from decnet.parts import carry, open_node, open_signals, settings_of, start_end
 from decnet.progress import Progress

@@ -89,7 +89,7 @@ class Folder:
         file.close()
         os.unlink(beside)
 
-    def place(self, name):
+    def path_to(self, name):
         return os.path.join(os.fsencode(self.path), name)
 
     # ---- reading
@@ -123,16 +123,16 @@ class Folder:
         return {bytes_in(line.split(" ")[1]) for line in self.others if line.startswith(FILE)}
 
     def is_plain(self, name):
-        return stat.S_ISREG(os.lstat(self.place(name)).st_mode)
+        return stat.S_ISREG(os.lstat(self.path_to(name)).st_mode)
 
     def clear(self, name):
         """Removes what a bridge that was killed had begun to write."""
         if name.startswith(b".daplive.new.") and len(name) == len(".daplive.new.") + 2 * RANDOM_BYTES:
-            os.unlink(self.place(name))
+            os.unlink(self.path_to(name))
 
     def read(self, name):
         """The records of a file."""
-        path = self.place(name)
+        path = self.path_to(name)
         with open(path, "rb") as file:
             data = file.read(MAX_FILE + 1)
         if len(data) > MAX_FILE:
@@ -155,8 +155,8 @@ class Folder:
             return self.path
         name = bytes_in(line.split(" ")[1])
         self.known.pop(name, None)
-        self.left[name] = state_of(self.place(name))
-        return f"{os.fsdecode(self.place(name))}: another file has this name"
+        self.left[name] = state_of(self.path_to(name))
+        return f"{os.fsdecode(self.path_to(name))}: another file has this name"
 
     # ---- what somebody else does
 
@@ -178,7 +178,7 @@ class Folder:
     def changes_of(self, name):
         """The same of a file that is here."""
         before, state = self.known.get(name, (None, self.left.get(name)))
-        if state is not None and state_of(self.place(name)) == state:
+        if state is not None and state_of(self.path_to(name)) == state:
             return []
         try:
             records = self.read(name)
@@ -200,7 +200,7 @@ class Folder:
 
     def write(self, name, data):
         """Writes a file, which is whole before it has its name; one that is there keeps its mode."""
-        path, (beside, file) = self.place(name), self.begin_beside()
+        path, (beside, file) = self.path_to(name), self.begin_beside()
         try:
             with file:
                 file.write(data)
@@ -222,21 +222,21 @@ class Folder:
         if self.is_edited(name):
             self.move_away(name, "somebody has edited it meanwhile")
         self.write(name, text_of(records))
-        self.known[name] = (digest, state_of(self.place(name)))
+        self.known[name] = (digest, state_of(self.path_to(name)))
 
     def is_edited(self, name):
         """Whether a file isn't as it was read or written here."""
         before, state = self.known.get(name, (None, None))
-        if state_of(self.place(name)) in (None, state):
+        if state_of(self.path_to(name)) in (None, state):
             return False
         if before is None:
             return True
-        with open(self.place(name), "rb") as file:
+        with open(self.path_to(name), "rb") as file:
             return digest_of(lines_of(file.read())) != before
 
     def move_away(self, name, why):
         """Gives a file another name, which none has."""
-        path, number = self.place(name), 1
+        path, number = self.path_to(name), 1
         while True:
             other = path + os.fsencode(EDITED + (f".{number}" if number > 1 else ""))
             if not os.path.lexists(other):
@@ -256,7 +256,7 @@ class Folder:
 
     def can_be_text(self, name):
         """Whether a file here can have a name: none has it that is no plain file."""
-        return is_host_name(name) and (not os.path.lexists(self.place(name)) or self.is_plain(name))
+        return is_host_name(name) and (not os.path.lexists(self.path_to(name)) or self.is_plain(name))
 
     def write_back(self, files):
         """Writes all that isn't so on the disk; `files` are names, attributes, and records with their numbers."""
@@ -279,8 +279,8 @@ class Folder:
         """Removes a file that isn't a text any more; it is among the others."""
         if self.is_edited(name):
             self.move_away(name, "somebody has edited it meanwhile")
-        elif state_of(self.place(name)) is not None:
-            os.unlink(self.place(name))
+        elif state_of(self.path_to(name)) is not None:
+            os.unlink(self.path_to(name))
         del self.known[name]
 
     def listing(self, then):

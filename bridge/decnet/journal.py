@@ -45,7 +45,7 @@ def synced_in(mark):
     return int(words[1]) if len(words) == 3 and words[1].isdigit() and len(words[1]) < 20 else 0
 
 
-def crc_behind(mark):
+def crc_after(mark):
     """The CRC of all that ends with a mark, by the mark alone; ValueError where it is none."""
     digits = mark[-CRC_DIGITS - 1:]
     return zlib.crc32(digits, int(digits, 16))
@@ -72,7 +72,7 @@ class Parsed:
                     self.first, self.first_size = len(waiting), at
                 self.size, self.crc, waiting = at, crc, []
         if any(synced > self.size for synced in later_marks(data, self.size)):
-            raise KeptFault(f"{path}: damaged at byte {self.size} or behind it, and that was on the disk")
+            raise KeptFault(f"{path}: damaged at byte {self.size} or after it, and that was on the disk")
 
     @property
     def told(self):
@@ -89,7 +89,7 @@ def later_marks(data, at):
         if mark >= 0 and end and start <= mark:
             found = data[mark + 1:end]
             with contextlib.suppress(ValueError):
-                crc = crc_behind(data[before + 1:start])
+                crc = crc_after(data[before + 1:start])
                 if found == mark_of(synced_in(found), zlib.crc32(data[start:mark + 1], crc)):
                     yield synced_in(found)
         before = mark

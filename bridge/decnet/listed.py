@@ -15,9 +15,9 @@ def messages_by_way(listing):
         elif words[0] == "message":
             last = highest.get(stream, 0)
             ahead = (int(re.match(r"seg=(\d+)", words[1])[1]) - last) % NUMBERS
-            place = last + (ahead if ahead <= HALF else ahead - NUMBERS)
-            highest[stream] = max(place, last)
+            sequence = last + (ahead if ahead <= HALF else ahead - NUMBERS)
+            highest[stream] = max(sequence, last)
         else:
-            streams.setdefault(stream, {}).setdefault(place, []).append(line)
-    return {way: [line for stream, places in streams.items() if stream[0] == way
-                  for place in sorted(places) for line in places[place]] for way in "><"}
+            streams.setdefault(stream, {}).setdefault(sequence, []).append(line)
+    return {way: [line for stream, by_sequence in streams.items() if stream[0] == way
+                  for sequence in sorted(by_sequence) for line in by_sequence[sequence]] for way in "><"}

@@ -4,7 +4,7 @@ import os
 import re
 
 from decnet import frames, log, nsp, routing, udp, wire
-from decnet.asker import InputFault
+from decnet.client import InputFault
 from decnet.end import Answer, End, EndFault
 from decnet.folder import Folder
 from decnet.hostfile import HostFault

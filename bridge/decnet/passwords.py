@@ -4,7 +4,7 @@ import os
 import sys
 
 from decnet import answers, nsp
-from decnet.asker import InputFault
+from decnet.client import InputFault
 from decnet.locked import KeptFault
 from decnet.role import GOOD
 from decnet.users import folded, is_name, make_hash

@@ -299,7 +299,7 @@ def replay(end, journal, space, signals):
     """Tells a live end the lines of a journal; the links that were open then."""
     def check(number, line, answer):
         if line.startswith((FILE, RECORD)) or NO_MEMORY in answer:
-            raise KeptFault(f"{journal.path}: line {number} behind its marks: {answer[-1]}", of_machine=NO_MEMORY in answer)
+            raise KeptFault(f"{journal.path}: line {number} after its marks: {answer[-1]}", of_machine=NO_MEMORY in answer)
 
     lines = journal.parsed.lines
     told = ((number, line) for number, line in enumerate(lines, 1) if line and not line.startswith(NOTE))

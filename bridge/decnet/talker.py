@@ -2,7 +2,7 @@
 import time
 
 from decnet import answers, log
-from decnet.asker import Asker
+from decnet.client import Client
 from decnet.nsp import Reason
 from decnet.scripts import Refused
 
@@ -32,7 +32,7 @@ class Script:
         return request is None
 
 
-class Talker(Asker):
+class Talker(Client):
     """Opens one link, and asks over it what a script says. A refusal ends it, and is reported after the file's name."""
 
     def __init__(self, node, end, settings, script, patience, name, progress, clock=time.monotonic):
@@ -45,9 +45,9 @@ class Talker(Asker):
         return link
 
     def files(self):
-        return super(Asker, self).files()
+        return super(Client, self).files()
 
-    def place(self):
+    def last_asked(self):
         return answers.shown(self.request)
 
     def told(self, text):

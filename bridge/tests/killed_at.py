@@ -15,7 +15,7 @@ from decnet import udp
 CALLS = ("pwrite", "fdatasync", "fsync", "replace")
 
 
-class Places:
+class Steps:
     """Counts the steps, and kills at one of them."""
 
     def __init__(self, at):
@@ -36,11 +36,11 @@ class Places:
 
 
 def main():
-    place, program, *words = sys.argv[1:]
-    places = Places(int(place))
+    step, program, *words = sys.argv[1:]
+    steps = Steps(int(step))
     for name in CALLS:
-        setattr(os, name, places.around(getattr(os, name)))
-    udp.Udp.send = places.around(udp.Udp.send)
+        setattr(os, name, steps.around(getattr(os, name)))
+    udp.Udp.send = steps.around(udp.Udp.send)
     sys.argv = [program, *words]
     runpy.run_path(program, run_name="__main__")
 

@@ -76,7 +76,7 @@ class RefusalTest(AskCase):
 
 
 class PatienceTest(PairCase):
-    def asker(self, requests, *words):
+    def client(self, requests, *words):
         near, far = self.ends()
         child = self.bridge("ask", far, "--to", SERVING, *HASTE, *words, stdin=requests)
         station = self.station(near, SERVING, ASKING)
@@ -87,7 +87,7 @@ class PatienceTest(PairCase):
 
     def test_a_report_that_never_comes(self):
         """The other end acknowledges, and does no more."""
-        child, station = self.asker(b"# nothing\nhello\n", "--patience", "1")
+        child, station = self.client(b"# nothing\nhello\n", "--patience", "1")
         station.hear_kind_of(nsp.SEGMENTS, 1)
         station.acknowledge(1)
         begun = time.monotonic()
@@ -98,7 +98,7 @@ class PatienceTest(PairCase):
         self.assertIn("no report of line 2 within 1 seconds", child.told())
 
     def test_lines_may_come_slowly(self):
-        child, station = self.asker(None, "--patience", "0.5")
+        child, station = self.client(None, "--patience", "0.5")
         time.sleep(1.5)
         self.assertIsNone(child.process.poll())
         child.end_input()

@@ -89,14 +89,14 @@ class ParseTest(JournalCase):
                 self.assertGreaterEqual(found.size, max(later, default=0), "what was on the disk is lost, and isn't told")
         self.assertGreater(tally["told"], 10 * tally["cut"])
 
-    def test_garbage_behind_the_last_mark_is_cut(self):
+    def test_garbage_after_the_last_mark_is_cut(self):
         chance = random.Random(SEED)
         for number in range(2000):
             tail = chance.randbytes(chance.randrange(200)) if number % 2 else bytes(chance.randrange(200))
             found = Parsed("store", self.data + tail)
             self.assertEqual((found.size, found.lines), (len(self.data), self.told))
 
-    def test_what_was_told_behind_the_files(self):
+    def test_what_was_reported_after_the_files(self):
         found = Parsed("store", self.data)
         self.assertEqual(found.told, self.told[self.first:])
         self.assertEqual(Parsed("store", self.data[:self.ends[0]]).told, [])
@@ -294,7 +294,7 @@ class StoredEndTest(JournalCase):
         lines = Parsed("store", self.path.read_bytes()).lines
         self.assertEqual(lines[1:], ["file 46 seq variable 0 0", "> 22"])
 
-    def test_want_of_memory_makes_it_anew(self):
+    def test_out_of_memory_makes_it_anew(self):
         end, store = self.stored("return ['refused no-memory'] if line[0] == '>' else []")
         store.links_closed(is_last=False)
         self.assertFalse(store.is_busy)

@@ -98,7 +98,7 @@ class LinksCase(PairCase):
         child.wait_for("takes links")
         return child
 
-    def asker(self, node, *words):
+    def client(self, node, *words):
         """A bridge that asks what it is told later."""
         return self.node("ask", node, "--to", SERVING, *words, stdin=None)
 
@@ -128,7 +128,7 @@ class SharedTest(LinksCase):
 
     def test_two_links_at_once_change_two_files_and_a_third_is_refused(self):
         server = self.server(*self.words)
-        first, second = (self.asker(node) for node in NODES[:2])
+        first, second = (self.client(node) for node in NODES[:2])
         for child, name in ((first, 46), (second, 47)):
             self.say(child, "hello", "report ready 1024", f"open {name} 3", OPENED, "connect", "report connected")
         third = self.far_station("1.9")
@@ -143,7 +143,7 @@ class SharedTest(LinksCase):
 
     def test_readers_share_and_a_writer_waits_for_them(self):
         server = self.server(*self.words, links=3)
-        first, second, third = (self.asker(node) for node in NODES)
+        first, second, third = (self.client(node) for node in NODES)
         for child in (first, second):
             self.say(child, "hello", "report ready 1024", OPEN_TO_READ, OPENED)
         self.say(third, "hello", "report ready 1024")
@@ -154,7 +154,7 @@ class SharedTest(LinksCase):
         server.wait_for("a file that it wants is open over link")
         for child in (first, second):
             self.say(child, "close", "report closed")
-        third = self.asker(NODES[2])
+        third = self.client(NODES[2])
         self.say(third, "hello", "report ready 1024", OPEN_TO_WRITE, OPENED, "close", "report closed")
         for child in (first, second, third):
             self.finish_asking(child)
@@ -168,14 +168,14 @@ class SharedTest(LinksCase):
         gone.hear_segments(1)
         gone.say(segment(gone.remote, gone.local, 2, ACCESS))
         gone.hear_segments(1, first=2)
-        asking = self.asker(NODES[0], "--go-on")
+        asking = self.client(NODES[0], "--go-on")
         self.say(asking, "hello", "report ready 1024", OPEN_TO_WRITE, LOCKED)
         server.wait_for("node 1.1 wants a file that is open over it")
         self.say(asking, OPEN_TO_WRITE, OPENED, "close", "report closed")
         self.finish_asking(asking, 1)
         self.stop(server)
 
-    def test_a_link_that_is_closed_lets_its_file_go_and_its_place(self):
+    def test_a_link_that_is_closed_lets_its_file_go_and_its_slot(self):
         server = self.server(*self.words)
         for number in range(3):
             near = self.far_station("1.9")
@@ -186,14 +186,14 @@ class SharedTest(LinksCase):
             near.hear_segments(1, first=2)
             near.say(nsp.disconnect(near.remote, near.local, Reason.NO_ERROR))
             near.hear_kind(Kind.DISCONNECT_CONFIRM)
-            asking = self.asker(NODES[0])
+            asking = self.client(NODES[0])
             self.say(asking, "hello", "report ready 1024", OPEN_TO_WRITE, OPENED, "close", "report closed")
             self.finish_asking(asking)
         self.stop(server)
 
-    def test_it_stops_after_so_many_links(self):
+    def test_it_stops_after_this_many_links(self):
         server = self.server(*self.words, "--stop-after", "2", links=3)
-        first, second = (self.asker(node) for node in NODES[:2])
+        first, second = (self.client(node) for node in NODES[:2])
         for child in (first, second):
             self.say(child, "hello", "report ready 1024")
         third = self.far_station("1.9")
@@ -204,11 +204,11 @@ class SharedTest(LinksCase):
 
     def test_a_signal_closes_all(self):
         server = self.server(*self.words)
-        askers = [self.asker(node) for node in NODES[:2]]
-        for child in askers:
+        clients = [self.client(node) for node in NODES[:2]]
+        for child in clients:
             self.say(child, "hello", "report ready 1024")
         self.stop(server)
-        self.assertEqual([child.finish() for child in askers], [1, 1])
+        self.assertEqual([child.finish() for child in clients], [1, 1])
 
 
 class StoreTest(LinksCase):
@@ -219,18 +219,18 @@ class StoreTest(LinksCase):
     def parsed(self):
         return Parsed(self.path, self.path.read_bytes())
 
-    def test_both_links_go_on_behind_a_kill(self):
+    def test_both_links_go_on_after_a_kill(self):
         server = self.server("--store", self.path)
-        first, second = askers = [self.asker(node) for node in NODES[:2]]
+        first, second = clients = [self.client(node) for node in NODES[:2]]
         for child, name in ((first, 46), (second, 47)):
             self.say(child, "hello", "report ready 1024", f"create {name} 0 2 0 0 15", OPENED, "connect", "report connected")
         for number in range(1, 4):
-            for child in askers:
+            for child in clients:
                 self.say(child, f"put 4{number}", f"report done {number}")
             server.finish(signal.SIGKILL)
             server = self.server("--store", self.path)
             until(lambda: server.told().count("goes on as it was") == 2, "both links again")
-        for child in askers:
+        for child in clients:
             self.say(child, "close", "report closed")
             self.finish_asking(child)
         until(lambda: server.told().count("closed by node") == 2, "the end of both links")
@@ -240,7 +240,7 @@ class StoreTest(LinksCase):
 
     def test_of_two_links_the_one_without_flow_control_goes_on(self):
         server = self.server("--store", self.path)
-        asking = self.asker(NODES[0])
+        asking = self.client(NODES[0])
         self.say(asking, "hello", "report ready 1024", "create 46 0 2 0 0 15", OPENED, "connect", "report connected")
         gone = self.far_station("1.9")
         gone.connect(0x0111, control=FlowControl.SEGMENTS)

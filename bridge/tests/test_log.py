@@ -19,7 +19,7 @@ class LogTest(Case):
     def lines(self):
         return self.path.read_text().splitlines()
 
-    def test_so_many_lines_a_second_and_then_a_count(self):
+    def test_this_many_lines_a_second_and_then_a_count(self):
         log = self.log()
         for _ in range(10_000):
             log.say("line")

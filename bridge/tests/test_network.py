@@ -263,7 +263,7 @@ class LinkTest(CapturedCase):
         station.hear_nothing({Kind.CONNECT_ACK, Kind.CONFIRM}, "for the old connect initiate")
         station.connect(0x0223)
         expect(station.remote != local, "the link address came again")
-        station.hear_nothing({Kind.CONFIRM}, "behind an acknowledgement")
+        station.hear_nothing({Kind.CONFIRM}, "after an acknowledgement")
         station.disconnect()
         station.disconnect()
         self.stop(server)
@@ -288,7 +288,7 @@ class LinkTest(CapturedCase):
         station.say(nsp.words(Kind.OTHER_ACK, station.remote, station.local, field))
         time.sleep(POLL)
         station.hear_all()
-        station.hear_nothing(nsp.SEGMENTS, "behind an acknowledgement across", 2 * SILENCE)
+        station.hear_nothing(nsp.SEGMENTS, "after an acknowledgement across", 2 * SILENCE)
         station.say(segment(station.remote, station.local, 2, CONFIGURATION))
         found = {station.hear_kind_of(nsp.SEGMENTS, 2).number}
         came = iter(lambda: station.hear(2 * SILENCE), None)

@@ -103,7 +103,7 @@ class RoutingTest(unittest.TestCase):
             "of a later version": self.read(bytes([message[0] | frames.LATER_VERSION]) + message[1:]),
             "of the short format": self.read(b"\x02" + bytes(40)),
             "a hello": self.read(frames.hello_message(OTHER_NODE)),
-            "nothing behind the header": self.read(message[:21]),
+            "nothing after the header": self.read(message[:21]),
         }
         self.assertEqual({what: None for what in refused}, refused)
 

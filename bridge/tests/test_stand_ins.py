@@ -169,7 +169,7 @@ class RefusalTest(PairCase):
             self.assertIn("answers what no live end does", child.told())
             self.assertNotIn("Traceback", child.told())
 
-    def test_an_answer_without_a_place_says_what_came_and_what_was_due(self):
+    def test_an_answer_out_of_sequence_says_what_came_and_what_was_due(self):
         """An Acknowledge comes where a Configuration is due; the live end is the real one."""
         near, far = self.ends()
         child = self.bridge("ask", far, "--to", SERVING, *HASTE, stdin=b"hello\n")

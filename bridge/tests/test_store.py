@@ -142,7 +142,7 @@ class StartTest(StoreCase):
 
 
 class KilledTest(StoreCase):
-    def test_a_link_goes_on_behind_a_kill(self):
+    def test_a_link_goes_on_after_a_kill(self):
         """The other end sees a pause; its interrupt and link service messages are known too."""
         child, asking = self.store(), self.asking("--idle", "0.3")
         self.say(asking, "hello", "report ready 1024")
@@ -202,7 +202,7 @@ class KilledTest(StoreCase):
 
 
 class SizeTest(StoreCase):
-    def test_it_is_written_anew_behind_a_link_when_it_has_doubled(self):
+    def test_it_is_written_anew_after_a_link_when_it_has_doubled(self):
         child = self.store()
         records = " ".join(["41" * 1000] * 300)
         for name in ("46", "47"):

@@ -44,7 +44,7 @@ class CutTest(UdpCase):
         store.renew()
         while store.is_busy:
             (self.server.turn if self.server.is_busy else store.keeper.look)()
-        self.asker = self.end("ask")
+        self.client = self.end("ask")
         self.states = []  # after each line: the size of the store, and the files
         self.answered = []  # of each answer what was on the disk when it went out, and which state it was given in
 
@@ -58,17 +58,17 @@ class CutTest(UdpCase):
 
     def ask(self, request):
         """Asks, and carries packets until there are none; some are late."""
-        way = [(self.tell, text[2:]) for text in self.asker.say(f"ask {request}") if text.startswith("< ")]
+        way = [(self.tell, text[2:]) for text in self.client.say(f"ask {request}") if text.startswith("< ")]
         while way:
             to, packet = way.pop(0)
             if self.chance.random() < 0.05 and way:
                 way.append((to, packet))
-            back = self.asker.say if to == self.tell else self.tell
+            back = self.client.say if to == self.tell else self.tell
             way += [(back, text[2:]) for text in to("> " + packet) if text.startswith("< ")]
 
     def talk(self, turn):
         """A link, over which a file is made."""
-        self.asker.say(f"new 01{turn:02x} 02{turn:02x} 100")
+        self.client.say(f"new 01{turn:02x} 02{turn:02x} 100")
         self.tell(f"new 02{turn:02x} 01{turn:02x} 100")
         def record(most):
             return self.chance.randbytes(self.chance.randrange(1, most)).hex()
@@ -118,12 +118,12 @@ class Bridges:
     def words(self, role, local, remote, node):
         return [BRIDGE, role, "--udp", f"{local}:{LOOPBACK}:{remote}", "--node", node, "--daplive", self.program]
 
-    def serve(self, place=0, *words):
+    def serve(self, step=0, *words):
         """A serving bridge that is killed at a step."""
         command = self.words("serve", self.near, self.far, SERVING)
         more = ["--store", self.path, "--sync", self.sync, "--resend", "0.2", *words]
         env = {**os.environ, "PYTHONPATH": str(BRIDGE.parent)}
-        return Child(self.folder, [PYTHON[0], KILLED_AT, place, *command, *more], env=env)
+        return Child(self.folder, [PYTHON[0], KILLED_AT, step, *command, *more], env=env)
 
     def ask(self, requests, *words):
         command = self.words("ask", self.far, self.near, ASKING)
@@ -190,12 +190,12 @@ class KillTest(UdpCase):
         need_live_end()
         self.addCleanup(Child.end_all)
 
-    def places(self, last):
+    def steps(self, last):
         """All steps up to the last one; or those around the opening of the link, and some others."""
         opening = range(7, 15)
         return range(1, last + 1) if ALL else sorted({*opening, *random.Random(SEED).sample(range(1, last + 1), 8)})
 
-    def last_place(self, sync):
+    def last_step(self, sync):
         """How many steps a whole run has."""
         low, high = 1, 64
         while self.lose(f"find{high}{sync}", high, sync)[0] == "killed":
@@ -205,71 +205,71 @@ class KillTest(UdpCase):
             low, high = (middle, high) if self.lose(f"find{middle}{sync}", middle, sync)[0] == "killed" else (low, middle)
         return high
 
-    def lose(self, name, place, sync):
+    def lose(self, name, step, sync):
         """A bridge that is killed for good; what became of it, and how many reports there were."""
         bridges = Bridges(self.folder / name, sync)
-        server = bridges.serve(place)
+        server = bridges.serve(step)
         wait_ready(server)
-        asker = None
+        client = None
         if "takes links" in server.told():
-            asker = bridges.ask(REQUESTS, "--tries", "4", "--resend", "0.1")
-            asker.process.wait(120)
+            client = bridges.ask(REQUESTS, "--tries", "4", "--resend", "0.1")
+            client.process.wait(120)
         if server.process.poll() is None:
             server.process.send_signal(signal.SIGTERM)
         status = server.process.wait(60)
-        reports = len(asker.reports()) if asker else 0
+        reports = len(client.reports()) if client else 0
         expect("Traceback" not in server.told(), server.told())
         if not bridges.path.exists() or not bridges.path.stat().st_size:
-            expect(reports == 0, f"place {place}: there is no store, and {reports} reports")
+            expect(reports == 0, f"step {step}: there is no store, and {reports} reports")
             return "before", 0
         found = files_in(bridges.kept())
         is_kept = found in (effects(reports), effects(reports + 1)) or is_front(found, reports)
-        expect(is_kept, f"place {place}: {reports} reports, and there is {str(found)[:300]}")
+        expect(is_kept, f"step {step}: {reports} reports, and there is {str(found)[:300]}")
         return ("killed" if status == -signal.SIGKILL else "ended"), reports
 
     def test_nothing_that_was_reported_is_lost(self):
         for sync in ("answers", "never") if ALL else ("answers",):
-            tally, places = {}, self.places(self.last_place(sync))
+            tally, steps = {}, self.steps(self.last_step(sync))
             with concurrent.futures.ThreadPoolExecutor(SIDE_BY_SIDE) as pool:
-                for what, _ in pool.map(lambda place, sync=sync: self.lose(f"{sync}{place}", place, sync), places):
+                for what, _ in pool.map(lambda step, sync=sync: self.lose(f"{sync}{step}", step, sync), steps):
                     tally[what] = tally.get(what, 0) + 1
-            self.assertGreater(tally["killed"], len(places) // 2)
-            print(f"--sync {sync}: killed for good at {len(places)} places up to {places[-1]}: {tally}")
+            self.assertGreater(tally["killed"], len(steps) // 2)
+            print(f"--sync {sync}: killed for good at {len(steps)} steps up to {steps[-1]}: {tally}")
 
-    def go_on(self, place, sync, clean):
+    def go_on(self, step, sync, clean):
         """A bridge that is killed, and started again at once: whether it was killed."""
-        bridges = Bridges(self.folder / f"again{sync}{place}", sync)
-        server = bridges.serve(place)
+        bridges = Bridges(self.folder / f"again{sync}{step}", sync)
+        server = bridges.serve(step)
         wait_ready(server)
-        asker = bridges.ask(REQUESTS, "--tries", "300", "--resend", "0.1")
+        client = bridges.ask(REQUESTS, "--tries", "300", "--resend", "0.1")
         was_killed, begun = False, time.monotonic()
-        while asker.process.poll() is None and time.monotonic() < begun + 120:
+        while client.process.poll() is None and time.monotonic() < begun + 120:
             if server.process.poll() is not None:
-                expect(not was_killed, f"place {place}: it ended again: {server.told()}")
+                expect(not was_killed, f"step {step}: it ended again: {server.told()}")
                 was_killed, server = True, bridges.serve()
                 wait_ready(server)
             time.sleep(0.01)
-        expect(asker.process.poll() == 0, f"place {place}: {asker.process.poll()} {asker.told()} {server.told()}")
+        expect(client.process.poll() == 0, f"step {step}: {client.process.poll()} {client.told()} {server.told()}")
         server.process.send_signal(signal.SIGTERM)
         server.process.wait(60)
-        expect((asker.reports(), bridges.kept()) == clean, f"place {place}: {asker.reports()[-1:]} {server.told()}")
+        expect((client.reports(), bridges.kept()) == clean, f"step {step}: {client.reports()[-1:]} {server.told()}")
         return was_killed
 
     def test_a_bridge_that_is_started_again_ends_as_a_clean_run(self):
         clean = Bridges(self.folder / "clean", "answers")
         server = clean.serve()
         wait_ready(server)
-        asker = clean.ask(REQUESTS)
-        expect(asker.process.wait(120) == 0, asker.told())
+        client = clean.ask(REQUESTS)
+        expect(client.process.wait(120) == 0, client.told())
         server.process.send_signal(signal.SIGTERM)
         server.process.wait(60)
-        clean = (asker.reports(), clean.kept())
+        clean = (client.reports(), clean.kept())
         for sync in ("answers", "never") if ALL else ("answers",):
-            places = self.places(self.last_place(sync))
+            steps = self.steps(self.last_step(sync))
             with concurrent.futures.ThreadPoolExecutor(SIDE_BY_SIDE) as pool:
-                killed = sum(pool.map(lambda place, sync=sync: self.go_on(place, sync, clean), places))
-            self.assertGreater(killed, len(places) // 2)
-            print(f"--sync {sync}: {killed} of {len(places)} runs killed and started again: all end as a clean one")
+                killed = sum(pool.map(lambda step, sync=sync: self.go_on(step, sync, clean), steps))
+            self.assertGreater(killed, len(steps) // 2)
+            print(f"--sync {sync}: {killed} of {len(steps)} runs killed and started again: all end as a clean one")
 
 
 class StormTest(UdpCase):
@@ -296,9 +296,9 @@ class StormTest(UdpCase):
         words = [*harm, "--segment", "200", "--tries", "300"]
         server = bridges.serve(0, *words)
         wait_ready(server)
-        asker = bridges.ask(requests, *words, "--resend", "0.1")
+        client = bridges.ask(requests, *words, "--resend", "0.1")
         begun = time.monotonic()
-        while asker.process.poll() is None and time.monotonic() < begun + 150:
+        while client.process.poll() is None and time.monotonic() < begun + 150:
             if is_storm and time.monotonic() < begun + 60:
                 time.sleep(chance.uniform(0.5, 2.5))
                 server.process.kill()
@@ -308,10 +308,10 @@ class StormTest(UdpCase):
                 wait_ready(server)
             else:
                 time.sleep(0.05)
-        expect(asker.process.poll() == 0, f"seed {seed}: {asker.process.poll()} {asker.told()} {server.told()}")
+        expect(client.process.poll() == 0, f"seed {seed}: {client.process.poll()} {client.told()} {server.told()}")
         server.process.send_signal(signal.SIGTERM)
         server.process.wait(60)
-        return asker.reports(), bridges.kept(), kills
+        return client.reports(), bridges.kept(), kills
 
     def compared(self, seed):
         """How often the bridge was killed in a run that ends as one without kills."""

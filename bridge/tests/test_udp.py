@@ -201,7 +201,7 @@ class PcapTest(UdpCase):
         self.assertEqual(self.path.stat().st_mode & 0o777, 0o600)
         more = self.serve("--pcap", self.path, program=self.stand_in(ECHO))
         self.stop(more)
-        self.assertEqual(len(self.frames()), len(both) + 2, "a start goes on behind what is there")
+        self.assertEqual(len(self.frames()), len(both) + 2, "a start goes on after what is there")
 
     def test_a_file_of_another_kind_is_left_alone(self):
         self.path.write_bytes(b"anything at all, and much more than a head")

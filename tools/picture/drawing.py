@@ -47,12 +47,12 @@ def runs_of_data(messages):
     """Messages in lists: MIN_DATA or more Data in a row together, any other alone."""
     at = 0
     while at < len(messages):
-        behind = at
-        while behind < len(messages) and messages[behind].word == "data":
-            behind += 1
-        behind = behind if behind - at >= MIN_DATA else at + 1
-        yield messages[at:behind]
-        at = behind
+        after = at
+        while after < len(messages) and messages[after].word == "data":
+            after += 1
+        after = after if after - at >= MIN_DATA else at + 1
+        yield messages[at:after]
+        at = after
 
 
 def chevron(y):

@@ -99,11 +99,11 @@ def quiet_folds(packets, folds):
     taken = {index for fold in folds for index in range(fold.first, fold.last + 1)}
     result, at = [], 0
     while at < len(packets):
-        behind = at
-        while behind < len(packets) and behind not in taken and is_quiet(packets[behind]) \
-                and (behind == at or not packets[behind].gaps):
-            behind += 1
-        if behind - at >= MIN_ROWS:
-            result.append(Fold(at, behind - 1, behind - at, None))
-        at = max(behind, at + 1)
+        after = at
+        while after < len(packets) and after not in taken and is_quiet(packets[after]) \
+                and (after == at or not packets[after].gaps):
+            after += 1
+        if after - at >= MIN_ROWS:
+            result.append(Fold(at, after - 1, after - at, None))
+        at = max(after, at + 1)
     return result

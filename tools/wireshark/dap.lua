@@ -102,19 +102,19 @@ end
 -- A field of a format: where it begins and ends, where its value begins, the value, and the bits that are set; or nil and
 -- the fault.
 local function read_field(bytes, at, stop, format)
-  local behind, value, bits
+  local after, value, bits
   if format.kind == NUMBER then
-    behind, value = read_number(bytes, at, stop, format.size)
+    after, value = read_number(bytes, at, stop, format.size)
   elseif format.kind == IMAGE then
-    behind, value = read_image(bytes, at, stop, format.size)
+    after, value = read_image(bytes, at, stop, format.size)
   elseif format.kind == REST then
-    behind, value = stop, bytes:sub(at + 1, stop)
+    after, value = stop, bytes:sub(at + 1, stop)
   else
-    behind, value, bits = read_extensible(bytes, at, stop, format.size)
+    after, value, bits = read_extensible(bytes, at, stop, format.size)
   end
-  if not behind then return nil, value end
+  if not after then return nil, value end
   return { name = format.name, kind = format.kind, at = at, value_at = format.kind == IMAGE and at + 1 or at,
-    stop = behind, value = value, bits = bits }
+    stop = after, value = value, bits = bits }
 end
 
 -- The fields that a menu's bits name; nil where a bit names none.
@@ -147,34 +147,34 @@ end
 
 -- Reads FLAGS of a message: the bits that are set, and the offset after it; or nil, the fault and its offset.
 local function read_flags(bytes, message, at)
-  local behind, value, bits = read_extensible(bytes, at, #bytes, 5)
-  if not behind then return nil, value, at end
-  message.flags, message.flags_at, message.flags_stop = value, at, behind
+  local after, value, bits = read_extensible(bytes, at, #bytes, 5)
+  if not after then return nil, value, at end
+  message.flags, message.flags_at, message.flags_stop = value, at, after
   local has = {}
   for _, bit in ipairs(bits) do
     if bit > LENGTH_256_BIT then return nil, "flags", at end
     has[bit] = true
   end
   if has[LENGTH_256_BIT] and not has[LENGTH_BIT] then return nil, "flags", at end
-  return has, behind
+  return has, after
 end
 
 -- Reads STREAMID and LENGTH, as FLAGS has them: the offset of the operand and the one after it; or nil, the fault and its
 -- offset.
 local function read_lengths(bytes, message, at, has)
   if has[STREAM_BIT] then
-    local behind, stream = read_number(bytes, at, #bytes, 1)
-    if not behind then return nil, stream, at end
+    local after, stream = read_number(bytes, at, #bytes, 1)
+    if not after then return nil, stream, at end
     message.stream, message.stream_at = stream, at
     if stream ~= 0 then return nil, "stream", at end
-    at = behind
+    at = after
   end
   if not has[LENGTH_BIT] then return at, #bytes end
   local first, length_at, length = at, at, 0
   for index = 0, has[LENGTH_256_BIT] and 1 or 0 do
-    local behind, byte = read_number(bytes, at, #bytes, 1)
-    if not behind then return nil, byte, at end
-    at, length = behind, length + byte * 256 ^ index
+    local after, byte = read_number(bytes, at, #bytes, 1)
+    if not after then return nil, byte, at end
+    at, length = after, length + byte * 256 ^ index
   end
   length = math.floor(length)
   message.length, message.length_at, message.length_size = length, first, at - first
@@ -189,9 +189,9 @@ local function read_body(bytes, message)
   local operand_at, stop, length_at = read_lengths(bytes, message, at, has)
   if not operand_at then return stop, length_at end
   message.operand_at, message.stop = operand_at, stop
-  local fault, behind = read_fields(bytes, operand_at, stop, message.format.fields, message.fields)
-  if fault then return fault, behind end
-  if behind < stop then message.ignored_at = behind end
+  local fault, after = read_fields(bytes, operand_at, stop, message.format.fields, message.fields)
+  if fault then return fault, after end
+  if after < stop then message.ignored_at = after end
 end
 
 -- The message at an offset of an NSP message, with `fault` and `fault_at` where it is none. `kind` is its type, `format` what
@@ -474,9 +474,9 @@ end
 -- message and after each one that ends one.
 local function completed(stream, segment)
   local at, segments = segment.sequence, stream.segments
-  local from, to, before, behind = at, at, segments[at - 1], segments[at + 1]
+  local from, to, before, after = at, at, segments[at - 1], segments[at + 1]
   if before and not ENDS[before.mark] and not BEGINS[segment.mark] then from = stream.left[at - 1] end
-  if behind and not BEGINS[behind.mark] and not ENDS[segment.mark] then to = stream.right[at + 1] end
+  if after and not BEGINS[after.mark] and not ENDS[segment.mark] then to = stream.right[at + 1] end
   stream.right[from], stream.left[to] = to, from
   if not (BEGINS[segments[from].mark] and ENDS[segments[to].mark]) then return nil end
   local message = { from = from, to = to, frame = segment.frame }
@@ -742,11 +742,11 @@ end
 local function shortened(summaries)
   local parts, at = {}, 1
   while at <= #summaries do
-    local behind = at
-    while summaries[behind] and summaries[behind]:match("^Data ") do behind = behind + 1 end
-    if behind - at > 2 then
-      parts[#parts + 1] = behind - at .. " Data"
-      at = behind
+    local after = at
+    while summaries[after] and summaries[after]:match("^Data ") do after = after + 1 end
+    if after - at > 2 then
+      parts[#parts + 1] = after - at .. " Data"
+      at = after
     else
       parts[#parts + 1] = summaries[at]
       at = at + 1

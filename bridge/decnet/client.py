@@ -39,7 +39,7 @@ class Requests:
             raise InputFault(f"standard input: line {self.count + 1}: more than {MAX_LINE} bytes")
 
 
-class Asker(Role):
+class Client(Role):
     """Opens one link, and asks over it what the lines of standard input say."""
 
     def __init__(self, node, end, settings, requests, patience, goes_on=False, clock=time.monotonic):
@@ -135,7 +135,7 @@ class Asker(Role):
             self.look_at_end()
         self.look()
 
-    def place(self):
+    def last_asked(self):
         """What was asked last."""
         return f"line {self.number}"
 
@@ -145,7 +145,7 @@ class Asker(Role):
             self.link.disconnect(Reason.NO_ERROR, f"closed at line {self.number}, which was refused")
         elif self.is_due:
             if self.clock() >= self.report_until():
-                why = f"no report of {self.place()} within {self.patience:g} seconds"
+                why = f"no report of {self.last_asked()} within {self.patience:g} seconds"
                 self.link.disconnect(Reason.ABORTED, why)
         elif not self.requests.is_open and not self.requests.whole and not self.link.waits:
             self.is_finished = True
