@@ -1,9 +1,11 @@
 #!/usr/bin/env -S python3 -X dev -W error
-"""Tests ./wrong_bodies over crates of its own, which takes three minutes of processor.
+"""Tests ./wrong_bodies over crates of its own, which takes five minutes of processor.
 
 usage: ./wrong_bodies_tests.py [TEST ..]    a TEST is a name as `TriedTest.test_a_right_body_is_found`
 """
 import glob
+import importlib.machinery
+import importlib.util
 import os
 import pathlib
 import shutil
@@ -109,7 +111,7 @@ class ToolCase(unittest.TestCase):
         folder = tempfile.TemporaryDirectory()
         cls.addClassCleanup(folder.cleanup)
         cls.folder = pathlib.Path(folder.name)
-        cls.rooms, cls.cache = cls.folder / "rooms", cls.folder / "cache"
+        cls.rooms, cls.lock = cls.folder / "rooms", cls.folder / "wrong.lock"
         cls.rooms.mkdir()
         shutil.copy(ROOT / TOOL, cls.folder)
         answers = cls.folder / "crates" / "small" / "proofs" / "named"
@@ -128,7 +130,7 @@ class ToolCase(unittest.TestCase):
     def begin(cls, *words):
         return subprocess.Popen([cls.folder / TOOL, *words], stdin=subprocess.DEVNULL, stdout=subprocess.PIPE,
                                 stderr=subprocess.PIPE, text=True,
-                                env={**os.environ, "TMPDIR": str(cls.rooms), "XDG_CACHE_HOME": str(cls.cache)})
+                                env={**os.environ, "TMPDIR": str(cls.rooms)})
 
     @classmethod
     def run_it(cls, *words):
@@ -199,32 +201,125 @@ class BadTest(ToolCase):
         self.assertIn("crates/small/wrong/without.edit: it has no line 'fn: MODULE::NAME'\n", said)
 
 
-class KeptTest(ToolCase):
-    crates = {"small": (SMALL, {name: SMALL_EDITS[name] for name in ("doubled_thrice", "constant")})}
-    refused = ["small/constant: refused: first_step: `returns`", "small/doubled_thrice: refused: double: `returns`"]
+class LockTest(ToolCase):
+    """What wrong.lock has is taken where its sum is that of the files, but for the groups that the commit draws."""
 
-    def tries(self, *words):
-        """The wrong bodies that a run tries; each of the two is refused, now or as it was kept."""
+    crates = {"small": (SMALL, {name: SMALL_EDITS[name] for name in ("doubled_thrice", "constant")}),
+              "other": (SMALL, {"doubled_twice": SMALL_EDITS["doubled_thrice"], "tripled": SMALL_EDITS["doubled_thrice"],
+                                "other_step": SMALL_EDITS["constant"], "again": SMALL_EDITS["doubled_thrice"]})}
+    constant, doubled = "small/constant", "small/doubled_thrice"
+    small = [constant, doubled]
+
+    @classmethod
+    def setUpClass(cls):
+        super().setUpClass()
+        shutil.copytree(cls.folder / "crates" / "small" / "proofs", cls.folder / "crates" / "other" / "proofs")
+        text = cls.folder / "crates" / "other" / "proofs" / "named" / "Answers.antt"
+        text.write_text(text.read_text().replace("small", "other"))
+        cls.git("init", "-q")
+        cls.git("config", "user.email", "a@b.c")
+        cls.git("config", "user.name", "a")
+        cls.commit()
+        status, told, said = cls.run_it()
+        assert status == 0 and told[-1] == "6 refused, 0 not", f"{told} {said}"
+        cls.good = cls.lock.read_text()
+
+    def setUp(self):
+        self.lock.write_text(self.good)
+
+    @classmethod
+    def git(cls, *words):
+        subprocess.run(["git", "-C", cls.folder, *words], check=True, stdin=subprocess.DEVNULL, stdout=subprocess.DEVNULL)
+
+    @classmethod
+    def commit(cls):
+        cls.git("commit", "-q", "--allow-empty", "-m", "a commit")
+
+    def tries(self, *words, wanted=0):
+        """The wrong bodies that a run tries, and the lines of those that aren't good."""
         status, told, said = self.run_it(*words)
-        self.assertEqual((status, told[-1]), (0, "2 refused, 0 not"), f"{told}\n{said}")
-        self.assertEqual(sorted(line.removesuffix("; kept") for line in told[:-1]), self.refused)
-        return [line.split(":")[0] for line in sorted(told[:-1]) if not line.endswith("; kept")]
+        self.assertEqual(status, wanted, f"{told}\n{said}")
+        tried = [line for line in told[:-1] if not line.endswith("; wrong.lock")]
+        self.said = said
+        return sorted(line.split(":")[0] for line in tried), [line for line in tried if not line.partition(": ")[2].startswith("refused: ")]
 
-    def test_what_was_refused_is_tried_again_where_anything_changed(self):
-        constant, doubled, both = "small/constant", "small/doubled_thrice", ["small/constant", "small/doubled_thrice"]
-        text = self.folder / "crates" / "small" / "src" / "lib.rt"
-        edit = self.folder / "crates" / "small" / "wrong" / "doubled_thrice.edit"
-        self.assertEqual(self.tries(), both)
-        self.assertEqual(self.tries(), [])
-        self.assertEqual(self.tries("--anew"), both)
-        edit.write_text(edit.read_text().replace("new:     u16::from(n) + ", "new:     1 + "))
-        self.assertEqual(self.tries(), [doubled])
-        text.write_text(f"{text.read_text()}// the last line\n")
-        self.assertEqual(self.tries("small"), both)
-        kept = [path for path in self.cache.glob("*/*") if "first_step" in path.read_text()]
-        for path in kept:
-            path.write_text(path.read_text()[:-1])
-        self.assertEqual((len(kept), self.tries()), (2, [constant]))
+    def alter(self, path, old, new):
+        text = path.read_text()
+        self.assertIn(old, text)
+        path.write_text(text.replace(old, new, 1))
+        self.addCleanup(path.write_text, text)
+
+    def test_a_line_is_taken_until_a_file_changes(self):
+        self.assertEqual(self.tries("small"), ([], []))
+        self.assertIn("2 verdicts are taken from wrong.lock; tried are 0 that it doesn't have", self.said)
+        self.alter(self.folder / "crates" / "small" / "wrong" / "doubled_thrice.edit", "new:     u16::from(n) + ", "new:     1 + ")
+        self.assertEqual(self.tries("small"), ([self.doubled], []))
+        self.assertIn("wrong.lock has changed in 1 line\n", self.said)
+        self.alter(self.folder / "crates" / "small" / "src" / "lib.rt", "const STEP", "// a comment\nconst STEP")
+        self.assertEqual(self.tries("small"), (self.small, []))
+
+    def test_the_libraries_that_a_crate_may_cite_are_in_the_sum(self):
+        self.alter(self.folder / "crates.txt", "small:", "small: thiserror")
+        self.assertEqual(self.tries("small"), (self.small, []))
+
+    def test_anew_tries_all(self):
+        self.assertEqual(self.tries("--anew", "small"), (self.small, []))
+        self.assertEqual(self.lock.read_text(), self.good)
+
+    def test_an_altered_sum_is_tried_again(self):
+        held = self.good.split(f"{self.constant} ")[1][:64]
+        self.alter(self.lock, held, held[1:] + held[0])
+        self.assertEqual(self.tries("small"), ([self.constant], []))
+        self.assertEqual(self.lock.read_text(), self.good)
+
+    def test_an_altered_name_is_found(self):
+        self.alter(self.lock, f"{self.constant} ", "small/constants ")
+        status, _, said = self.run_it("--look")
+        number = 1 + [line.split(" ")[0] for line in self.lock.read_text().splitlines()].index("small/constants")
+        self.assertEqual((status, said), (1, f"wrong.lock:{number}: there is no wrong body small/constants\n"))
+        self.assertEqual(self.tries("small"), ([self.constant], []))
+        self.assertEqual(self.lock.read_text(), self.good)
+
+    def test_lines_that_are_none_and_second_ones_are_found(self):
+        first = self.good.splitlines()[0]
+        self.lock.write_text(f"{first}\n{first}\n{first} \nrefused\n{first.replace('refused: ', 'taken: ')}\n")
+        found = self.run_it("--look")[2].splitlines()
+        self.assertEqual(found, [f"wrong.lock:2: it has a second line of {first.split()[0]}",
+                                 f"wrong.lock:3: it has a second line of {first.split()[0]}",
+                                 "wrong.lock:4: it is no verdict with its sum", "wrong.lock:5: it is no verdict with its sum"])
+
+    def commit_that_draws(self, name, is_drawn):
+        """Makes commits until one draws the group of a wrong body, or doesn't; the names that it draws."""
+        loader = importlib.machinery.SourceFileLoader("tool", str(self.folder / TOOL))
+        tool = importlib.util.module_from_spec(importlib.util.spec_from_loader("tool", loader))
+        loader.exec_module(tool)
+        edits = [edit for crate in tool.crates_with_edits() for edit in tool.edits_of(crate)]
+        for _ in range(100):
+            found = tool.drawn(edits, tool.commit())
+            if (name in found) == is_drawn:
+                return sorted(found)
+            self.commit()
+        raise AssertionError("no commit of a hundred draws so")
+
+    def test_a_verdict_that_is_another_is_found_where_a_commit_draws_its_group(self):
+        name, claim, right = "other/other_step", "refused: first_step: `other`", "refused: first_step: `returns`"
+        self.alter(self.lock, f"{right}", claim)
+        self.assertIn(claim, next(line for line in self.lock.read_text().splitlines() if line.startswith(name)))
+        others = self.commit_that_draws(name, False)
+        self.assertEqual((len(others), self.tries()), (4, (others, [])))
+        self.assertIn(" in 4 groups that commit ", self.said)
+        names = self.commit_that_draws(name, True)
+        self.assertEqual(self.tries(), (names, [f"{name}: NOT AS wrong.lock SAYS: {claim}, but {right}"]))
+        self.assertEqual(self.lock.read_text(), self.good)
+        another = "refused: second_step: `returns`"
+        self.alter(self.lock, right, another)
+        self.assertEqual(self.tries(wanted=1), (names, [f"{name}: NOT AS wrong.lock SAYS: {another}, but {right}"]))
+        self.assertEqual(self.lock.read_text(), self.good)
+
+    def test_where_there_is_no_commit_all_are_tried(self):
+        (self.folder / ".git").rename(self.folder / "git")
+        self.addCleanup((self.folder / "git").rename, self.folder / ".git")
+        self.assertEqual(len(self.tries()[0]), 6)
 
 
 class StopTest(ToolCase):
@@ -237,7 +332,8 @@ class StopTest(ToolCase):
             time.sleep(1)
             process.send_signal(number)
             told, said = process.communicate(timeout=20)
-        self.assertEqual((process.returncode, told, said), (-number, "", ""))
+        self.assertEqual((process.returncode, told), (-number, ""))
+        self.assertEqual(said, "wrong_bodies: all 6 are tried, since there is no commit\n")
         self.assertEqual(list(self.rooms.iterdir()), [])
         self.assertFalse([path for path in glob.glob("/proc/[0-9]*/cwd") if str(self.rooms) in at(path)])
 
