@@ -8,14 +8,18 @@ usage: bridge.py serve --interface IF|--udp LPORT:HOST:RPORT --node 1.2 [--files
        bridge.py probe --to NODE
        bridge.py password NAME [--rights get,put,..] <PASSWORD
 
-`serve` takes links to object 17 (FAL), one at a time or --links at once, and holds the files over all of them. `ask` opens one link to
-that object, reads requests, one a line as docs/LIVE.md has them after `ask`, asks each when the report of the one
-before has come, prints the reports, and closes the link at the end of the input. `copy`, `type`, `get` and `put` do that
-for a file that is named, and text. `probe` tests the file access listener of a node. docs/BRIDGE.md has all of it.
+`serve` takes links to object 17 (FAL), --links at once, and holds the files over all of them. `ask` opens one link to that
+object, reads requests, one a line as docs/LIVE.md has them after `ask`, asks each when the report of the one before has
+come, prints the reports, and closes the link at the end of the input. `copy`, `type`, `get` and `put` do that for a file
+that is named, and text. `probe` tests the file access listener of a node. docs/BRIDGE.md has all of it.
 """
+import signal
+
+if signal.getsignal(signal.SIGINT) is signal.default_int_handler:  # Ctrl-C while all else is imported ends it as SIGTERM does
+    signal.signal(signal.SIGINT, signal.SIG_DFL)
+
 import contextlib
 import os
-import signal
 import sys
 
 from decnet import log, nsp, program
@@ -28,9 +32,10 @@ from decnet.hostfile import HostFault
 from decnet.kept import Keeper
 from decnet.locked import KeptFault
 from decnet.log import LogFault
+from decnet.output import Output
 from decnet.parts import (
-    carry, keep_file, load_files, open_entry, open_node, open_signals, open_store, settings_of, settings_of_server,
-    start_end)
+    carry, keep_file, load_files, open_entry, open_journal, open_node, open_signals, open_store, settings_of,
+    settings_of_server, start_end)
 from decnet.passwords import print_user
 from decnet.pcap import PcapFault
 from decnet.role import FAILED, FAULT, Stopped
@@ -49,10 +54,11 @@ def serve(words, opened):
     kept = keep_file(words)
     if kept:
         opened(kept)
+    journal = open_journal(words, opened) if words.store is not None else None
     end = opened(start_end(words, signals))
     space, store, left, is_changed = Space(end, words.space), None, [], False
-    if words.store is not None:
-        store, left = open_store(words, opened, end, space, signals)
+    if journal:
+        store, left = open_store(words, journal, opened, end, space, signals)
     else:
         is_changed = load_files(words, kept, end, space, signals)
     keeper = opened(Keeper(kept, end, is_changed)) if kept else None
@@ -73,10 +79,14 @@ def ask(words, opened, closed):
         if file in closed:
             raise InputFault(f"standard {name}: closed")
     node, end = open_node(words, opened), opened(start_end(words, signals))
-    role = Client(node, end, settings_of(words), Requests(sys.stdin.fileno()), words.patience, words.go_on)
+    output = opened(Output(signals))
+    role = Client(node, end, settings_of(words), Requests(sys.stdin.fileno()), words.patience, words.go_on, output)
     node.start()
     role.open(words.to, nsp.session(*words.images))
-    return carry(role, signals)
+    status = carry(role, signals)
+    with role.writing():
+        output.flush()
+    return status
 
 
 def do(words, opened, closed):
@@ -86,7 +96,7 @@ def do(words, opened, closed):
     if words.role == "ask":
         return ask(words, opened, closed)
     if words.role == "probe":
-        return test(words, opened)
+        return test(words, opened, closed)
     return print_user(words, closed) if words.role == "password" else copy(words, opened, closed)
 
 
@@ -114,7 +124,7 @@ def start(words, closed):
 def main():
     closed = program.hold_standard_files()
     try:
-        status = start(command.read_or_end(), closed)
+        status = start(command.read_or_end(closed), closed)
         sys.stdout.flush()
         return status
     except BrokenPipeError:
@@ -123,10 +133,15 @@ def main():
         program.end_by(signal.SIGINT)
     except OSError as fault:  # what is left is standard output
         os.dup2(os.open(os.devnull, os.O_WRONLY), sys.stdout.fileno())
-        log.say(f"standard output: {fault.strerror or fault}")
+        tell(f"standard output: {fault.strerror or fault}")
     except MemoryError:
-        log.say("no memory")
+        tell("no memory")
     return FAULT
+
+
+def tell(text):
+    """Says on standard error why the program ends; its log may be closed."""
+    log.start("bridge").say(text)
 
 
 if __name__ == "__main__":

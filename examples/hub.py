@@ -44,13 +44,16 @@ def carry(hub, hosts):
 
 
 def main():
+    if sys.argv[1:2] in (["-h"], ["--help"]):
+        print(__doc__, end="")
+        return 0
     if len(sys.argv) < 4:
         raise program.Fault(USAGE, program.WORDS)
     port, hosts = read_port(sys.argv[1]), [read_host(word) for word in sys.argv[2:]]
     with socket.socket(socket.AF_INET, socket.SOCK_DGRAM) as hub:
         hub.setsockopt(socket.SOL_SOCKET, socket.SO_RCVBUF, udp.RECEIVE_BUFFER)
         hub.bind((LOOPBACK, port))
-        carry(hub, hosts)
+        return carry(hub, hosts)
 
 
 if __name__ == "__main__":

@@ -21,11 +21,11 @@ from decnet import nsp, program
 from decnet.end import End
 from decnet.lossy import Line, Several
 from decnet.raw import RawEnd
+from decnet.rights import fac_of
 from lossy_tests import Requests
 
 DAPLIVE = pathlib.Path(__file__).resolve().parent.parent / "crates/daplive/out/daplive"
 LOCKED = "report refused 4030 0"
-GET = 2  # of the rights of an Access, the one that shares a file
 
 
 class Shared(Requests):
@@ -39,7 +39,7 @@ class Shared(Requests):
         super().told(request, answer)
         word, *words = request.split()
         if word in ("create", "open") and answer.startswith("report opened"):
-            self.open = (words[0], word == "open" and int(words[-1]) in (0, GET))
+            self.open = (words[0], word == "open" and int(words[-1]) in (0, fac_of("get")))  # which share a file
         elif answer == LOCKED:
             self.open = None
 

@@ -13,7 +13,7 @@ def read_node(text):
     found = SPELLED.fullmatch(text)
     node = int(found[1]) << NODE_BITS | int(found[2]) if found and int(found[2]) <= MAX_NODE else 0
     if not is_node(node) or node >> NODE_BITS > MAX_AREA:
-        raise ValueError(f"{text[:40]} is no DECnet address, as 1.10")
+        raise ValueError(f"{text[:40]} is no DECnet address, as 1.10: an area 1 to {MAX_AREA}, and a number 1 to {MAX_NODE}")
     return node
 
 

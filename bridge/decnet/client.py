@@ -1,4 +1,5 @@
 """The asking bridge: one link to object 17 of a node, and over it what the lines of standard input ask."""
+import contextlib
 import os
 import sys
 import time
@@ -8,6 +9,7 @@ from decnet.end import Lines as Pieces
 from decnet.link import State
 from decnet.nsp import Kind, Reason
 from decnet.role import FAILED, GOOD, Role
+from decnet.scripts import STOPPED
 
 MAX_LINE = 16_777_216  # the most bytes of a line that a live end takes
 CHUNK = 65536
@@ -42,11 +44,11 @@ class Requests:
 class Client(Role):
     """Opens one link, and asks over it what the lines of standard input say."""
 
-    def __init__(self, node, end, settings, requests, patience, goes_on=False, clock=time.monotonic):
+    def __init__(self, node, end, settings, requests, patience, goes_on=False, output=None, clock=time.monotonic):
         """A request that is refused ends it, unless it `goes_on`; so does a report that doesn't come within `patience`
-        seconds in which the other end does nothing."""
+        seconds in which the other end does nothing. What is written goes to the `output`."""
         super().__init__(node, end, settings, clock)
-        self.requests, self.patience, self.goes_on = requests, patience, goes_on
+        self.requests, self.patience, self.goes_on, self.output = requests, patience, goes_on, output
         self.number, self.request = 0, ""  # the line that was asked last
         self.is_due, self.due_from, self.is_finished = False, 0, False
         self.is_refused = self.is_stopped = False  # whether something was refused; whether a transfer has stopped
@@ -60,14 +62,26 @@ class Client(Role):
     def connect(self, peer, packet):
         self.refuse(peer, packet, Reason.NO_OBJECT)
 
+    def link_at(self, peer, local):
+        link = super().link_at(peer, local)
+        if self.output:
+            link.is_full = lambda: self.output.is_full
+        return link
+
     # ---- requests and reports
 
     def files(self):
-        """Standard input too, where a next line is wanted and not there yet."""
+        """Standard input too, where a next line is wanted and not there yet; and standard output."""
         readers, writers = super().files()
-        if self.is_free() and self.requests.is_open and not self.requests.whole:
+        if self.requests.file is not None and self.is_free() and self.requests.is_open and not self.requests.whole:
             readers[self.requests.file] = self.requests.read
+        if self.output:
+            readers.update(dict.fromkeys(self.output.files(), self.look_at_output))
         return readers, writers
+
+    def look_at_output(self):
+        with self.writing():
+            self.output.look()
 
     def is_free(self):
         """Whether a request can be asked."""
@@ -117,8 +131,14 @@ class Client(Role):
         log.say(f"line {self.number}: {why}")
 
     def say(self, text):
+        with self.writing():
+            self.output.write(os.fsencode(f"{text}\n"))
+
+    @contextlib.contextmanager
+    def writing(self):
+        """An InputFault where the system doesn't write; a pipe that nobody reads is another matter."""
         try:
-            print(text, flush=True)
+            yield
         except BrokenPipeError:
             raise
         except OSError as fault:
@@ -129,11 +149,19 @@ class Client(Role):
 
     def tick(self):
         super().tick()
+        self.look_at_room()
         if self.is_free() and self.requests.whole:
             self.ask(*self.requests.whole.pop(0))
         if self.link and self.link.state is State.RUNNING and not self.link.pending:
             self.look_at_end()
         self.look()
+
+    def look_at_room(self):
+        """Lets the other end send no data while too much waits to be written; it isn't lost patience with meanwhile."""
+        if self.output and self.link:
+            self.link.want_data(not self.output.is_slow)
+            if self.output.is_slow:
+                self.due_from = self.clock()
 
     def last_asked(self):
         """What was asked last."""
@@ -173,8 +201,18 @@ class Client(Role):
         self.status = GOOD if is_good else FAILED
 
     def stop(self):
-        if not self.links or self.link.state is State.CLOSING:
+        if self.output:
+            self.output.drop()
+        if not self.links:
+            self.closed(None)
+        elif self.link.state is State.CLOSING:
+            self.stop_closing()
             self.closed(self.link)
         else:
-            self.link.disconnect(Reason.ABORTED, "stopped by a signal")
+            self.link.disconnect(Reason.ABORTED, STOPPED)
             self.look()
+
+    def stop_closing(self):
+        """A signal comes while the link is being closed, which isn't waited for any more."""
+        self.is_finished = False
+        log.say(STOPPED)

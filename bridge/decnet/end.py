@@ -1,6 +1,7 @@
 """A live end: `daplive` as a child, told lines, whose answers are taken as they come."""
 import collections
 import contextlib
+import itertools
 import os
 import pathlib
 import select
@@ -18,6 +19,7 @@ ANSWER_SECONDS = 600  # in which nothing of an answer comes
 STOP_SECONDS = 30  # the same, where the program is to end
 CLOSE_SECONDS = 10  # from the end of its input to the end of the live end
 CHUNK = 1 << 18
+MAX_PIECES = 256  # that are written by one call; a system takes 1,024
 UNHEARD = (signal.SIGTERM, signal.SIGINT, signal.SIGHUP)  # its end of input ends a live end, and none of these
 
 
@@ -105,6 +107,8 @@ class End:
 
     def queue_all(self, lines, answer):
         """The same of many lines, which go at once; `answer` takes what each of them answers."""
+        if not lines:
+            return
         if not self.asked:
             self.moved_at = self.clock()
         self.asked.extend([answer] * len(lines))
@@ -135,6 +139,11 @@ class End:
     def is_busy(self):
         return bool(self.asked)
 
+    @property
+    def unanswered(self):
+        """How many lines it hasn't answered."""
+        return len(self.asked)
+
     # ---- the event loop
 
     def files(self):
@@ -147,19 +156,22 @@ class End:
     def write(self):
         """Writes what can be written without waiting."""
         while self.unwritten:
-            data = b"".join(self.unwritten) if len(self.unwritten) > 1 else self.unwritten[0]
-            self.unwritten.clear()
             try:
-                written = os.write(self.process.stdin.fileno(), data)
+                written = os.writev(self.process.stdin.fileno(), list(itertools.islice(self.unwritten, MAX_PIECES)))
             except BlockingIOError:
-                written = 0
+                return
             except OSError as fault:
                 raise self.ended() from fault
-            if written:
-                self.moved_at = self.clock()
-            if written < len(data):
-                self.unwritten.append(data[written:])
-                return
+            self.moved_at = self.clock()
+            self.wrote(written)
+
+    def wrote(self, count):
+        """This count of unwritten bytes was written. Nothing is copied, so a long file takes linear time."""
+        while count:
+            piece = self.unwritten.popleft()
+            if count < len(piece):
+                self.unwritten.appendleft(memoryview(piece)[count:])
+            count -= min(count, len(piece))
 
     def read(self):
         """Takes what it says now."""
@@ -218,7 +230,9 @@ class End:
 
     def ended(self):
         """The fault of an end that is gone."""
-        return EndFault(f"{self.program} ended with status {self.close()}")
+        status = self.close()
+        is_none = status == 0 and not self.has_answered
+        return EndFault(f"{self.program} ended with status {status}{' and answered nothing: it is no daplive' if is_none else ''}")
 
     def close(self):
         """Ends it by the end of its input; its exit status. What doesn't end then is killed, with all that it started;

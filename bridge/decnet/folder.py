@@ -1,29 +1,29 @@
 """A folder of this host whose text files are served: each is a sequential file, a line a record, and is written back when
 it is closed.
 
-Files that links make and that are no text, or whose names no file here can have, are in the folder's file `.daplive`, as
-`files` prints them, and stay there. A file that somebody else has edited meanwhile is never overwritten: it gets another
-name.
+Files that links make and that are no text, or whose names no file here can have, are kept in the folder's file `.daplive`, as
+`files` prints them, and stay there. A file of the host is never hidden for long, and never lost: what links have put in its place is
+kept in `.daplive`, and is what they see until the host changes its file, or until the next start. Then the host's file is served, and
+the kept one beside it as `NAME.put`. A file that somebody else has edited meanwhile is never overwritten: it gets another name.
 """
-import contextlib
-import fcntl
 import hashlib
 import os
-import secrets
-import stat
 
+from decnet.directory import Directory, shown
 from decnet.kept import FILE, HEAD, MARK, RECORD, read_lines
-from decnet.locked import KeptFault, fault_of, sync_folder
+from decnet.locked import KeptFault, fault_of
 from decnet.texts import TextFault, lines_of, records_of
 
-OTHERS = ".daplive"
+OTHERS = b".daplive"
 TEXT = "seq variable 0 0"  # the attributes of a text
 HIDDEN = b"."
 DROP = "drop "  # how a line begins that removes a file
-EDITED = ".host"  # after the name of a file that somebody edited meanwhile
-RANDOM_BYTES = 8
+EDITED = b".host"  # after the name of a file that somebody edited meanwhile
+PUT = b".put"  # after the name of a kept file where the host has one of that name
 MAX_NAME = 200  # bytes of a name here: there has to be room for what is put after it
-MAX_FILE = 1 << 30  # bytes of a text that is read
+MAX_TOLD = 5  # files that aren't served, by name
+NAME_TAKEN = "refused 4000 1"  # a live end has a file of that name
+NO_FILE = "refused 4032 0"  # a live end refused the file of a record
 
 
 def digits(data):
@@ -34,6 +34,11 @@ def bytes_in(word):
     return b"" if word == "-" else bytes.fromhex(word)
 
 
+def name_in(line):
+    """The name in a line that begins a file."""
+    return bytes_in(line.split(" ")[1])
+
+
 def is_host_name(name):
     """Whether a file here can have this name: it is printable, isn't hidden, and leads to no other folder."""
     text = name.decode("utf-8", "replace")
@@ -41,9 +46,14 @@ def is_host_name(name):
     return 0 < len(name) <= MAX_NAME and not name.startswith(HIDDEN) and b"/" not in name and is_text
 
 
-def is_text(attributes, records):
-    """Whether records come back as they are when they are read from the lines of a text."""
-    return attributes == TEXT and not any(b"\n" in one or one.endswith(b"\r") for one in records)
+def why_no_text(attributes, records):
+    """Why records don't come back as they are when they are read from the lines of a text; nothing where they do."""
+    if attributes != TEXT:
+        return "its records aren't the lines of a text"
+    for number, one in enumerate(records, 1):
+        if b"\n" in one or one.endswith(b"\r"):
+            return f"record {number} has an LF, or a CR at its end, and is no line of a text"
+    return ""
 
 
 def text_of(records):
@@ -54,13 +64,20 @@ def digest_of(records):
     return hashlib.sha256(text_of(records)).digest()
 
 
-def state_of(path):
-    """What changes where somebody writes a file, or replaces it; None where there is none."""
-    try:
-        found = os.lstat(path)
-    except FileNotFoundError:
-        return None
-    return found.st_dev, found.st_ino, found.st_size, found.st_mtime_ns
+def lines_of_file(name, attributes, numbered):
+    """The lines of a file, as `files` prints it."""
+    return [f"{FILE}{digits(name)} {attributes}", *(f"{RECORD}{number} {digits(one)}" for number, one in numbered)]
+
+
+def files_in(lines):
+    """The files in lines, each with its name and its lines."""
+    files = []
+    for line in lines:
+        if line.startswith(FILE):
+            files.append((name_in(line), []))
+        if files:
+            files[-1][1].append(line)
+    return files
 
 
 class Folder:
@@ -68,29 +85,20 @@ class Folder:
 
     def __init__(self, path):
         """A KeptFault where it is no folder that can be written, or another bridge serves it."""
-        self.path, self.lock = os.path.realpath(path), None
+        self.directory = Directory(path)
+        self.path = self.directory.path
         self.known = {}  # by name: the digest of the records that are on the disk, and the state of the file that has them
-        self.left = {}  # by name: the state of a file that the live end refused
-        self.others = []  # the lines that are in OTHERS
+        self.left = {}  # by name: the state of a file that isn't served as it is now, which was told
+        self.made = set()  # names of files that weren't here before a link made them
+        self.alike = set()  # of these the ones that a live end refused: another file has the name
+        self.kept = {}  # by the name of a file in OTHERS: the state of the file of this host that it stands in for, or None
+        self.others, self.is_due = [], False  # the lines that are in OTHERS; whether it is still to be written
+        self.unserved = {}  # by the name of a file in OTHERS that a live end refused: its lines
+        self.given = ()  # the names of the files that a live end was given last
         self.told = []  # what is to be said
-        try:
-            self.lock = os.open(self.path, os.O_RDONLY | os.O_DIRECTORY | os.O_CLOEXEC)
-            fcntl.flock(self.lock, fcntl.LOCK_EX | fcntl.LOCK_NB)
-            self.try_to_write()
-        except BlockingIOError as fault:
-            self.close()
-            raise KeptFault(f"{path}: another bridge serves it") from fault
-        except OSError as fault:
-            self.close()
-            raise fault_of(path, fault) from fault
-
-    def try_to_write(self):
-        beside, file = self.begin_beside()
-        file.close()
-        os.unlink(beside)
 
     def path_to(self, name):
-        return os.path.join(os.fsencode(self.path), name)
+        return self.directory.path_to(name)
 
     # ---- reading
 
@@ -100,63 +108,80 @@ class Folder:
             yield from enumerate(self.lines(), 1)
         except OSError as fault:
             raise KeptFault(f"{os.fsdecode(fault.filename or self.path)}: {fault.strerror}", of_machine=True) from fault
-        except TextFault as fault:
-            raise KeptFault(str(fault)) from fault
 
     def lines(self):
-        others = os.path.join(self.path, OTHERS)
-        self.others = [line for _, line in read_lines(others)] if os.path.exists(others) else []
-        yield from self.others
-        names = self.other_names()
-        for name in sorted(os.listdir(os.fsencode(self.path))):
-            self.clear(name)
-            if not (is_host_name(name) and self.is_plain(name)):
-                continue
-            if name in names:
-                self.move_away(name, "it is in .daplive too")
-                continue
-            yield f"{FILE}{digits(name)} {TEXT}"
-            for number, record in enumerate(self.read(name), 1):
-                yield f"{RECORD}{number} {digits(record)}"
+        """The files of this host, and after them those in OTHERS."""
+        others = self.read_others()
+        for name in self.directory.names():
+            self.directory.clear(name)
+        for name in self.directory.names():
+            if is_host_name(name) and not self.directory.kind_of(name):
+                yield from self.changes_of(name)
+        self.tell_count()
+        self.kept = dict.fromkeys(name for name, _ in files_in(others))
+        for name in sorted(self.kept.keys() & self.known.keys()):
+            _, others = self.stand_beside(others, name)
+        self.kept.update((name, self.left[name]) for name in self.kept.keys() & self.left.keys())
+        self.try_to_write_others(others)
+        yield from others
 
-    def other_names(self):
-        return {bytes_in(line.split(" ")[1]) for line in self.others if line.startswith(FILE)}
+    def tell_count(self):
+        """Says what is served, and what isn't."""
+        names = [name for name in self.directory.names() if not name.startswith(HIDDEN)]
+        kinds = [(name, self.directory.kind_of(name)) for name in names if name not in self.known and name not in self.left]
+        others = [f"{shown(name)} ({kind or 'its name'})" for name, kind in kinds]
+        if others:
+            more = [f"{len(others) - MAX_TOLD} more"] if len(others) > MAX_TOLD else []
+            self.told.append(f"{self.path}: not served: {', '.join(others[:MAX_TOLD] + more)}")
 
-    def is_plain(self, name):
-        return stat.S_ISREG(os.lstat(self.path_to(name)).st_mode)
-
-    def clear(self, name):
-        """Removes what a bridge that was killed had begun to write."""
-        if name.startswith(b".daplive.new.") and len(name) == len(".daplive.new.") + 2 * RANDOM_BYTES:
-            os.unlink(self.path_to(name))
+    def read_others(self):
+        """The lines in OTHERS; a KeptFault where they aren't whole, or it is no plain file."""
+        if self.directory.find(OTHERS) is None:
+            return []
+        kind = self.directory.kind_of(OTHERS)
+        if kind:
+            raise KeptFault(f"{self.path_to(OTHERS)}: it is {kind}, and no plain file")
+        try:
+            file = self.directory.open(OTHERS)
+        except TextFault as fault:
+            raise KeptFault(str(fault), of_machine=True) from fault
+        self.others = [line for _, line in read_lines(self.path_to(OTHERS), file)]
+        return self.others
 
     def read(self, name):
-        """The records of a file."""
-        path = self.path_to(name)
-        with open(path, "rb") as file:
-            data = file.read(MAX_FILE + 1)
-        if len(data) > MAX_FILE:
-            raise TextFault(f"{os.fsdecode(path)}: more than {MAX_FILE} bytes")
+        """The records of a file, and its state before they were read."""
+        data, state = self.directory.read(name)
         try:
-            records = records_of(data)
+            return records_of(data), state
         except TextFault as fault:
-            raise TextFault(f"{os.fsdecode(path)}: {fault}") from fault
-        self.known[name] = (digest_of(records), state_of(path))
-        return records
+            raise TextFault(f"{self.path_to(name)}: {fault}") from fault
 
     def said(self):
         """What is to be said, once."""
         said, self.told = self.told, []
         return said
 
-    def refused(self, line):
-        """Of which file a line is that a live end refuses, and why it may: the file is left alone then."""
+    def leaves_out(self, line, answer):
+        """A live end refuses a line. Whether it goes on without it, as where another file has the name: that is told, and the
+        file is left alone."""
         if not line.startswith(FILE):
-            return self.path
-        name = bytes_in(line.split(" ")[1])
-        self.known.pop(name, None)
-        self.left[name] = state_of(self.path_to(name))
-        return f"{os.fsdecode(self.path_to(name))}: another file has this name"
+            for name in self.given if answer != NO_FILE else ():
+                self.leave(name)
+            return answer == NO_FILE
+        name = name_in(line)
+        self.leave(name)
+        if answer == NAME_TAKEN:
+            self.alike.add(name)
+            where = "it stays in .daplive, and " if name in self.unserved else ""
+            self.told.append(f"{self.path_to(name)}: another file has this name: {where}it isn't served")
+        return answer == NAME_TAKEN
+
+    def leave(self, name):
+        """Leaves a file alone that the live end may not have, or not all of: what stands on the disk stays there."""
+        if self.known.pop(name, None):
+            self.left[name] = self.directory.state_of(name)
+        elif name in self.kept:
+            self.unserved[name] = dict(files_in(self.others)).get(name, [])
 
     # ---- what somebody else does
 
@@ -165,132 +190,176 @@ class Folder:
         and those that are new, or have changed, are given."""
         lines = []
         try:
-            there = {name for name in os.listdir(os.fsencode(self.path)) if is_host_name(name) and self.is_plain(name)}
+            self.directory.check_there()
+            there = {name for name in self.directory.names() if is_host_name(name) and not self.directory.kind_of(name)}
+            self.forget(there)
             for name in sorted(self.known.keys() - there):
                 lines.append(f"{DROP}{digits(name)}")
                 del self.known[name]
-            for name in sorted(there - self.other_names()):
+            for name in sorted(there):
                 lines += self.changes_of(name)
         except OSError as fault:
             self.told.append(f"{os.fsdecode(fault.filename or self.path)}: {fault.strerror}")
+        self.given = [name for name, _ in files_in(lines)]
         return lines
+
+    def forget(self, there):
+        """Forgets what was told of files that are gone; where one that was served is gone, another may have its name now."""
+        if self.known.keys() - there:
+            self.left = {name: state for name, state in self.left.items() if name not in self.alike}
+            self.alike.clear()
+        self.left = {name: state for name, state in self.left.items() if name in there}
+        self.kept = {name: state if name in there else None for name, state in self.kept.items()}
 
     def changes_of(self, name):
         """The same of a file that is here."""
-        before, state = self.known.get(name, (None, self.left.get(name)))
-        if state is not None and state_of(self.path_to(name)) == state:
+        before, state_before = self.known.get(name, (None, None))
+        state = self.directory.state_of(name)
+        if state in (None, state_before, self.left.get(name), self.kept.get(name)):
             return []
         try:
-            records = self.read(name)
+            records, state = self.read(name)
         except TextFault as fault:
-            self.told.append(f"{fault}: it is served as it was" if before is not None else f"{fault}: it isn't served")
+            self.left[name] = state
+            is_served = before is not None or name in self.kept
+            self.told.append(f"{fault}: it is served as it was" if is_served else f"{fault}: it isn't served")
             return []
+        self.left.pop(name, None)
+        self.known[name] = (digest_of(records), state)
         if self.known[name][0] == before:
             return []
-        dropped = [] if before is None else [f"{DROP}{digits(name)}"]
-        return [*dropped, f"{FILE}{digits(name)} {TEXT}",
-                *(f"{RECORD}{number} {digits(record)}" for number, record in enumerate(records, 1))]
+        lines = [] if before is None and name not in self.kept else [f"{DROP}{digits(name)}"]
+        lines += lines_of_file(name, TEXT, enumerate(records, 1))
+        return lines + (self.give_beside(name) if name in self.kept else [])
+
+    # ---- what links put in the place of a file of this host
+
+    def give_beside(self, name):
+        """The lines by which a live end has a kept file under another name, since the host's file is served again."""
+        put, others = self.stand_beside(self.others, name)
+        self.try_to_write_others(others)
+        return dict(files_in(others))[put]
+
+    def stand_beside(self, others, name):
+        """Gives a file among the others the name NAME.put, or another one that none has: the name, and the others."""
+        number, put = 1, name + PUT
+        while put in self.kept or self.directory.find(put):
+            number += 1
+            put = name + PUT + b".%d" % number
+        del self.kept[name]
+        self.kept[put] = None
+        self.told.append(f"{self.path_to(name)}: it is served as it is here; what links had put in its place is {shown(put)} now")
+        before = f"{FILE}{digits(name)} "
+        return put, [f"{FILE}{digits(put)} {line[len(before):]}" if line.startswith(before) else line for line in others]
+
+    def try_to_write_others(self, lines):
+        """Writes the others. Where that can't be they are written with the next file that is closed."""
+        try:
+            self.write_others(lines)
+        except OSError as fault:
+            self.told.append(f"{self.path_to(OTHERS)}: {fault.strerror}")
+            self.others, self.is_due = lines, True
 
     # ---- writing
 
-    def begin_beside(self):
-        beside = os.path.join(self.path, f"{OTHERS}.new.{secrets.token_hex(RANDOM_BYTES)}")
-        made = os.open(beside, os.O_WRONLY | os.O_CREAT | os.O_EXCL | os.O_CLOEXEC, 0o666)
-        return beside, os.fdopen(made, "wb")
-
-    def write(self, name, data):
-        """Writes a file, which is whole before it has its name; one that is there keeps its mode."""
-        path, (beside, file) = self.path_to(name), self.begin_beside()
-        try:
-            with file:
-                file.write(data)
-                file.flush()
-                with contextlib.suppress(FileNotFoundError):
-                    os.fchmod(file.fileno(), stat.S_IMODE(os.stat(path).st_mode))
-                os.fsync(file.fileno())
-            os.replace(beside, path)
-        except OSError:
-            with contextlib.suppress(OSError):
-                os.unlink(beside)
-            raise
-
     def write_text(self, name, records):
-        """Writes a text where it isn't so on the disk."""
-        digest = digest_of(records)
-        if digest == self.known.get(name, (None, None))[0]:
-            return
+        """Writes a text that isn't so on the disk."""
         if self.is_edited(name):
             self.move_away(name, "somebody has edited it meanwhile")
-        self.write(name, text_of(records))
-        self.known[name] = (digest, state_of(self.path_to(name)))
+        if not self.directory.find(name):
+            self.made.add(name)
+        self.known[name] = (digest_of(records), self.directory.write(name, text_of(records)))
 
     def is_edited(self, name):
         """Whether a file isn't as it was read or written here."""
         before, state = self.known.get(name, (None, None))
-        if state_of(self.path_to(name)) in (None, state):
+        if self.directory.state_of(name) in (None, state):
             return False
         if before is None:
             return True
-        with open(self.path_to(name), "rb") as file:
-            return digest_of(lines_of(file.read())) != before
+        try:
+            return digest_of(lines_of(self.directory.read(name)[0])) != before
+        except TextFault:
+            return True
 
     def move_away(self, name, why):
         """Gives a file another name, which none has."""
-        path, number = self.path_to(name), 1
-        while True:
-            other = path + os.fsencode(EDITED + (f".{number}" if number > 1 else ""))
-            if not os.path.lexists(other):
-                break
+        number, other = 1, name + EDITED
+        while self.directory.find(other):
             number += 1
-        os.rename(path, other)
-        self.told.append(f"{os.fsdecode(path)}: {why}: that is {os.fsdecode(other)} now")
+            other = name + EDITED + b".%d" % number
+        self.directory.rename(name, other)
+        self.told.append(f"{self.path_to(name)}: {why}: that is {self.path_to(other)} now")
 
     def write_others(self, lines):
         """Writes the files that are no text, where they aren't so on the disk."""
-        if lines == self.others:
+        if lines == self.others and not self.is_due:
             return
         count = sum(line.startswith(FILE) for line in lines)
         text = "\n".join([HEAD, *lines, MARK.format(count, len(lines)), ""])
-        self.write(OTHERS.encode(), text.encode())
-        self.others = lines
+        self.directory.write(OTHERS, text.encode())
+        self.others, self.is_due = lines, False
 
-    def can_be_text(self, name):
-        """Whether a file here can have a name: none has it that is no plain file."""
-        return is_host_name(name) and (not os.path.lexists(self.path_to(name)) or self.is_plain(name))
+    def is_as_known(self, name, attributes, records):
+        """Whether links have left a text as it was read, or written, here."""
+        return name in self.known and not why_no_text(attributes, records) and digest_of(records) == self.known[name][0]
+
+    def why_kept(self, name, attributes, records):
+        """Why a file of a link can't be one of this host; nothing where it can."""
+        if not is_host_name(name):
+            return "no file here can have this name"
+        kind = self.directory.kind_of(name)
+        if kind:
+            return f"it is {kind} here"
+        is_left = name in self.left and name not in self.known
+        return "the file of this host isn't served" if is_left else why_no_text(attributes, records)
 
     def write_back(self, files):
         """Writes all that isn't so on the disk; `files` are names, attributes, and records with their numbers."""
-        texts, others, names = {}, [], self.other_names()
+        self.directory.check_there()
+        texts, others, why_kept = {}, [line for lines in self.unserved.values() for line in lines], {}
         for name, attributes, numbered in files:
             records = [record for _, record in numbered]
-            if name not in names and self.can_be_text(name) and is_text(attributes, records):
-                texts[name] = records
+            if self.is_as_known(name, attributes, records):
+                continue
+            why = "" if name in self.kept else self.why_kept(name, attributes, records)
+            if why:
+                why_kept[name] = why
+            if why or name in self.kept:
+                others += lines_of_file(name, attributes, numbered)
             else:
-                others.append(f"{FILE}{digits(name)} {attributes}")
-                others += [f"{RECORD}{number} {digits(record)}" for number, record in numbered]
+                texts[name] = records
         for name, records in texts.items():
             self.write_text(name, records)
         self.write_others(others)
-        for name in self.known.keys() & self.other_names():
-            self.forget(name)
-        sync_folder(os.path.join(self.path, OTHERS))
+        for name, why in why_kept.items():
+            self.keep(name, why)
+        self.take_back({name for name, _, _ in files})
+        self.directory.sync()
 
-    def forget(self, name):
-        """Removes a file that isn't a text any more; it is among the others."""
-        if self.is_edited(name):
-            self.move_away(name, "somebody has edited it meanwhile")
-        elif state_of(self.path_to(name)) is not None:
-            os.unlink(self.path_to(name))
-        del self.known[name]
+    def keep(self, name, why):
+        """A file of a link is among the others now. Where the host has one of that name, that one stays as it was."""
+        _, state = self.known.pop(name, (None, self.left.get(name)))
+        is_here = state is not None and not self.directory.kind_of(name)
+        self.kept[name] = state if is_here else None
+        stays = "it stays as it was, and what links see is kept in .daplive" if is_here else "it is kept in .daplive"
+        self.told.append(f"{self.path_to(name)}: {why}: {stays}")
+
+    def take_back(self, names):
+        """Forgets the files that a link made and has purged, and removes those of them that nobody has edited."""
+        self.kept = {name: state for name, state in self.kept.items() if name in names or name in self.unserved}
+        for name in self.made - names:
+            if name in self.known and not self.is_edited(name) and self.directory.find(name):
+                self.directory.remove(name)
+            self.known.pop(name, None)
+        self.made &= names
 
     def listing(self, then):
         """What takes the answer to `files`, and writes it back."""
         return FolderListing(self, then)
 
     def close(self):
-        if self.lock is not None:
-            os.close(self.lock)
-            self.lock = None
+        self.directory.close()
 
 
 class FolderListing:

@@ -6,16 +6,18 @@ line, is a mark, a comment too: `#= S CRC`, where S is how many bytes of the fil
 written, and CRC the CRC-32 of all that is before CRC in the file. Other lines that begin with `#` are notes of the
 bridge.
 
-What is after the last good mark was never reported, and is cut. Damage before the S of a later mark is damage of
-what was on the disk, and so perhaps of what was reported: nothing is read then.
+What is after the last good mark isn't taken: that is said, and it is kept as FILE.torn. Mostly it is a line that was being written
+when all ended, and was never reported; but no later mark speaks of the last line, so damage of that one looks the same. Damage before
+the S of a later mark is damage of what was on the disk, and so perhaps of what was reported: nothing is read then.
 """
 import contextlib
 import os
 import re
 import zlib
 
+from decnet import log
 from decnet.kept import FILE, RECORD
-from decnet.locked import KeptFault, LockedFile, fault_of
+from decnet.locked import KeptFault, LockedFile, fault_of, sync_folder
 
 MODE = 0o600
 HEAD = re.compile(r"#store ([0-9a-f]{64}) (.*)")
@@ -23,6 +25,8 @@ MARK = b"#= "
 CRC_DIGITS = 8
 NOTE = "#"
 SYNCS = ("answers", "always", "never")  # when the disk has to have a line
+TORN = ".torn"  # after the name of a journal: what wasn't taken of it
+CHUNK = 1 << 20
 GROWTH = 1 << 20  # bytes that a journal may grow by before it is worth writing anew
 
 
@@ -101,21 +105,27 @@ def later_marks(data, at):
 class Journal(LockedFile):
     """A journal that is open: lines are put after it, and it is written anew with the files alone."""
 
-    def __init__(self, path, program, sync=SYNCS[0]):
-        """`program` says which live end is told, and with which words; `sync` is one of SYNCS."""
-        self.program, self.sync_when = program, sync
+    def __init__(self, path, sync=SYNCS[0]):
+        """`sync` is one of SYNCS. Nothing is put after it before `begin`."""
+        self.program, self.sync_when = None, sync
         self.size = self.crc = 0
         self.first_size = 0  # what stood in it when it was begun or written anew
         self.synced = 0  # how many bytes are on the disk
         super().__init__(path, MODE)
-        try:
+        with self.closed_at_fault():
             self.clear()
             self.try_beside()
             self.parsed = Parsed(path, self.read_whole())
-            self.check_head()
+            self.check_begun()
+
+    @contextlib.contextmanager
+    def closed_at_fault(self):
+        """Closes it where it can't be used; a KeptFault then."""
+        try:
+            yield
         except OSError as fault:
             self.close()
-            raise fault_of(path, fault) from fault
+            raise fault_of(self.path, fault) from fault
         except KeptFault:
             self.close()
             raise
@@ -130,31 +140,89 @@ class Journal(LockedFile):
     def is_empty(self):
         return not self.parsed.lines
 
-    def check_head(self):
-        """A fault where the file is something else, or another live end was told its packets."""
+    def check_begun(self):
+        """A fault where the file is something else."""
         if self.is_empty:
             if os.fstat(self.lock).st_size:
                 raise KeptFault(f"{self.path}: it isn't empty, and it is no file that --store began, or it is damaged")
-            return
-        if not HEAD.fullmatch(self.parsed.lines[0]):
+        elif not HEAD.fullmatch(self.parsed.lines[0]):
             raise KeptFault(f"{self.path}: it is no file that --store began")
-        if self.parsed.told and self.parsed.lines[0] != self.head():
-            _, was = HEAD.fullmatch(self.parsed.lines[0]).groups()
-            raise KeptFault(f"{self.path}: it has packets that another daplive was told, or this one with other words: "
-                            f"'{was}'. Start that one with them, and stop it: then the files alone are there")
+
+    @property
+    def made_with(self):
+        """The words of the live end that was told its packets; None where it has none."""
+        return HEAD.fullmatch(self.parsed.lines[0])[2] if self.parsed.told else None
+
+    def begin(self, program):
+        """`program` says which live end is told, and with which words; a fault where another one was told its packets."""
+        self.program = program
+        with self.closed_at_fault():
+            if self.parsed.told and self.parsed.lines[0] != self.head():
+                raise KeptFault(f"{self.path}: it has packets that another daplive was told, or this one with other words: "
+                                f"'{self.made_with}'. Start that one with them, and stop it: then the files alone are there")
 
     def head(self):
         return f"#store {self.program}"
 
     def go_on(self):
-        """Continues after the last good mark; what is after that is cut."""
+        """Continues after the last good mark; what is after that is put aside."""
         found, self.parsed = self.parsed, None
         self.size, self.crc, self.first_size = found.size, found.crc, found.first_size
         try:
+            self.put_torn_aside()
             os.ftruncate(self.lock, self.size)
             self.sync()
         except OSError as fault:
-            raise fault_of(self.path, fault) from fault
+            raise fault_of(fault.filename or self.path, fault) from fault
+
+    def put_torn_aside(self):
+        """Keeps what is after the last good mark as a file of its own, and says so."""
+        count = os.fstat(self.lock).st_size - self.size
+        if not count:
+            return
+        torn, file = self.begin_torn()
+        try:
+            with os.fdopen(file, "wb") as out:
+                self.copy_torn(out)
+            sync_folder(self.path)
+        except OSError:
+            os.unlink(torn)
+            raise
+        log.say(f"{self.path}: {count} bytes from byte {self.size} on aren't taken: no good mark is after them. They are kept as {torn}")
+
+    def copy_torn(self, out):
+        at = self.size
+        while chunk := os.pread(self.lock, CHUNK, at):
+            out.write(chunk)
+            at += len(chunk)
+        out.flush()
+        os.fsync(out.fileno())
+
+    def begin_torn(self):
+        """A new file, whose name none has: the name, and the file."""
+        number, torn = 1, f"{self.path}{TORN}"
+        while True:
+            with contextlib.suppress(FileExistsError):
+                return torn, os.open(torn, os.O_WRONLY | os.O_CREAT | os.O_EXCL | os.O_CLOEXEC, MODE)
+            number += 1
+            torn = f"{self.path}{TORN}.{number}"
+
+    # ---- where it is
+
+    def misplaced(self):
+        """The fault of a journal that somebody has removed, or put another file in the place of; or None."""
+        try:
+            is_here = os.path.samestat(os.lstat(self.path), os.fstat(self.lock))
+        except FileNotFoundError:
+            return KeptFault(f"{self.path}: somebody has removed it")
+        except OSError as fault:
+            return fault_of(self.path, fault)
+        return None if is_here else KeptFault(f"{self.path}: somebody has put another file there, which is left as it is")
+
+    def check_replaced(self):
+        fault = self.misplaced()
+        if fault and os.path.lexists(self.path):
+            raise fault
 
     # ---- writing
 

@@ -25,10 +25,11 @@ CLOSE_SECONDS = 0.5  # for a save that is given up
 # ---- reading
 
 
-def read_lines(path):
-    """The lines of a file of files with their numbers, without comments; a fault where it isn't whole."""
+def read_lines(path, opened=None):
+    """The lines of a file of files with their numbers, without comments; a fault where it isn't whole. It may be `opened`
+    already."""
     try:
-        with open(path, **ENCODING) as file:
+        with open(path if opened is None else opened, **ENCODING) as file:
             yield from check_lines(path, numbered(path, file))
     except OSError as fault:
         raise fault_of(path, fault) from fault
@@ -160,12 +161,14 @@ class Listing:
 
     def finish(self):
         """Replaces the old file by what was written; or removes it, where it is as the old one."""
-        with self.keeping_fault():
-            if not self.fault and not self.kept.is_as(self.digest.digest()):
-                self.file.write(MARK.format(self.files, self.count) + "\n")
-                self.kept.replace(self.beside, self.file)
-                self.beside, self.kept.digest = None, self.digest.digest()
-        self.clear()
+        try:
+            with self.keeping_fault():
+                if not self.fault and not self.kept.is_as(self.digest.digest()):
+                    self.file.write(MARK.format(self.files, self.count) + "\n")
+                    self.kept.replace(self.beside, self.file)
+                    self.beside, self.kept.digest = None, self.digest.digest()
+        finally:
+            self.clear()
 
     def clear(self):
         if self.file:

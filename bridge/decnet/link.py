@@ -12,8 +12,8 @@ from decnet.waiting import WINDOW, Waiting
 CONFIRM_SECONDS = 60  # how long an announced link may take to be confirmed
 PROMPT_SECONDS = 5  # how long an answer may take that a node gives at once, where two --resend aren't longer
 CLOSING_TRIES = 5
-STALLED_TRIES = 5  # without an acknowledgement, before that is said
-MAX_PENDING = 64  # packets that a live end wasn't told yet, or hasn't answered; one more is as lost
+STALLED_TRIES = 5  # without an answer or an acknowledgement, before that is said
+MAX_PENDING = 64  # lines of a link that a live end hasn't answered; a packet that takes one more is as lost
 MAX_PACKET = nsp.SEGMENT_HEADER + nsp.MAX_SEGMENT
 # answers of a live end after which its link is of no more use
 UNEXPECTED = "unexpected-answer"
@@ -148,6 +148,7 @@ class OtherData:
 
     def __init__(self, clock):
         self.taken, self.sent, self.is_resumed = 0, 0, False
+        self.modifier = Modifier.NO_CHANGE  # of the message that was sent last
         self.countdown = Countdown(clock)
 
     def takes(self, number):
@@ -181,6 +182,7 @@ class Link:
         self.noted = lambda text: None  # told of what is to be said of it while it is open
         self.explain = lambda packet: ""  # what to say of a packet that brought an answer out of sequence
         self.locked_by = lambda local: None  # told of the link that has a file open which this one can't have
+        self.is_full = lambda: False  # whether nothing more of the data can be taken
         self.peer, self.local, self.remote = peer, local, 0
         self.state, self.was_open = State.CLOSED, False
         self.why, self.reason = "", None  # why it was closed, in words; the reason that the other end gave
@@ -190,14 +192,17 @@ class Link:
         self.other = OtherData(clock)
         self.flow = Flow(FlowControl.NONE)
         self.waiting, self.is_told = Waiting(settings.waiting, settings.window), False
-        self.segment, self.fac = settings.segment, None  # the most that it may do with files, where that is said
+        self.segment, self.rights = settings.segment, None  # in words, where they are said
+        self.who = ""  # its user, as the log has it
         self.acknowledged = 0  # the highest segment that the other end has
         self.pending = 0  # lines that the live end hasn't answered
         self.waits = 0  # how many of its packets wait to be acknowledged, as its last answer says
+        self.is_data_wanted = True  # as the other end was told last
         self.has_changed = False  # whether anything came on it that may change files
         self.saves = 0  # saves that answers wait for
         self.wanted_at = None  # when somebody wanted its slot or its file, since it was heard
         self.wanted_by = ""  # who, and what
+        self.has_asked, self.is_wanted = False, False  # whether a segment was taken; whether somebody wanted it while none was
         self.half_open_until = None
         # when anything came; when a new segment came; when that, or an acknowledgement of one more segment, came
         self.heard_at = self.used_at = self.moved_at = clock()
@@ -209,13 +214,13 @@ class Link:
         self.state = State.OPENING
         self.send_until_answered(nsp.connect(self.local, self.settings.segment, session), self.settings.tries)
 
-    def accept(self, connect, fac=None):
-        """Takes the link that a connect initiate asks for, which may do no more than `fac` says; false where the end can't
-        have it. The connect confirm goes out when the live end has the link. After an acknowledgement the connect initiate
-        isn't retransmitted: where the link is kept, that waits too."""
+    def accept(self, connect, rights=None):
+        """Takes the link that a connect initiate asks for, with these rights or as before; false where the end can't have
+        it. The connect confirm goes out when the live end has the link. After an acknowledgement the connect initiate isn't
+        retransmitted: where the link is kept, that waits too."""
         if not self.read_sizes(connect):
             return False
-        self.fac = fac
+        self.rights = rights
         self.state = State.ACCEPTING
         if not self.end.is_kept:
             self.send(nsp.connect_ack(self.remote))
@@ -252,7 +257,7 @@ class Link:
         self.remote, self.segment, self.acknowledged = left.remote, left.segment, left.acknowledged
         self.waiting.newest = self.waiting.acknowledged = left.acknowledged
         self.other.resume(left.taken)
-        self.flow.is_on = left.is_on
+        self.flow.is_on, self.has_asked = left.is_on, True
         self.confirm()
         self.tell(self.named("ack"))  # of which nothing is sent yet: what waits is told after it
 
@@ -273,9 +278,9 @@ class Link:
         return True
 
     def begin(self, then):
-        """Gives the live end the link's addresses and segment size, and the most that it may do."""
-        fac = "" if self.fac is None else f" {self.fac}"
-        self.ask_end(f"new {self.local:04x} {self.remote:04x} {self.segment}{fac}", then)
+        """Gives the live end the link's addresses and segment size, and its rights."""
+        rights = "" if self.rights is None else f" {self.rights}"
+        self.ask_end(f"new {self.local:04x} {self.remote:04x} {self.segment}{rights}", then)
 
     def run(self):
         self.state, self.was_open = State.RUNNING, True
@@ -297,7 +302,7 @@ class Link:
                 self.begin(self.begun)
             else:
                 self.begun(["segments of less than 64 bytes, or an unknown flow control"])
-        if self.state is State.RUNNING:
+        if self.state is State.RUNNING and self.has_room():
             self.tell(self.named("ack"))
 
     def begun(self, answer):
@@ -388,9 +393,17 @@ class Link:
         else:
             self.take_other(packet)
 
+    def has_room(self):
+        """Whether the live end can be told one more line of what comes."""
+        return self.pending < MAX_PENDING
+
     def take_data(self, packet):
-        if self.pending >= MAX_PENDING:
+        if not self.has_room():
             return
+        if packet.kind in nsp.SEGMENTS and self.is_full():
+            packet = nsp.without_data(packet)
+            if packet is None:
+                return
         for qualifier, number in packet.acks:
             if qualifier in nsp.OF_OTHER_SUBCHANNEL:
                 self.other.acknowledged(number)
@@ -414,12 +427,12 @@ class Link:
 
     def take_other(self, packet):
         for qualifier, number in packet.acks:
-            if qualifier in nsp.OF_OTHER_SUBCHANNEL:
+            if qualifier not in nsp.OF_OTHER_SUBCHANNEL:
+                self.other.acknowledged(number)
+            elif self.has_room():
                 self.note_progress(number)
                 inner = nsp.data_ack(self.local, self.remote, nsp.OF_OTHER_SUBCHANNEL[qualifier], number)
                 self.tell("> " + inner.hex())
-            else:
-                self.other.acknowledged(number)
         if packet.kind in nsp.NUMBERED_OTHER and self.state is State.RUNNING:
             self.take_message(packet)
 
@@ -493,7 +506,8 @@ class Link:
 
     def took(self, packet):
         """The live end took a new segment."""
-        self.used_at = self.moved_at = self.clock()
+        self.has_asked, self.used_at = True, self.clock()
+        self.moved_at = self.used_at
         if packet:
             self.carried(len(packet.body))
             self.waiting.took(packet)
@@ -577,20 +591,30 @@ class Link:
         elif self.resend.at is None:
             self.resend.start(self.settings.resend, self.settings.tries)
 
-    def probe(self):
-        """Asks the other end whether it is there, by a link service message that changes nothing."""
-        if self.state is State.RUNNING and self.other.countdown.at is None:
-            self.other.sent = (self.other.sent + 1) % nsp.NUMBERS
-            self.other.countdown.start(self.settings.resend, self.settings.tries)
-            self.send_probe()
+    def probe(self, modifier=Modifier.NO_CHANGE):
+        """Asks the other end whether it is there, by a link service message, which changes nothing by default. One is on its
+        way at a time; whether this one is."""
+        if self.state is not State.RUNNING or self.other.countdown.at is not None:
+            return False
+        self.other.sent, self.other.modifier = (self.other.sent + 1) % nsp.NUMBERS, modifier
+        self.other.countdown.start(self.settings.resend, self.settings.tries)
+        self.send_probe()
+        return True
 
     def send_probe(self):
-        self.send(nsp.link_service(self.remote, self.local, self.other.taken, self.other.sent))
+        self.send(nsp.link_service(self.remote, self.local, self.other.taken, self.other.sent, self.other.modifier))
+
+    def want_data(self, is_wanted):
+        """Lets the other end send no new data, or send it again, where it was told otherwise."""
+        if is_wanted != self.is_data_wanted and self.probe(Modifier.START if is_wanted else Modifier.STOP):
+            self.is_data_wanted = is_wanted
 
     def want(self, who):
-        """Somebody wants its slot or its file: it is closed where its other end is silent for too long."""
+        """Somebody wants its slot or its file: it is closed where its other end is silent for too long, or has asked nothing
+        since the link was opened."""
         if self.wanted_at is None:
             self.wanted_at, self.wanted_by = self.clock(), who
+        self.is_wanted = not self.has_asked
         self.probe()
 
     # ---- the clock
@@ -634,14 +658,23 @@ class Link:
             self.give_up(f" for {seconds:.0f} seconds, and {self.wanted_by}")
         elif self.clock() >= self.heard_at + self.settings.idle:
             self.probe()
+        if self.gives_way() and self.clock() >= self.used_at + self.settings.idle:
+            why = f"no request within {self.settings.idle:g} seconds since it was opened, and {self.wanted_by}"
+            self.disconnect(Reason.TIMED_OUT, why)
         if self.settings.unused and self.clock() >= self.used_at + self.settings.unused:
             self.disconnect(Reason.TIMED_OUT, f"no request within {self.settings.unused:g} seconds")
+
+    def gives_way(self):
+        """Whether it is closed after --idle, since somebody wants it and nothing was asked on it yet."""
+        return self.is_wanted and not self.has_asked and not self.pending
 
     def shake_again(self):
         """A packet of the opening or closing wasn't answered."""
         if not self.countdown.again():
             self.give_up()
             return
+        if self.state is State.OPENING and self.settings.tries - self.countdown.left == STALLED_TRIES:
+            self.noted(f"no answer from node {node_text(self.peer.node)} yet")
         if self.packet[0] == Kind.CONNECT:
             self.packet = nsp.connect_again(self.packet)
         self.send(self.packet, return_wanted=self.state is State.OPENING)
@@ -662,6 +695,8 @@ class Link:
                 times.append(self.wanted_until())
             if self.other.countdown.at is None:
                 times.append(self.heard_at + self.settings.idle)
+            if self.gives_way():
+                times.append(self.used_at + self.settings.idle)
             if self.settings.unused:
                 times.append(self.used_at + self.settings.unused)
         return min((at for at in times if at is not None), default=None)

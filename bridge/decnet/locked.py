@@ -23,6 +23,12 @@ def fault_of(path, fault):
     return KeptFault(f"{path}: {fault.strerror or fault}", of_machine=True)
 
 
+def kind_of(mode):
+    """What has this mode, in words; nothing for a plain file."""
+    kinds = {stat.S_ISREG: "", stat.S_ISLNK: "a symbolic link", stat.S_ISDIR: "a folder"}
+    return next((text for is_kind, text in kinds.items() if is_kind(mode)), "a device")
+
+
 def sync_folder(path):
     """Lets the disk have the names in the folder of a file."""
     folder = os.open(os.path.dirname(path) or ".", os.O_RDONLY)
@@ -70,10 +76,9 @@ class LockedFile:
             raise KeptFault(f"{self.path}: another bridge keeps it") from fault
 
     def check_kind(self, found):
-        kinds = {stat.S_ISLNK: "a symbolic link", stat.S_ISDIR: "a folder"}
-        what = [text for is_kind, text in kinds.items() if is_kind(found.st_mode)]
-        if not stat.S_ISREG(found.st_mode):
-            raise KeptFault(f"{self.path}: it is {what[0] if what else 'a device'}, and no plain file")
+        kind = kind_of(found.st_mode)
+        if kind:
+            raise KeptFault(f"{self.path}: it is {kind}, and no plain file")
 
     def clear(self):
         """Removes what a bridge that was killed had begun to write."""

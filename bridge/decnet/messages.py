@@ -21,26 +21,10 @@ class Access(enum.IntEnum):
     NONE = 99
 
 
-class Fac(enum.IntFlag):
-    """FAC."""
-
-    PUT = 1
-    GET = 2
-    UPDATE = 4
-    DELETE = 8
-    ALL = 15
-    BLOCKS = 32
-
-
 class Control(enum.IntEnum):
     """CTLFUNC."""
 
-    GET = 1
-    CONNECT = 2
-    UPDATE = 3
-    PUT = 4
-    DELETE = 5
-    REWIND = 6
+    GET, CONNECT, UPDATE, PUT, DELETE, REWIND = range(1, 7)
     FIND = 14
 
 
@@ -99,7 +83,8 @@ def attributes(**given):
     return message(ATTRIBUTES, extensible(menu) + b"".join(write(given[name]) for name, (_, write) in FIELDS.items() if name in given))
 
 
-def access(function, name, fac=Fac.GET):
+def access(function, name, fac):
+    """FAC has the bits of `rights`."""
     opt = shr = 0
     return message(ACCESS, bytes([function]) + extensible(opt) + image(name) + extensible(fac) + extensible(shr))
 

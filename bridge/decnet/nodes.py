@@ -6,9 +6,16 @@ from decnet.address import read_node
 NAME = re.compile(r"(?=[A-Z0-9]*[A-Z])[A-Z0-9]{1,6}", re.ASCII)
 
 
+class Names(dict):
+    """The nodes by their names in capitals."""
+
+    path = None  # of the file that they are in, where there is one
+
+
 def read_names(path):
-    """The nodes by their names in capitals; ValueError where a line is none, OSError where the file can't be read."""
-    names = {}
+    """Those of a file; ValueError where a line is none, OSError where the file can't be read."""
+    names = Names()
+    names.path = path
     with open(path, encoding="utf-8", errors="surrogateescape") as file:
         for number, line in enumerate(file, 1):
             words = line.partition("#")[0].upper().split()
@@ -30,6 +37,7 @@ def find(text, names):
     """A node by its name or its address; ValueError for any other text."""
     if NAME.fullmatch(text.upper()):
         if text.upper() not in names:
-            raise ValueError(f"no node {text} is in the file of names (--nodes)")
+            where = f"in the file of names, {names.path}" if names.path else "known: there is no file of names (--nodes)"
+            raise ValueError(f"no node {text} is {where}")
         return names[text.upper()]
     return read_node(text)

@@ -227,6 +227,14 @@ def read(data):
     return Packet(kind, data, destination, source, acks=acks, number=number, body=reader.rest())
 
 
+def without_data(packet):
+    """What a segment acknowledges, as a packet by itself; None where it acknowledges nothing."""
+    if not packet.acks:
+        return None
+    fields = [field(qualifier, number) for qualifier, number in packet.acks]
+    return read(words(Kind.DATA_ACK, packet.destination, packet.source, *fields))
+
+
 def read_object(body):
     """The object number of a connect initiate's destination name; None where it is named otherwise."""
     return body[1] if len(body) >= 2 and body[0] == BY_NUMBER else None

@@ -3,7 +3,7 @@ import dataclasses
 import os
 import re
 
-from decnet import frames, log, nsp, routing, udp, wire
+from decnet import frames, log, nsp, privileges, routing, udp, wire
 from decnet.client import InputFault
 from decnet.end import Answer, End, EndFault
 from decnet.folder import Folder
@@ -19,6 +19,10 @@ from decnet.stored import Store, StoredEnd, program_of
 from decnet.users import Guard, Users
 from decnet.waiting import MOST, WINDOW
 
+OF_END = ("window", "buffer", "ostype", "filesys", "syscap")  # options of a live end, as it has them
+OF_SERVER = (*OF_END, "waiting", "names", "links")
+COUNTED = ("window", "waiting", "links")  # those that the bridge counts with
+NO_OPTION = {"links": 1}  # a live end that isn't told how many has one, whose lines don't name it
 OF_LINES = re.compile(r"(daplive: line|bad line) \d+")  # the live end counts lines that the user never saw
 
 
@@ -38,10 +42,12 @@ def settings_of_server(words):
 
 
 def open_node(words, opened):
-    """The end node, on what carries its frames."""
+    """The end node, on what carries its frames. From then on root isn't needed."""
     tap = opened(Pcap(words.pcap)) if words.pcap is not None else None
     harm = routing.Harm(words.harm, words.seed) if words.harm else None
-    return opened(routing.EndNode(open_wire(words), words.node, words.router, harm, tap))
+    node = opened(routing.EndNode(open_wire(words), words.node, words.router, harm, tap))
+    privileges.give_up(words)
+    return node
 
 
 def open_wire(words):
@@ -53,16 +59,19 @@ def open_wire(words):
     return wire.interface(words.interface, words.node, longest)
 
 
+def words_of_end(words):
+    """The words of the live end."""
+    is_server = words.role == "serve"
+    held = {name: getattr(words, name) for name in (OF_SERVER if is_server else OF_END)}
+    options = [word for name, value in held.items() if value not in (None, NO_OPTION.get(name)) for word in (f"--{name}", str(value))]
+    return ["serve" if is_server else "ask", *options]
+
+
 def start_end(words, signals):
     """The live end, which answers."""
-    role = "serve" if words.role == "serve" else "ask"
-    named = ["window", "buffer", "ostype", "filesys", "syscap", *(["waiting", "names"] if role == "serve" else [])]
-    options = [word for name in named if getattr(words, name) is not None for word in (f"--{name}", str(getattr(words, name)))]
-    has_links = role == "serve" and words.links > 1
-    if has_links:
-        options += ["--links", str(words.links)]
+    has_links = words.role == "serve" and words.links > 1
     kind = End if words.store is None else StoredEnd
-    end = kind(words.daplive, [role, *options], told=tell_of_end)
+    end = kind(words.daplive, words_of_end(words), told=tell_of_end)
     try:
         answers = []
         end.tell("files" if has_links else "new", Answer(answers.append))
@@ -94,7 +103,7 @@ def keep_file(words):
 def load_files(words, kept, end, space, signals):
     """Gives a live end its files; whether some aren't yet where they are kept."""
     if words.folder is not None:
-        load(end, words.folder, kept.read_lines(), space, signals, kept.refused)
+        load(end, words.folder, kept.read_lines(), space, signals, kept)
         for text in kept.said():
             log.say(text)
         return False
@@ -104,9 +113,29 @@ def load_files(words, kept, end, space, signals):
     return kept is not None and not os.path.samefile(words.files, words.save)
 
 
-def open_store(words, opened, end, space, signals):
-    """The store, from which the live end is again as it was; and the links to continue."""
-    journal = opened(Journal(words.store, f"{program_of(end)} {' '.join(end.words)}", words.sync))
+def open_journal(words, opened):
+    """The file of --store. Where it has packets, options that aren't given are those that it was made with."""
+    journal = opened(Journal(words.store, words.sync))
+    if journal.made_with is not None and recall(words, journal.made_with):
+        log.say(f"{words.store}: it has packets, and goes on with the options that it was made with: '{journal.made_with}'")
+    return journal
+
+
+def recall(words, made_with):
+    """Options of the live end that aren't given are those of these words; whether that changes any."""
+    before, (_, *made) = words_of_end(words), made_with.split(" ")
+    found = {name: NO_OPTION.get(name) for name in OF_SERVER} | {name[2:]: value for name, value in zip(made[::2], made[1::2])}
+    try:
+        found.update({name: int(found[name]) for name in COUNTED if found[name] is not None})
+    except ValueError:  # these are no words of a bridge, and the store isn't taken
+        return False
+    words.given.update({name: found[name] for name in OF_SERVER if name not in words.given})
+    return words_of_end(words) != before
+
+
+def open_store(words, journal, opened, end, space, signals):
+    """What it keeps: the live end is again as it was; and the links to continue."""
+    journal.begin(f"{program_of(end)} {' '.join(end.words)}")
     is_new, is_good = journal.is_empty, not journal.is_empty and journal.parsed.lines[0] == journal.head()
     if is_new:
         log.say(f"{words.store}: a new store")

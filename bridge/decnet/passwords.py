@@ -19,12 +19,14 @@ def print_user(words, closed):
             raise InputFault(f"standard {what}: closed")
     name = os.fsencode(words.user)
     if not is_name(name):
-        raise KeptFault(f"{answers.shown(words.user)} is no user's name: at most {nsp.IMAGE_LIMIT} bytes, and no spaces")
+        raise KeptFault(f"{answers.shown(words.user)} is no user's name: 1 to {nsp.IMAGE_LIMIT} bytes, without spaces and NUL")
     password = read_typed() if sys.stdin.isatty() else sys.stdin.buffer.readline(PASSWORD_LIMIT).rstrip(b"\r\n")
     if not 0 < len(password) <= nsp.IMAGE_LIMIT:
         raise KeptFault(f"a password has 1 to {nsp.IMAGE_LIMIT} bytes")
+    if b"\0" in password:
+        raise KeptFault("a password has no NUL")
     rights = [words.rights] if words.rights is not None else []
-    print(os.fsdecode(folded(name)), make_hash(password), *rights)
+    sys.stdout.buffer.write(b" ".join([folded(name), *map(str.encode, [make_hash(password), *rights])]) + b"\n")
     return GOOD
 
 

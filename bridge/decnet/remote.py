@@ -7,6 +7,8 @@ from decnet import nsp
 from decnet.nodes import find
 
 SPELLED = re.compile(r'([A-Za-z0-9.]+)(?:"([^"]*)")?::(.*)', re.ASCII | re.DOTALL)
+BEGUN = re.compile(r'[A-Za-z0-9.]+(:|"[^"]*("|$))', re.ASCII)  # how a text begins that is meant to be one
+UNCLOSED = re.compile(r'[A-Za-z0-9.]+"[^"]*', re.ASCII | re.DOTALL)
 MAX_NAME = 255
 
 
@@ -24,9 +26,16 @@ def is_remote(text):
     return SPELLED.fullmatch(text) is not None
 
 
+def is_meant_remote(text):
+    """Whether a text is a file of another node, or begins as one does."""
+    return BEGUN.match(text) is not None
+
+
 def read_remote(text, names):
     """A file of another node; ValueError where the text names none."""
     found = SPELLED.fullmatch(text)
+    if not found and UNCLOSED.fullmatch(text):
+        raise ValueError(f"{text[:60]}: the quote isn't closed, as in 1.10\"SMITH\"::DATA.TXT")
     if not found:
         raise ValueError(f"{text[:60]} is no NODE::NAME, as 1.10::DATA.TXT")
     node, access, name = found.groups()

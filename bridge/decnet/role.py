@@ -109,8 +109,12 @@ class Role:
 
     def link_at(self, peer, local):
         link = Link(self.node, self.end, self.settings, peer, local, self.told, self.keeper, self.space, self.clock)
-        link.noted = lambda text: log.say(f"link {local:04x}: {text}")
+        link.noted = lambda text: self.say_of(link, text)
         return link
+
+    def say_of(self, link, text):
+        """A line of the log about a link, with its user where that was checked."""
+        log.say(f"link {link.local:04x}{link.who}: {text}")
 
     def receive(self, arrived):
         """Takes a packet that came; what is no packet of NSP is passed over."""
@@ -143,17 +147,17 @@ class Role:
         elif packet.kind in nsp.SEGMENTS | nsp.NUMBERED_OTHER | {Kind.CONFIRM}:
             self.node.send(peer, nsp.disconnect_confirm(packet.source, packet.destination, Reason.NO_LINK))
 
-    def refuse(self, peer, packet, reason):
+    def refuse(self, peer, packet, reason, who="", why=""):
         """Refuses a connect initiate. Nothing is kept: where the refusal is lost, the connect initiate is retransmitted."""
         self.node.send(peer, nsp.disconnect(packet.source, self.refusing, reason))
-        self.log_refused(peer, packet, reason)
+        self.log_refused(peer, packet, reason, who, why)
 
-    def log_refused(self, peer, packet, reason):
-        """Reports a refused link once."""
-        what = (peer.node, packet.source, reason)
+    def log_refused(self, peer, packet, reason, who="", why=""):
+        """Reports a refused link once, with its user and with what is wrong besides."""
+        what = (peer.node, packet.source, reason, who)
         if what != self.refused:
             self.refused = what
-            log.say(f"node {node_text(peer.node)} was refused, {nsp.reason_text(reason)}")
+            log.say(f"node {node_text(peer.node)} was refused{who}, {nsp.reason_text(reason)}{why and ': '}{why}")
 
     def tick(self):
         self.node.say_hello()
@@ -207,7 +211,7 @@ class Role:
             self.closed(link)
 
     def tell_closed(self, link):
-        log.say(f"link {link.local:04x}: {link.why}")
+        self.say_of(link, link.why)
 
 
 def turn(readers, writers, seconds):

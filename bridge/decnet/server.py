@@ -9,13 +9,14 @@ from decnet.address import node_text
 from decnet.end import Answer
 from decnet.journal import NOTE
 from decnet.kept import FILE, RECORD
-from decnet.link import NO_MEMORY
+from decnet.link import MAX_PENDING, NO_MEMORY
 from decnet.locked import KeptFault
 from decnet.nsp import Reason
 from decnet.role import FAULT, Role, Stopped, wait_for
 from decnet.stored import left_links
 
 OLD_SECONDS = 10  # how long connect initiates of a link that is closed may still come
+MAX_OLD = 4096  # links of which that is remembered
 MAX_UNANSWERED = 4000  # lines that the live end is told at the start before it answers the first
 AT_ONCE = 1000  # lines that are written to it at once then
 
@@ -31,8 +32,10 @@ class Entry:
         return self.nodes is None or node in self.nodes
 
     def __str__(self):
-        who = "nodes " + ", ".join(map(node_text, sorted(self.nodes))) if self.nodes else "anybody"
-        return f"{who} may enter, {'with a user and a password' if self.guard else 'with any user or none (no --users)'}"
+        nodes = "nodes " + ", ".join(map(node_text, sorted(self.nodes))) if self.nodes else ""
+        if self.guard is None:
+            return f"{nodes or 'anybody'} may enter, with any user or none (no --users)"
+        return f"{self.guard.users} may enter{nodes and ', from '}{nodes}"
 
 
 class Server(Role):
@@ -82,28 +85,31 @@ class Server(Role):
         most = self.settings.links if self.stop_after is None else min(self.settings.links, self.stop_after)
         return len(self.links) < most
 
-    def is_free(self, peer, packet):
+    def is_free(self, peer, packet, who=""):
         """Whether a link can be taken now; a connect initiate is refused where not, or passed over where it will be soon."""
         if self.stops:
-            self.refuse(peer, packet, Reason.SHUTTING_DOWN)
+            self.refuse(peer, packet, Reason.SHUTTING_DOWN, who)
         elif not self.has_room():
-            self.refuse(peer, packet, Reason.BUSY)
+            self.refuse(peer, packet, Reason.BUSY, who)
             for link in self.links.values():
                 link.want(f"node {node_text(peer.node)} wants a link")
-        elif self.store and self.store.fault:
-            self.refuse(peer, packet, Reason.NO_LINK_RESOURCES)
+        elif self.store and self.store.look():
+            self.refuse(peer, packet, Reason.NO_LINK_RESOURCES, who)
             self.store.try_again()
         else:
-            return not (self.store and self.store.is_busy)
+            return not (self.store and self.store.is_busy) and self.end_has_room()
         return False
 
-    def checked(self, peer, packet, reason, fac):
-        """The user and the password of a connect initiate are known, and the most that the link may do; or there is a
-        reason why they aren't."""
-        if reason is not None:
-            self.refuse(peer, packet, reason)
-        elif self.is_free(peer, packet):
-            self.take(peer, packet, fac)
+    def end_has_room(self):
+        """Whether the live end can be told of one more link: it may not have heard yet of those that came and went."""
+        return self.end.unanswered < MAX_PENDING * (self.settings.links + 1)
+
+    def checked(self, peer, packet, verdict):
+        """It is known who sent a connect initiate, and what the link may do; or there is a reason why it isn't taken."""
+        if verdict.reason is not None:
+            self.refuse(peer, packet, verdict.reason, verdict.who, verdict.fault)
+        elif self.is_free(peer, packet, verdict.who):
+            self.take(peer, packet, verdict)
         self.look()
 
     def resume(self, left):
@@ -113,7 +119,7 @@ class Server(Role):
         link = self.link_at(left.peer, left.local)
         self.add(link)
         link.resume(left)
-        log.say(f"link {left.local:04x}: from node {node_text(left.peer.node)}, goes on as it was")
+        self.say_of(link, f"from node {node_text(left.peer.node)}, goes on as it was")
 
     def link_to(self, peer):
         """A link that isn't open yet, with an address that none has."""
@@ -133,23 +139,23 @@ class Server(Role):
                 link.noted(f"a file that it wants is open over link {local:04x}, from node {node_text(holder.peer.node)}")
             holder.want(f"node {node_text(link.peer.node)} wants a file that is open over it")
 
-    def take(self, peer, packet, fac=None):
+    def take(self, peer, packet, verdict=None):
         self.look_at_folder()
         link = self.link_to(peer)
-        if not link.accept(packet, fac):
+        if not link.accept(packet, verdict and verdict.rights):
             self.node.send(peer, nsp.disconnect_confirm(packet.source, 0, Reason.NO_RESOURCES))
-            self.log_refused(peer, packet, Reason.NO_RESOURCES)
+            self.log_refused(peer, packet, Reason.NO_RESOURCES, verdict.who if verdict else "")
             return
+        if verdict:
+            link.who = verdict.who
         self.add(link)
-        log.say(f"link {link.local:04x}: from node {node_text(peer.node)}, whose address is {link.remote:04x}; "
-                f"segments of {link.segment} bytes; flow control: {link.flow.control.name.lower()}")
+        self.say_of(link, f"from node {node_text(peer.node)}, whose address is {link.remote:04x}; "
+                          f"segments of {link.segment} bytes; flow control: {link.flow.control.name.lower()}")
 
     def closed(self, link):
         """A link is closed. Where the other end had no such link it begins anew, perhaps with the same address."""
-        now = self.clock()
-        self.old = {source: until for source, until in self.old.items() if now < until}
         if link.reason != Reason.NO_LINK:
-            self.old[link.peer.node, link.remote] = now + OLD_SECONDS
+            self.remember((link.peer.node, link.remote))
         if self.stop_after is not None and link.was_open:
             self.stop_after -= 1
         self.end_link(link.local)
@@ -158,6 +164,14 @@ class Server(Role):
         if self.space:
             self.space.link_closed()
         self.save()
+
+    def remember(self, source):
+        """Connect initiates of a link that was closed are passed over for some time."""
+        now = self.clock()
+        self.old.pop(source, None)
+        self.old[source] = now + OLD_SECONDS
+        while len(self.old) > MAX_OLD or next(iter(self.old.values())) <= now:
+            del self.old[next(iter(self.old))]
 
     def end_link(self, local):
         """Lets the live end forget a link; where it has one alone, it does so when the next one comes."""
@@ -185,10 +199,11 @@ class Server(Role):
 
     def given(self, line, answer):
         """The live end has this of a file of the folder, or refuses it."""
-        if answer and line.startswith(FILE):
-            log.say(f"{self.keeper.kept.refused(line)}: {answer[0]}")
-        elif answer and NO_MEMORY in answer:
-            log.say(f"{self.keeper.kept.path}: {answer[-1]}: not all of what was changed is served")
+        folder = self.keeper.kept
+        if answer and not folder.leaves_out(line, answer[0]) and NO_MEMORY in answer:
+            log.say(f"{folder.path}: {answer[-1]}: not all of what was changed is served")
+        for text in folder.said():
+            log.say(text)
 
     def files(self):
         readers, writers = super().files()
@@ -197,8 +212,14 @@ class Server(Role):
                 readers.update(one.files())
         return readers, writers
 
+    def next_at(self):
+        at = self.entry.guard.next_at() if self.entry.guard else None
+        return super().next_at() if at is None else min(at, super().next_at())
+
     def tick(self):
         super().tick()
+        if self.entry.guard:
+            self.entry.guard.tick()
         if self.store and self.store.has_grown_too_much:
             self.disconnect(Reason.NO_RESOURCES, "the store has grown as much as --growth allows for a link")
 
@@ -285,12 +306,13 @@ def tell_all(end, lines, check, signals):
     wait_for(lambda: not answers.lines, end, signals, tell_more)
 
 
-def load(end, path, lines, space, signals, named=None):
-    """Gives a live end files by such lines as `files` prints, each with its number; they come from `path`. `named` says of
-    which file a line is, where that isn't seen by its number."""
+def load(end, path, lines, space, signals, folder=None):
+    """Gives a live end files by such lines as `files` prints, each with its number; they come from `path`, or from a
+    `folder`, which may leave some out."""
     def check(number, line, answer):
-        where = named(line) if named else f"{path}: line {number}"
-        raise KeptFault(f"{where}: {answer[0]}", of_machine=answer[0] == NO_MEMORY)
+        if folder is None or not folder.leaves_out(line, answer[0]):
+            where = f"{path}: '{line[:60]}'" if folder else f"{path}: line {number}"
+            raise KeptFault(f"{where}: {answer[0]}", of_machine=answer[0] == NO_MEMORY)
 
     tell_all(end, space.noted(lines), check, signals)
 

@@ -125,21 +125,28 @@ class StoredEnd(End):
             self.journal.append(line)
             if self.journal.sync_when == "always" or (self.is_due and any(text.startswith(SEGMENTS) for text in answer)):
                 self.journal.sync()
+                self.check()
                 self.is_due = False
         except OSError as fault:
-            self.fail(fault)
+            self.fail(fault_of(self.journal.path, fault))
         return self.fault is None
+
+    def check(self):
+        """Looks whether the journal is still the file of its name: where it isn't, nothing is kept in it any more."""
+        fault = None if self.fault else self.journal.misplaced()
+        if fault:
+            self.fail(fault)
 
     def remark(self, text):
         if self.is_kept and not self.fault:
             try:
                 self.journal.append(NOTE + text)
             except OSError as fault:
-                self.fail(fault)
+                self.fail(fault_of(self.journal.path, fault))
 
     def fail(self, fault):
-        self.fault = fault_of(self.journal.path, fault)
-        self.failed(self.fault)
+        self.fault = fault
+        self.failed(fault)
 
 
 class Store:
@@ -161,6 +168,11 @@ class Store:
         """Why no link is taken."""
         return self.end.fault
 
+    def look(self):
+        """Looks at its file before a link is taken; why none is."""
+        self.end.check()
+        return self.fault
+
     @property
     def has_grown_too_much(self):
         return self.end.journal.grown > self.growth
@@ -179,7 +191,10 @@ class Store:
         """It is written anew; or it stays as it was, which is enough where lines can still be put after it."""
         if fault:
             log.say(f"{fault}: the store isn't written anew")
+            self.end.check()
         else:
+            if self.fault:
+                log.say(f"{self.end.journal.path}: it is written anew")
             self.end.fault, self.end.has_wanted_memory, self.end.is_due = None, False, False
 
     def try_again(self):
@@ -196,7 +211,7 @@ class Store:
 
     def stop(self):
         """Writes it anew where it isn't the files alone: another daplive may take those."""
-        if self.end.journal.grown or self.fault:
+        if self.look() or self.end.journal.grown:
             self.renew()
 
     def close(self):

@@ -2,11 +2,13 @@
 from dataclasses import dataclass
 
 from decnet import messages as dap
-from decnet.messages import Access, Complete, Control, Fac, Rac
+from decnet.messages import Access, Complete, Control, Rac
+from decnet.rights import ALL, fac_of
 
 PIECES, SINGLE = 5, 1  # bytes of a segment where messages are cut into many
 SMALL_BUFFER = 64
 END_OF_FILE = 1  # ROP: records are put after the last one
+BY_BLOCKS = 32  # the bit of FAC for blocks, which no user is given
 
 
 @dataclass(frozen=True)
@@ -58,12 +60,12 @@ class Names:
         return [self.sequential, self.relative, self.new, self.twice, self.small, *self.formats.values()]
 
 
-def opened(name, fac=Fac.GET, label="open", cut=None):
-    return step(label, dap.attributes(), dap.access(Access.OPEN, name, fac), cut=cut)
+def opened(name, rights="get", label="open", cut=None):
+    return step(label, dap.attributes(), dap.access(Access.OPEN, name, fac_of(rights)), cut=cut)
 
 
-def made(name, fac=Fac.PUT, label="create", **shape):
-    return step(label, dap.attributes(**(shape or SEQUENTIAL)), dap.access(Access.CREATE, name, fac))
+def made(name, rights="put", label="create", **shape):
+    return step(label, dap.attributes(**(shape or SEQUENTIAL)), dap.access(Access.CREATE, name, fac_of(rights)))
 
 
 def get(label="get"):
@@ -93,7 +95,7 @@ def sequential(names):
     gets = [get(f"get {number}") for number in range(1, len(RECORDS) + 2)]
     yield Talk("get record by record", (HELLO, opened(name), CONNECT, *gets, REWIND, get("get after"), CLOSE))
     at_end = step("connect", dap.control(Control.CONNECT, rop=END_OF_FILE))
-    yield Talk("put at the end", (HELLO, opened(name, Fac.PUT | Fac.GET), at_end, put(b"fourth"), CLOSE))
+    yield Talk("put at the end", (HELLO, opened(name, "get,put"), at_end, put(b"fourth"), CLOSE))
     yield Talk("without the right", (HELLO, opened(name), CONNECT, put(b"no"), CLOSE))
     yield Talk("key in a sequential file", (HELLO, opened(name), CONNECT, get_key(1, "get key 1"), CLOSE))
 
@@ -102,14 +104,14 @@ def relative(names):
     """Conversations about a relative file."""
     name = names.relative
     yield Talk("relative file", (
-        HELLO, made(name, Fac.ALL, **RELATIVE), CONNECT, put_key(3, b"three"), put_key(7, b"seven"),
+        HELLO, made(name, ALL, **RELATIVE), CONNECT, put_key(3, b"three"), put_key(7, b"seven"),
         put_key(3, b"again", "put 3 again"), put_key(99, b"far"), get_key(3), get_key(4), FETCH, CLOSE))
     update = step("update", dap.control(Control.UPDATE), dap.data(b"new three"))
     delete, again = (step(label, dap.control(Control.DELETE)) for label in ("delete", "delete again"))
-    yield Talk("update and delete", (HELLO, opened(name, Fac.ALL), CONNECT, get_key(3), update, get_key(3, "get 3 updated"),
+    yield Talk("update and delete", (HELLO, opened(name, ALL), CONNECT, get_key(3), update, get_key(3, "get 3 updated"),
                                      delete, get_key(3, "get 3 deleted"), again, CLOSE))
     find = step("find 7", dap.control(Control.FIND, Rac.KEY, dap.number(7)))
-    yield Talk("find", (HELLO, opened(name, Fac.ALL), CONNECT, find, get(), CLOSE))
+    yield Talk("find", (HELLO, opened(name, ALL), CONNECT, find, get(), CLOSE))
 
 
 def others(names):
@@ -121,8 +123,9 @@ def others(names):
     for word, rfm in FORMATS.items():
         shape = {**SEQUENTIAL, "rfm": rfm, "fsz": 2, "rat": 2}
         yield Talk(f"create with {word}", (HELLO, made(names.formats[word], **shape), PURGE))
+    by_blocks = step("open", dap.attributes(), dap.access(Access.OPEN, name, fac_of("get") | BY_BLOCKS))
     block = step("get block", dap.control(Control.GET, Rac.BLOCK, dap.number(1)))
-    yield Talk("blocks", (HELLO, opened(name, Fac.GET | Fac.BLOCKS), CONNECT, block, CLOSE))
+    yield Talk("blocks", (HELLO, by_blocks, CONNECT, block, CLOSE))
     for word, function in FUNCTIONS.items():
         yield Talk(f"access {word}", (HELLO, step(word, dap.attributes(), dap.access(function, names.missing, 0))))
 
@@ -133,7 +136,7 @@ def odd(names):
     yield Talk("in pieces", (HELLO, opened(name, cut=PIECES), CONNECT, Step("fetch", FETCH.bodies, SINGLE), CLOSE))
     every = (1 << 43) - 1  # all bits of SYSCAP
     yield Talk("without LENGTH", (step("config", dap.config(has_length=False, syscap=every)), opened(name), CONNECT))
-    yield Talk("a small buffer", (step("config", dap.config(bufsiz=SMALL_BUFFER)), made(names.small, Fac.ALL), CONNECT,
+    yield Talk("a small buffer", (step("config", dap.config(bufsiz=SMALL_BUFFER)), made(names.small, ALL), CONNECT,
                                   put(100 * b"x"), REWIND, get(), CLOSE))
     yield Talk("out of place", (opened(name, label="access first"), HELLO, get(), step("data", dap.data(b"x")),
                                 step("ack", dap.message(dap.ACK, b"")), CLOSE))

@@ -3,15 +3,18 @@ import sys
 
 from decnet import nsp, probe, verdicts
 from decnet.address import node_text
+from decnet.client import InputFault
 from decnet.parts import end_beside, open_node, open_signals, settings_of
 from decnet.role import FAILED, GOOD
 
 WIDTH = 60
 
 
-def test(words, opened):
-    """Has the conversations of a probe, and prints what comes of them."""
+def test(words, opened, closed):
+    """Has the conversations of a probe, and prints what comes of them; `closed` are standard files that are."""
     signals = open_signals(words, opened)
+    if 1 in closed:
+        raise InputFault("standard output: closed")
     before = None
     node = open_node(words, opened)
     across = probe.Across(node, settings_of(words), words.to, nsp.session(*words.images), words.quiet, signals)

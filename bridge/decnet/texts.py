@@ -17,6 +17,30 @@ def lines_of(data):
     return [line.removesuffix(b"\r") for line in lines]
 
 
+def counted(count, what):
+    return f"{count} {what}" + ("" if count == 1 else "s")
+
+
+def changes_of(data):
+    """What of a file doesn't come back as it is where it is stored as lines, in words."""
+    ends, nuls = data.count(b"\r\n") + data.endswith(b"\r"), data.count(b"\0")
+    found = [f"{counted(ends, 'CR')} at the end of a line left out"] if ends else []
+    if data and not data.endswith(b"\n"):
+        found.append("an LF added at the end")
+    if nuls:
+        found.append(f"{counted(nuls, 'NUL byte')}, which a text has none of")
+    return found
+
+
+def padding_of(data, size):
+    """What of a file doesn't come back as it is where it is stored as records of one length, in words."""
+    zeros = -len(data) % size
+    if not zeros:
+        return []
+    fitting = next(length for length in range(size, 0, -1) if len(data) % length == 0)
+    return [f"{counted(zeros, 'zero byte')} added to the last record; --fixed {fitting} adds none"]
+
+
 def records_of(data):
     """A record for each line."""
     records = lines_of(data)

@@ -1,4 +1,5 @@
 """Ethernet frames over UDP, a datagram for each: from the frame's header on, without a checksum."""
+import contextlib
 import errno
 import re
 import socket
@@ -10,10 +11,11 @@ from decnet import frames, log
 from decnet.wire import TOLD, Wire, WireFault
 
 MAX_PORT = 65535
-SPELLED = re.compile(r"([0-9]{1,5}):(\[[^\[\]]+\]|[^:\[\]\s]+):([0-9]{1,5})", re.ASCII)
+SPELLED = re.compile(r"([0-9]{1,20}):(\[[^\[\]]+\]|[^:\[\]\s]+):([0-9]{1,20})", re.ASCII)
 RECEIVE_BUFFER = 4 << 20  # bytes that may come while the bridge is busy
 SILENT_SECONDS = 60  # in which nothing came before the host's name is looked up again
 # what a network says of a far end that isn't there; the frame is lost
+AWAY_SECONDS = 5  # in which nobody is at the far end's port before that is said
 AWAY = {errno.EHOSTUNREACH, errno.ENETUNREACH, errno.EHOSTDOWN, errno.EPERM, errno.EACCES}
 
 
@@ -32,8 +34,11 @@ class Ports:
 def read_ports(text):
     """LPORT:HOST:RPORT, as 4711:localhost:4712 or 4711:[::1]:4712; ValueError for any other text."""
     found = SPELLED.fullmatch(text)
-    if not found or not all(1 <= int(port) <= MAX_PORT for port in (found[1], found[3])):
+    if not found:
         raise ValueError(f"{text[:60]} is no LPORT:HOST:RPORT, as 4711:localhost:4712")
+    for port in (found[1], found[3]):
+        if not 1 <= int(port) <= MAX_PORT:
+            raise ValueError(f"{port} is no port, 1 to {MAX_PORT}")
     return Ports(int(found[1]), found[2].strip("[]"), int(found[3]))
 
 
@@ -41,6 +46,14 @@ def look_up(ports, family=0):
     """The family and the address of the far end."""
     found = socket.getaddrinfo(ports.host, ports.remote, family, socket.SOCK_DGRAM)[0]
     return found[0], found[4]
+
+
+def drop_all(raw):
+    """Drops what came before a socket was connected, which may be anybody's."""
+    raw.setblocking(False)
+    with contextlib.suppress(BlockingIOError):
+        while True:
+            raw.recv(frames.FRAME_LIMIT)
 
 
 class LookUp(threading.Thread):
@@ -76,11 +89,13 @@ class Udp(Wire):
             raw.setsockopt(socket.SOL_SOCKET, socket.SO_RCVBUF, RECEIVE_BUFFER)
             raw.bind(("::" if family == socket.AF_INET6 else "", ports.local))
             raw.connect(self.far)
+            drop_all(raw)
         except OSError as fault:
             raw.close()
             raise WireFault(f"{name}: {fault.strerror or fault}") from fault
         super().__init__(name, raw)
         self.heard_at = clock()
+        self.has_heard, self.refused_at = False, None  # whether anything came; since when nobody is at the far end's port
 
     def start(self, frame):
         self.send(frame)
@@ -93,11 +108,22 @@ class Udp(Wire):
         """The next frame; None or nothing where there is none."""
         frame = self.try_to(self.socket.recv, frames.FRAME_LIMIT)
         if frame is not None:
-            self.heard_at = self.clock()
+            self.heard_at, self.has_heard, self.refused_at = self.clock(), True, None
             if self.fault:
                 self.fault = None
                 log.say(f"{self.name}: frames come again")
         return frame
+
+    def tell_once(self, fault):
+        """Nobody has to be there at first, and who is away may come back at once: that is said after a while."""
+        if fault.errno != errno.ECONNREFUSED:
+            super().tell_once(fault)
+            return
+        if self.refused_at is None:
+            self.refused_at = self.clock()
+        if self.fault != fault.errno and self.clock() >= self.refused_at + AWAY_SECONDS:
+            self.fault = fault.errno
+            log.say(f"{self.name}: nobody is there {'any more' if self.has_heard else 'yet'}: frames are lost")
 
     def refresh(self):
         """Looks the far end's name up again after some silence; it may have another address now."""

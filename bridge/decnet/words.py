@@ -1,18 +1,23 @@
 """The words of the bridge's command line: its roles, their options, and what each may be."""
 import argparse
+import difflib
 import os
+import pathlib
 import re
 import sys
+from dataclasses import dataclass
 
-from decnet import nsp, options, program, udp
+from decnet import nsp, options, privileges, program, udp
 from decnet.address import node_text
+from decnet.answers import shown
 from decnet.end import DAPLIVE
 from decnet.journal import SYNCS
+from decnet.nodes import Names as NodeNames
 from decnet.nodes import find, read_names
-from decnet.remote import is_remote, read_remote
+from decnet.remote import is_meant_remote, is_remote, read_remote
+from decnet.rights import are_rights
 from decnet.talks import Names, talks
 from decnet.texts import MAX_NUMBER, RECORD_LIMIT
-from decnet.users import read_rights
 
 PASSWORD_LIMIT = 65536
 SYSCAP = re.compile(r"[0-9A-Fa-f]{1,21}")
@@ -21,10 +26,18 @@ PEOPLE = ("copy", "type", "get", "put")  # the roles that name a file
 # what holds where an option isn't given; one that isn't here is None then
 DEFAULTS = {"segment": 512, "resend": 1, "tries": 30, "idle": 30, "harm": 0, "seed": 1, "unused": 900, "patience": 120,
             "user": b"", "account": b"", "go_on": False, "sync": SYNCS[0], "growth": 1 << 30, "space": 1 << 28,
-            "append": False, "relative": False, "lines": False, "replace": False, "fixed": 0, "quiet": 2, "links": 1}
-PEOPLES = {"buffer": 65535}  # the same for the roles of PEOPLE
+            "append": False, "relative": False, "lines": False, "replace": False, "fixed": 0, "quiet": 2, "links": 16}
+BUFFERS = {"serve": 8192, "ask": 8192, **dict.fromkeys(PEOPLE, 65535)}  # the same for --buffer; a probe's end has its own
 # options of which one alone holds: one of the command line takes the place of another in the file of options
 GROUPS = (("interface", "udp", "frames"), ("save", "store", "folder"), ("password", "password_file", "password_env"))
+
+
+CHANGELOG = pathlib.Path(__file__).resolve().parent.parent.parent / "CHANGELOG.md"
+VERSION = re.compile(r"^## ([0-9.]+)", re.MULTILINE)
+# commands that people look for, and why there are none
+NO_COMMANDS = {**dict.fromkeys(("dir", "directory", "list", "ls"), "a live end has no directories"),
+               **dict.fromkeys(("delete", "del", "rm", "erase"), "a live end deletes no file that it didn't make"),
+               **dict.fromkeys(("rename", "ren", "mv"), "a live end renames no file")}
 
 
 class Mistake(Exception):
@@ -32,17 +45,40 @@ class Mistake(Exception):
 
     def __init__(self, parser, what):
         super().__init__(what)
-        self.text = f"{parser.format_usage()}{parser.prog}: error: {what}"
+        self.text = f"{parser.prog}: {what}; see {parser.prog} --help"
+
+
+class Asked(Exception):
+    """A text that the words ask for."""
 
 
 class Parser(argparse.ArgumentParser):
-    """A parser that leaves options out that aren't given, and whose mistakes can be caught."""
+    """A parser that leaves options out that aren't given, and whose mistakes and texts can be caught."""
 
     def __init__(self, **more):
         super().__init__(**{"allow_abbrev": False, "argument_default": argparse.SUPPRESS, **more})
 
     def error(self, message):
         raise Mistake(self, message)
+
+    def print_help(self, file=None):
+        raise Asked(self.format_help())
+
+    @property
+    def names(self):
+        """The names of its options."""
+        return [name for action in self._actions for name in action.option_strings]
+
+
+class Version(argparse.Action):
+    """The version of this repository, which is the first one of the changelog."""
+
+    def __call__(self, parser, namespace, values, option_string=None):
+        try:
+            found = VERSION.search(CHANGELOG.read_text(encoding="utf-8"))
+        except OSError:
+            found = None
+        raise Asked(f"{parser.prog} {found[1] if found else 'of no version'}\n")
 
 
 # ---- what a word may be
@@ -75,8 +111,16 @@ def udp_word(text):
         raise argparse.ArgumentTypeError(str(fault)) from fault
 
 
+def user_word(text):
+    try:
+        privileges.find(text)
+    except ValueError as fault:
+        raise argparse.ArgumentTypeError(str(fault)) from fault
+    return text
+
+
 def rights_word(text):
-    if read_rights(text) is None:
+    if not are_rights(text):
         raise argparse.ArgumentTypeError(f"{text[:40]} isn't some of get, put, upd and del, with commas between them")
     return text
 
@@ -99,12 +143,17 @@ def add_network(parser):
                          help="Ethernet frames over UDP, as emulators and bridges send them, in place of an interface")
     network.add_argument("--frames", type=number(3, 65535), metavar="FD",
                          help="for tests: a socket that carries frames, in place of an interface")
+    parser.add_argument("--as", dest="as_user", metavar="USER", type=user_word,
+                        help="become this user of the host when the network is open, the live end too")
     parser.add_argument("--node", metavar="NODE", help="this node, by its address AREA.NUMBER or its name")
     parser.add_argument("--router", metavar="NODE", help="the router to nodes that nothing came from yet")
     parser.add_argument("--nodes", metavar="FILE", help="names of nodes, in lines `1.10 VAX` (default ~/.config/daplive/nodes)")
     parser.add_argument("--options", metavar="FILE",
                         help="options, a line each; those of the command line come first (default ~/.config/daplive/options)")
     parser.add_argument("--pcap", metavar="FILE", help="write all frames, both ways, after those of this pcap file")
+
+
+def add_tests(parser):
     parser.add_argument("--harm", type=number(0, 90, float), metavar="PERCENT",
                         help="for tests: lose, repeat and swap this share of the frames that are sent")
     parser.add_argument("--seed", type=int, metavar="N", help="for tests: which frames those are")
@@ -114,7 +163,8 @@ def add_link(parser):
     parser.add_argument("--segment", type=number(nsp.MIN_SEGMENT, nsp.MAX_SEGMENT), metavar="BYTES",
                         help="the most bytes of a segment, 64 to 1400 (default 512)")
     parser.add_argument("--window", type=number(1, 2047), metavar="N", help="segments on their way, 1 to 2047")
-    parser.add_argument("--buffer", type=number(64, 65535), metavar="BYTES", help="the live end's buffer, 64 to 65535")
+    parser.add_argument("--buffer", type=number(64, 65535), metavar="BYTES",
+                        help="the live end's buffer, 64 to 65535 (default 8192; 65535 for copy, type, get, put)")
     parser.add_argument("--resend", type=number(0.01, 60, float), metavar="SECONDS",
                         help="send a packet again after this many seconds without an answer (default 1)")
     parser.add_argument("--tries", type=number(1, 1000), metavar="N", help="give up after this many tries (default 30)")
@@ -164,14 +214,17 @@ def add_limits(parser):
     parser.add_argument("--space", type=number(1 << 10, 1 << 40), metavar="BYTES",
                         help="close a link that stores more than this, as FILE has it (default 268435456)")
     parser.add_argument("--links", type=number(1, 1023), metavar="N",
-                        help="take this many links at once, 1 to 1023 (default 1)")
+                        help="take this many links at once, 1 to 1023 (default 16)")
     parser.add_argument("--stop-after", type=number(1, 1_000_000_000), metavar="N", help="stop after this many links")
 
 
-def add_other(parser):
-    """The options of a role that opens a link."""
+def add_patience(parser):
     parser.add_argument("--patience", type=number(0.1, 86400, float), metavar="SECONDS",
                         help="give up after this many seconds without progress of a request (default 120)")
+
+
+def add_access(parser):
+    """What a role that opens a link says of who asks."""
     parser.add_argument("--user", type=image_word, metavar="NAME", help="access control: at most 39 bytes each")
     parser.add_argument("--account", type=image_word, metavar="NAME")
     password = parser.add_mutually_exclusive_group()
@@ -218,13 +271,15 @@ def add_source(parser):
 
 
 def add_gotten(parser):
-    add_source(parser)
     parser.add_argument("--number", required=True, type=number(1, MAX_NUMBER), metavar="N", help="the record's number")
 
 
-def add_put(parser):
+def add_changed(parser):
     parser.add_argument("target", metavar="NODE::NAME")
     parser.add_argument("record", metavar="TEXT", type=os.fsencode)
+
+
+def add_put(parser):
     parser.add_argument("--number", type=number(1, MAX_NUMBER), metavar="N",
                         help="the record's number (default after all others)")
 
@@ -235,36 +290,81 @@ def add_password(parser):
                         help="the most that the user may do with files: get, put, upd, del, with commas between them (default all)")
 
 
-# of each role what it does, its options, and its other words
+# ---- the roles
+
+
+@dataclass(frozen=True)
+class Kind:
+    """What a role does, its words and an example of them; its own options, those of all that open a link, and other words."""
+
+    text: str
+    usage: str
+    example: str
+    own: tuple
+    access: tuple = ()
+    others: tuple = ()
+
+    @property
+    def groups(self):
+        """Its options under their titles, its own ones first."""
+        if not self.own:
+            return ()
+        identity = () if add_probing in self.own else (add_identity,)
+        return (("options of this command", self.own), *((("access control", self.access),) if self.access else ()),
+                ("options of the network", (add_network,)), ("options of the link and of the live end", (add_link, *identity)),
+                ("options for tests", (add_tests,)))
+
+
+WAY = "--udp 4711:localhost:4712 --node"
+CLIENT = {"access": (add_access,)}
 ROLES = {
-    "serve": ("take links to object 17 (FAL)", (add_network, add_link, add_identity, add_keeping, add_names, add_entry, add_limits), ()),
-    "ask": ("ask a node for what standard input says", (add_network, add_link, add_identity, add_other, add_asking), ()),
-    "copy": ("copy a file from a node, or to one", (add_network, add_link, add_identity, add_other, add_copying), (add_copied,)),
-    "type": ("write a node's file as text", (add_network, add_link, add_identity, add_other), (add_source,)),
-    "get": ("write a record of a node's file", (add_network, add_link, add_identity, add_other), (add_gotten,)),
-    "put": ("put a record into a node's file", (add_network, add_link, add_identity, add_other), (add_put,)),
-    "probe": ("test a node's file access listener beside the proved one", (add_network, add_link, add_other, add_probing), ()),
-    "password": ("print the line of --users for a user and the password on standard input", (), (add_password,)),
+    "serve": Kind("take links to object 17 (FAL)", "", f"{WAY} 1.2 --folder DIR",
+                  (add_keeping, add_names, add_entry, add_limits)),
+    "ask": Kind("ask a node for what standard input says", "<REQUESTS", f"--to 1.2 {WAY} 1.1 <REQUESTS", (add_asking, add_patience),
+                **CLIENT),
+    "copy": Kind("copy a file from a node, or to one", "FROM TO", f"DATA.TXT 1.2::DATA.TXT {WAY} 1.1", (add_copying, add_patience),
+                 others=(add_copied,), **CLIENT),
+    "type": Kind("write a node's file as text", "NODE::NAME", f"1.2::DATA.TXT {WAY} 1.1", (add_patience,), others=(add_source,), **CLIENT),
+    "get": Kind("write a record of a node's file", "NODE::NAME --number N", f"1.2::REL.DAT --number 3 {WAY} 1.1",
+                (add_patience,), others=(add_source, add_gotten), **CLIENT),
+    "put": Kind("put a record into a node's file", "NODE::NAME TEXT", f"1.2::DATA.TXT 'one more line' {WAY} 1.1",
+                (add_put, add_patience), others=(add_changed,), **CLIENT),
+    "probe": Kind("test a node's file access listener beside the proved one", "--to NODE", f"--to 1.2 {WAY} 1.1",
+                  (add_probing, add_patience), **CLIENT),
+    "password": Kind("print the line of --users for a user and the password on standard input", "NAME [--rights RIGHTS]",
+                     "SMITH --rights get,put >>users", (), others=(add_password,)),
 }
 
 
 def build():
     """The parser of all words, and that of each role."""
-    parser = Parser(prog="bridge.py", description="One DECnet Phase IV end node before one live end of a DAP file access.")
-    roles = parser.add_subparsers(dest="role", required=True, metavar="|".join(ROLES))
+    parser = Parser(prog="bridge.py", usage="bridge.py COMMAND ..", epilog="bridge.py COMMAND --help has the words of a command.",
+                    description="One DECnet Phase IV end node before one live end of a DAP file access.")
+    parser.add_argument("--version", action=Version, nargs=0, help="the version of this repository")
+    roles = parser.add_subparsers(dest="role", required=True, metavar="COMMAND")
     found = {}
-    for name, (text, adding, others) in ROLES.items():
-        found[name] = roles.add_parser(name, help=text, description=text[0].upper() + text[1:] + ".")
-        for add in (*others, *adding):
+    for name, kind in ROLES.items():
+        usage = " ".join(filter(None, ("bridge.py", name, kind.usage, "[OPTIONS]" if kind.own else "")))
+        found[name] = roles.add_parser(name, prog=f"bridge.py {name}", usage=usage, help=kind.text,
+                                       description=f"{kind.text[0].upper()}{kind.text[1:]}.",
+                                       epilog=f"example: bridge.py {name} {kind.example}")
+        for add in kind.others:
             add(found[name])
+        add_groups(found[name], name)
     return parser, found
+
+
+def add_groups(parser, role):
+    for title, adding in ROLES[role].groups:
+        group = parser.add_argument_group(title)
+        for add in adding:
+            add(group)
 
 
 def options_of(role):
     """A parser of a role's options alone."""
     parser = Parser(prog="bridge.py", add_help=False, usage=argparse.SUPPRESS)
-    for add in ROLES[role][1]:
-        add(parser)
+    add_groups(parser, role)
     return parser
 
 
@@ -278,21 +378,53 @@ class Words:
         self.given = given
 
     def __getattr__(self, name):
-        found = PEOPLES.get(name) if self.given["role"] in PEOPLE else None
-        return self.given.get(name, DEFAULTS.get(name) if found is None else found)
+        return self.given.get(name, BUFFERS.get(self.given["role"]) if name == "buffer" else DEFAULTS.get(name))
 
 
 def read(words=None):
     """The words, those of the command line by default. Mistake where they are wrong."""
     parser, roles = build()
-    given = vars(parser.parse_args(words))
+    words = sys.argv[1:] if words is None else words
+    check_command(parser, words)
+    given, unknown = parser.parse_known_args(words)
+    given = vars(given)
     role = roles[given["role"]]
+    if unknown:
+        role.error(no_option(role, unknown[0]))
     if given["role"] == "password":
         return Words(given)
     found = Words({**from_file(role, given), **given})
     find_nodes(role, found)
     check(role, found)
+    check_copy(role, given, found)
     return found
+
+
+def check_command(parser, words):
+    """Looks whether the first word is a command."""
+    word = words[0] if words else ""
+    if word in (*ROLES, *parser.names):
+        return
+    known = f"the commands are {', '.join(ROLES)}"
+    if not word or word.startswith("-"):
+        parser.error(f"the first word has to be a command: {known}")
+    if word.lower() in NO_COMMANDS:
+        parser.error(f"no command '{shown(word)}', since {NO_COMMANDS[word.lower()]}; {known}")
+    parser.error(f"no command '{shown(word)}'{nearest(word, ROLES)}; {known}")
+
+
+def no_option(role, word):
+    """What to say of a word that a role doesn't know."""
+    word = word.partition("=")[0]
+    if not word.startswith("-"):
+        return f"one word too many: '{shown(word)}'"
+    return f"no option {shown(word)}{nearest(word, role.names)}"
+
+
+def nearest(word, known):
+    """Which word may be meant."""
+    found = difflib.get_close_matches(word, known, 1)
+    return f" (did you mean {found[0]}?)" if found else ""
 
 
 def config_file(name):
@@ -325,7 +457,7 @@ def find_nodes(parser, words):
     """Replaces names and addresses by nodes."""
     path = words.nodes or config_file("nodes")
     try:
-        names = read_names(path) if path else {}
+        names = read_names(path) if path else NodeNames()
     except (OSError, ValueError) as fault:
         parser.error(f"--nodes {path}: {getattr(fault, 'strerror', None) or fault}")
     name = None
@@ -345,9 +477,9 @@ def find_nodes(parser, words):
 def find_file(parser, words, names):
     """Which file of which node the words name, as `remote`; the other one, if any, is `host`."""
     named = [text for text in (words.source, words.target) if text is not None]
-    remote = [text for text in named if is_remote(text)] or named
+    remote = [text for text in named if is_remote(text)] or [text for text in named if is_meant_remote(text)] or named
     if len(remote) != 1:
-        parser.error("one of FROM and TO has to be NODE::NAME")
+        parser.error(f"{'only one of FROM and TO may' if is_meant_remote(remote[0]) else 'one of FROM and TO has to'} be NODE::NAME")
     try:
         words.given["remote"] = read_remote(remote[0], names)
     except ValueError as fault:
@@ -365,12 +497,20 @@ def check(parser, words):
         parser.error("--node is needed")
     for name in ("sync", "growth"):
         if name in words.given and words.store is None:
-            parser.error(f"--{name} is needed by --store alone")
+            parser.error(f"--{name}: only with --store")
     if words.folder is not None and words.files is not None:
         parser.error("--files: not with --folder, which has the files")
     words.given.setdefault("daplive", os.environ.get("DAPLIVE") or DAPLIVE)
     if words.role != "serve":
         check_other(parser, words)
+
+
+def check_copy(parser, given, words):
+    """Looks whether what was given for a copy, besides the file of options, means something in its direction."""
+    for name in ("replace", "lines") if words.is_stored else ("append", "fixed"):
+        if given["role"] == "copy" and name in given:
+            where = "a file of this host that is written" if words.is_stored else "a file that is stored on the other node"
+            parser.error(f"--{name}: only for {where}")
 
 
 def check_other(parser, words):
@@ -407,10 +547,16 @@ def read_password(parser, words):
     return words.password or b""
 
 
-def read_or_end():
-    """The words; wrong ones end the program with a text and status 2."""
+def read_or_end(closed):
+    """The words; wrong ones end the program with a text and status 2, and those that ask for a text with that one."""
     try:
         return read()
     except Mistake as fault:
         print(fault.text, file=sys.stderr)
         sys.exit(program.WORDS)
+    except Asked as text:
+        if 1 in closed:
+            print("bridge.py: standard output: closed", file=sys.stderr)
+            sys.exit(program.FAULT)
+        print(text, end="", flush=True)
+        sys.exit()

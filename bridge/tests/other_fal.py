@@ -12,6 +12,7 @@ from decnet import messages as dap
 from decnet.messages import Access, Complete, Control, Rac
 from decnet.nsp import image
 from decnet.raw import RawEnd
+from decnet.rights import FAC
 
 NAME = 15  # the type of a Name message
 CAPABILITIES = (0, 1, 2, 5, 6, 7, 8, 10, 11, 12, 13, 16, 18, 19, 20, 21, 22, 23, 24, 25, 26, 27, 33, 35, 37, 38, 40, 42)
@@ -129,7 +130,7 @@ class Listener:
     def access(self, body):
         function, (_, at) = body[0], take_number(body, 1)
         name, at = take_image(body, at)
-        self.fac = take_number(body, at)[0] if at < len(body) else 2
+        self.fac = take_number(body, at)[0] if at < len(body) else FAC["get"]
         name = re.sub(rb"^.*[:\]]|;.*$", b"", name).upper()
         if function == Access.ERASE:
             return [dap.message(dap.COMPLETE, bytes([Complete.RESPONSE]))] if self.files.pop(name, None) else [status(4, NOT_FOUND)]
@@ -216,7 +217,7 @@ class Listener:
         if pending == -2:
             records[self.current] = body
             return [status(1, DONE, dap.number(self.current))]
-        if not self.fac & 1:
+        if not self.fac & FAC["put"]:
             return [status(5, RIGHT)]
         number = pending if pending and pending > 0 else max(records, default=0) + 1
         limit = int.from_bytes(self.file["shape"].get("mrn", b""), "little")

@@ -10,7 +10,7 @@ from tests.support import PATIENCE, POLL, expect, expect_equal
 SILENCE = 0.4  # seconds in which nothing may happen
 SERVING, ASKING = "1.2", "1.1"
 CONFIGURATION = bytes.fromhex("01020a00040703050600000000")  # with which a client may begin, VMS by what it says
-OWN_CONFIGURATION = bytes.fromhex("01020e0004120d0506000000e6e8f08020")  # with which a live end begins, and answers
+OWN_CONFIGURATION = bytes.fromhex("01020e0020120d0506000000e6e8f08020")  # with which the live end of a bridge begins, and answers
 
 
 def frame_between(sender, receiver, packet):

@@ -197,10 +197,10 @@ def pair():
 
 
 def build():
-    """A first start, which builds ./daplive where it isn't built and no other live end is named."""
+    """A first start, which builds ./daplive where it isn't built and no other live end is named. What that says is seen."""
     program = os.environ.get("DAPLIVE") or str(DAPLIVE)
-    run = subprocess.run([program, "--help"], capture_output=True, text=True, check=False, timeout=BUILD_SECONDS)
-    expect(run.returncode == 0, f"{program} --help: {run.stderr}")
+    run = subprocess.run([program, "--help"], stdout=subprocess.DEVNULL, check=False, timeout=BUILD_SECONDS)
+    expect(run.returncode == 0, f"{program} --help: status {run.returncode}")
 
 
 def default_signals():

@@ -28,19 +28,19 @@ class AskCase(PairCase):
 
 class RefusalTest(AskCase):
     def test_all_is_good(self):
-        reports = ["report ready 1024", "report opened 0 1 2 0", "report connected", "report stored", "report closed"]
+        reports = ["report ready 8192", "report opened 0 1 2 0", "report connected", "report stored", "report closed"]
         status, found, told = self.asks(STORING)
         self.assertEqual((status, found), (0, reports), told)
 
     def test_a_report_of_a_refusal_stops_it(self):
         status, reports, told = self.asks(b"hello\n\n# a comment\nopen 4e 2\nconnect\nfetch\n")
-        self.assertEqual((status, reports), (1, ["report ready 1024", "report refused 4032 0"]))
+        self.assertEqual((status, reports), (1, ["report ready 8192", "report refused 4032 0"]))
         self.assertIn("bridge: line 4: 'open 4e 2': refused: no such file (4032, 0)\n", told)
         self.assertIn("closed at line 4, which was refused", told)
 
     def test_it_goes_on_where_that_is_asked_for(self):
         status, reports, told = self.asks(b"hello\nopen 4e 2\nconnect\n", "--go-on")
-        self.assertEqual((status, reports), (1, ["report ready 1024", "report refused 4032 0", "refused ask-phase"]))
+        self.assertEqual((status, reports), (1, ["report ready 8192", "report refused 4032 0", "refused ask-phase"]))
         self.assertIn("line 3: 'connect': it doesn't fit here\n", told)
 
     def test_a_request_that_is_none(self):
@@ -71,6 +71,8 @@ class RefusalTest(AskCase):
         batch, name = "report batch 2 refused 0127 0 1:0102 2:-", "report refused 4000 1"
         self.assertEqual(answers.refusal(batch), "refused: by the other end (0127, 0)")
         self.assertEqual(answers.refusal(name), "refused: a file of that name is there (4000, 1)")
+        self.assertEqual(answers.refusal("report refused 4000 2"), "refused: this user, or this file, doesn't allow that (4000, 2)")
+        self.assertEqual(answers.refusal("report refused 5000 2"), "refused: the file isn't open for that (5000, 2)")
         for report in ("report stored", "report batch 1 stopped 1:41", "report done 1", "report end-of-file"):
             self.assertIsNone(answers.refusal(report))
 
@@ -105,6 +107,16 @@ class PatienceTest(PairCase):
         station.hear_kind(Kind.DISCONNECT)
 
 
+class StartTest(PairCase):
+    def test_ctrl_c_and_a_stop_while_parts_are_imported_have_no_traceback(self):
+        """A module of the standard library is one that waits."""
+        (self.folder / "argparse.py").write_text("import time\nprint('here', flush=True)\ntime.sleep(60)\n")
+        for number in (signal.SIGINT, signal.SIGTERM):
+            child = self.start([*PYTHON, BRIDGE, "ask"], env={**os.environ, "PYTHONPATH": str(self.folder)})
+            child.wait_for("here", child.out)
+            self.assertEqual((child.finish(number), child.told()), (-number, ""))
+
+
 class StandardFilesTest(AskCase):
     def redirected(self, how, requests=b"hello\n"):
         """An asking bridge started by a shell that redirects its standard files."""
@@ -133,7 +145,7 @@ class StandardFilesTest(AskCase):
 
     def test_standard_error_is_closed(self):
         child = self.redirected("2>&-")
-        self.assertEqual((child.finish(), child.reports()), (0, ["report ready 1024"]))
+        self.assertEqual((child.finish(), child.reports()), (0, ["report ready 8192"]))
 
     def test_a_pipe_that_is_closed_is_silent(self):
         reading, writing = os.pipe()
@@ -142,6 +154,18 @@ class StandardFilesTest(AskCase):
         os.close(writing)
         self.assertEqual(child.finish(), -signal.SIGPIPE)
         self.assertEqual(child.told(), "")
+
+    def test_ctrl_c_while_the_link_is_being_closed(self):
+        """As where the same Ctrl-C ends what standard input comes from."""
+        child = self.bridge("ask", self.raw, "--to", SERVING, *HASTE, stdin=None)
+        child.write(b"hello\n")
+        until(lambda: child.reports(), "a report")
+        self.server.process.send_signal(signal.SIGSTOP)
+        child.end_input()
+        time.sleep(0.5)
+        self.assertEqual(child.finish(signal.SIGINT), 1)
+        self.assertEqual(child.told(), "bridge: stopped by a signal\n")
+        self.server.process.send_signal(signal.SIGCONT)
 
     def test_ctrl_c(self):
         child = self.bridge("ask", self.raw, "--to", SERVING, *HASTE, stdin=None)

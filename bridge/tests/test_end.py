@@ -32,6 +32,18 @@ class EndTest(Case):
         self.assertEqual(len(end.say("files")[0]), 20_000_000)
         self.assertLess(time.monotonic() - begun, PROMPT)
 
+    def test_many_long_lines_are_written_in_linear_time(self):
+        """What is told while the end reads nothing is written later; it is all there, and in order."""
+        end, found = self.of("return [str(len(line)), line[:1], line[-1:]]"), []
+        texts = [chr(97 + number % 26) * (200_000 + number) + chr(65 + number % 26) for number in range(200)]
+        begun = time.process_time()
+        for text in texts:
+            end.tell(text, Answer(found.append))
+        while end.is_busy:
+            end.turn()
+        self.assertLess(time.process_time() - begun, PROMPT / 2)
+        self.assertEqual(found, [[str(len(text)), text[0], text[-1]] for text in texts])
+
     def test_nonsense(self):
         for number, text in enumerate(["waits " + "9" * 5000, "waits -1", "waits \u00b2", "waits x"]):
             script = f"import sys\nfor line in sys.stdin: print({text!r}, flush=True)\n"
@@ -47,6 +59,10 @@ class EndTest(Case):
     def test_one_that_has_ended(self):
         end = self.end("serve", program=self.script("ended", "import sys\nsys.exit(7)\n"))
         self.assertIn("ended with status 7", self.fault(end))
+
+    def test_a_program_that_is_none(self):
+        self.assertEqual(self.fault(self.end("serve", program="/bin/true")), "/bin/true ended with status 0 and answered nothing: it is no daplive")
+        self.assertEqual(self.fault(self.end("serve", program="/bin/false")), "/bin/false ended with status 1")
 
     def test_one_that_is_not_there(self):
         with self.assertRaisesRegex(EndFault, "can't be started: No such file"):

@@ -3,6 +3,7 @@ import os
 import stat
 from unittest import mock
 
+from decnet.directory import Directory
 from decnet.folder import Folder
 from decnet.kept import Keeper
 from decnet.locked import KeptFault
@@ -58,10 +59,71 @@ class ReadTest(FolderCase):
         os.mkfifo(self.path / "pipe")
         self.assertEqual(self.lines(self.open()), [*file_of("a"), *file_of("b", b"one", b"", b"last without end")])
 
-    def test_a_line_that_is_too_long_stops_the_start(self):
-        self.put(a=b"x" * 32_768)
-        with self.assertRaisesRegex(KeptFault, "/a: line 1 has more than 32767 bytes"):
-            self.lines(self.open())
+    def test_what_can_be_no_file_is_told_and_the_others_are_served(self):
+        self.put(a=b"x" * 32_768, b=b"good\n", c=b"no right\n")
+        folder, read = self.open(), os.open
+
+        def denied(name, *more, **options):
+            if name == b"c":
+                raise PermissionError(13, "Permission denied")
+            return read(name, *more, **options)
+
+        with mock.patch("decnet.directory.os.open", denied):
+            self.assertEqual(self.lines(folder), file_of("b", b"good"))
+            self.assertEqual(folder.said(), [f"{self.path}/a: line 1 has more than 32767 bytes: it isn't served",
+                                             f"{self.path}/c: Permission denied: it isn't served"])
+            self.assertEqual((folder.changes(), folder.said()), ([], []), "it is told once")
+        os.utime(self.path / "c", (1, 1))
+        self.put(a=b"short\n")
+        self.assertEqual(folder.changes(), [*file_of("a", b"short"), *file_of("c", b"no right")])
+
+    def test_what_is_no_plain_file_is_told(self):
+        (self.path / "folder").mkdir()
+        (self.path / "link").symlink_to("folder")
+        folder = self.open()
+        self.assertEqual((self.lines(folder), folder.said()),
+                         ([], [f"{self.path}: not served: folder (a folder), link (a symbolic link)"]))
+
+    def test_a_link_or_a_pipe_that_is_put_there_meanwhile_is_not_followed(self):
+        """After the folder was looked at, and before the file is opened."""
+        secret = self.file("secret", ["secret"])
+        for make in (lambda path: path.symlink_to(secret), os.mkfifo):
+            self.put(a=b"one\n", b=b"two\n")
+            folder, find = self.open(), Directory.state_of
+
+            def put_there(directory, name, make=make, find=find):
+                found = find(directory, name)
+                if name == b"a":
+                    (self.path / "a").unlink()
+                    make(self.path / "a")
+                return found
+
+            with mock.patch.object(Directory, "state_of", put_there):
+                self.assertEqual(self.lines(folder), file_of("b", b"two"))
+            folder.close()
+            (self.path / "a").unlink()
+
+    def test_the_folder_that_was_locked_is_read_and_no_other_in_its_place(self):
+        self.put(a=b"one\n")
+        folder = self.open()
+        os.rename(self.path, self.folder / "away")
+        self.path.mkdir()
+        self.put(a=b"of another folder\n")
+        self.assertEqual(self.lines(folder), file_of("a", b"one"))
+        self.assertEqual((folder.changes(), folder.said()), ([], [f"{self.path}: another folder is there now"]))
+        _, fault = self.write_back(folder, file_of("a", b"by a link"))
+        self.assertIn("another folder is there now", str(fault))
+        self.assertEqual(self.texts(), {"a": b"of another folder\n"})
+
+    def test_kept_files_that_are_no_plain_file_stop_the_start(self):
+        path = self.path / ".daplive"
+        for make, kind in ((os.mkfifo, "a device"), (os.mkdir, "a folder"), (lambda one: os.symlink("a", one), "a symbolic link")):
+            make(path)
+            folder = self.open()
+            with self.assertRaisesRegex(KeptFault, f"/.daplive: it is {kind}, and no plain file"):
+                self.lines(folder)
+            folder.close()
+            path.rmdir() if kind == "a folder" else path.unlink()
 
     def test_one_bridge_serves_a_folder_that_it_can_write(self):
         self.open()
@@ -111,17 +173,43 @@ class ChangesTest(FolderCase):
         self.assertEqual(self.texts()["a.host"], b"x" * 32_768)
         self.assertEqual(self.texts()["a"], b"by a link\n")
 
-    def test_a_file_that_the_live_end_refuses_is_left_alone(self):
+    def test_of_two_names_that_are_one_the_other_is_served_when_the_first_is_gone(self):
         self.put(a=b"one\n", A=b"two\n")
         folder = self.open()
         self.lines(folder)
-        self.assertEqual(folder.refused("file 41 seq variable 0 0"), f"{self.path}/A: another file has this name")
-        self.assertEqual(folder.refused("  1 41"), str(self.path))
+        self.assertTrue(folder.leaves_out("file 61 seq variable 0 0", "refused 4000 1"))
+        self.assertTrue(folder.leaves_out("  1 41", "refused 4032 0"))
+        self.assertFalse(folder.leaves_out("  1 41", "refused no-memory"))
+        self.assertEqual(folder.said(), [f"{self.path}/a: another file has this name: it isn't served"])
         self.assertEqual(folder.changes(), [])
-        self.assertEqual(self.write_back(folder, file_of("a", b"by a link")), ([], None))
-        self.assertEqual(self.texts(), {"a": b"by a link\n", "A": b"two\n"})
-        self.put(A=b"two and more\n")
-        self.assertEqual(folder.changes(), file_of("A", b"two and more"))
+        self.assertEqual(self.write_back(folder, file_of("A", b"by a link")), ([], None))
+        self.assertEqual(self.texts(), {"A": b"by a link\n", "a": b"one\n"})
+        (self.path / "A").unlink()
+        self.assertEqual(folder.changes(), ["drop 41", *file_of("a", b"one")])
+
+    def test_a_kept_file_that_the_live_end_refuses_stays_kept(self):
+        folder = self.open()
+        self.lines(folder)
+        kept = file_of("r", b"x", attributes="rel variable 0 9")
+        self.write_back(folder, kept)
+        folder.close()
+        folder = self.open()
+        self.assertEqual(self.lines(folder), kept)
+        self.assertTrue(folder.leaves_out(kept[0], "refused 4000 1"))
+        self.assertEqual(folder.said(), [f"{self.path}/r: another file has this name: it stays in .daplive, and it isn't served"])
+        self.assertEqual(self.write_back(folder, file_of("s", b"x", attributes="rel variable 0 9"))[1], None)
+        self.assertIn("\n".join(kept), (self.path / ".daplive").read_text())
+
+
+    def test_what_the_live_end_has_no_memory_for_is_not_written_over(self):
+        folder = self.open()
+        self.lines(folder)
+        self.put(a=b"one\ntwo\n")
+        self.assertEqual(folder.changes(), file_of("a", b"one", b"two"))
+        self.assertFalse(folder.leaves_out("  2 74776f", "refused no-memory"))
+        told, fault = self.write_back(folder, file_of("a", b"one"))
+        self.assertIn("/a: the file of this host isn't served: it stays as it was", told[0])
+        self.assertEqual((self.texts(), fault), ({"a": b"one\ntwo\n"}, None))
 
 
 class WriteTest(FolderCase):
@@ -168,27 +256,121 @@ class WriteTest(FolderCase):
         others = [*file_of("r", b"x", attributes="rel variable 0 9"), *file_of("lf", b"a\nb"), *file_of("cr", b"a\r"),
                   *file_of("../up", b"x"), *file_of("a/b", b"x"), *file_of(".hidden", b"x"), *file_of("\x1b", b"x"), *file_of("\udcff", b"x"),
                   *file_of("folder", b"x"), *file_of("n" * 201, b"x"), "file - seq variable 0 0"]
-        self.assertEqual(self.write_back(folder, [*file_of("a", b"one"), *others]), ([], None))
+        folder.said()
+        told, fault = self.write_back(folder, [*file_of("a", b"one"), *others])
+        self.assertEqual((len(told), fault), (sum(line.startswith("file") for line in others), None))
+        self.assertEqual(told[1], f"{self.path}/lf: record 1 has an LF, or a CR at its end, and is no line of a text: it is kept in "
+                         ".daplive")
         self.assertEqual(sorted(one.name for one in self.path.iterdir()), [".daplive", "a", "folder"])
+        self.assertEqual(self.write_back(folder, [*file_of("a", b"one"), *others]), ([], None))
         folder.close()
-        self.assertEqual(self.lines(self.open()), [*others, *file_of("a", b"one")])
+        self.assertEqual(self.lines(self.open()), [*file_of("a", b"one"), *others])
 
-    def test_a_text_that_is_none_any_more(self):
-        """It is among the others, and stays there; a kill between the two writes leaves both, and nothing is lost."""
+    def begun(self):
+        """A folder whose file `a` a link has made what no text is."""
         self.put(a=b"one\n")
         folder = self.open()
         self.lines(folder)
-        with mock.patch("decnet.folder.os.unlink", side_effect=OSError(5, "killed")):
-            self.write_back(folder, file_of("a", b"one\ntwo"))
+        self.assertEqual(self.write_back(folder, file_of("a", b"one\ntwo")), (
+            [f"{self.path}/a: record 1 has an LF, or a CR at its end, and is no line of a text: it stays as it was, and what links "
+             "see is kept in .daplive"], None))
         self.assertEqual(self.texts(), {"a": b"one\n"})
+        return folder
+
+    BESIDE = [*file_of("a", b"one"), *file_of("a.put", b"one\ntwo")]
+
+    def test_a_file_of_the_host_stays_as_it_was_where_links_made_it_no_text(self):
+        folder = self.begun()
+        self.assertEqual(folder.changes(), [], "links see what was put")
+        self.assertEqual(self.write_back(folder, file_of("a", b"one\ntwo", b"more")), ([], None))
+        self.assertEqual(self.texts(), {"a": b"one\n"})
+        self.write_back(folder, file_of("a", b"one\ntwo"))
         folder.close()
         folder = self.open()
-        self.assertEqual(self.lines(folder), file_of("a", b"one\ntwo"))
-        self.assertEqual((self.texts(), len(folder.listing(None).told())), ({"a.host": b"one\n"}, 1))
-        self.assertEqual(self.write_back(folder, file_of("a", b"one")), ([], None))
-        self.assertEqual(self.texts(), {"a.host": b"one\n"})
+        self.assertEqual(self.lines(folder), self.BESIDE, "at the next start both are served")
+        self.assertEqual(folder.said(), [f"{self.path}/a: it is served as it is here; what links had put in its place is a.put now"])
+        self.assertEqual(self.write_back(folder, self.BESIDE), ([], None))
         folder.close()
-        self.assertEqual(self.lines(self.open()), [*file_of("a", b"one"), *file_of("a.host", b"one")])
+        folder = self.open()
+        self.assertEqual((self.lines(folder), folder.said()), (self.BESIDE, []))
+
+    def test_it_is_served_again_when_the_host_changes_it(self):
+        folder = self.begun()
+        self.put(a=b"edited\n")
+        beside = [*file_of("a", b"edited"), *self.BESIDE[2:]]
+        self.assertEqual(folder.changes(), ["drop 61", *beside])
+        self.assertEqual(folder.changes(), [])
+        self.assertEqual(self.write_back(folder, beside)[1], None)
+        folder.close()
+        self.assertEqual(self.lines(self.open()), beside)
+
+    def test_kept_files_that_cannot_be_written_are_written_later(self):
+        folder = self.begun()
+        folder.close()
+        folder = self.open()
+        with mock.patch("decnet.directory.os.fsync", side_effect=OSError(28, "No space left on device")):
+            self.assertEqual(self.lines(folder), self.BESIDE)
+        self.assertIn(f"{self.path}/.daplive: No space left on device", folder.said())
+        self.assertEqual(self.write_back(folder, self.BESIDE), ([], None))
+        self.assertIn(f"file {name_of('a.put')} ", (self.path / ".daplive").read_text())
+
+    def test_a_file_that_no_link_has_changed_is_not_kept_where_it_is_gone(self):
+        self.put(a=b"one\n", b=b"two\n")
+        folder = self.open()
+        self.lines(folder)
+        (self.path / "a").unlink()
+        (self.path / "a").mkdir()
+        self.assertEqual(self.write_back(folder, [*file_of("a", b"one"), *file_of("b", b"by a link")]), ([], None))
+        self.assertFalse((self.path / ".daplive").exists())
+        self.assertEqual(folder.changes(), ["drop 61"])
+
+    def test_names_that_are_there_are_not_taken_for_it(self):
+        folder = self.begun()
+        self.put(**{"a": b"edited\n", "a.put": b"of the host\n"})
+        self.assertIn(f"file {name_of('a.put.2')} seq variable 0 0", folder.changes())
+
+    def test_what_a_link_stored_while_the_name_was_no_plain_file(self):
+        """A folder, or a symbolic link, has the name for a moment; then the host's file is there again."""
+        self.put(a=b"one\n")
+        folder = self.open()
+        self.lines(folder)
+        os.rename(self.path / "a", self.folder / "away")
+        (self.path / "a").mkdir()
+        told, fault = self.write_back(folder, file_of("a", b"by a link"))
+        self.assertEqual((told, fault), ([f"{self.path}/a: it is a folder here: it is kept in .daplive"], None))
+        self.assertEqual(folder.changes(), [])
+        (self.path / "a").rmdir()
+        os.rename(self.folder / "away", self.path / "a")
+        self.assertEqual(folder.changes(), ["drop 61", *file_of("a", b"one"), *file_of("a.put", b"by a link")])
+        self.assertEqual(folder.said(), [f"{self.path}/a: it is served as it is here; what links had put in its place is a.put now"])
+
+    def test_a_file_that_is_not_served_stays_where_a_link_makes_one_of_its_name(self):
+        self.put(a=b"x" * 32_768)
+        folder = self.open()
+        self.lines(folder)
+        told, fault = self.write_back(folder, file_of("a", b"by a link"))
+        self.assertIsNone(fault)
+        self.assertIn("/a: the file of this host isn't served: it stays as it was, and what links see is kept in .daplive", told[-1])
+        self.assertEqual(self.texts(), {"a": b"x" * 32_768})
+        self.put(a=b"short\n")
+        self.assertEqual(folder.changes(), ["drop 61", *file_of("a", b"short"), *file_of("a.put", b"by a link")])
+
+    def test_what_a_link_purges_is_taken_back_unless_somebody_has_edited_it(self):
+        folder = self.open()
+        self.lines(folder)
+        self.write_back(folder, [*file_of("a", b"one"), *file_of("b", b"two")])
+        self.put(b=b"edited\n")
+        self.assertEqual(self.write_back(folder, []), ([], None))
+        self.assertEqual(self.texts(), {"b": b"edited\n"})
+        self.assertEqual(folder.changes(), file_of("b", b"edited"))
+
+    def test_others_may_not_write_a_new_file(self):
+        folder = self.open()
+        self.lines(folder)
+        before = os.umask(0)
+        self.addCleanup(os.umask, before)
+        self.write_back(folder, [*file_of("a", b"one"), *file_of("r", b"x", attributes="rel variable 0 9")])
+        self.assertEqual([stat.S_IMODE((self.path / name).stat().st_mode) for name in ("a", ".daplive")], [0o640, 0o640])
 
     def test_others_that_were_cut_short_stop_the_start(self):
         folder = self.open()

@@ -8,6 +8,7 @@ from decnet import journal
 from decnet.journal import Journal, Parsed
 from decnet.locked import KeptFault
 from decnet.stored import Store, StoredEnd, left_links
+from tests.datagrams import log_of
 from tests.support import SEED, Case
 
 PROGRAM = f"{'0' * 64} serve"
@@ -21,8 +22,9 @@ class JournalCase(Case):
         self.path = self.folder / "store"
 
     def open(self, program=PROGRAM, sync="answers"):
-        found = Journal(self.path, program, sync)
+        found = Journal(self.path, sync)
         self.addCleanup(found.close)
+        found.begin(program)
         return found
 
     def renew(self, kept, files=tuple(FILES)):
@@ -124,6 +126,53 @@ class FileTest(JournalCase):
             kept.close()
             self.assertEqual(Parsed("store", self.path.read_bytes()).lines, [*told[:-1], "> 00"], length)
 
+    def test_what_is_not_taken_is_kept_and_said(self):
+        """A bit of the last line that has changed, the last line cut short, garbage after it; each has a file of its own."""
+        _, ends = self.begun(3)
+        data, path = self.path.read_bytes(), log_of(self)
+        flipped = data[:-20] + bytes([data[-20] ^ 1]) + data[-19:]
+        for number, bad in enumerate((flipped, data[:-1], data + bytes(99)), 1):
+            self.path.write_bytes(bad)
+            kept = self.open()
+            kept.go_on()
+            size = ends[-1] if number == 3 else ends[-2]
+            self.assertEqual((kept.size, kept.path.stat().st_size), (size, size))
+            kept.close()
+            torn = self.folder / ("store.torn" + (f".{number}" if number > 1 else ""))
+            self.assertEqual((torn.read_bytes(), torn.stat().st_mode & 0o777), (bad[size:], 0o600))
+            self.assertIn(f"bridge: {self.path}: {len(bad) - size} bytes from byte {size} on aren't taken: no good mark is after them. "
+                          f"They are kept as {torn}\n", path.read_text())
+        before = path.read_text()
+        kept = self.open()
+        kept.go_on()
+        self.assertEqual(path.read_text(), before, "a whole one loses nothing")
+
+    def test_what_cannot_be_kept_stops_the_start(self):
+        self.begun(3)
+        data = self.path.read_bytes()
+        self.path.write_bytes(data[:-1])
+        kept = self.open()
+        with mock.patch("decnet.journal.os.fsync", side_effect=OSError(28, "No space left on device")):
+            with self.assertRaisesRegex(KeptFault, "No space left on device"):
+                kept.go_on()
+        self.assertEqual(self.path.read_bytes(), data[:-1])
+        self.assertEqual([one.name for one in self.folder.iterdir()], ["store"])
+
+    def test_another_file_in_its_place_is_not_written_over(self):
+        kept = self.open()
+        kept.go_on()
+        self.assertIsNone(self.renew(kept))
+        self.path.unlink()
+        self.assertEqual(str(kept.misplaced()), f"{self.path}: somebody has removed it")
+        self.path.write_text("precious")
+        self.assertIn("somebody has put another file there, which is left as it is", str(kept.misplaced()))
+        self.assertIn("which is left as it is", str(self.renew(kept)))
+        self.assertEqual(self.path.read_text(), "precious")
+        self.path.unlink()
+        self.assertIsNone(self.renew(kept))
+        self.assertIsNone(kept.misplaced())
+        self.assertEqual(Parsed("store", self.path.read_bytes()).lines[1:], FILES)
+
     def test_nobody_else_reads_it_and_one_bridge_keeps_it(self):
         kept = self.open()
         self.assertEqual(self.path.stat().st_mode & 0o777, 0o600)
@@ -200,7 +249,7 @@ class FileTest(JournalCase):
             sizes.append(kept.size)
         marks = [line for line in self.path.read_bytes().split(b"\n") if line.startswith(journal.MARK)]
         self.assertEqual([journal.synced_in(mark) for mark in marks], [0, sizes[0], sizes[1]])
-        never = Journal(self.folder / "never", PROGRAM, "never")
+        never = Journal(self.folder / "never", "never")
         self.addCleanup(never.close)
         with mock.patch("decnet.journal.os.fdatasync") as sync:
             never.append("> 00")
@@ -293,6 +342,16 @@ class StoredEndTest(JournalCase):
         self.assertEqual((end.say("> 22"), store.fault), (["> 22"], None))
         lines = Parsed("store", self.path.read_bytes()).lines
         self.assertEqual(lines[1:], ["file 46 seq variable 0 0", "> 22"])
+
+    def test_nothing_is_reported_where_the_file_is_gone(self):
+        end, store = self.stored("return [line]")
+        faults = []
+        end.failed = faults.append
+        self.assertEqual(end.say("< 60"), ["< 60"])
+        self.path.unlink()
+        self.assertEqual(end.say("< 60"), [])
+        self.assertEqual([str(fault) for fault in faults], [f"{self.path}: somebody has removed it"])
+        self.assertEqual(store.look(), faults[0])
 
     def test_out_of_memory_makes_it_anew(self):
         end, store = self.stored("return ['refused no-memory'] if line[0] == '>' else []")

@@ -215,11 +215,11 @@ class SaveTest(KeptCase):
                  for count in ("01", "02")]
         self.assertEqual(told, [("first", texts[0]), ("second", texts[1]), ("third", texts[1])])
 
-
     def test_a_save_that_fails_in_any_way_is_told(self):
         file = self.keep()
-        with mock.patch.object(kept.Listing, "finish", side_effect=ZeroDivisionError("odd")):
+        with mock.patch.object(KeptFile, "replace", side_effect=ZeroDivisionError("odd")):
             self.assertEqual(str(self.save(file)), "ZeroDivisionError: odd")
+        self.assertEqual(list(self.path.parent.glob("kept*")), [self.path])
 
 
 class LoadTest(KeptCase):

@@ -8,7 +8,7 @@ from decnet import nsp
 from decnet.journal import Parsed
 from decnet.nsp import FlowControl, Kind, Reason
 from tests.pairs import PairCase
-from tests.station import CONFIGURATION, SERVING, segment
+from tests.station import CONFIGURATION, OWN_CONFIGURATION, SERVING, segment
 from tests.support import BRIDGE, PROGRAM, PYTHON, file_lines, pair, until
 
 HASTE = ["--resend", "0.2", "--tries", "50", "--idle", "1"]
@@ -94,7 +94,7 @@ class LinksCase(PairCase):
         return child
 
     def server(self, *words, links=2):
-        child = self.node("serve", SERVING, "--links", str(links), *words)
+        child = self.node("serve", SERVING, *(["--links", str(links)] if links else []), *words)
         child.wait_for("takes links")
         return child
 
@@ -130,7 +130,7 @@ class SharedTest(LinksCase):
         server = self.server(*self.words)
         first, second = (self.client(node) for node in NODES[:2])
         for child, name in ((first, 46), (second, 47)):
-            self.say(child, "hello", "report ready 1024", f"open {name} 3", OPENED, "connect", "report connected")
+            self.say(child, "hello", "report ready 8192", f"open {name} 3", OPENED, "connect", "report connected")
         third = self.far_station("1.9")
         self.assertEqual(third.refused(nsp.connect(9, 512, nsp.session())), (Kind.DISCONNECT, Reason.BUSY))
         for child, record in ((first, 43), (second, 44), (first, 45)):
@@ -141,12 +141,25 @@ class SharedTest(LinksCase):
         self.stop(server)
         self.assertEqual(file_lines(self.path), [*FILES[:2], "  2 43", "  3 45", *FILES[2:], "  2 44"])
 
+    def test_sixteen_links_by_default(self):
+        server = self.server(links=None)
+        stations = [self.far_station(f"1.{number}") for number in range(3, 19)]
+        for station in stations:
+            station.connect(9)
+            station.say_hello()
+            self.assertEqual(station.hear_segments(1), OWN_CONFIGURATION)  # with its buffer of 8,192 bytes
+        last = self.far_station("1.19")
+        self.assertEqual(last.refused(nsp.connect(9, 512, nsp.session())), (Kind.DISCONNECT, Reason.BUSY))
+        for station in stations:
+            station.disconnect()
+        self.stop(server)
+
     def test_readers_share_and_a_writer_waits_for_them(self):
         server = self.server(*self.words, links=3)
         first, second, third = (self.client(node) for node in NODES)
         for child in (first, second):
-            self.say(child, "hello", "report ready 1024", OPEN_TO_READ, OPENED)
-        self.say(third, "hello", "report ready 1024")
+            self.say(child, "hello", "report ready 8192", OPEN_TO_READ, OPENED)
+        self.say(third, "hello", "report ready 8192")
         third.write(f"{OPEN_TO_WRITE}\n".encode())
         self.assertEqual(third.finish(), 1)
         self.assertEqual(third.reports()[1:], [LOCKED])
@@ -155,7 +168,7 @@ class SharedTest(LinksCase):
         for child in (first, second):
             self.say(child, "close", "report closed")
         third = self.client(NODES[2])
-        self.say(third, "hello", "report ready 1024", OPEN_TO_WRITE, OPENED, "close", "report closed")
+        self.say(third, "hello", "report ready 8192", OPEN_TO_WRITE, OPENED, "close", "report closed")
         for child in (first, second, third):
             self.finish_asking(child)
         self.stop(server)
@@ -169,10 +182,36 @@ class SharedTest(LinksCase):
         gone.say(segment(gone.remote, gone.local, 2, ACCESS))
         gone.hear_segments(1, first=2)
         asking = self.client(NODES[0], "--go-on")
-        self.say(asking, "hello", "report ready 1024", OPEN_TO_WRITE, LOCKED)
+        self.say(asking, "hello", "report ready 8192", OPEN_TO_WRITE, LOCKED)
         server.wait_for("node 1.1 wants a file that is open over it")
         self.say(asking, OPEN_TO_WRITE, OPENED, "close", "report closed")
         self.finish_asking(asking, 1)
+        self.stop(server)
+
+    def test_a_link_that_only_acknowledges_gives_way_to_who_asks(self):
+        """After --idle, where somebody wanted a link; one that has asked for something stays."""
+        server = self.server(*self.words)
+        silent, asked = self.far_station("1.9"), self.far_station("1.8")
+        for number, station in enumerate((silent, asked)):
+            station.connect(0x0111 + number)
+        asked.say(segment(asked.remote, asked.local, 1, CONFIGURATION))
+        asked.hear_segments(1)
+        begun, third = time.monotonic(), self.far_station("1.7")
+        self.assertEqual(third.refused(nsp.connect(9, 512, nsp.session())), (Kind.DISCONNECT, Reason.BUSY))
+        reasons = []
+        while not reasons and time.monotonic() < begun + 30:
+            for station in (silent, asked):
+                packet = station.hear(0.05)
+                if packet and packet.kind is Kind.LINK_SERVICE:
+                    station.say(nsp.other_ack(station.remote, station.local, packet.number))
+                elif packet and packet.kind is Kind.DISCONNECT:
+                    reasons.append((station is silent, packet.reason))
+        self.assertEqual(reasons, [(True, Reason.TIMED_OUT)])
+        silent.say(nsp.disconnect_confirm(silent.remote, silent.local, Reason.COMPLETE))
+        server.wait_for("no request within 1 seconds since it was opened, and node 1.7 wants a link")
+        third.connect(10)
+        third.disconnect()
+        asked.disconnect()
         self.stop(server)
 
     def test_a_link_that_is_closed_lets_its_file_go_and_its_slot(self):
@@ -187,7 +226,7 @@ class SharedTest(LinksCase):
             near.say(nsp.disconnect(near.remote, near.local, Reason.NO_ERROR))
             near.hear_kind(Kind.DISCONNECT_CONFIRM)
             asking = self.client(NODES[0])
-            self.say(asking, "hello", "report ready 1024", OPEN_TO_WRITE, OPENED, "close", "report closed")
+            self.say(asking, "hello", "report ready 8192", OPEN_TO_WRITE, OPENED, "close", "report closed")
             self.finish_asking(asking)
         self.stop(server)
 
@@ -195,7 +234,7 @@ class SharedTest(LinksCase):
         server = self.server(*self.words, "--stop-after", "2", links=3)
         first, second = (self.client(node) for node in NODES[:2])
         for child in (first, second):
-            self.say(child, "hello", "report ready 1024")
+            self.say(child, "hello", "report ready 8192")
         third = self.far_station("1.9")
         self.assertEqual(third.refused(nsp.connect(9, 512, nsp.session())), (Kind.DISCONNECT, Reason.BUSY))
         for child in (first, second):
@@ -206,7 +245,7 @@ class SharedTest(LinksCase):
         server = self.server(*self.words)
         clients = [self.client(node) for node in NODES[:2]]
         for child in clients:
-            self.say(child, "hello", "report ready 1024")
+            self.say(child, "hello", "report ready 8192")
         self.stop(server)
         self.assertEqual([child.finish() for child in clients], [1, 1])
 
@@ -223,7 +262,7 @@ class StoreTest(LinksCase):
         server = self.server("--store", self.path)
         first, second = clients = [self.client(node) for node in NODES[:2]]
         for child, name in ((first, 46), (second, 47)):
-            self.say(child, "hello", "report ready 1024", f"create {name} 0 2 0 0 15", OPENED, "connect", "report connected")
+            self.say(child, "hello", "report ready 8192", f"create {name} 0 2 0 0 15", OPENED, "connect", "report connected")
         for number in range(1, 4):
             for child in clients:
                 self.say(child, f"put 4{number}", f"report done {number}")
@@ -241,7 +280,7 @@ class StoreTest(LinksCase):
     def test_of_two_links_the_one_without_flow_control_goes_on(self):
         server = self.server("--store", self.path)
         asking = self.client(NODES[0])
-        self.say(asking, "hello", "report ready 1024", "create 46 0 2 0 0 15", OPENED, "connect", "report connected")
+        self.say(asking, "hello", "report ready 8192", "create 46 0 2 0 0 15", OPENED, "connect", "report connected")
         gone = self.far_station("1.9")
         gone.connect(0x0111, control=FlowControl.SEGMENTS)
         gone.say_hello()

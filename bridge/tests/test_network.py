@@ -66,7 +66,7 @@ class Transfer:
         self.fixed = {number: chance.randbytes(5).hex() for number in (7, 2, 9)}
         listed = " ".join(f"{number}:{body}" for number, body in enumerate(self.bodies, 1))
         self.fetched = f"report batch {len(self.bodies)} complete {listed}"
-        turns = [("hello", "ready 1024")]
+        turns = [("hello", "ready 8192")]
         turns += [("create 46 0 2 0 0 15", "opened 0 2 0 0"), ("connect", "connected")]
         turns += [("store " + " ".join(self.bodies), "stored"), ("close", "closed")]
         turns += [("create 47 16 1 5 9 15", "opened 16 1 5 9"), ("connect", "connected")]
@@ -75,7 +75,7 @@ class Transfer:
         turns += [("open 505245 2", "opened 16 2 0 9"), ("connect", "connected")]
         turns += [("fetch", "batch 2 complete 2:70726573656e74 5:-"), ("close", "closed")]
         self.storing = turns
-        self.fetching = [("hello", "ready 1024"), ("open 46 2", "opened 0 2 0 0"), ("connect", "connected"),
+        self.fetching = [("hello", "ready 8192"), ("open 46 2", "opened 0 2 0 0"), ("connect", "connected"),
                          ("fetch", self.fetched.removeprefix("report ")), ("close", "closed")]
 
     @staticmethod
@@ -235,7 +235,7 @@ class LinkTest(CapturedCase):
 
     def test_a_second_link_is_refused_and_the_first_goes_on(self):
         """A second link is refused, and the first one goes on."""
-        server, station = self.serve(*SETTINGS), self.station()
+        server, station = self.serve(*SETTINGS, "--links", "1"), self.station()
         station.connect(0x0111)
         child = self.ask(*SETTINGS, stdin=b"hello\n")
         expect_equal((child.finish(), child.reports()), (1, []), "the exit status and reports of a refused link")
@@ -244,7 +244,7 @@ class LinkTest(CapturedCase):
         station.hear_segments(1)
         station.disconnect()
         child = self.ask(*SETTINGS, stdin=b"hello\n")
-        expect_equal((child.finish(), child.reports()), (0, ["report ready 1024"]), "a link after the first")
+        expect_equal((child.finish(), child.reports()), (0, ["report ready 8192"]), "a link after the first")
         self.stop(server)
 
     def test_opening(self):
@@ -481,7 +481,7 @@ class FaultTest(NetworkCase):
         server = self.serve(*SETTINGS)
         child = self.ask(*SETTINGS, "--go-on", stdin=b"close\nnothing\nhello\n# no request\n\nhello")
         expect_equal(child.finish(), 1, "the exit status after requests that aren't asked")
-        answers = ["refused ask-phase", "refused bad-line", "report ready 1024", "refused ask-phase"]
+        answers = ["refused ask-phase", "refused bad-line", "report ready 8192", "refused ask-phase"]
         expect_equal(child.reports(), answers, "the answers to requests that aren't asked")
         self.stop(server)
 
@@ -496,7 +496,7 @@ class FaultTest(NetworkCase):
             child = self.start([sys.executable, BRIDGE, *words], namespace=namespace, **more)
             return child.finish(), child.told()
 
-        daplive, node = ["--daplive", PROGRAM], ["--interface", serving, "--node", SERVING]
+        daplive, node = ["--daplive", PROGRAM], ["--interface", serving, "--node", SERVING, "--as", "root"]
         faults = {
             "No such device": run("serve", "--interface", "nothing", "--node", SERVING),
             "ip link set serving address aa:00:04:00:05:04": run("serve", "--interface", serving, "--node", "1.5"),

@@ -2,17 +2,21 @@
 import io
 import os
 import random
+import re
+import shlex
 import stat
+import tempfile
 import unittest
 
 from decnet import answers, hostfile, nodes, options, progress, scripts, texts, words
 from decnet.hostfile import HostFile
 from decnet.remote import is_remote, read_remote
 from decnet.scripts import Refused
+from decnet.talker import Script
 from decnet.texts import Text, TextFault
 from tests.support import SEED, Case, sweep_count
 
-NAMES = {"VAX": 1034, "HERE": 1025}
+NAMES = nodes.Names({"VAX": 1034, "HERE": 1025})
 
 
 class RemoteTest(unittest.TestCase):
@@ -122,8 +126,8 @@ class OptionsTest(Case):
         self.assertEqual((found.host, found.is_stored), ("-", False))
         found = self.read("type", '1.2"S P"::Y', *line)
         self.assertEqual((found.host, found.images), (None, (b"S", b"P", b"")))
-        for some in (["x", "y"], ["1.2::X", "1.2::Y"]):
-            self.mistake("one of FROM and TO has to be NODE::NAME", "copy", *some, *line)
+        self.mistake("copy: one of FROM and TO has to be NODE::NAME", "copy", "x", "y", *line)
+        self.mistake("only one of FROM and TO may be NODE::NAME", "copy", "1.2::X", "1.2::Y", *line)
         self.mistake("is this node itself", "type", "1.1::X", *line)
         self.mistake("given twice", "type", '1.2"S P"::X', "--user", "S", *line)
 
@@ -133,6 +137,72 @@ class OptionsTest(Case):
         self.assertEqual(self.read("type", '1.2"S"::Y', *line).images, (b"S", b"WORD", b""))
         self.assertEqual(self.read("type", "1.2::Y", "--user", "S", *line).images, (b"S", b"WORD", b""))
         self.mistake("given twice", "type", '1.2"S P"::X', *line)
+
+
+class MistakesTest(unittest.TestCase):
+    """What is said of words that people mistype: one line, with what may be meant, and where more is."""
+
+    LINE = ("--udp", "1:a:2", "--node", "1.1")
+    WAYS = (
+        (["server"], "bridge.py: no command 'server' (did you mean serve?); the commands are serve, ask, copy, "),
+        (["dir", "1.2::"], "bridge.py: no command 'dir', since a live end has no directories; the commands are "),
+        (["DELETE", "1.2::X"], "bridge.py: no command 'DELETE', since a live end deletes no file that it didn't make; "),
+        (["rename", "1.2::X", "1.2::Y"], "bridge.py: no command 'rename', since a live end renames no file; "),
+        ([], "bridge.py: the first word has to be a command: the commands are "),
+        (["--node", "1.1", "serve"], "bridge.py: the first word has to be a command: "),
+        (["copy", "x", "1.2::X", "--usr", "X"], "bridge.py copy: no option --usr (did you mean --user?); see bridge.py copy --help"),
+        (["serve", "--folders", "x"], "bridge.py serve: no option --folders (did you mean --folder?); see bridge.py serve --help"),
+        (["serve", "--user=x"], "bridge.py serve: no option --user (did you mean --users?); see bridge.py serve --help"),
+        (["serve", "--qqq"], "bridge.py serve: no option --qqq; see bridge.py serve --help"),
+        (["serve", "x"], "bridge.py serve: one word too many: 'x'; see"),
+        (["copy", "x", "1.2:", *LINE], "bridge.py copy: 1.2: is no NODE::NAME, as 1.10::DATA.TXT; see"),
+        (["copy", "x", '1.2"SMITH::A', *LINE], "bridge.py copy: 1.2\"SMITH::A: the quote isn't closed, as in 1.10\"SMITH\"::DATA.TXT; see"),
+        (["type", '1.2"SMITH::A', *LINE], "bridge.py type: 1.2\"SMITH::A: the quote isn't closed"),
+        (["type", "VAX::A", *LINE], "bridge.py type: no node VAX is known: there is no file of names (--nodes); see"),
+        (["serve", "--udp", "99999:h:1"], "bridge.py serve: argument --udp: 99999 is no port, 1 to 65535; see"),
+        (["serve", "--udp", "1:h:123456"], "123456 is no port, 1 to 65535; see"),
+        (["serve", "--udp", "1:a:2", "--node", "1.1024"], "1.1024 is no DECnet address, as 1.10: an area 1 to 63, and a number 1 to 1023; see"),
+        (["serve", "--sync", "never", *LINE], "bridge.py serve: --sync: only with --store; see"),
+        (["serve", "--growth", "1048576", *LINE], "bridge.py serve: --growth: only with --store; see"),
+    )
+
+    def test_each_has_one_line(self):
+        for line, wanted in self.WAYS:
+            with self.subTest(line=line), self.assertRaises(words.Mistake) as caught:
+                words.read(line)
+            self.assertTrue(caught.exception.text.startswith(wanted) or wanted[0].isdigit(), (caught.exception.text, wanted))
+            self.assertIn(wanted, caught.exception.text)
+            self.assertNotIn("\n", caught.exception.text)
+
+    def test_the_file_of_names_is_named(self):
+        with tempfile.NamedTemporaryFile() as file, self.assertRaises(words.Mistake) as caught:
+            words.read(["type", "VAX::A", "--nodes", file.name, *self.LINE])
+        self.assertIn(f"no node VAX is in the file of names, {file.name}; see", caught.exception.text)
+
+
+class HelpTest(unittest.TestCase):
+    def text(self, *line):
+        with self.assertRaises(words.Asked) as caught:
+            words.read(line)
+        return str(caught.exception)
+
+    def test_own_options_come_first_and_an_example_last(self):
+        for name, kind in words.ROLES.items():
+            text = self.text(name, "--help")
+            self.assertTrue(text.startswith(f"usage: bridge.py {name}"), text)
+            self.assertIn(f"example: bridge.py {name} {kind.example}", " ".join(text.split()))
+            self.assertLess(text.index("\n"), 80, "a usage of one line")
+            if kind.own:
+                places = [text.index(f"options {title}:") for title in ("of this command", "of the network", "for tests")]
+                self.assertEqual(places, sorted(places))
+        self.assertLess(self.text("copy", "--help").index("--fixed BYTES"), self.text("copy", "--help").index("--udp LPORT"))
+
+    def test_examples_are_good_words(self):
+        for name, kind in words.ROLES.items():
+            self.assertEqual(words.read([name, *shlex.split(re.sub("[<>].*", "", kind.example))]).role, name)
+
+    def test_a_version(self):
+        self.assertRegex(self.text("--version"), r"^bridge\.py [0-9]+\.[0-9.]+\n$")
 
 
 class TextTest(Case):
@@ -160,6 +230,16 @@ class TextTest(Case):
         for data in (b"three", b"\tx", b"0\tx", b"2147483648\tx", b"-1\tx", b"1 x", b"\xd9\xa1\tx", b"1" * 5000 + b"\tx"):
             with self.assertRaisesRegex(TextFault, "line 1 doesn't begin with a number and a tab"):
                 texts.numbered_of(data)
+
+    def test_what_does_not_come_back_as_it_is(self):
+        for data, found in ((b"", []), (b"a\nb\n", []), (b"a\rb\n", []), (b"a", ["an LF added at the end"]),
+                            (b"a\r\nb\r\n", ["2 CRs at the end of a line left out"]),
+                            (b"a\nb\r", ["1 CR at the end of a line left out", "an LF added at the end"]),
+                            (b"\0\0\n", ["2 NUL bytes, which a text has none of"])):
+            self.assertEqual(texts.changes_of(data), found, data)
+        for size, found in ((3, []), (1, []), (4, ["2 zero bytes added to the last record; --fixed 3 adds none"]),
+                            (7, ["1 zero byte added to the last record; --fixed 6 adds none"])):
+            self.assertEqual(texts.padding_of(b"abcdef", size), found, size)
 
     def test_records_of_one_length(self):
         self.assertEqual(texts.pieces_of(b"abcde", 2), [b"ab", b"cd", b"e\0"])
@@ -262,7 +342,7 @@ def played(script, reports):
 
 
 class ScriptTest(unittest.TestCase):
-    OPENED = ["report ready 1024", "report opened 0 2 0 0", "report connected"]
+    OPENED = ["report ready 8192", "report opened 0 2 0 0", "report connected"]
 
     def test_store(self):
         requests, refusal = played(scripts.store(b"F", [b"A", b""]), [*self.OPENED, "report stored", "report closed"])
@@ -288,11 +368,52 @@ class ScriptTest(unittest.TestCase):
         self.assertEqual(requests[1:], ["create 46 16 2 0 0 1", "connect", "put key 3 41", "put key 1 -", "close"])
 
     def test_refusals_in_words(self):
-        for reports, what in ((["report ready 1024", "report refused 4000 1"], "refused: a file of that name is there (4000, 1)"),
-                              (["report ready 1024", "report refused 4032 0"], "refused: no such file (4032, 0)"),
-                              ([*self.OPENED, "report stored refused 5000 7 2"], "the record's length isn't one of the file's"),
-                              ([*self.OPENED, "refused ask-too-large"], "it is longer than the buffers of both ends allow (--buffer)")):
+        for reports, what in ((["report ready 8192", "report refused 4000 1"], "refused: a file of that name is there (4000, 1)"),
+                              (["report ready 8192", "report refused 4032 0"], "refused: no such file (4032, 0)"),
+                              ([*self.OPENED, "report stored refused 5000 7 2", "report closed"],
+                               "the record's length isn't one of the file's (5000, 7); what was stored is taken back"),
+                              ([*self.OPENED, "refused ask-too-large", "report closed"],
+                               "it is longer than the buffers of both ends allow (--buffer); what was stored is taken back"),
+                              ([*self.OPENED, "refused ask-too-large", "report refused 4052 0"],
+                               "what was stored is there, since it can't be taken back: refused: by the other end (4052, 0)")):
             self.assertIn(what, played(scripts.store(b"F", [b"A"]), reports)[1])
+
+    def test_what_was_there_is_never_taken_back(self):
+        requests, refusal = played(scripts.store(b"F", [b"A"], True), [*self.OPENED, "report stored refused 5000 7 2"])
+        self.assertEqual((requests[-1], refusal), ("store 41", "refused: the record's length isn't one of the file's (5000, 7)"))
+
+    def test_a_script_that_is_stopped(self):
+        """Before anything was made, while a request is on its way, and before the next one."""
+        script = Script(scripts.store(b"F", [b"A"]))
+        script.note("hello")
+        self.assertFalse(script.stop(), "nothing was made")
+        for is_asked in (True, False):
+            script = Script(scripts.store(b"F", [b"A"]))
+            for report in self.OPENED:
+                script.note(script.whole.pop()[1])
+                script.go_on(report)
+            if is_asked:
+                script.note(script.whole.pop()[1])
+            self.assertTrue(script.stop())
+            if is_asked:
+                self.assertEqual((script.whole, script.left()), ([], "; what was stored until then may be there"))
+                script.go_on("report stored")
+            self.assertEqual(script.whole.pop()[1], "purge")
+            script.go_on("report closed")
+            self.assertEqual((script.refusal, script.is_open, script.left()),
+                             ("stopped by a signal; what was stored is taken back", False, ""))
+        script = Script(scripts.store(b"F", [b"A"], True))
+        for report in self.OPENED:
+            script.note(script.whole.pop()[1])
+            script.go_on(report)
+        self.assertFalse(script.stop())
+
+    def test_numbers_are_for_relative_files(self):
+        for script in (scripts.get(b"F", 3, Text(print)), scripts.put(b"F", b"A", 3)):
+            self.assertIn("(5000, 8); the file is sequential, and --number is for relative files",
+                          played(script, [*self.OPENED, "report refused 5000 8"])[1])
+        opened = [*self.OPENED[:1], "report opened 16 2 0 0", *self.OPENED[2:]]
+        self.assertTrue(played(scripts.put(b"F", b"A", 3), [*opened, "report refused 5000 8"])[1].endswith("(5000, 8)"))
 
     def test_words_for_codes(self):
         for code, text in (("4032", "no such file"), ("5060", "there is no such record"), ("402d", "a file of that name is there"),
@@ -302,7 +423,7 @@ class ScriptTest(unittest.TestCase):
 
     def fetched(self, reports, opened="report opened 0 2 0 0"):
         out = io.BytesIO()
-        requests, refusal = played(scripts.fetch(b"F", Text(out.write)), ["report ready 1024", opened, "report connected", *reports])
+        requests, refusal = played(scripts.fetch(b"F", Text(out.write)), ["report ready 8192", opened, "report connected", *reports])
         return requests[3:], refusal, out.getvalue()
 
     def test_fetch(self):

@@ -14,7 +14,14 @@ SLOW = "line.startswith('>') and time.sleep({0})\nreturn ['accepted'] if line.st
 SAVED = "file 46 seq variable 0 0\n  1 41\n"
 
 
-class LongWorkTest(PairCase):
+class OneLinkCase(PairCase):
+    """The stand-ins answer as a live end of one link does, whose lines don't name it."""
+
+    def serve(self, *words, **more):
+        return super().serve("--links", "1", *words, **more)
+
+
+class LongWorkTest(OneLinkCase):
     def test_a_live_end_that_works_long_makes_nobody_deaf(self):
         """The bridge goes on to refuse, to acknowledge and to say hello, and takes up the link again."""
         child, raw = self.serve(*HASTE, program=self.stand_in(SLOW.format(12)))
@@ -90,7 +97,7 @@ class LongWorkTest(PairCase):
         self.stop(child)
 
 
-class ChangeTest(PairCase):
+class ChangeTest(OneLinkCase):
     """What is written, and when, before a live end that counts how often it is asked for its files."""
 
     def setUp(self):
@@ -127,7 +134,7 @@ class ChangeTest(PairCase):
         self.assertEqual((self.count(), self.path.stat().st_ino), (1, before))
 
 
-class RefusalTest(PairCase):
+class RefusalTest(OneLinkCase):
     def test_a_refusal_of_memory_is_never_saved_and_ends_in_status_3(self):
         path = self.file("kept", SAVED.splitlines())
         answer = "return ['refused no-memory'] if line == 'files' else ['accepted'] if line[0] == '>' else []"
@@ -194,7 +201,7 @@ class RefusalTest(PairCase):
         self.assertNotIn("Traceback", child.told())
 
 
-class StopTest(PairCase):
+class StopTest(OneLinkCase):
     def test_a_signal_while_the_live_end_is_built_ends_the_build(self):
         pid = self.folder / "pid"
         program = self.script("builds", "import os, signal, subprocess\n"
@@ -289,7 +296,7 @@ class StopTest(PairCase):
             os.close(file)
 
 
-class HoldTest(PairCase):
+class HoldTest(OneLinkCase):
     """How long a peer can hold the only link."""
 
     def hold(self, *words):

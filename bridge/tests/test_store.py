@@ -20,9 +20,9 @@ STORED = ["file 46 seq variable 0 0", "  1 41"]
 
 
 def listed(program, lines):
-    """The files of a live end that is told lines."""
+    """The files of a live end that is told lines of a store, with the words that these name."""
     text = "".join(f"{line}\n" for line in [*lines, "files"])
-    run = subprocess.run([program, "serve"], input=text.encode(), capture_output=True, check=True, timeout=600)
+    run = subprocess.run([program, *lines[0].split(" ")[2:]], input=text.encode(), capture_output=True, check=True, timeout=600)
     found = run.stdout.decode().splitlines()[:-1]
     at = len(found)
     while at and found[at - 1].startswith(("file ", "  ")):
@@ -72,7 +72,8 @@ class StartTest(StoreCase):
         child = self.store()
         self.assertEqual(self.ask(b"hello\ncreate 46 0 2 0 0 15\nconnect\nput 41\nclose\n").finish(), 0)
         self.assertEqual(child.finish(signal.SIGKILL), -signal.SIGKILL)
-        run = subprocess.run([PROGRAM, "serve"], input=self.path.read_bytes() + b"files\n", capture_output=True, check=True)
+        words = self.parsed().lines[0].split(" ")[2:]
+        run = subprocess.run([PROGRAM, *words], input=self.path.read_bytes() + b"files\n", capture_output=True, check=True)
         self.assertEqual(run.stdout.decode().splitlines()[-3:-1], STORED)
 
     def test_damage_stops_the_start(self):
@@ -94,7 +95,7 @@ class StartTest(StoreCase):
             file.write(b"\0")
         child = self.store()
         asking = self.asking()
-        self.say(asking, "hello", "report ready 1024")
+        self.say(asking, "hello", "report ready 8192")
         child.finish(signal.SIGKILL)
         for more in ({"program": other}, {}):
             words = [] if more else ["--window", "9"]
@@ -104,6 +105,42 @@ class StartTest(StoreCase):
         self.stop(self.store())
         self.stop(self.store("--window", "9", program=other))
         asking.end()
+
+    def test_options_that_are_not_given_are_those_that_it_was_made_with(self):
+        made = ["--window", "9", "--buffer", "2048", "--waiting", "70000", "--names", "folded", "--links", "3"]
+        child, asking = self.store(*made), self.asking()
+        self.say(asking, "hello", "report ready 2048")
+        child.finish(signal.SIGKILL)
+        for words in (["--links", "2"], ["--buffer", "8192"], ["--names", "exact"], ["--window", "8"], ["--links", "1"]):
+            child = self.store(*words, is_ready=False)
+            self.assertEqual(child.finish(), 1, words)
+            self.assertIn("it has packets that another daplive was told", child.told())
+        for words in ([], ["--links", "3", "--buffer", "2048"], []):
+            child = self.store(*words)
+            child.wait_for("goes on as it was")
+            self.assertIn(f"{self.path}: it has packets, and goes on with the options that it was made with: 'serve {' '.join(made)}'\n",
+                          child.told())
+            child.finish(signal.SIGKILL)
+        child = self.store()
+        self.say(asking, "create 46 0 2 0 0 15", "report opened 0 2 0 0")
+        asking.end()
+        self.stop(child)
+        child = self.store("--buffer", "512")
+        self.assertNotIn("made with", child.told())
+        self.stop(child)
+        self.assertEqual(self.parsed().lines[0].partition(" serve ")[2], "--buffer 512 --links 16")
+
+    def test_a_store_of_one_link_goes_on_with_one(self):
+        """As one that a bridge before --links began."""
+        child, asking = self.store("--links", "1"), self.asking()
+        self.say(asking, "hello", "report ready 8192")
+        child.finish(signal.SIGKILL)
+        child = self.store()
+        child.wait_for("goes on as it was")
+        self.say(asking, "create 46 0 2 0 0 15", "report opened 0 2 0 0")
+        self.assertRegex(self.parsed().lines[0], r" serve --buffer 8192$")
+        asking.end()
+        self.stop(child)
 
     def test_odd_stores_stop_the_start_without_a_traceback(self):
         """Altered ones, prefixes, other files and any bytes; what is taken is a prefix of what was there."""
@@ -128,6 +165,37 @@ class StartTest(StoreCase):
                     self.assertEqual(self.path.read_bytes(), bad)
         self.assertEqual(statuses, {0, 1})
 
+    def test_a_store_that_was_removed_is_written_anew(self):
+        child = self.store("--files", self.file("files", STORED))
+        self.path.unlink()
+        until(lambda: self.ask(b"hello\nopen 46 3\nconnect\nput 42\nclose\n").finish() == 0, "a link that is taken")
+        child.finish(signal.SIGKILL)
+        self.assertIn(f"{self.path}: somebody has removed it: nothing more is taken until the store can be written", child.told())
+        self.assertIn(f"{self.path}: it is written anew", child.told())
+        self.assertEqual(self.kept(), [*STORED, "  2 42"])
+
+    def test_another_file_in_the_place_of_a_store_is_never_written_over(self):
+        child = self.store("--files", self.file("files", STORED))
+        self.path.unlink()
+        self.path.write_text("precious")
+        self.assertIn("reason 32", self.ask(b"hello\n").told())
+        self.assertIn("somebody has put another file there, which is left as it is", child.told())
+        self.stop(child, 3)
+        self.assertEqual(self.path.read_text(), "precious")
+
+    def test_a_last_line_that_has_changed_is_told(self):
+        child = self.store("--files", self.file("files", STORED))
+        self.assertEqual(self.ask(b"hello\nopen 46 3\nconnect\nput 42\nclose\n").finish(), 0)
+        child.finish(signal.SIGKILL)
+        data = bytearray(self.path.read_bytes())
+        data[-20] ^= 1
+        self.path.write_bytes(data)
+        child = self.store()
+        self.assertRegex(child.told(), r"store: \d+ bytes from byte \d+ on aren't taken: no good mark is after them\. They are kept as .*store.torn\n")
+        torn = (self.folder / "store.torn").read_bytes()
+        self.assertTrue(torn and data.endswith(torn))
+        self.stop(child)
+
     def test_two_bridges_do_not_keep_one_store(self):
         first = self.store()
         self.near, self.far = self.far, self.near
@@ -145,7 +213,7 @@ class KilledTest(StoreCase):
     def test_a_link_goes_on_after_a_kill(self):
         """The other end sees a pause; its interrupt and link service messages are known too."""
         child, asking = self.store(), self.asking("--idle", "0.3")
-        self.say(asking, "hello", "report ready 1024")
+        self.say(asking, "hello", "report ready 8192")
         self.say(asking, "create 46 0 2 0 0 15", "report opened 0 2 0 0")
         self.say(asking, "connect", "report connected")
         for number in range(1, 5):
@@ -153,7 +221,7 @@ class KilledTest(StoreCase):
             self.say(asking, f"put 4{number}", f"report done {number}")
             child.finish(signal.SIGKILL)
             child = self.store("--idle", "0.3", "--tries", "10")
-            self.assertIn("goes on as it was", child.told())
+            child.wait_for("goes on as it was")
         time.sleep(4)  # longer than a probe that is never acknowledged is tried
         self.say(asking, "close", "report closed")
         asking.end_input()
@@ -238,7 +306,7 @@ class SizeTest(StoreCase):
         child = self.store("--log", "/dev/null", is_ready=False, preexec_fn=ignore)
         until(lambda: self.path.exists() and self.path.stat().st_size, "a store")
         asking = self.asking()
-        for request, report in (("hello", "report ready 1024"), ("create 46 16 2 0 0 15", "report opened 16 2 0 0"),
+        for request, report in (("hello", "report ready 8192"), ("create 46 16 2 0 0 15", "report opened 16 2 0 0"),
                                 ("connect", "report connected")):
             self.say(asking, request, report)
         asking.write(b"".join(b"put key %d %s\n" % (number, b"41" * 99) for number in range(1, 60)))
@@ -259,7 +327,7 @@ class SizeTest(StoreCase):
 
     def test_the_third_signal_waits_for_nothing_and_loses_nothing(self):
         child, asking = self.store(), self.asking()
-        for request, report in (("hello", "report ready 1024"), ("create 46 0 2 0 0 15", "report opened 0 2 0 0"),
+        for request, report in (("hello", "report ready 8192"), ("create 46 0 2 0 0 15", "report opened 0 2 0 0"),
                                 ("connect", "report connected"), ("put 41", "report done 1")):
             self.say(asking, request, report)
         os.kill(asking.process.pid, signal.SIGSTOP)

@@ -13,7 +13,7 @@ ODD = {
     "build.py": [],
     "wrong_bodies": ["--no-such", "nowhere"],
     "wrong_bodies_tests.py": ["--no-such"],
-    "docs/check": ["--no-such", "--help"],
+    "docs/check": ["--no-such", "--help x"],
     "examples/hub.py": ["", "x", "1 a:1", "70000 a:1 b:2", "1 :1 b:2", "1 a:1 nowhere"],
     "examples/lossy.py": ["--no-such", "--loss 1000", "--loss x", "--reach 0", "--seed x", "--links 0", "--links x", "--daplive /nowhere",
                           "--links 2 --daplive /nowhere"],
@@ -70,6 +70,36 @@ class WordsTest(ToolCase):
                                      ("docs/check", "x", "docs/check"), ("wrong_bodies", "x", "wrong_bodies")):
             told = self.run_it(program, words.split()).stderr
             self.assertTrue(told.startswith(f"{name}: "), told)
+
+
+class CheckTest(ToolCase):
+    """bridge/check itself, before a live end that says when it is started."""
+
+    def check(self, *tests):
+        program = self.script("program", "import sys\nprint('it is being built', file=sys.stderr)\n")
+        return self.run_it("bridge/check", ["--daplive", program, *tests])
+
+    def test_names_are_looked_at_before_anything_is_built(self):
+        for name in ("tests.nope", "nope", "tests.test_guard.Nope", "tests.test_guard.GuessesTest.nope"):
+            done = self.check("tests.test_guard.GuessesTest", name)
+            self.assertEqual((done.returncode, done.stdout), (2, ""))
+            self.assertTrue(done.stderr.startswith("bridge/check: no such test, or it can't be loaded: "), done.stderr)
+            self.assertEqual((done.stderr.count("\n"), "nope" in done.stderr.lower()), (1, True))
+
+    def test_a_build_is_heard(self):
+        done = self.check("tests.test_guard.GuessesTest")
+        self.assertEqual((done.returncode, done.stderr), (0, "it is being built\n"))
+        self.assertTrue(done.stdout.endswith("5 passed, 0 failed\n"), done.stdout)
+
+
+class HelpTest(ToolCase):
+    def test_help(self):
+        for program in ("examples/hub.py", "docs/check", "wrong_bodies", "bridge/check"):
+            done = self.run_it(program, ["--help"])
+            self.assertEqual((done.returncode, done.stderr), (0, ""))
+            self.assertIn(f"usage: {program.removeprefix('examples/')} ", done.stdout)
+        done = subprocess.run([ROOT / "examples/check", "--help"], capture_output=True, text=True, check=False, timeout=60)
+        self.assertEqual((done.returncode, done.stdout, done.stderr), (0, "usage: examples/check [--play [PROGRAM]] | [--run [PROGRAM]]\n", ""))
 
 
 class InterruptTest(ToolCase):

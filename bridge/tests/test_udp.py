@@ -4,6 +4,7 @@ import errno
 import os
 import resource
 import signal
+import socket
 import struct
 import unittest
 from unittest import mock
@@ -61,17 +62,53 @@ class WireTest(Case):
         self.peer(self.other).send(b"the far end")
         self.assertEqual([wire.receive(), wire.receive()], [b"the far end", None])
 
+    def test_what_came_before_it_was_connected_is_dropped(self):
+        strangers = [bound(), bound()]
+        for one in strangers:
+            self.addCleanup(one.close)
+
+        class Late(socket.socket):
+            """A socket to which strangers send before it is connected."""
+
+            def connect(self, far):
+                for number, one in enumerate(strangers):
+                    one.sendto(b"a stranger %d" % number, (LOOPBACK, self.getsockname()[1]))
+                super().connect(far)
+
+        with mock.patch.object(udp.socket, "socket", Late):
+            wire = self.wire()
+        self.peer(self.other).send(b"the far end")
+        self.assertEqual([wire.receive(), wire.receive()], [b"the far end", None])
+
     def test_a_far_end_that_is_not_there_is_told_once_until_it_comes(self):
-        path, wire = log_of(self), self.wire()
-        for _ in range(20):
+        now = [0]
+        path, wire = log_of(self), self.wire(lambda: now[0])
+        name, said = f"bridge: udp {self.port}:{LOOPBACK}:{self.other}: ", ""
+        for since in ("yet", "any more"):
+            for second in (0, 1, 4.9, 5, 6, 20):
+                now[0] += second
+                for _ in range(2):
+                    wire.send(b"frame")
+                    wire.receive()
+                said += f"{name}nobody is there {since}: frames are lost\n" if second == 4.9 else ""
+                self.assertEqual(path.read_text(), said)
+            with contextlib.closing(bound(self.other)) as peer:
+                peer.sendto(b"frame", (LOOPBACK, self.port))
+                self.assertEqual(wire.receive(), b"frame")
+            said += f"{name}frames come again\n"
+            self.assertEqual(path.read_text(), said)
+
+    def test_a_far_end_that_comes_at_once_is_not_told(self):
+        now = [0]
+        path, wire = log_of(self), self.wire(lambda: now[0])
+        for _ in range(10):
+            now[0] += 3
             wire.send(b"frame")
             wire.receive()
-        peer = self.peer(self.other)
-        wire.send(b"frame")
-        peer.send(b"frame")
-        self.assertEqual(wire.receive(), b"frame")
-        name = f"bridge: udp {self.port}:{LOOPBACK}:{self.other}: "
-        self.assertEqual(path.read_text(), f"{name}Connection refused: frames are lost\n{name}frames come again\n")
+            with contextlib.closing(bound(self.other)) as peer:
+                peer.sendto(b"frame", (LOOPBACK, self.port))
+                self.assertEqual(wire.receive(), b"frame")
+        self.assertEqual(path.read_text(), "")
 
     def test_a_name_is_looked_up_again_after_a_minute_of_silence(self):
         now, asked = [0], []
@@ -127,8 +164,12 @@ class BridgeTest(UdpCase):
     def test_nobody_there(self):
         child = self.ask(b"hello\n", "--resend", "0.05", "--tries", "4", program=self.stand_in(ECHO))
         self.assertEqual(child.finish(), 1)
-        self.assertIn("Connection refused: frames are lost", child.told())
-        self.assertIn("no answer from node 1.2", child.told())
+        self.assertRegex(child.told(), r"^bridge: link \w+: no answer from node 1\.2\n$")
+        child = self.begin("type", "1.2::A", "--resend", "1", "--tries", "7", program=self.stand_in(ECHO))
+        self.assertEqual(child.finish(), 1)
+        name = f"bridge: udp {self.far}:{LOOPBACK}:{self.near}: "
+        told = ("bridge: 1.2::A: no answer from node 1.2 yet\n", f"{name}nobody is there yet: frames are lost\n")
+        self.assertIn(child.told().removesuffix("bridge: 1.2::A: no answer from node 1.2\n"), ("".join(told), "".join(told[::-1])))
 
     def test_a_port_that_is_taken_and_a_host_that_is_not_there_have_status_3(self):
         taken = bound(self.near)
@@ -141,7 +182,7 @@ class BridgeTest(UdpCase):
         for words in ([], ["--udp", "1:a:2", "--interface", "x"], ["--udp", "1:a"]):
             child = self.start([*PYTHON, self.words("serve", 1, 2)[-6], "serve", "--node", "1.2", *words])
             self.assertEqual(child.finish(), 2)
-            self.assertIn("error: ", child.told())
+            self.assertIn("; see bridge.py ", child.told())
 
     def test_a_stranger_has_no_answer(self):
         child = self.serve(program=self.stand_in(ECHO))

@@ -1,6 +1,7 @@
 """Who may open a link: users and passwords, nodes, and connect messages of any bytes."""
 import os
 import random
+import re
 import subprocess
 import time
 from unittest import mock
@@ -8,6 +9,7 @@ from unittest import mock
 from decnet import nsp, users
 from decnet.locked import KeptFault
 from decnet.nsp import Kind, Reason
+from decnet.rights import ALL
 from decnet.users import Users, is_hash_of, make_hash, read_users
 from tests.datagrams import UdpCase
 from tests.station import SERVING, Station
@@ -47,39 +49,45 @@ class SessionTest(Case):
         self.assertTrue(all(tally), tally)
 
 
-class FileTest(Case):
+class UsersCase(Case):
     def users(self, *lines):
         return Users(self.file("users", lines))
 
+    def refusal(self, some, body):
+        return some.look_up(body).reason
+
+
+class FileTest(UsersCase):
     def test_who_may_enter(self):
         some = self.users("# users", "", f"SMITH {make_hash(b'Secret')}", f"jones {make_hash(b'other')}")
         for user, password, reason in ((b"SMITH", b"SECRET", None), (b"smith", b"secret", None), (b"JONES", b"OTHER", None),
-                                       (b"SMITH", b"OTHER", 34), (b"SMITH", b"", 34), (b"BROWN", b"SECRET", 34), (b"", b"", 34),
+                                       (b"SMITH", b"OTHER", 34), (b"SMITH", b"SECRET\0", 34), (b"SMITH", b"", 34), (b"BROWN", b"SECRET", 34), (b"", b"", 34),
                                        (b"", b"SECRET", 34), (b"-", b"-", 34), (b"#", b"USERS", 34)):
-            self.assertEqual(some.refusal(nsp.session(user, password)), reason, (user, password))
+            self.assertEqual(self.refusal(some, nsp.session(user, password)), reason, (user, password))
         for data in ODD:
-            self.assertEqual(some.refusal(data), Reason.IMAGE_TOO_LONG)
+            self.assertEqual(self.refusal(some, data), Reason.IMAGE_TOO_LONG)
 
     def test_rights(self):
         some = self.users("- - get", f"SMITH {make_hash(b'S')}", f"JONES {make_hash(b'J')} get,put", f"BROWN {make_hash(b'B')} upd,del")
-        for user, password, found in ((b"", b"", (None, 2)), (b"SMITH", b"S", (None, 15)), (b"JONES", b"J", (None, 3)),
-                                      (b"BROWN", b"B", (None, 12)), (b"JONES", b"S", (34, 0)), (b"NONE", b"", (34, 0))):
-            self.assertEqual(some.look_up(nsp.session(user, password)), found, user)
+        for user, password, found in ((b"", b"", (None, "get")), (b"SMITH", b"S", (None, ALL)), (b"JONES", b"J", (None, "get,put")),
+                                      (b"BROWN", b"B", (None, "upd,del")), (b"JONES", b"S", (34, None)), (b"NONE", b"", (34, None))):
+            verdict = some.look_up(nsp.session(user, password))
+            self.assertEqual((verdict.reason, verdict.rights), found, user)
 
     def test_a_link_without_a_user(self):
         some = self.users("- -", f"SMITH {make_hash(b'SECRET')}")
-        self.assertIsNone(some.refusal(nsp.session()))
+        self.assertIsNone(self.refusal(some, nsp.session()))
         for user in (b"-", b"BROWN"):
-            self.assertEqual(some.refusal(nsp.session(user, b"-")), 34)
+            self.assertEqual(self.refusal(some, nsp.session(user, b"-")), 34)
 
     def test_a_changed_file_holds_for_the_next_link(self):
         some = self.users()
-        self.assertEqual(some.refusal(nsp.session(b"SMITH", b"SECRET")), 34)
+        self.assertEqual(self.refusal(some, nsp.session(b"SMITH", b"SECRET")), 34)
         self.file("users", [f"SMITH {make_hash(b'SECRET')}"])
-        self.assertIsNone(some.refusal(nsp.session(b"SMITH", b"SECRET")))
+        self.assertIsNone(self.refusal(some, nsp.session(b"SMITH", b"SECRET")))
         for spoil in (lambda: self.file("users", ["SMITH"]), lambda: os.unlink(some.path)):
             spoil()
-            self.assertEqual(some.refusal(nsp.session(b"SMITH", b"SECRET")), 34)
+            self.assertEqual(self.refusal(some, nsp.session(b"SMITH", b"SECRET")), 34)
 
     def test_lines_that_are_none(self):
         good = make_hash(b"X")
@@ -91,8 +99,11 @@ class FileTest(Case):
                 read_users(self.file("bad", ["# users", f"SMITH {good} {rights}"]))
         with self.assertRaisesRegex(KeptFault, "line 2: smith is there twice"):
             read_users(self.file("bad", [f"SMITH {good}", f"smith {good}"]))
-        with self.assertRaisesRegex(KeptFault, "more than 1048576 bytes"):
+        with self.assertRaisesRegex(KeptFault, "no plain file"):
             read_users("/dev/zero")
+        (self.folder / "long").write_bytes(bytes(users.MAX_BYTES + 1))
+        with self.assertRaisesRegex(KeptFault, "more than 1048576 bytes"):
+            read_users(self.folder / "long")
         for data in (b"\xff\xfe\0", random.Random(SEED).randbytes(5000)):
             (self.folder / "odd").write_bytes(data)
             with self.assertRaises(KeptFault):
@@ -108,24 +119,33 @@ class FileTest(Case):
         some = self.users(f"SMITH {make_hash(b'SECRET')}")
         with mock.patch.object(users, "make_hash", wraps=make_hash) as work:
             for user in (b"SMITH", b"BROWN"):
-                some.refusal(nsp.session(user, b"WRONG"))
+                self.refusal(some, nsp.session(user, b"WRONG"))
         self.assertEqual(work.call_count, 2)
 
 
 class PasswordTest(Case):
     def password(self, name, text):
-        run = subprocess.run([*PYTHON, BRIDGE, "password", name], input=text, capture_output=True, check=False)
+        run = subprocess.run([*PYTHON, BRIDGE, "password", "--", name], input=text, capture_output=True, check=False)
         self.assertNotIn(b"Traceback", run.stderr)
-        return run.returncode, run.stdout.decode(), run.stderr.decode()
+        return run.returncode, os.fsdecode(run.stdout), run.stderr.decode()
+
+    def test_any_name_enters_by_the_line_that_is_printed(self):
+        """Also with blanks that aren't those of ASCII, and with bytes that are no text."""
+        for name in ("A\u00a0B", "A\u2003B", "A\x1cB", "A\x85B", "A\u2028B", "\u00c4", "\udcff", "-A"):
+            status, line, told = self.password(name, b"secret\n")
+            self.assertEqual((status, told), (0, ""), name)
+            path = self.folder / "users"
+            path.write_bytes(os.fsencode(line))
+            self.assertIsNone(Users(path).look_up(nsp.session(os.fsencode(name).upper(), b"SECRET")).reason, name)
 
     def test_a_line_for_a_user(self):
         status, line, _ = self.password("smith", b"secret\n")
         self.assertEqual((status, line.split()[0]), (0, "SMITH"))
-        self.assertIsNone(Users(self.file("users", [line.strip()])).refusal(nsp.session(b"SMITH", b"SECRET")))
+        self.assertIsNone(Users(self.file("users", [line.strip()])).look_up(nsp.session(b"SMITH", b"SECRET")).reason)
 
     def test_what_is_none(self):
         for name, text in (("a b", b"x\n"), ("-", b"x\n"), ("#a", b"x\n"), ("", b"x\n"), (40 * "a", b"x\n"), ("a", b"\n"),
-                           ("a", 40 * b"x"), ("a", b"")):
+                           ("a", 40 * b"x"), ("a", b""), ("a", b"x\0\n"), ("a", b"x\0y\n"), ("\ufeffa", b"x\n")):
             status, line, told = self.password(name, text)
             self.assertEqual((status, line), (1, ""), name)
             self.assertTrue(told.startswith("bridge: "), told)
@@ -138,7 +158,7 @@ class BridgeTest(UdpCase):
 
     def test_only_users_enter(self):
         child = self.serve("--users", self.file("users", [f"SMITH {make_hash(b'SECRET')}"]), program=self.stand)
-        self.assertIn("anybody may enter, with a user and a password", child.told())
+        self.assertIn(f"1 user of {self.folder / 'users'} may enter", child.told())
         self.assertIn("users: others can read it: chmod 600 ", child.told())
         station = self.station()
         for user, password in ((b"SMITH", b"WRONG"), (b"BROWN", b"SECRET"), (b"", b"")):
@@ -151,7 +171,11 @@ class BridgeTest(UdpCase):
         station.acknowledge(0)
         station.disconnect()
         self.stop(child)
+        for user in ("SMITH", "BROWN"):
+            self.assertIn(f"node 1.3 was refused, user {user}, reason 34", child.told())
         self.assertIn("node 1.3 was refused, reason 34", child.told())
+        lines = [line for line in child.told().splitlines() if " link " in line]
+        self.assertTrue(lines and all(re.search(r" link [0-9a-f]{4}, user SMITH: ", line) for line in lines), lines)
 
     def test_a_start_without_users_says_so_and_bad_ones_stop_it(self):
         users = self.file("good", [f"SMITH {make_hash(b'SECRET')}"])

@@ -5,6 +5,8 @@ repository's server (docs/LISTING.md).
 """
 import re
 
+from decnet.rights import FAC
+
 OPEN, CLOSE, PURGE = 1, 1, 3  # ACCFUNC, and CMPFUNC
 GET, CONNECT, UPDATE, PUT, DELETE, REWIND = range(1, 7)  # CTLFUNC
 FUNCTIONS = {GET: "GET", CONNECT: "CONNECT", UPDATE: "UPDATE", PUT: "PUT", DELETE: "DELETE", REWIND: "REWIND"}
@@ -27,7 +29,6 @@ REASON = {1: "file exists", 2: "not permitted", 3: "no current record", 4: "reco
 NAMES = {1: "Configuration", 2: "Attributes", 3: "Access", 4: "Control", 5: "Continue Transfer", 6: "Acknowledge",
          7: "Access Complete", 8: "Data", 9: "Status", 10: "Key Definition", 11: "Allocation", 12: "Summary",
          13: "Date and Time", 14: "Protection", 15: "Name", 16: "Access Control List"}
-RIGHTS = ["PUT", "GET", "DEL", "UPD"]
 PREVIEW = 46  # characters of a record
 PRINTABLE = 0.85  # the share of a text's bytes that are printable
 MAX_NUMBER = 8  # bytes of a number
@@ -106,7 +107,7 @@ def describe_attributes(one):
 
 def describe_access(one):
     one.file = as_text(one.image("name"))
-    one.rights = " ".join(word for bit, word in enumerate(RIGHTS) if one.number("fac") >> bit & 1)
+    one.rights = " ".join(word.upper() for word, bit in FAC.items() if one.number("fac") & bit)
     one.action = ACCESS.get(one.number("func"), f"ACCFUNC {one.fields['func']}")
     one.detail = f"{one.action} {one.file}" + (f" for {one.rights}" if one.rights else "")
 

@@ -1,36 +1,22 @@
-//! A short caller of each library. It prints what comes of each, and the text of each fault.
+//! Short callers of the libraries that `surface` doesn't call, and of `dap_msg`. They print what comes of each, and the text of each fault.
 #![tactic(auto)]
 
-mod asking;
 mod captures;
 mod ends;
 mod faults;
-mod fields;
-mod files;
-mod links;
 mod messages;
-mod packets;
-mod serving;
 mod sharing;
 mod trouble;
-mod worlds;
 
 use std::alloc::Global;
 use std::process::ExitCode;
 use trouble::{Lines, Trouble};
 
-/// Calls each library.
+/// Calls each of them.
 fn call_all(alloc: Global, out: &mut Lines) -> Result<(), Trouble> {
-    fields::call(alloc, out)?;
     messages::call(alloc, out)?;
-    packets::call(alloc, out)?;
-    links::call(alloc, out)?;
-    files::call(alloc, out)?;
-    asking::call(alloc, out)?;
-    serving::call(alloc, out)?;
     sharing::call(alloc, out)?;
     ends::call(alloc, out)?;
-    worlds::call(alloc, out)?;
     captures::call(alloc, out)?;
     faults::call(out);
     Ok(())

@@ -1,14 +1,10 @@
 //! What ends a caller, and where it prints.
 
 use dap_accessed::NoMemory;
-use dap_accessing::{AskFault, ReadFault};
+use dap_accessing::AskFault;
 use dap_end::{EndFault, TakeFault};
-use dap_fields::FieldFault;
 use dap_msg::MsgFault;
-use dap_world::WorldFault;
 use nsp_link::LinkFault;
-use nsp_seg::SegFault;
-use rec_file::Refusal;
 use std::alloc::{AllocError, AllocFailed};
 use std::fmt::Display;
 use std::io::{Stdout, Write};
@@ -44,18 +40,6 @@ impl From<AllocError> for Trouble {
     }
 }
 
-impl From<FieldFault> for Trouble {
-    fn from(_e: FieldFault) -> Trouble {
-        Trouble("a field")
-    }
-}
-
-impl From<SegFault> for Trouble {
-    fn from(_e: SegFault) -> Trouble {
-        Trouble("a packet")
-    }
-}
-
 impl From<MsgFault> for Trouble {
     fn from(_e: MsgFault) -> Trouble {
         Trouble("a message")
@@ -65,12 +49,6 @@ impl From<MsgFault> for Trouble {
 impl From<LinkFault> for Trouble {
     fn from(_e: LinkFault) -> Trouble {
         Trouble("a link")
-    }
-}
-
-impl From<Refusal> for Trouble {
-    fn from(_e: Refusal) -> Trouble {
-        Trouble("a file")
     }
 }
 
@@ -86,12 +64,6 @@ impl From<AskFault> for Trouble {
     }
 }
 
-impl From<ReadFault> for Trouble {
-    fn from(_e: ReadFault) -> Trouble {
-        Trouble("an answer")
-    }
-}
-
 impl From<EndFault> for Trouble {
     fn from(_e: EndFault) -> Trouble {
         Trouble("an end")
@@ -101,17 +73,5 @@ impl From<EndFault> for Trouble {
 impl From<TakeFault> for Trouble {
     fn from(_e: TakeFault) -> Trouble {
         Trouble("a packet")
-    }
-}
-
-impl From<(usize, WorldFault)> for Trouble {
-    fn from(_e: (usize, WorldFault)) -> Trouble {
-        Trouble("a list of requests")
-    }
-}
-
-impl From<WorldFault> for Trouble {
-    fn from(_e: WorldFault) -> Trouble {
-        Trouble("a world")
     }
 }

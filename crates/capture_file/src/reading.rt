@@ -234,6 +234,7 @@ impl Reading {
         ensures fault { IfErr result (λ fault. (fault.kind ≡ FaultKind.NoMemory)
             ⊎ ((bytes : List ℕ) (records : List Record) → HasRead self.old bytes records
             → Stops (bytes ++ piece.now) records fault.kind fault.at)) }
+        ensures at { IfErr result (λ fault. fault.at ≡ self.old.offset) }
     {
         let at = self.offset;
         match self.take_some(piece) {

@@ -38,7 +38,7 @@ module _ (own : ServerSetup) where
   same one other = same_name own.names one other
 
   -- files that are apart where these are
-  abbrev Keeps : (old new : Files) → Type 0
+  abbrev pub Keeps : (old new : Files) → Type 0
   Keeps old new = NamesAreApart own.names old → NamesAreApart own.names new
 
   module _ (scene : Scene) where
@@ -183,7 +183,7 @@ module _ (own : ServerSetup) where
   next-leaves s item (Does e) h = h
   next-leaves s item (BeginsGroup b) h = stays s.scene
 
-  more-leaves : (s : Standing) (b : Option Begun) (item : Item) → Keeps s.scene.files (more_after own s b item).standing.scene.files
+  pub more-leaves : (s : Standing) (b : Option Begun) (item : Item) → Keeps s.scene.files (more_after own s b item).standing.scene.files
   more-leaves s None item = next-leaves s item (turn_of own s item) (one-leaves s item)
   more-leaves s (Some b) item = with-second s.scene b.opened b.change b.stream item
 

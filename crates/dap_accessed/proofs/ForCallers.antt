@@ -21,3 +21,11 @@ pub use Rattle.dap_accessed.proofs.Lateness.{of_any, prefix_fresh, with_files}
 pub use Rattle.dap_accessed.proofs.Tables.{with-same, length-with}
 -- an Access uses up the attributes
 pub use Rattle.dap_accessed.proofs.StepIs.{access-keeps}
+-- a file with another in its place, one less, or one more of a new name: files stay files, and their names apart
+pub use Rattle.dap_accessed.proofs.SoundTables.{all-without, distinct-more, distinct-with, distinct-without, files-more, files-with, none-passes, none_exact}
+-- one record more leaves a file a file, and one item more files that are files and whose names differ
+pub use Rattle.dap_accessed.proofs.Given.{stored-file}
+pub use Rattle.dap_accessed.proofs.SoundGroups.{more-sound}
+pub use Rattle.dap_accessed.proofs.Apart.{more-leaves}
+-- where two conditions hold together, each holds
+pub use Rattle.dap_accessed.proofs.Kept.{both}

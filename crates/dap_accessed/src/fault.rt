@@ -6,6 +6,7 @@ ghost use Rattle.dap_accessed.specs.declared.fault.AddFault.TheVariants as fault
 use dap_msg::MsgFault;
 use rec_file::Refusal;
 use std::alloc::{AllocError, AllocFailed};
+use std::fmt;
 use thiserror::Error;
 
 /// Memory was refused. Nothing has changed, and the same call may be made again.
@@ -33,24 +34,43 @@ impl From<MsgFault> for NoMemory {
 }
 
 /// Why a file or a record isn't added, in the order in which it is looked at. Nothing has changed.
-#[derive(Clone, Copy, Debug, PartialEq, Eq, Error)]
+#[derive(Clone, Copy, Debug, PartialEq, Eq)]
 pub enum AddFault {
     /// The peer's Config was served.
-    #[error("the peer's Config was served")]
     Busy,
     /// A file has the name.
-    #[error("a file has the name")]
     FileExists,
     /// There is no file that could take a record.
-    #[error("there is no file that could take a record")]
     NoFile,
     /// The newest file doesn't take the record.
-    #[error("the newest file doesn't take the record: {0}")]
     Record(Refusal),
     /// Memory was refused. The same call may be made again.
-    #[error("memory ran out")]
     NoMemory,
 }
+
+impl AddFault {
+    /// Returns what is printed of it, but for what it holds.
+    fn text(self) -> &'static str {
+        match self {
+            AddFault::Busy => "the peer's Config was served",
+            AddFault::FileExists => "a file has the name",
+            AddFault::NoFile => "there is no file that could take a record",
+            AddFault::Record(_) => "the newest file doesn't take the record",
+            AddFault::NoMemory => "memory ran out",
+        }
+    }
+}
+
+impl fmt::Display for AddFault {
+    fn fmt<W: fmt::Write>(&self, f: &mut fmt::Formatter<W>) -> fmt::Result {
+        match self {
+            AddFault::Record(refusal) => write!(f, "{}: {refusal}", self.text()),
+            _ => f.write_str(self.text()),
+        }
+    }
+}
+
+impl std::error::Error for AddFault {}
 
 impl From<AllocError> for AddFault {
     ghost from_gives = { λ _ e. e ≡ fault.NoMemory };

@@ -1,11 +1,11 @@
 //! Why a request or an answer is refused.
 
 use crate::report::Report;
-use thiserror::Error;
+use std::error::Error;
+use std::fmt;
 
 /// Why a request isn't asked, in the order in which it is looked at. Each leaves the end unchanged.
-#[derive(Clone, Copy, Drop, Debug, PartialEq, Eq, Error)]
-#[error("{}", self.text())]
+#[derive(Clone, Copy, Drop, Debug, PartialEq, Eq)]
 pub enum AskFault {
     /// An answer was out of sequence, so the end has failed.
     Failed,
@@ -32,9 +32,16 @@ impl AskFault {
     }
 }
 
+impl fmt::Display for AskFault {
+    fn fmt<W: fmt::Write>(&self, f: &mut fmt::Formatter<W>) -> fmt::Result {
+        f.write_str(self.text())
+    }
+}
+
+impl Error for AskFault {}
+
 /// Why an answer isn't read.
-#[derive(Clone, Copy, Drop, Debug, PartialEq, Eq, Error)]
-#[error("{}", self.text())]
+#[derive(Clone, Copy, Drop, Debug, PartialEq, Eq)]
 pub enum ReadFault {
     /// An earlier answer was out of sequence, so the end has failed.
     Failed,
@@ -54,6 +61,14 @@ impl ReadFault {
         }
     }
 }
+
+impl fmt::Display for ReadFault {
+    fn fmt<W: fmt::Write>(&self, f: &mut fmt::Formatter<W>) -> fmt::Result {
+        f.write_str(self.text())
+    }
+}
+
+impl Error for ReadFault {}
 
 /// An answer that was read.
 #[derive(Drop, PartialEq)]

@@ -2,7 +2,9 @@
 ghost use Rattle.std.specs.Prelude.{◌≡◌, ◌≢◌, ◌⊎◌, ◌∷◌, ℕ, List, [], IfSome, map, string_bytes};
 ghost use Rattle.std.specs.Io.KnownBytes.{Keeps};
 ghost use Rattle.clap.specs.Words.{fault_of};
+ghost use Rattle.linewise.specs.Gives.{TellsFault};
 ghost use Rattle.linewise.specs.Mistakes.{AreMistakes};
+ghost use Rattle.linewise.specs.declared.fault.CaptureFault.TheVariants.{NoMemory};
 ghost use Rattle.dap_words.specs.Choosing.{Chooses, dapnsp, word_of};
 ghost use Rattle.dap_words.specs.declared.choice.Choice.{Choice};
 ghost use Rattle.dap_cli.specs.Run.{CommandGives, RunGives};
@@ -55,8 +57,11 @@ fn run_choice<R: Read, W: Write, E: Write>(
     writer: &mut W,
     error_writer: &mut E,
 ) -> u8
-    ensures { IfSome (R.remaining reader.old)
-        (λ input. RunGives choice input (W.contents writer.old) (W.contents writer.new) result) }
+    ensures gives { IfSome (R.remaining reader.old)
+        (λ input. RunGives choice input (W.contents writer.old) (W.contents writer.new)
+        (E.contents error_writer.old) (E.contents error_writer.new) result) }
+    ensures quiet { result ≡ 0
+        → Keeps (E.contents error_writer.old) (E.contents error_writer.new) }
 {
     let mut lines = Fronted::new(reader);
     let outcome = run_lines(alloc, choice, &mut lines, writer);
@@ -80,20 +85,24 @@ fn run_named<R: Read, W: Write, E: Write>(
     ensures named { (program : List ℕ) (choice : Choice)
         → map string_bytes words.now ≡ program ∷ word_of choice ∷ []
         → IfSome (R.remaining reader.old)
-        (λ input. RunGives choice input (W.contents writer.old) (W.contents writer.new) result) }
+        (λ input. RunGives choice input (W.contents writer.old) (W.contents writer.new)
+        (E.contents error_writer.old) (E.contents error_writer.new) result) }
     ensures parsed { (choice : Choice)
         → fault_of dapnsp (map string_bytes words.now) ≡ []
         → Chooses (map string_bytes words.now) choice
         → IfSome (R.remaining reader.old)
-        (λ input. RunGives choice input (W.contents writer.old) (W.contents writer.new) result) }
+        (λ input. RunGives choice input (W.contents writer.old) (W.contents writer.new)
+        (E.contents error_writer.old) (E.contents error_writer.new) result) }
     ensures mistake { AreMistakes (fault_of dapnsp (map string_bytes words.now))
-        → ((result ≡ 2) ⊎ (result ≡ 3)) × Keeps (W.contents writer.old) (W.contents writer.new) }
+        → ((result ≡ 2) ⊎ ((result ≡ 3)
+        × TellsFault NoMemory (E.contents error_writer.old) (E.contents error_writer.new)))
+        × Keeps (W.contents writer.old) (W.contents writer.new) }
     ensures unread { fault_of dapnsp (map string_bytes words.now) ≢ []
         → R.remaining reader.new ≡ R.remaining reader.old }
     ensures help { fault_of dapnsp (map string_bytes words.now) ≡ ErrorKind.DisplayHelp ∷ []
         → (result ≡ 0) ⊎ (result ≡ 3) }
-    ensures quiet { fault_of dapnsp (map string_bytes words.now) ≡ ErrorKind.DisplayHelp ∷ []
-        → result ≡ 0 → Keeps (E.contents error_writer.old) (E.contents error_writer.new) }
+    ensures quiet { result ≡ 0
+        → Keeps (E.contents error_writer.old) (E.contents error_writer.new) }
 {
     match read_words(alloc, words) {
         Ok(choice) => run_choice(alloc, choice, helps, reader, writer, error_writer),
@@ -117,22 +126,26 @@ pub fn run_words<R: Read, W: Write, E: Write>(
     ensures named { (program : List ℕ) (choice : Choice)
         → map string_bytes words.now ≡ program ∷ word_of choice ∷ []
         → IfSome (R.remaining reader.old)
-        (λ input. RunGives choice input (W.contents writer.old) (W.contents writer.new) result) }
+        (λ input. RunGives choice input (W.contents writer.old) (W.contents writer.new)
+        (E.contents error_writer.old) (E.contents error_writer.new) result) }
 
     // The words of clap: what is at fault in a list of words, first things first.
     ensures parsed { (choice : Choice)
         → fault_of dapnsp (map string_bytes words.now) ≡ []
         → Chooses (map string_bytes words.now) choice
         → IfSome (R.remaining reader.old)
-        (λ input. RunGives choice input (W.contents writer.old) (W.contents writer.new) result) }
+        (λ input. RunGives choice input (W.contents writer.old) (W.contents writer.new)
+        (E.contents error_writer.old) (E.contents error_writer.new) result) }
     ensures mistake { AreMistakes (fault_of dapnsp (map string_bytes words.now))
-        → ((result ≡ 2) ⊎ (result ≡ 3)) × Keeps (W.contents writer.old) (W.contents writer.new) }
+        → ((result ≡ 2) ⊎ ((result ≡ 3)
+        × TellsFault NoMemory (E.contents error_writer.old) (E.contents error_writer.new)))
+        × Keeps (W.contents writer.old) (W.contents writer.new) }
     ensures unread { fault_of dapnsp (map string_bytes words.now) ≢ []
         → R.remaining reader.new ≡ R.remaining reader.old }
     ensures help { fault_of dapnsp (map string_bytes words.now) ≡ ErrorKind.DisplayHelp ∷ []
         → (result ≡ 0) ⊎ (result ≡ 3) }
-    ensures quiet { fault_of dapnsp (map string_bytes words.now) ≡ ErrorKind.DisplayHelp ∷ []
-        → result ≡ 0 → Keeps (E.contents error_writer.old) (E.contents error_writer.new) }
+    ensures quiet { result ≡ 0
+        → Keeps (E.contents error_writer.old) (E.contents error_writer.new) }
 {
     run_named(alloc, words, false, reader, writer, error_writer)
 }
@@ -149,20 +162,24 @@ pub fn run_program<R: Read, W: Write, E: Write>(
     ensures named { (program : List ℕ) (choice : Choice)
         → map string_bytes words.now ≡ program ∷ word_of choice ∷ []
         → IfSome (R.remaining reader.old)
-        (λ input. RunGives choice input (W.contents writer.old) (W.contents writer.new) result) }
+        (λ input. RunGives choice input (W.contents writer.old) (W.contents writer.new)
+        (E.contents error_writer.old) (E.contents error_writer.new) result) }
     ensures parsed { (choice : Choice)
         → fault_of dapnsp (map string_bytes words.now) ≡ []
         → Chooses (map string_bytes words.now) choice
         → IfSome (R.remaining reader.old)
-        (λ input. RunGives choice input (W.contents writer.old) (W.contents writer.new) result) }
+        (λ input. RunGives choice input (W.contents writer.old) (W.contents writer.new)
+        (E.contents error_writer.old) (E.contents error_writer.new) result) }
     ensures mistake { AreMistakes (fault_of dapnsp (map string_bytes words.now))
-        → ((result ≡ 2) ⊎ (result ≡ 3)) × Keeps (W.contents writer.old) (W.contents writer.new) }
+        → ((result ≡ 2) ⊎ ((result ≡ 3)
+        × TellsFault NoMemory (E.contents error_writer.old) (E.contents error_writer.new)))
+        × Keeps (W.contents writer.old) (W.contents writer.new) }
     ensures unread { fault_of dapnsp (map string_bytes words.now) ≢ []
         → R.remaining reader.new ≡ R.remaining reader.old }
     ensures help { fault_of dapnsp (map string_bytes words.now) ≡ ErrorKind.DisplayHelp ∷ []
         → (result ≡ 0) ⊎ (result ≡ 3) }
-    ensures quiet { fault_of dapnsp (map string_bytes words.now) ≡ ErrorKind.DisplayHelp ∷ []
-        → result ≡ 0 → Keeps (E.contents error_writer.old) (E.contents error_writer.new) }
+    ensures quiet { result ≡ 0
+        → Keeps (E.contents error_writer.old) (E.contents error_writer.new) }
 {
     run_named(alloc, words, true, reader, writer, error_writer)
 }

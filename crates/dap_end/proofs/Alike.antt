@@ -1,6 +1,6 @@
 -- What a call of an asking end answers and leaves follows from what it did and what came, out of memory aside.
 use Rattle.std.proofs.Common.{◌≡◌, ◌≢◌, ℕ, refl, sym, ◌∙◌, subst, ap, true, false, true≢false, List, [], ◌∷◌, ◌++◌, length, inl, inr, IsTrue}
-use Rattle.std.specs.Prelude.{Option, Some, None, Result, Ok, Err, option_to_list}
+use Rattle.std.specs.Prelude.{Option, Some, None, Result, Ok, Err, option_map, option_to_list}
 use Rattle.dap_fields.specs.Spelling.{AreBytes}
 use Rattle.dap_msg.specs.declared.items.Item.{Item}
 use Rattle.dap_msg.specs.Items.{ItemAt}
@@ -18,6 +18,7 @@ use Rattle.dap_accessing.specs.declared.fault.ReadFault.{ReadFault}
 use Rattle.dap_accessing.specs.declared.fault.ReadFault.TheVariants as read_fault
 use Rattle.dap_accessing.specs.Told.{Told, Due, NothingDue, AnswersDue, Wrong, due_after, is_unexpected}
 use Rattle.dap_accessing.specs.Asked.{messages_of}
+use Rattle.dap_accessing.specs.Each.{IsBatch, put_back, reported_after}
 use Rattle.dap_accessing.specs.Present.{ClientState, ClientAfter, FitsDue, failed_after}
 use Rattle.dap_accessing.proofs.ForCallers.{one_present}
 use Rattle.dap_end.specs.Histories.{with_answer_read}
@@ -30,6 +31,7 @@ use Rattle.dap_end.specs.Asking.{HasAsked, AskedOne, ReadOne, ReadNone, HasDone}
 use Rattle.dap_end.specs.Hearing.{ReadOn, ReadsAll, hears}
 use Rattle.dap_end.specs.Hearing.{nothing_read, one_read}
 use Rattle.dap_end.specs.Done.{AskingValue, ClientHistory}
+use Rattle.dap_end.specs.Each.{with_told}
 use Rattle.dap_end.specs.Writing.{Extends}
 use Rattle.dap_end.specs.Moved.{sent_more}
 use Rattle.dap_end.specs.Turns.{DidAll, WentOn, TakesPacket}
@@ -40,6 +42,7 @@ use Rattle.dap_end.proofs.Taking.{grown}
 use Rattle.dap_end.proofs.Asked.{asked_history, handed_is, handed_history, read_grows, still_received, still_sent}
 use Rattle.dap_end.specs.Histories.{asked_one}
 use Rattle.dap_end.proofs.Determined.{may_or_not, refused_one, no_next}
+use Rattle.dap_end.proofs.Untold.{batch_or_kept, one_kept, one_reported}
 use Rattle.dap_end.proofs.Turning.{DoAlike, no_want, went_same, took_same}
 
 -- ---- Asking.
@@ -85,6 +88,35 @@ reading_one past old one two r s h a b =
       ap (λ (p : PortValue). record one { port = p }) port ∙ ap (λ (x : ClientState). record two { present = x }) present,
       one_option r s told,
     )
+
+-- while a batch is under way of which these records were taken out
+reading_batch : (told : List (ℕ × List ℕ)) (past : ClientHistory) (old one two : AskingValue) (r s : Option Report) → IsBatch old.present → HasAsked past (with_told told old) → ReadOne old one r → ReadOne old two s → (one ≡ two) × (r ≡ s)
+reading_batch told past old one two r s batch h a b =
+    let bytes : b.one.bytes ≡ a.one.bytes = (let both = sym b.one.came ∙ a.one.came in cc) in
+    let later : b.one.later ≡ a.one.later = (let both = sym b.one.came ∙ a.one.came in cc) in
+    let same = one_item a.one.bytes old.port.offset a.one.item b.one.item a.one.next b.one.next a.one.fits a.one.reads (subst (λ (l : List ℕ). ItemAt l old.port.offset b.one.item b.one.next) bytes b.one.reads) in
+    let answers : past.answers ++ b.one.item ∷ [] ≡ past.answers ++ a.one.item ∷ [] = ap (λ (i : Item). past.answers ++ i ∷ []) same.0 in
+    let whole : put_back told one.present ≡ put_back told two.present =
+    one_present past.requests (past.answers ++ a.one.item ∷ []) (put_back told one.present) (put_back told two.present) (a.past_on told past batch h).asking
+    (subst (λ (l : List Item). ClientAfter past.requests l (put_back told two.present)) answers (b.past_on told past batch h).asking) (a.identity ∙ sym b.identity) in
+    let port : one.port ≡ two.port =
+    a.port ∙ ap (λ (k : ℕ). gone_on old.port a.one.bytes a.one.later k) (sym same.1)
+    ∙ ap (λ (l : List ℕ). gone_on old.port l a.one.later b.one.next) (sym bytes)
+    ∙ ap (λ (l : List (List ℕ)). gone_on old.port b.one.bytes l b.one.next) (sym later)
+    ∙ sym b.port in
+    let reported : option_to_list (option_map (reported_after told) r) ≡ option_to_list (option_map (reported_after told) s) =
+    back_of (Told past.requests past.answers) (option_to_list (option_map (reported_after told) r)) (option_to_list (option_map (reported_after told) s))
+    (sym (a.told_on told past batch h) ∙ ap (Told past.requests) (sym answers) ∙ b.told_on told past batch h) in (
+      ap (λ (p : PortValue). record one { port = p }) port ∙ ap (λ (x : ClientState). record two { present = x }) (one_kept told one.present two.present whole),
+      one_reported told r s (one_option _ _ reported),
+    )
+
+-- whatever records were taken out
+pub reading_told : (told : List (ℕ × List ℕ)) (past : ClientHistory) (old one two : AskingValue) (r s : Option Report) → HasAsked past (with_told told old) → ReadOne old one r → ReadOne old two s → (one ≡ two) × (r ≡ s)
+reading_told told past old one two r s h a b = elim (batch_or_kept told old.present.pending) [
+  | inl batch ↦ reading_batch told past old one two r s batch h a b
+  | inr kept ↦ reading_one past old one two r s (subst (HasAsked past) (ap (λ (o : Option Pending). record old { present = record old.present { pending = o } }) kept) h) a b
+]
 
 -- ---- Ends that are alike.
 

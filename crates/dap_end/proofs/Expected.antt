@@ -1,6 +1,5 @@
 -- No answer that one of two ends reads is unexpected.
 use Rattle.std.proofs.Common.{◌≡◌, ◌≢◌, ℕ, ◌≤◌, arith, sym, ◌∙◌, subst, ap, append_assoc, true, List, drop, [], ◌∷◌, ◌++◌, length, map, inl, inr}
-use Rattle.std.specs.List.{AllByRecursion}
 use Rattle.std.proofs.lemmas.List.{append-nil, length-drop, map-append}
 use Rattle.dap_accessed.specs.declared.setup.ServerSetup.{ServerSetup}
 use Rattle.dap_msg.specs.declared.message.Configuration.{Configuration}
@@ -22,7 +21,7 @@ use Rattle.dap_accessing.specs.declared.fault.ReadFault.{ReadFault}
 use Rattle.dap_accessing.specs.declared.fault.ReadFault.TheVariants as read_fault
 use Rattle.dap_end.specs.Ports.{gone_on}
 use Rattle.dap_end.specs.Done.{ServingValue, AskingValue, answers_to}
-use Rattle.dap_end.specs.Going.{AreFrontOf, processed_after}
+use Rattle.dap_end.specs.Going.{AreFrontOf, oldest_message, processed_after}
 use Rattle.dap_end.specs.Asking.{AskedOne, ReadNone}
 use Rattle.dap_end.specs.Runs.{RunsBy}
 use Rattle.dap_end.specs.Headline.{WrittenPacket}
@@ -168,10 +167,10 @@ next_expected first good p s bytes later answer next fits came reads =
     let split : j.asked.answers ++ answer ∷ all.0 ≡ map Whole (asked_answers p.a.present.identity p.b.present.setup first p.requests) = sym (append_assoc j.asked.answers (answer ∷ []) all.0) ∙ all.1 in
     λ wrong. all_expected first good p s j.asked.answers all.0 answer split (ap (λ (l : List Request). is_unexpected l j.asked.answers answer) (sym j.requests) ∙ wrong)
 
-pub none_refused : (first : Files) → AreFiles first → (p : Pair) (after : AskingValue) (f : ReadFault) → IsSoundPair first p → AllByRecursion AreBytes p.a.port.link.coming.inbox → ReadNone p.a after f → f ≢ read_fault.Unexpected
+pub none_refused : (first : Files) → AreFiles first → (p : Pair) (after : AskingValue) (f : ReadFault) → IsSoundPair first p → AreBytes (oldest_message p.a.port.link.coming.inbox) → ReadNone p.a after f → f ≢ read_fault.Unexpected
 none_refused first good p after read_fault.Unexpected s fits n =
     let there = n.refused.3 in
-    let bytes : AreBytes n.bytes = (subst (AllByRecursion AreBytes) n.came fits).0 in
+    let bytes : AreBytes n.bytes = subst (λ (l : List (List ℕ)). AreBytes (oldest_message l)) n.came fits in
     λ same. next_expected first good p s n.bytes n.later there.0 there.1 bytes n.came there.2 (there.3 s.linked.asked.requests s.linked.asked.answers s.linked.asking.asking)
 none_refused first good p after read_fault.Failed s fits n = λ same. cc same
 none_refused first good p after read_fault.NoMemory s fits n = λ same. cc same

@@ -52,7 +52,16 @@ pub use Rattle.dap_end.proofs.Stepping.{SteppedBy, RunsIn, AreCalls, ack_is, aga
 -- events of a client, with what it wrote and reported before
 pub use Rattle.dap_end.proofs.Hearing.{requests_of}
 pub use Rattle.dap_end.proofs.Calling.{SoFar, after_these}
-pub use Rattle.dap_end.proofs.Arriving.{asked_as}
+pub use Rattle.dap_end.proofs.Arriving.{asked_as, more_asked}
+-- calls of a client are events of it
+pub use Rattle.dap_end.proofs.Calling.{asking_is, ack_is as asking_acks, again_is as asking_again, going_on_is as asking_goes_on, taken_is as asking_takes}
 -- what two ends that are alike do is alike; what waits is refused for one reason, and not where it may be passed on
 pub use Rattle.dap_end.proofs.Turning.{DoAlike, no_want, took_same, went_same}
 pub use Rattle.dap_end.proofs.Determined.{may_or_not, refused_one}
+-- what was written has its segment of what was passed on: of two lists, of the next segments, of one
+pub use Rattle.dap_end.proofs.Packets.{all_written, numbered_written, one_written}
+pub use Rattle.dap_end.proofs.Stepping.{numbered_bytes}
+-- a link of one peer that keeps the rules, after a packet of it; what it is refused for
+pub use Rattle.dap_end.proofs.Running.{StandsThen, refused_due, sent_link, some_peer, some_size, then_stands, went_written}
+-- passing on what waits leaves what came, and nothing that waits
+pub use Rattle.dap_end.proofs.ByTurns.{inbox_posted, none_waits}

@@ -15,6 +15,7 @@ pub mod Asked
 pub mod Roles
 pub mod Hearing
 pub mod Writing
+pub mod Untold
 pub mod Turning
 pub mod ByTurns
 pub mod Did

@@ -1,12 +1,16 @@
 -- A client reads all that came, and does all that this lets it do.
-use Rattle.std.specs.Prelude.{◌≡◌, Result, Ok, Err, List, [], ◌++◌, Option, option_to_list}
+use Rattle.std.specs.Prelude.{◌≡◌, ℕ, Result, Ok, Err, List, [], ◌++◌, Option, option_to_list}
 use Rattle.nsp_link.specs.Sending.{SendAllFault}
 use Rattle.dap_accessing.specs.declared.report.Report.{Report}
 use Rattle.dap_accessing.specs.declared.fault.ReadFault.{ReadFault}
+use Rattle.dap_accessing.specs.declared.fault.ReadFault.TheVariants as read_fault
+use Rattle.nsp_link.specs.declared.link.Got.{Got}
+use Rattle.dap_end.specs.declared.fault.TakeFault.{TakeFault}
+use Rattle.dap_end.specs.declared.fault.TakeFault.TheVariants as take_fault
 use Rattle.dap_end.specs.declared.fault.EndFault.{EndFault}
 use Rattle.dap_end.specs.declared.fault.EndFault.TheVariants as end_fault
 use Rattle.dap_end.specs.Writing.{Extends}
-use Rattle.dap_end.specs.Turns.{DidAll, EndOf}
+use Rattle.dap_end.specs.Turns.{DidAll, EndOf, TookIn}
 use Rattle.dap_accessing.specs.Present.{ClientState}
 use Rattle.dap_end.specs.Asking.{ReadOne, ReadNone}
 use Rattle.dap_end.specs.Done.{AskingValue}
@@ -32,6 +36,13 @@ hears before reports =
       halts = HearFault;
       quiet = reports ≡ before;
     }
+
+-- What a packet does to a client that has failed: it is received or refused, and nothing is read of it.
+abbrev pub TakesNone : (old new : AskingValue) → (bytes : List ℕ) → Result Got TakeFault → Type 0
+TakesNone old new bytes (Ok got) = ⊥
+TakesNone old new bytes (Err (take_fault.Refused f)) = TookIn old new bytes (Err f)
+TakesNone old new bytes (Err (take_fault.Unfinished got f)) =
+    TookIn old new bytes (Ok got) × (f ≡ end_fault.Read read_fault.Failed)
 
 -- all that came was read, or this is why not
 abbrev pub ReadsAll : (old new : AskingValue) → (before reports : List Report) → Result (Unit {0}) ReadFault → Type 0

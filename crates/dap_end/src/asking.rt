@@ -22,7 +22,7 @@ ghost use Rattle.dap_end.specs.Going.{oldest_message};
 ghost use Rattle.dap_end.specs.Writing.{Extends};
 ghost use Rattle.dap_end.specs.Asking.{HasAsked, AskedOne, ReadOne, ReadNone};
 ghost use Rattle.dap_end.specs.Each.{with_told};
-ghost use Rattle.dap_end.specs.Hearing.{ReadOn, ReadsAll, hears};
+ghost use Rattle.dap_end.specs.Hearing.{ReadOn, ReadsAll, TakesNone, hears};
 ghost use Rattle.dap_end.specs.declared.asking.Heard.TheVariants.{Nothing, Part, Report as Completed};
 ghost use Rattle.dap_accessing.specs.declared.report.Report.{Report as TheReport};
 ghost use Rattle.dap_end.specs.Done.{nothing_asked};
@@ -160,11 +160,12 @@ impl End<Accessing> {
         self.role.has_failed()
     }
 
-    /// Returns whether something came that wasn't read.
+    /// Returns whether something came that wasn't read. It did where the end has failed: the answer that failed it.
     pub fn may_read(&self) -> bool
         ensures yes { result ≡ true → 0 < length self.now.port.link.coming.inbox }
         ensures no { result ≡ false → self.now.port.link.coming.inbox ≡ [] }
         ensures bytes { AreBytes (oldest_message self.now.port.link.coming.inbox) }
+        ensures failed { IsTrue self.now.present.failed → result ≡ true }
     {
         match self.port.link.peek_message() {
             Some(message) => is_left(message),
@@ -182,6 +183,8 @@ impl End<Accessing> {
         ensures report { (report : TheReport) → result ≡ Ok (Completed report)
             → ReadOne self.old self.new (Some report) }
         ensures err { IfErr result (λ f. ReadNone self.old self.new f) }
+        ensures failed { IsTrue self.old.present.failed
+            → (self.new ≡ self.old) × IsErrOf result read_fault.Failed }
     {
         if !self.may_read() {
             return Ok(Heard::Nothing);
@@ -293,16 +296,20 @@ impl End<Accessing> {
     /// acknowledgement. The packets follow those in `out`, the reports those in `reports`.
     ///
     /// Refusals: `Refused` as `receive` is, and nothing of the packet was taken; `Unfinished`, once it was received:
-    /// `go_on` does what is left, and the same packet is answered again.
+    /// `go_on` does what is left, and the same packet is answered again. A failed end takes a packet and does no more.
     pub fn take(
         &mut self,
         packet: &[u8],
         out: &mut Vec<Vec<u8>>,
         reports: &mut Vec<Report>,
     ) -> Result<Got, TakeFault>
-        ensures { TakesPacket (hears reports.old.items reports.new.items)
+        ensures takes { TakesPacket (hears reports.old.items reports.new.items)
             self.old self.new packet.now
             (bodies out.old.items) (bodies out.new.items) result }
+        ensures failed { IsTrue self.old.present.failed
+            → TakesNone self.old self.new packet.now result
+            × (reports.new.items ≡ reports.old.items)
+            × (bodies out.new.items ≡ bodies out.old.items) }
     {
         match self.receive(packet) {
             Ok(got) => match self.answer(got, out, reports) {
@@ -320,8 +327,12 @@ impl End<Accessing> {
         out: &mut Vec<Vec<u8>>,
         reports: &mut Vec<Report>,
     ) -> Result<(), EndFault>
-        ensures { WritesReplies (hears reports.old.items reports.new.items) self.old self.new got
-            (bodies out.old.items) (bodies out.new.items) result }
+        ensures writes { WritesReplies (hears reports.old.items reports.new.items)
+            self.old self.new got (bodies out.old.items) (bodies out.new.items) result }
+        ensures failed { IsTrue self.old.present.failed → (self.new ≡ self.old)
+            × (reports.new.items ≡ reports.old.items)
+            × (bodies out.new.items ≡ bodies out.old.items)
+            × (result ≡ Err (end_fault.Read read_fault.Failed)) }
     {
         self.hear_all(reports)?;
         ended(self.port.answer(got, out))

@@ -31,7 +31,7 @@ ghost use Rattle.dap_end.specs.declared.fault.EndFault.{EndFault as TheEndFault}
 ghost use Rattle.dap_end.specs.declared.fault.EndFault.TheVariants as end_fault;
 ghost use Rattle.dap_end.specs.declared.fault.TakeFault.{TakeFault as TheTakeFault};
 ghost use Rattle.dap_end.specs.Ports.{HandsOver, PortValue, new_port};
-ghost use Rattle.dap_end.specs.Going.{AreFrontOf, AreItemsOf};
+ghost use Rattle.dap_end.specs.Going.{AreFrontOf, AreItemsOf, oldest_message};
 ghost use Rattle.dap_end.specs.Serving.{IsAfter, ServedOne};
 ghost use Rattle.dap_end.specs.Done.{ServingValue, ServerHistory, answers_to, nothing_yet};
 ghost use Rattle.dap_end.specs.Writing.{WroteMore};
@@ -319,7 +319,7 @@ pub fn answers_are_bounded()
 
 /// A request that is asked, an answer that is read, and whatever a client does by itself leave one end, one list of
 /// reports and one of packets, by what the end did before: also where it is refused half-way, unless memory is
-/// refused.
+/// refused. Of an answer that is read this holds also where records of the batch under way were taken out.
 pub fn asking_is_determined()
     ensures ask { (history : ClientHistory) (request : TheRequest) (old one two : AskingValue)
         (n m : ℕ)
@@ -327,6 +327,10 @@ pub fn asking_is_determined()
         → (one ≡ two) × (n ≡ m) }
     ensures read { (history : ClientHistory) (old one two : AskingValue) (r s : Option TheReport)
         → HasAsked history old → ReadOne old one r → ReadOne old two s → (one ≡ two) × (r ≡ s) }
+    ensures read_on { (told : List (ℕ × List ℕ)) (history : ClientHistory)
+        (old one two : AskingValue) (r s : Option TheReport)
+        → HasAsked history (with_told told old) → ReadOne old one r → ReadOne old two s
+        → (one ≡ two) × (r ≡ s) }
     ensures read_all { (old one two : AskingValue) (before rs ss : List TheReport)
         (r s : Result (Unit {0}) TheReadFault) → HasDone old
         → r ≢ Err read_fault.NoMemory → s ≢ Err read_fault.NoMemory
@@ -511,6 +515,6 @@ pub fn no_answer_is_unexpected()
           from_b = [];
           requests = [];
           reports = [];
-        }) new → AllByRecursion AreBytes new.a.port.link.coming.inbox
+        }) new → AreBytes (oldest_message new.a.port.link.coming.inbox)
         → ReadNone new.a after f → f ≢ read_fault.Unexpected }
 {}

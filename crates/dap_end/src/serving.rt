@@ -1,15 +1,21 @@
 //! The server.
 
-ghost use Rattle.std.specs.Prelude.{◌≡◌, ◌≢◌, ◌≤◌, ◌<◌, ◌+◌, ◌-◌, ◌++◌, ◌∷◌, [], Ok, Err, false, IfOk, IfErr, OnOk, OnErr, IsTrue, MatchOption};
+ghost use Rattle.std.specs.Prelude.{◌≡◌, ◌≢◌, ◌≤◌, ◌<◌, ◌+◌, ◌-◌, ◌++◌, ◌∷◌, ℕ, List, [], Ok, Err, false, IfOk, IfErr, IsOk, OnOk, OnErr, IsTrue, MatchOption};
 ghost use Rattle.std.specs.Result.{result_map_both};
 ghost use Rattle.dap_msg.specs.BothEnds.{min_buffer};
 ghost use Rattle.dap_msg.specs.Blocked.{bodies};
+ghost use Rattle.dap_msg.specs.Items.{ItemAt};
+ghost use Rattle.dap_msg.specs.declared.items.Item.{Item as TheItem};
 ghost use Rattle.rec_file.specs.Shapes.{is_shape};
 ghost use Rattle.nsp_link.specs.Link.{IsSetup, SetupFault};
 ghost use Rattle.dap_accessed.specs.Setup.{IsServerSetup, plain_setup};
 ghost use Rattle.dap_accessed.specs.Groups.{After};
+ghost use Rattle.dap_accessed.specs.Present.{StandsAfter};
+ghost use Rattle.dap_accessed.specs.Served.{IsSilent};
+ghost use Rattle.dap_accessed.specs.Standing.{Files};
 ghost use Rattle.dap_accessed.specs.Adding.{MayAdd, MayAddRecord, AddRefused, RecordRefused, with_new_file, with_record};
 ghost use Rattle.dap_end.specs.Ports.{HasCome, new_port};
+ghost use Rattle.dap_end.specs.Going.{oldest_message};
 ghost use Rattle.dap_end.specs.Serving.{IsAfter, NotGiven, MayServe, ServedOne};
 ghost use Rattle.dap_end.specs.Done.{ServerHistory, nothing_yet};
 ghost use Rattle.dap_end.specs.Taking.{RestsAt, serves};
@@ -174,6 +180,10 @@ impl End<Accessed> {
             ((self.new ≡ self.old) × (MayServe self.old → ⊥))
             (λ n. ServedOne self.old self.new n)) }
         ensures no_memory { OnErr result ((self.new ≡ self.old) × MayServe self.old) }
+        ensures unrefused { (first : Files) (items : List TheItem) (item : TheItem) (next : ℕ)
+            → StandsAfter first items self.old.present
+            → ItemAt (oldest_message self.old.port.link.coming.inbox) self.old.port.offset item next
+            → IsSilent self.old.present.setup first items item → IsOk result }
     {
         turns::serve_next(&mut self.port, &mut self.role, LINK)
     }

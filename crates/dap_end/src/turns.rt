@@ -1,8 +1,11 @@
 //! What a port and whatever serves do: items that came are served, answers are passed on, and packets are written.
 
-ghost use Rattle.std.specs.Prelude.{◌≡◌, ◌<◌, [], Ok, Err, false, length, IfOk, OnOk, OnErr, MatchOption};
+ghost use Rattle.std.specs.Prelude.{◌≡◌, ◌<◌, [], Ok, Err, false, length, ℕ, IfOk, IsOk, OnOk, OnErr, MatchOption};
 ghost use Rattle.dap_msg.specs.Blocked.{bodies};
+ghost use Rattle.dap_msg.specs.Items.{ItemAt};
+ghost use Rattle.dap_msg.specs.declared.items.Item.{Item as TheItem};
 ghost use Rattle.dap_end.specs.By.{MayServeAt, PortRests, ServedBy, end_with, serves_by};
+ghost use Rattle.dap_end.specs.Going.{oldest_message};
 ghost use Rattle.dap_end.specs.Turns.{WritesReplies, DidAll, TakesPacket, WentOn};
 ghost use Rattle.dap_end.specs.declared.fault.EndFault.TheVariants as end_fault;
 ghost use Rattle.std.specs.Result.{result_map_both};
@@ -33,6 +36,9 @@ pub(crate) fn serve_next<S: Serving>(
     ensures link { S.has_link server.new link }
     ensures err { OnErr result ((port.new ≡ port.old) × (server.new ≡ server.old)
         × MayServeAt port.old) }
+    ensures unrefused { (item : TheItem) (next : ℕ)
+        → ItemAt (oldest_message port.old.link.coming.inbox) port.old.offset item next
+        → S.is_silent link server.old item → IsOk result }
 {
     if !port.outbox.is_empty() {
         return Ok(None);

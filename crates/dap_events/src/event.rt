@@ -3,7 +3,8 @@
 use dap_accessing::{AskFault, Request};
 use nsp_link::Got;
 use std::alloc::{AllocError, AllocFailed};
-use thiserror::Error;
+use std::error::Error;
+use std::fmt;
 
 /// The two ends.
 #[derive(Clone, Copy, Drop, PartialEq, Eq)]
@@ -55,30 +56,50 @@ pub enum Step {
 }
 
 /// Why an event has no step, or a call none. A refused event leaves the world unchanged.
-#[derive(Clone, Copy, Drop, Debug, PartialEq, Eq, Error)]
+#[derive(Clone, Copy, Drop, Debug, PartialEq, Eq)]
 pub enum WorldFault {
     /// The other end wrote no packet at this index.
-    #[error("the other end wrote no packet of this index")]
     NoSuchPacket,
     /// The segment or the acknowledgement is more than 2,047 numbers old.
-    #[error("the segment or the acknowledgement is more than 2,047 numbers old")]
     Stale,
     /// Nothing waits, or may be written, served or read.
-    #[error("nothing waits, or may be written, served or read")]
     NothingToDo,
     /// The request isn't asked.
-    #[error("the request isn't asked: {0}")]
     Ask(AskFault),
     /// Memory ran out.
-    #[error("memory ran out")]
     NoMemory,
     /// A direction would have more than 2^40 segments.
-    #[error("a direction would have more than 2^40 segments")]
     Exhausted,
     /// A number of the setup isn't in its range.
-    #[error("a number of the setup is out of its range")]
     BadSetup,
 }
+
+impl WorldFault {
+    /// Returns what is printed of it, but for what it holds.
+    fn text(self) -> &'static str {
+        match self {
+            WorldFault::NoSuchPacket => "the other end wrote no packet of this index",
+            WorldFault::Stale =>
+                "the segment or the acknowledgement is more than 2,047 numbers old",
+            WorldFault::NothingToDo => "nothing waits, or may be written, served or read",
+            WorldFault::Ask(_) => "the request isn't asked",
+            WorldFault::NoMemory => "memory ran out",
+            WorldFault::Exhausted => "a direction would have more than 2^40 segments",
+            WorldFault::BadSetup => "a number of the setup is out of its range",
+        }
+    }
+}
+
+impl fmt::Display for WorldFault {
+    fn fmt<W: fmt::Write>(&self, f: &mut fmt::Formatter<W>) -> fmt::Result {
+        match self {
+            WorldFault::Ask(fault) => write!(f, "{}: {fault}", self.text()),
+            _ => f.write_str(self.text()),
+        }
+    }
+}
+
+impl Error for WorldFault {}
 
 impl From<AllocError> for WorldFault {
     ghost use Rattle.std.specs.Prelude.{◌≡◌};

@@ -4,6 +4,7 @@ pub mod OneLine
 pub mod OneAsking
 mod ReachLemmas
 mod ResultLemmas
+mod RightsLemmas
 pub mod ForCallers
 pub mod Indices
 pub mod NodeRows

@@ -1,7 +1,9 @@
 -- Rows: what lines of a server say.
-use Rattle.std.proofs.Common.{◌≡◌, true, false, Some, None, [], ◌∷◌, refl}
+use Rattle.std.proofs.Common.{◌≡◌, true, false, Option, Some, None, [], ◌∷◌, refl}
 use Rattle.std.specs.Prelude.{codes}
 use Rattle.hex.specs.Hex.{decode_pairs}
+use Rattle.rec_file.specs.declared.picks.Rights.{Rights}
+use Rattle.dap_live.specs.declared.node_orders.NodeOrder.{NodeOrder}
 use Rattle.dap_live.specs.declared.node_orders.NodeOrder.TheVariants as order
 use Rattle.dap_live.specs.Orders.{between_order}
 use Rattle.dap_live.specs.NodeOrders.{node_order_of}
@@ -25,9 +27,49 @@ one-link-stays = refl
 nothing-is-asked : node_order_of true (codes "ask hello") ≡ None
 nothing-is-asked = refl
 
-rights-are-named : node_order_of false (codes "new 0202 0101 512 2") ≡ Some (order.New (between_order 514 257 (Some 512) (Some 2)))
+-- a link between these addresses, with segments of 512 bytes and these rights
+abbrev new_with : Rights → Option NodeOrder
+new_with rights = Some (order.New (between_order 514 257 (Some 512) (Some rights)))
+
+rights-are-numbered : node_order_of false (codes "new 0202 0101 512 2") ≡ new_with (record { get = true; put = false; upd = false; del = false })
 unfolding decode_pairs
-rights-are-named = refl
+rights-are-numbered = refl
+
+get-is-named : node_order_of false (codes "new 0202 0101 512 get") ≡ new_with (record { get = true; put = false; upd = false; del = false })
+unfolding decode_pairs
+get-is-named = refl
+
+put-is-named : node_order_of false (codes "new 0202 0101 512 put") ≡ new_with (record { get = false; put = true; upd = false; del = false })
+unfolding decode_pairs
+put-is-named = refl
+
+update-is-named : node_order_of false (codes "new 0202 0101 512 upd") ≡ new_with (record { get = false; put = false; upd = true; del = false })
+unfolding decode_pairs
+update-is-named = refl
+
+update-is-numbered : node_order_of false (codes "new 0202 0101 512 8") ≡ new_with (record { get = false; put = false; upd = true; del = false })
+unfolding decode_pairs
+update-is-numbered = refl
+
+delete-is-named : node_order_of false (codes "new 0202 0101 512 del") ≡ new_with (record { get = false; put = false; upd = false; del = true })
+unfolding decode_pairs
+delete-is-named = refl
+
+two-are-named : node_order_of false (codes "new 0202 0101 512 del,get") ≡ new_with (record { get = true; put = false; upd = false; del = true })
+unfolding decode_pairs
+two-are-named = refl
+
+none-is-named : node_order_of false (codes "new 0202 0101 512 -") ≡ new_with (record { get = false; put = false; upd = false; del = false })
+unfolding decode_pairs
+none-is-named = refl
+
+none-is-named-twice : node_order_of false (codes "new 0202 0101 512 get,get") ≡ None
+unfolding decode_pairs
+none-is-named-twice = refl
+
+each-has-a-name : node_order_of false (codes "new 0202 0101 512 get,") ≡ None
+unfolding decode_pairs
+each-has-a-name = refl
 
 rights-have-four-bits : node_order_of false (codes "new 0202 0101 512 16") ≡ None
 unfolding decode_pairs

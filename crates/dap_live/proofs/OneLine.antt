@@ -33,7 +33,7 @@ use Rattle.dap_live.specs.declared.orders.Between.{Between}
 use Rattle.dap_live.specs.declared.ask_orders.AskOrder.{AskOrder}
 use Rattle.dap_live.specs.declared.ask_orders.AskOrder.TheVariants as order
 use Rattle.dap_live.specs.Orders.{anew_of, hex_alone}
-use Rattle.dap_live.specs.AskOrders.{ask_order_of, asked_of, each_of, names_fac, new_link_order}
+use Rattle.dap_live.specs.AskOrders.{ask_order_of, asked_of, each_of, names_rights, new_link_order}
 use Rattle.dap_live.specs.Sending.{AllAgain, SaysAck}
 use Rattle.dap_live.proofs.Forms.{all_fit, also, ends_fit, field_fits, form_fits, none_fit}
 use Rattle.dap_live.specs.Texts.{done_said, end_refusal, link_refusal, packet_text, taken_said}
@@ -82,7 +82,7 @@ if_new false anew = tt
 
 new_fits : (o : Option (Option Between)) → Fits (option_and_then new_link_order o)
 new_fits None = tt
-new_fits (Some anew) = if_new (names_fac anew) anew
+new_fits (Some anew) = if_new (names_rights anew) anew
 
 each_fits : (words : Words) → Fits (each_of words)
 each_fits = form_fits Fits tt (codes "fetch") (word (codes "each") (ends order.FetchEach))

@@ -30,7 +30,6 @@ use Rattle.dap_shared.specs.Nodes.{Begins, Drops, Event, Gives, GivesRecord, wit
 use Rattle.dap_shared.specs.Noted.{NotedValue}
 use Rattle.dap_shared.specs.Shared.{NotAdded, NotRemoved, RecordNotAdded, SharedBegins, SharedDrops, SharedValue, is_held, rights_on}
 use Rattle.dap_end.specs.declared.fault.EndFault.{EndFault}
-use Rattle.dap_end.specs.declared.fault.EndFault.TheVariants as end
 use Rattle.dap_end.specs.declared.fault.TakeFault.{TakeFault}
 use Rattle.dap_end.specs.Ports.{PortValue, new_port}
 use Rattle.dap_end.specs.Node.{AtPort, HasAddress, HasPort, NodeLinkValue, NodeNotGiven, NodeValue, NoneHasCome, OnLink, SomeHasCome, without_notes, has_local, is_between, is_free_link}

@@ -8,13 +8,13 @@ use Rattle.dap_live.specs.declared.ask_orders.AskOrder.TheVariants as order
 use Rattle.dap_live.specs.Orders.{anew_of, hex_alone}
 
 -- rights are named
-abbrev pub names_fac : Option Between → Bool
-names_fac None = false
-names_fac (Some b) = is_some b.fac
+abbrev pub names_rights : Option Between → Bool
+names_rights None = false
+names_rights (Some b) = is_some b.rights
 
 -- a new link: a client gives nobody rights
 abbrev pub new_link_order : Option Between → Option AskOrder
-new_link_order anew = if names_fac anew then None else Some (order.New anew)
+new_link_order anew = if names_rights anew then None else Some (order.New anew)
 
 -- `fetch each`
 abbrev pub each_of : Words → Option AskOrder

@@ -1,5 +1,6 @@
 pub mod Orders
 pub mod Texts
+pub mod Rights
 pub mod Sending
 pub mod Both
 pub mod AskOrders

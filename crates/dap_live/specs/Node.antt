@@ -58,7 +58,7 @@ abbrev pub first_ports : (links : ℕ) → LinkSetup → List (Option PortValue)
 first_ports links usual = if links == 1 then Some (new_port usual) ∷ [] else replicate links None
 
 -- A node without files that is set up so, with room for this many links. Where that is one, it is there, with every
--- right.
+-- right and a setup in its limits.
 pub record IsNewNode (own : ServerSetup) (links : ℕ) (usual : LinkSetup) (most : ℕ) (node : Node) : Type 0 where
   pub stands : SharedAfter [] (first_events links) node.node.noted.shared
   pub setup : node.node.noted.shared.setup ≡ own
@@ -68,6 +68,7 @@ pub record IsNewNode (own : ServerSetup) (links : ℕ) (usual : LinkSetup) (most
   pub ports : node.node.ports ≡ first_ports links usual
   pub its : node.own ≡ own
   pub is_usual : node.usual ≡ usual
+  pub only_setup : links ≡ 1 → IsSetup usual
   pub most_waiting : node.most_waiting ≡ most
   pub last : node.last ≡ (if links == 1 then Some 0 else None)
   pub used : node.used ≡ replicate links false
@@ -354,13 +355,18 @@ IsNotDone old o new = new ≡ node_after_refusal old o
 abbrev pub before_line : Node → Node
 before_line node = record node { last = one_link node.node.ports }
 
+-- memory may be refused to an order: not where a link that is there is closed, since nothing is answered to that
+abbrev pub MayWantMemory : Node → NodeOrder → Type 0
+MayWantMemory old (order.Close local) = position (has_local local) old.node.ports ≡ None
+MayWantMemory old o = Unit {0}
+
 -- A line that is no order changes nothing and is a bad line. Otherwise the order is done; or memory is refused to its
 -- answer, and nothing else is answered, whether it was done or not.
 abbrev pub DoesNodeOrder : Node → Option NodeOrder → Node → List ℕ → Became → Type 0
 DoesNodeOrder old None new text became = (new ≡ old) × (text ≡ []) × (became ≡ BadLine)
 DoesNodeOrder old (Some o) new text became =
     NodeDoes old o new text became
-    ⊎ ((IsNotDone old o new ⊎ ((said : List ℕ) × (came : Became) × NodeDoes old o new said came)) × (text ≡ []) × (became ≡ NoMemory))
+    ⊎ ((IsNotDone old o new ⊎ ((said : List ℕ) × (came : Became) × NodeDoes old o new said came)) × (text ≡ []) × (became ≡ NoMemory) × MayWantMemory old o)
 
 -- what a node does by a line; one that it misses changes nothing but what link a line concerns
 abbrev pub answered : Node → Option (List ℕ) → Node → List ℕ → Became → Type 0

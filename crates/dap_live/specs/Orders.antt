@@ -1,14 +1,13 @@
 -- What lines of both live ends say of a link.
 use Rattle.std.specs.Prelude.{ℕ, List, [], ◌∷◌, Option, Some, None, option_map, unwrap_or}
 use Rattle.std.specs.Int.{from_be_bytes, w16}
-use Rattle.std.specs.Option.{option_map_or}
 use Rattle.std.specs.Result.{result_ok}
 use Rattle.hex.specs.Hex.{decode_sized}
 use Rattle.nsp_link.specs.declared.link.LinkSetup.{LinkSetup}
 use Rattle.rec_file.specs.declared.picks.Rights.{Rights}
-use Rattle.dap_accessed.specs.Accesses.{rights_of}
-use Rattle.dap_text.specs.Words.{Words, decimal_of, ends, field, hex_of, long, one_of}
+use Rattle.dap_text.specs.Words.{Words, ends, field, hex_of, long, one_of}
 use Rattle.dap_live.specs.declared.orders.Between.{Between}
+use Rattle.dap_live.specs.Rights.{rights_by}
 
 -- HEX, and nothing more
 abbrev pub hex_alone : Words → Option (List ℕ)
@@ -18,22 +17,22 @@ hex_alone = field hex_of ends
 abbrev pub address_of : List ℕ → Option ℕ
 address_of word = option_map (from_be_bytes w16) (result_ok (decode_sized word 2))
 
--- a link begins between these addresses, with this segment size and FAC where they are named
-abbrev pub between_order : (local remote : ℕ) → (segment fac : Option ℕ) → Between
-between_order local remote segment fac = record { local = local; remote = remote; segment = segment; fac = fac }
+-- a link begins between these addresses, with this segment size and these rights where they are named
+abbrev pub between_order : (local remote : ℕ) → Option ℕ → Option Rights → Between
+between_order local remote segment rights = record { local = local; remote = remote; segment = segment; rights = rights }
 
--- nothing, or FAC: the bits of four rights
-abbrev pub fac_from : (local remote segment : ℕ) → Words → Option Between
-fac_from local remote segment = one_of (
+-- nothing, or RIGHTS
+abbrev pub rights_from : (local remote segment : ℕ) → Words → Option Between
+rights_from local remote segment = one_of (
     ends (between_order local remote (Some segment) None)
-    ∷ field (decimal_of 15) (λ fac. ends (between_order local remote (Some segment) (Some fac)))
+    ∷ field rights_by (λ rights. ends (between_order local remote (Some segment) (Some rights)))
     ∷ [])
 
--- nothing, or SEGMENT, and FAC or not
+-- nothing, or SEGMENT, and RIGHTS or not
 abbrev pub limits_from : (local remote : ℕ) → Words → Option Between
 limits_from local remote = one_of (
     ends (between_order local remote None None)
-    ∷ field long (fac_from local remote)
+    ∷ field long (rights_from local remote)
     ∷ [])
 
 -- LOCAL REMOTE, and what follows
@@ -58,7 +57,7 @@ setup_anew setup (Some b) = setup_beside setup b
 
 -- the rights of a link that begins so: these where none are named
 abbrev pub most_beside : Rights → Between → Rights
-most_beside most b = option_map_or rights_of b.fac most
+most_beside most b = unwrap_or b.rights most
 
 -- the rights of a link that begins so, or as it was where nothing is named
 abbrev pub most_anew : Rights → Option Between → Rights

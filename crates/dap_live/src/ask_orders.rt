@@ -3,14 +3,14 @@
 ghost use Rattle.std.specs.Prelude.{◌≡◌, option_and_then};
 ghost use Rattle.dap_text.specs.Words.{ends};
 ghost use Rattle.dap_live.specs.Orders.{anew_of};
-ghost use Rattle.dap_live.specs.AskOrders.{ask_order_of, asked_of, each_of, new_link_order, names_fac};
+ghost use Rattle.dap_live.specs.AskOrders.{ask_order_of, asked_of, each_of, new_link_order, names_rights};
 
 use crate::orders::{Between, read_anew, read_hex_alone};
 use dap_text::{RequestText, Text, Words, is, read_request};
 
 /// What a line says. Its bytes are still digits.
 #[derive(Drop)]
-pub(crate) enum AskOrder<'a> {
+pub enum AskOrder<'a> {
     Packet(Text<'a>),
     Resend,
     Ack,
@@ -31,11 +31,11 @@ fn read_plain<'a>(words: Words<'a>, order: AskOrder<'a>) -> Option<AskOrder<'a>>
 
 /// Returns whether rights are named.
 fn names_rights(anew: Option<Between>) -> bool
-    ensures { result ≡ names_fac anew }
+    ensures { result ≡ names_rights anew }
 {
     match anew {
         None => false,
-        Some(between) => between.fac.is_some(),
+        Some(between) => between.rights.is_some(),
     }
 }
 

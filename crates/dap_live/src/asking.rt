@@ -84,7 +84,7 @@ impl Asking {
 
 /// What an order came to.
 #[derive(Clone, Copy)]
-pub(crate) enum Came {
+pub enum Came {
     /// The answer has the reports.
     Told(Became),
     /// It hasn't.

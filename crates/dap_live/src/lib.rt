@@ -7,12 +7,15 @@ mod laws;
 mod node;
 mod node_orders;
 mod orders;
+mod rights;
 mod sending;
 mod texts;
 mod used;
 
-pub use asking::Asking;
+pub use ask_orders::AskOrder;
+pub use asking::{Asking, Came};
 pub use laws::inputs_have_one_text;
 pub use node::Node;
-pub use orders::read_address;
+pub use node_orders::NodeOrder;
+pub use orders::{Between, read_address};
 pub use used::Used;

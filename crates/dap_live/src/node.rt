@@ -17,7 +17,7 @@ ghost use Rattle.dap_live.specs.Texts.{LineAnswer};
 ghost use Rattle.dap_live.specs.Inner.NodeReaching.{IsDoneWithText, NodeReaches};
 ghost use Rattle.dap_live.specs.Inner.Filing.{AddsShapedTo, GivesRecordBy, HasNoBytes, RecordNotBy};
 ghost use Rattle.dap_live.specs.Orders.{most_anew, most_beside, setup_anew};
-ghost use Rattle.dap_live.specs.Node.{AddsFileTo, AddsLink, AddsRecordTo, BeginsOn, NodeDoes, DoesNodeOrder, DropsFile, FindsLink, GoesOnWith, IsNewNode, IsNotDone, NoLink, ResendsOn, TakesOn, TakesPacketBy, RenewsOn, about, before_line, given_beside, is_alone, is_work_left_at, is_used, meant, one_link, pieces, receiver_of, sender_of, node_without_file, used_by, waits_on as waits_by};
+ghost use Rattle.dap_live.specs.Node.{AddsFileTo, AddsLink, AddsRecordTo, BeginsOn, NodeDoes, DoesNodeOrder, DropsFile, FindsLink, GoesOnWith, IsNewNode, IsNotDone, MayWantMemory, NoLink, ResendsOn, TakesOn, TakesPacketBy, RenewsOn, about, before_line, given_beside, is_alone, is_work_left_at, is_used, meant, one_link, pieces, receiver_of, sender_of, node_without_file, used_by, waits_on as waits_by};
 
 use crate::node_orders::{NodeOrder, read_node_order};
 use crate::orders::{Between, set_up_anew, set_up_beside};
@@ -27,7 +27,7 @@ use crate::texts::{
     push_served, push_status,
 };
 use crate::used::Used;
-use dap_accessed::{ALL_RIGHTS, AddFault, Names, NoMemory, ServerSetup, rights_of_fac};
+use dap_accessed::{ALL_RIGHTS, AddFault, Names, NoMemory, ServerSetup};
 use dap_accessing::Octets;
 use dap_end::{EndFault, ServingNode, TakeFault};
 use dap_msg::codes::{ACCESS_REFUSED, REASON_BAD_ATTRIBUTES};
@@ -398,6 +398,7 @@ fn close(node: &mut Node, local: u16, text: &mut Vec<u8>) -> Result<Became, Allo
     requires { text.old.items ≡ [] }
     ensures ok { IfOk result (NodeDoes node.old (NodeOrder.Close local) node.new text.new.items) }
     ensures err { OnErr result (node.new ≡ node.old) }
+    ensures refused { OnErr result (MayWantMemory node.old (NodeOrder.Close local)) }
 {
     match find_local(&node.node, local) {
         Some(link) => {
@@ -470,10 +471,7 @@ fn refuse_link(setup: LinkSetup, text: &mut Vec<u8>) -> Result<Became, AllocErro
 fn rights_beside(most: Rights, between: Between) -> Rights
     ensures { result ≡ most_beside most between }
 {
-    match between.fac {
-        None => most,
-        Some(fac) => rights_of_fac(fac),
-    }
+    between.rights.unwrap_or(most)
 }
 
 /// Returns the rights of a link that begins anew: those that it had, or those with which it begins so.
@@ -698,6 +696,7 @@ fn act(
     ensures ok { IfOk result (BeginsAnswer NodeDoes pieces node.old order.entry
         node.new text.new.items) }
     ensures err { OnErr result (NodeReaches node.old order.entry node.new) }
+    ensures refused { OnErr result (MayWantMemory node.old order.entry) }
 {
     match order {
         NodeOrder::Packet(digits) => Ok(Answer::Whole(take_packet(node, &digits, text)?)),

@@ -12,7 +12,7 @@ use dap_text::{
 /// What a line says. The bytes of a packet and of a name are still digits. A line names a link by its local address;
 /// where there is one link alone, it names none.
 #[derive(Drop)]
-pub(crate) enum NodeOrder<'a> {
+pub enum NodeOrder<'a> {
     Packet(Text<'a>),
     Resend(Option<u16>),
     Ack(Option<u16>),

@@ -1,20 +1,22 @@
 //! What lines of both live ends say of a link.
 
 ghost use Rattle.std.specs.Prelude.{◌≡◌, Some};
-ghost use Rattle.dap_live.specs.Orders.{address_of, anew_of, between_of, fac_from, hex_alone, limits_from, setup_anew, setup_beside};
+ghost use Rattle.dap_live.specs.Orders.{address_of, anew_of, between_of, hex_alone, limits_from, rights_from, setup_anew, setup_beside};
 
-use dap_text::{MAX_FAC, Text, Words, read_hex, read_number};
+use crate::rights::read_rights;
+use dap_text::{Text, Words, read_hex, read_number};
 use nsp_link::LinkSetup;
+use rec_file::Rights;
 
 /// How a link begins: between these addresses, the local one first. What isn't named is as before.
 #[derive(Clone, Copy)]
-pub(crate) struct Between {
-    pub(crate) local: u16,
-    pub(crate) remote: u16,
+pub struct Between {
+    pub local: u16,
+    pub remote: u16,
     /// The maximum number of bytes of a segment.
-    pub(crate) segment: Option<u32>,
-    /// The rights that an Access on it may ask for, by the bits of a FAC.
-    pub(crate) fac: Option<u32>,
+    pub segment: Option<u32>,
+    /// The rights that an Access on it may ask for.
+    pub rights: Option<Rights>,
 }
 
 /// Reads `HEX`.
@@ -37,9 +39,14 @@ pub fn read_address(word: &[u8]) -> Option<u16>
     }
 }
 
-/// Reads nothing, or `FAC`.
-fn read_fac<'a>(local: u16, remote: u16, segment: u32, mut words: Words<'a>) -> Option<Between>
-    ensures { result ≡ fac_from local remote segment words.entry }
+/// Reads nothing, or `RIGHTS`.
+fn read_rights_after<'a>(
+    local: u16,
+    remote: u16,
+    segment: u32,
+    mut words: Words<'a>,
+) -> Option<Between>
+    ensures { result ≡ rights_from local remote segment words.entry }
 {
     let segment = Some(segment);
     let Some(word) = words.next() else {
@@ -47,20 +54,20 @@ fn read_fac<'a>(local: u16, remote: u16, segment: u32, mut words: Words<'a>) -> 
             local,
             remote,
             segment,
-            fac: None,
+            rights: None,
         });
     };
-    let fac = Some(read_number(word, MAX_FAC)?);
+    let rights = Some(read_rights(word)?);
     words.end()?;
     Some(Between {
         local,
         remote,
         segment,
-        fac,
+        rights,
     })
 }
 
-/// Reads nothing, or `SEGMENT`, or `SEGMENT FAC`.
+/// Reads nothing, or `SEGMENT`, or `SEGMENT RIGHTS`.
 fn read_limits<'a>(local: u16, remote: u16, mut words: Words<'a>) -> Option<Between>
     ensures { result ≡ limits_from local remote words.entry }
 {
@@ -69,11 +76,11 @@ fn read_limits<'a>(local: u16, remote: u16, mut words: Words<'a>) -> Option<Betw
             local,
             remote,
             segment: None,
-            fac: None,
+            rights: None,
         });
     };
     let segment = read_number(word, u32::MAX)?;
-    read_fac(local, remote, segment, words)
+    read_rights_after(local, remote, segment, words)
 }
 
 /// Reads `LOCAL REMOTE`, and what follows.

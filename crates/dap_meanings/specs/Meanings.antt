@@ -1,8 +1,9 @@
 -- What the lines of a listing say in words.
-use Rattle.std.specs.Prelude.{ℕ, ◌==◌, ◌||◌, ◌/◌, ◌-◌, nat_le, Bool, List, [], ◌∷◌, ◌++◌, codes, length, take, if◌then◌else◌, Option, Some, None, Ok, Err}
+use Rattle.std.specs.Prelude.{◌≡◌, ℕ, ◌==◌, ◌||◌, ◌/◌, ◌-◌, nat_le, Bool, List, [], ◌∷◌, ◌++◌, codes, length, take, if◌then◌else◌, Option, Some, None, Ok, Err}
 use Rattle.std.specs.Option.{option_map_or}
 use Rattle.std.specs.List.{flat_map}
 use Rattle.std.specs.Fmt.{decimal}
+use Rattle.std.specs.Global.{Vec}
 use Rattle.dap_msg.specs.Codes.{asks_for, fac_bits, maccode, stscode}
 use Rattle.dap_msg.specs.BothEnds.{number_of}
 use Rattle.dap_msg.specs.declared.message.Message.{Message}
@@ -96,3 +97,7 @@ words_text (word ∷ words) = codes " ; " ++ (word ++ flat_map (λ next. codes "
 -- a line with words before its end
 abbrev pub with_words : List (List ℕ) → List ℕ → List ℕ
 with_words words line = take (length line - 1) line ++ (words_text words ++ line_feed)
+
+-- what was there, but for its last byte, is a prefix of what is there now, also where memory was refused
+unfoldable pub KeepsButEnd : Vec ℕ → Vec ℕ → Type 0
+KeepsButEnd old new = (more : List ℕ) × (new.items ≡ take (length old.items - 1) old.items ++ more)

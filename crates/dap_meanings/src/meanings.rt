@@ -5,7 +5,7 @@ ghost use Rattle.std.specs.List.{flat_map};
 ghost use Rattle.std.specs.Option.{option_map_or};
 ghost use Rattle.dap_msg.specs.declared.message.Message.TheVariants.{Access, Attrib, Control, Filedata, Status};
 ghost use Rattle.dap_meanings.specs.Frames.{frame_words};
-ghost use Rattle.dap_meanings.specs.Meanings.{fault_words, if_there, item_words, message_words, first_words, reason_words, refusal_words, record_words, status_words, with_words};
+ghost use Rattle.dap_meanings.specs.Meanings.{fault_words, if_there, item_words, message_words, first_words, reason_words, refusal_words, record_words, status_words, with_words, KeepsButEnd};
 ghost use Rattle.dap_meanings.specs.Tables.{word_in, formats, organizations, record_accesses};
 ghost use Rattle.dap_meanings.specs.Inner.Words.{word_list};
 
@@ -165,8 +165,9 @@ fn status_words_of(status: &StatusFields<'_>) -> [Word<'static>; 2]
 /// Puts the words of a message before the end of the last line of a text.
 fn add_message_words(text: &mut Vec<u8>, message: &MessageValue<'_>) -> Result<(), AllocError>
     requires { 0 < length text.old.items }
-    ensures { OnOk result
+    ensures words { OnOk result
         (text.new.items ≡ with_words (message_words message.now) text.old.items) }
+    ensures kept { KeepsButEnd text.old text.new }
 {
     match message {
         MessageValue::Config(config) => add_words(text, &[tables::system(config.ostype)]),
@@ -186,10 +187,13 @@ fn add_message_words(text: &mut Vec<u8>, message: &MessageValue<'_>) -> Result<(
     }
 }
 
-/// Puts the words of an item before the end of the last line of a text. Fails only if memory is refused.
+/// Puts the words of an item before the end of the last line of a text. Fails only if memory is refused: then all but
+/// that end still stands, with a part of the words or none.
 pub fn add_item_words(text: &mut Vec<u8>, item: &Item<'_>) -> Result<(), AllocError>
     requires { 0 < length text.old.items }
-    ensures { OnOk result (text.new.items ≡ with_words (item_words item.now) text.old.items) }
+    ensures words { OnOk result
+        (text.new.items ≡ with_words (item_words item.now) text.old.items) }
+    ensures kept { KeepsButEnd text.old text.new }
 {
     match item {
         Item::Whole(message) => add_message_words(text, message),
@@ -218,15 +222,17 @@ fn comment_word(line: &[u8]) -> Word<'_>
 }
 
 /// Puts the words of a packet's line before its end, which is that of the text: those of the line directly before the
-/// packet in its capture, and those of what it is where it can't be read. Fails only if memory is refused.
+/// packet in its capture, and those of what it is where it can't be read. Fails only if memory is refused: then all
+/// but that end still stands.
 pub fn add_packet_words(
     text: &mut Vec<u8>,
     before: &[u8],
     fault: Option<SegFault>,
 ) -> Result<(), AllocError>
     requires { 0 < length text.old.items }
-    ensures { OnOk result (text.new.items
+    ensures words { OnOk result (text.new.items
         ≡ with_words (frame_words before.now ++ if_there fault_words fault) text.old.items) }
+    ensures kept { KeepsButEnd text.old text.new }
 {
     let comment = comment_word(before);
     let fault = fault_word(fault);

@@ -2,7 +2,7 @@
 
 ghost use Rattle.std.specs.Prelude.{◌≡◌, OnOk, take};
 ghost use Rattle.std.specs.List.{flat_map, list_all};
-ghost use Rattle.dap_text.specs.Adding.{Adds};
+ghost use Rattle.dap_text.specs.Adding.{Adds, StillBegins};
 ghost use Rattle.dap_meanings.specs.Quoted.{closing, escaped_byte, max_quoted, is_printable as printable, quote, quoted_bytes as quoted_words};
 ghost use Rattle.dap_meanings.specs.Inner.Words.{word_list};
 
@@ -44,8 +44,10 @@ pub(crate) fn quoted(bytes: &[u8]) -> Word<'_>
 }
 
 /// Appends bytes, with a backslash before each quote and each backslash.
+#[tactic(auto, unfolding(dap_text::specs::Adding::StillBegins))]
 fn push_escaped(text: &mut Vec<u8>, bytes: &[u8]) -> Result<(), AllocError>
-    ensures { OnOk result (Adds text.old text.new (flat_map escaped_byte bytes.now)) }
+    ensures added { OnOk result (Adds text.old text.new (flat_map escaped_byte bytes.now)) }
+    ensures kept { StillBegins text.old text.new }
 {
     for byte in bytes {
         if *byte == b'"' || *byte == b'\\' {
@@ -68,8 +70,10 @@ fn first_bytes(bytes: &[u8]) -> &[u8]
 }
 
 /// Appends the quote at the end, and two dots where there are more bytes.
+#[tactic(auto, unfolding(dap_text::specs::Adding::StillBegins))]
 fn push_closing(text: &mut Vec<u8>, bytes: &[u8]) -> Result<(), AllocError>
-    ensures { OnOk result (Adds text.old text.new (closing bytes.now)) }
+    ensures added { OnOk result (Adds text.old text.new (closing bytes.now)) }
+    ensures kept { StillBegins text.old text.new }
 {
     if bytes.len() > MAX_QUOTED {
         push_str(text, "\"..")
@@ -79,8 +83,10 @@ fn push_closing(text: &mut Vec<u8>, bytes: &[u8]) -> Result<(), AllocError>
 }
 
 /// Appends the first bytes in quotes.
+#[tactic(auto, unfolding(dap_text::specs::Adding::StillBegins))]
 pub(crate) fn push_quote(text: &mut Vec<u8>, bytes: &[u8]) -> Result<(), AllocError>
-    ensures { OnOk result (Adds text.old text.new (quote bytes.now)) }
+    ensures added { OnOk result (Adds text.old text.new (quote bytes.now)) }
+    ensures kept { StillBegins text.old text.new }
 {
     push_str(text, "\"")?;
     push_escaped(text, first_bytes(bytes))?;

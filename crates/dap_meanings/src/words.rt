@@ -3,8 +3,8 @@
 ghost use Rattle.std.specs.Prelude.{◌≡◌, ◌<◌, ℕ, OnOk, length};
 ghost use Rattle.std.specs.List.{flat_map};
 ghost use Rattle.dap_msg.specs.Codes.{asks_for};
-ghost use Rattle.dap_text.specs.Adding.{Adds};
-ghost use Rattle.dap_meanings.specs.Meanings.{right_text, rights_text, rights_words, words_text, with_words};
+ghost use Rattle.dap_text.specs.Adding.{Adds, StillBegins};
+ghost use Rattle.dap_meanings.specs.Meanings.{right_text, rights_text, rights_words, words_text, with_words, KeepsButEnd};
 ghost use Rattle.dap_meanings.specs.Inner.Words.{word_list, said_text};
 
 use crate::quoted::push_quote;
@@ -46,17 +46,20 @@ pub(crate) fn rights_word(fac: u32) -> Word<'static>
 }
 
 /// Appends a word, if a bit of FAC is set.
+#[tactic(auto, unfolding(dap_text::specs::Adding::StillBegins))]
 fn push_right(text: &mut Vec<u8>, is_set: bool, word: &str) -> Result<(), AllocError>
-    ensures { (fac bit : ℕ) → is_set ≡ asks_for fac bit
+    ensures added { (fac bit : ℕ) → is_set ≡ asks_for fac bit
         → OnOk result (Adds text.old text.new (right_text fac bit word.now)) }
+    ensures kept { StillBegins text.old text.new }
 {
     if is_set { push_str(text, word) } else { Ok(()) }
 }
 
 /// Appends the operations of FAC.
-#[tactic(auto, using(crate::proofs::ToldLemmas::appended_twice))]
+#[tactic(auto, using(crate::proofs::ToldLemmas::appended_twice), unfolding(dap_text::specs::Adding::StillBegins))]
 fn push_rights(text: &mut Vec<u8>, fac: u32) -> Result<(), AllocError>
-    ensures { OnOk result (Adds text.old text.new (rights_text fac)) }
+    ensures added { OnOk result (Adds text.old text.new (rights_text fac)) }
+    ensures kept { StillBegins text.old text.new }
 {
     let access = FileAccess::of_fac(fac);
     push_right(text, access.allows_get(), " get")?;
@@ -66,8 +69,10 @@ fn push_rights(text: &mut Vec<u8>, fac: u32) -> Result<(), AllocError>
 }
 
 /// Appends what a field says.
+#[tactic(auto, unfolding(dap_text::specs::Adding::StillBegins))]
 fn push_word(text: &mut Vec<u8>, word: Word<'_>) -> Result<(), AllocError>
-    ensures { OnOk result (Adds text.old text.new (said_text word.entry)) }
+    ensures added { OnOk result (Adds text.old text.new (said_text word.entry)) }
+    ensures kept { StillBegins text.old text.new }
 {
     match word {
         Word::Nothing => Ok(()),
@@ -83,9 +88,11 @@ fn push_word(text: &mut Vec<u8>, word: Word<'_>) -> Result<(), AllocError>
 }
 
 /// Appends words, each after its mark.
-#[tactic(auto, using(crate::proofs::ToldLemmas::appended_twice))]
+#[tactic(auto, using(crate::proofs::ToldLemmas::appended_twice), unfolding(dap_text::specs::Adding::StillBegins))]
 fn push_told(text: &mut Vec<u8>, words: &[Word<'_>]) -> Result<(), AllocError>
-    ensures { OnOk result (Adds text.old text.new (words_text (flat_map word_list words.now))) }
+    ensures added { OnOk result
+        (Adds text.old text.new (words_text (flat_map word_list words.now))) }
+    ensures kept { StillBegins text.old text.new }
 {
     let mut mark = " ; ";
     for word in words {
@@ -100,10 +107,12 @@ fn push_told(text: &mut Vec<u8>, words: &[Word<'_>]) -> Result<(), AllocError>
 }
 
 /// Puts words before the end of a text's last line.
+#[tactic(auto, unfolding(dap_text::specs::Adding::StillBegins, crate::specs::Meanings::KeepsButEnd))]
 pub(crate) fn add_words(text: &mut Vec<u8>, words: &[Word<'_>]) -> Result<(), AllocError>
     requires { 0 < length text.old.items }
-    ensures { OnOk result
+    ensures words { OnOk result
         (text.new.items ≡ with_words (flat_map word_list words.now) text.old.items) }
+    ensures kept { KeepsButEnd text.old text.new }
 {
     text.truncate(text.len() - 1);
     push_told(text, words)?;

@@ -5,3 +5,13 @@ pub mod Linked
 pub mod Kept
 pub mod Calling
 pub mod Asking
+pub mod Blocks
+pub mod Segments
+pub mod AnyLink
+pub mod Traffic
+pub mod AnyNode
+pub mod SoundNode
+pub mod Happens
+pub mod AnyBounds
+pub mod CleanEnds
+pub mod ForCallers

@@ -11,8 +11,8 @@ use Rattle.dap_accessed.specs.Standing.{Files}
 use Rattle.dap_accessed.specs.Sessions.{SessionValue, IsOpenIn, asked_in, open_at}
 use Rattle.dap_shared.specs.Sharing.{bars}
 use Rattle.dap_shared.specs.Shared.{no_session}
-use Rattle.dap_shared.specs.Inner.Beside.{MovesAmong, MovesBeside, ServesOrRefuses, gone_by, is_barred, session_moved_up}
-use Rattle.dap_shared.specs.Inner.Held.{MovesOn, session_at}
+use Rattle.dap_shared.specs.Inner.Beside.{IsSilentBeside, IsSilentBetween, MovesAmong, MovesBeside, ServesOrRefuses, gone_by, is_barred, session_moved_up}
+use Rattle.dap_shared.specs.Inner.Held.{IsSilentAmong, MovesOn, session_at}
 use Rattle.dap_shared.proofs.Changes.{or-true}
 
 new-moved : (r : Option OpenFile) (own : ServerSetup) → session_moved_up r (no_session own) ≡ no_session own
@@ -67,6 +67,17 @@ moves-on own item files files' b a b' a' s s' answers m =
           sym (ap (λ (n : ℕ). set (b' ++ no_session own ∷ a') n s') (sym many)
           ∙ set-append_seam b' (no_session own) a' s');
     }
+
+-- an item that takes no memory on a link among all takes none between those before it and those after it
+pub silent-between : (own : ServerSetup) (item : Item) (files : Files) (link : ℕ) (l b a : List SessionValue) (s : SessionValue) → l ≡ b ++ s ∷ a → length b ≡ link → IsSilentAmong own link item files l → IsSilentBetween item files b s a
+silent-between own item files link l b a s whole many silent =
+    let at : IsSilentAmong own (length b) item files (b ++ s ∷ a) =
+    subst (λ (n : ℕ). IsSilentAmong own n item files (b ++ s ∷ a)) (sym many) (subst (λ (k : List SessionValue). IsSilentAmong own link item files k) whole silent) in
+    let mine : IsSilentBeside (is_barred (set (b ++ s ∷ a) (length b) (no_session own)) (asked_in s.setup files s.phase item)) item files s =
+    subst (λ (t : SessionValue). IsSilentBeside (is_barred (set (b ++ s ∷ a) (length b) (no_session own)) (asked_in t.setup files t.phase item)) item files t) (here own b a s) at in
+    subst (λ (x : Bool). IsSilentBeside x item files s)
+    (ap (λ (k : List SessionValue). is_barred k (asked_in s.setup files s.phase item)) (set-append_seam b s a (no_session own))
+    ∙ barred-among own (asked_in s.setup files s.phase item) b a) mine
 
 -- what is asked for is barred by one of those before it, or of those after it
 pub barred-first : (b a : List SessionValue) (asked is : Option OpenFile) → asked ≡ is → is_barred b asked ≡ true → (is_barred b is || is_barred a is) ≡ true

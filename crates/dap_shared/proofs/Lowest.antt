@@ -1,18 +1,20 @@
 -- The lowest address, one link more.
-use Rattle.std.proofs.Common.{◌≡◌, ℕ, ◌+◌, ◌<◌, ◌≤◌, ◌⊎◌, Bool, true, false, List, length, Option, Some, None, refl, sym, subst, ◌∙◌, inl, inr, arith}
-use Rattle.std.specs.Prelude.{IfOk, IfSome, IsTrue, Result, Ok, Err, ◌++◌}
+use Rattle.std.proofs.Common.{◌≡◌, ℕ, ◌+◌, ◌<◌, ◌≤◌, ◌⊎◌, Bool, true, false, List, [], ◌∷◌, length, Option, Some, None, refl, sym, subst, ◌∙◌, inl, inr, arith}
+use Rattle.std.specs.Prelude.{IfOk, IfSome, IsTrue, Result, Ok, Err, ◌++◌, if◌then◌else◌}
 use Rattle.std.specs.Option.{option_to_list}
 use Rattle.dap_accessed.specs.declared.setup.ServerSetup.{ServerSetup}
 use Rattle.dap_msg.specs.Items.{ItemAt}
 use Rattle.dap_accessed.specs.Standing.{Files}
 use Rattle.dap_accessed.specs.declared.fault.NoMemory.{NoMemory}
 use Rattle.dap_accessed.specs.declared.served.Served.{Served}
-use Rattle.dap_shared.specs.Shared.{SharedAfter, SharedServes}
+use Rattle.dap_msg.specs.declared.message.Message.{Message}
+use Rattle.dap_shared.specs.Shared.{IsSilentAt, SharedAfter, SharedServes}
 use Rattle.std.proofs.lemmas.Bool.{cases_eq}
 use Rattle.dap_msg.specs.declared.items.Item.{Item}
 use Rattle.dap_shared.specs.Nodes.{Event, Node, is_locked_out, locks_out, node_after}
 use Rattle.dap_shared.specs.Noted.{IsLowest, LeastOf, NotedServed, NotedValue}
 use Rattle.dap_shared.specs.Inner.Lower.{IsLower}
+use Rattle.dap_shared.proofs.Events.{history-shares}
 use Rattle.dap_shared.proofs.Holders.{is-holder}
 
 module _ (test : ℕ → Bool) (number : ℕ → ℕ) (k : ℕ) where
@@ -99,3 +101,21 @@ pub noted-result : (link : ℕ) (item : Item) (bytes : List ℕ) (at next : ℕ)
     → new.locked ≡ old.locked ++ option_to_list lowest → new.addresses ≡ old.addresses → IfOk r (NotedServed link bytes at old new)
 noted-result link item bytes at next old new (Ok served) told lowest addresses reads n s low is all locked same = noted-served link item bytes at next old new served told lowest addresses reads n s low is all locked same
 noted-result link item bytes at next old new (Err f) told lowest addresses reads n s low is all locked same = tt
+
+-- ---- An item that takes no memory.
+
+answers-some : (locked : Bool) (answer : Message) (others : List Message) → locked ≡ true → (if locked then answer ∷ [] else others) ≡ [] → ⊥
+answers-some true answer others is none = cc
+answers-some false answer others is none = cc
+
+-- an item that is locked out has an answer
+pub not-locking : (v : NotedValue) (link : ℕ) (item : Item) (lowest : Option ℕ) (address : ℕ) → length v.addresses ≡ length v.shared.sessions
+    → ((first : Files) (events : List Event) → SharedAfter first events v.shared → IsLowest v.shared.setup v.addresses link (node_after v.shared.setup first (length v.shared.sessions) events) item lowest)
+    → lowest ≡ Some address → IsSilentAt link v.shared item → ⊥
+not-locking v link item lowest address many is some (first, events, h, silent) =
+    let own = v.shared.setup in
+    let node = node_after own first (length v.shared.sessions) events in
+    let low : IsLowest own v.addresses link node item (Some address) = subst (IsLowest own v.addresses link node item) some (is first events h) in
+    let links = (history-shares own first (length v.shared.sessions) events h.links).1 in
+    let locked = is-holder own node link low.0.0 item (omega (arith, low.0.1, many, links)) low.0.2 in
+    answers-some (is_locked_out own link node item) _ _ locked silent.0

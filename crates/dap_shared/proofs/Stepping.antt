@@ -20,7 +20,7 @@ use Rattle.dap_accessed.specs.declared.phase.OpenFile.{OpenFile}
 use Rattle.dap_accessed.specs.declared.phase.Phase.{Phase}
 use Rattle.dap_accessed.specs.declared.phase.Phase.TheVariants as phases
 use Rattle.dap_accessed.specs.Standing.{Files, Scene, ServerState, Group, Standing, plain_shape, Fresh, Ready, Opened, Connected, Store, Stopped}
-use Rattle.dap_accessed.specs.Past.{is_dropping, ordinal_so_far}
+use Rattle.dap_accessed.specs.Past.{is_dropping, is_filedata, ordinal_so_far}
 use Rattle.dap_accessed.specs.Records.{Change, Putting, Updating}
 use Rattle.dap_accessed.specs.Replies.{bare_status}
 use Rattle.dap_accessed.specs.Accesses.{refuse_access}
@@ -31,12 +31,12 @@ use Rattle.dap_accessed.specs.Served.{AllAtMost, AreAnswers}
 use Rattle.dap_accessed.specs.Sessions.{SessionValue, asked_in, with_files, moved_up, session_with, open_at, phase_moved_up, session_of}
 use Rattle.dap_accessed.proofs.ForCallers.{access-keeps}
 use Rattle.dap_shared.specs.Sharing.{barred_by, bars, file_locked, is_file, open_in, state_moved_up, is_locked, asks_to_open}
-use Rattle.dap_shared.specs.Nodes.{Exchange, Node, Event, Serves, Begins, Gives, GivesRecord, Drops, new_exchange, no_exchange, new_node, exchange_at, exchange_of, end_at, before_files, open_on, open_beside, more_beside, answers_beside, begun_moved_up, exchange_moved_up, exchange_without, removed_by, is_open, without_file, setup_on, setup_with, after_event, after_all, asked_on, is_locked_out, locks_out, node_after}
+use Rattle.dap_shared.specs.Nodes.{Exchange, Node, Event, Serves, Begins, Gives, GivesRecord, Drops, IsSilentOn, new_exchange, no_exchange, new_node, exchange_at, exchange_of, end_at, before_files, open_on, open_beside, more_beside, answers_beside, begun_moved_up, exchange_moved_up, exchange_without, removed_by, is_open, without_file, setup_on, setup_with, after_event, after_all, asked_on, is_locked_out, locks_out, node_after}
 use Rattle.dap_shared.specs.Shared.{SharedValue, SharedAfter, SharedBegins, SharedDrops, SharedGiven, SharedServes, is_held, session_of_exchange, no_session, session_without, shared_of}
 use Rattle.dap_shared.specs.Keeping.{AreOf}
-use Rattle.dap_shared.specs.Inner.Beside.{is_barred, session_moved_up, gone_by, MovesBeside}
+use Rattle.dap_shared.specs.Inner.Beside.{is_barred, session_moved_up, gone_by, IsSilentBeside, MovesBeside}
 use Rattle.dap_shared.specs.Inner.Beside as beside
-use Rattle.dap_shared.specs.Inner.Held.{session_at}
+use Rattle.dap_shared.specs.Inner.Held.{IsSilentAmong, session_at}
 use Rattle.dap_shared.proofs.Events.{IsShared, IsSteadyExchange, history-shares, one-new}
 use Rattle.dap_shared.proofs.Holders.{locked-by-all}
 use Rattle.dap_shared.proofs.Shares.{dropped}
@@ -269,6 +269,15 @@ module _ (own : ServerSetup) (node : Node) (link : ℕ) (item : Item) (h : IsSha
       ∙ ap (λ (l : List SessionValue). is_barred l asked) (sym (map-set kept node.exchanges link no_exchange))
       ∙ barred-is own node.files asked (set node.exchanges link no_exchange) steady-beside
 
+  -- an item without an answer isn't locked out
+  silent-by : (locked : Bool) → (if locked then bare_status file_locked ∷ [] else answers_of its before item) ≡ [] → (is_filedata item ≡ true → is_dropping before.standing.past ≡ true) → IsSilentBeside locked item node.files session
+  silent-by true none stored = absurd (cc)
+  silent-by false none stored = (refl, (before, refl, (none, stored)))
+
+  pub silent-here : answers_beside its others before item ≡ [] → (is_filedata item ≡ true → is_dropping before.standing.past ≡ true) → IsSilentBeside (is_barred kept_beside (asked_by session node.files item)) item node.files session
+  silent-here none stored =
+      subst (λ (b : Bool). IsSilentBeside b item node.files session) (sym lock-is) (silent-by (is_locked others asked) none stored)
+
   -- where the code leaves these files, and this of the link
   pub record Leaves (d : GroupedItems) (messages : List Message) (files : Files) (s : SessionValue) (answers : Vec (Vec ℕ)) : Type 0 where
     pub same_files : files ≡ d.standing.scene.files
@@ -399,6 +408,18 @@ module _ (old : SharedValue) (link : ℕ) (item : Item) (files : Files) (rest : 
 
   pub short-answers : (first : Files) (events : List Event) → SharedAfter first events old → AllAtMost max_nsp_message (bodies answers.items)
   short-answers first events h = (then-left first events h).within
+
+-- an item that takes no memory takes none beside what is kept of the other links
+pub silent-kept : (v : SharedValue) (link : ℕ) (item : Item) (first : Files) (events : List Event) → SharedAfter first events v → IsSilentOn link v.setup first (length v.sessions) events item → IsSilentAmong v.setup link item v.files v.sessions
+silent-kept v link item first events h silent =
+    let node = node_after v.setup first (length v.sessions) events in
+    let shares = (history-shares v.setup first (length v.sessions) events h.links).0 in
+    let kept_others = set (map (session_of_exchange v.setup node.files) node.exchanges) link (no_session v.setup) in
+    let here : session_at v.setup link (shared_of v.setup node).sessions ≡ session_of_exchange v.setup node.files (exchange_at link node) =
+    get_or-map (session_of_exchange v.setup node.files) node.exchanges link no_exchange in
+    let silent_there = silent-here v.setup node link item shares silent.0 silent.1 in
+    subst (λ (w : SharedValue). IsSilentAmong v.setup link item w.files w.sessions) (sym h.stands)
+    (subst (λ (s : SessionValue). IsSilentBeside (is_barred kept_others (asked_by s node.files item)) item node.files s) (sym here) silent_there)
 
 -- ---- Where no file is gone, nothing moves up.
 

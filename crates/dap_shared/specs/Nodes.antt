@@ -1,7 +1,7 @@
 -- A node: one table of files, and links of which each has an exchange. One item of one link is served after another.
 -- Each does what it would do at a server of one link in the state of its link, before the files as they then are; but
 -- an Access to a file that is locked is refused.
-use Rattle.std.specs.Prelude.{ℕ, Bool, not, ◌&&◌, ◌==◌, nat_lt, if◌then◌else◌, List, [], ◌∷◌, ◌++◌, length, map, replicate, get_or, set, Option, Some, None, option_map}
+use Rattle.std.specs.Prelude.{◌≡◌, ℕ, Bool, true, not, ◌&&◌, ◌==◌, nat_lt, if◌then◌else◌, List, [], ◌∷◌, ◌++◌, length, map, replicate, get_or, set, Option, Some, None, option_map}
 use Rattle.std.specs.List.{list_any, remove}
 use Rattle.dap_accessed.specs.declared.setup.ServerSetup.{ServerSetup}
 use Rattle.dap_msg.specs.BothEnds.{min_buffer}
@@ -14,6 +14,7 @@ use Rattle.dap_accessed.specs.declared.phase.OpenFile.{OpenFile}
 use Rattle.dap_accessed.specs.Setup.{all_rights}
 use Rattle.dap_accessed.specs.Standing.{Files, ServerState, Group, Fresh, file_at, with_file}
 use Rattle.dap_accessed.specs.Sessions.{moved_up}
+use Rattle.dap_accessed.specs.Past.{is_dropping, is_filedata}
 use Rattle.dap_accessed.specs.Replies.{bare_status}
 use Rattle.dap_accessed.specs.Accesses.{refuse_access}
 use Rattle.dap_accessed.specs.Effects.{Begun, Does}
@@ -202,6 +203,12 @@ added_on link own first links events item =
 -- how long a message its peer takes then
 abbrev pub limit_on : (link : ℕ) → (own : ServerSetup) → Files → ℕ → List Event → ℕ
 limit_on link own first links events = (exchange_at link (node_after own first links events)).limit
+
+-- an item of a link without an answer, that is no Data message which is stored: it is never out of memory
+abbrev pub IsSilentOn : (link : ℕ) → (own : ServerSetup) → Files → ℕ → List Event → Item → Type 0
+IsSilentOn link own first links events item =
+    (added_on link own first links events item ≡ [])
+    × (is_filedata item ≡ true → is_dropping (exchange_at link (node_after own first links events)).past ≡ true)
 
 -- what was served on a link since it began, after this
 abbrev pub served_on : (link : ℕ) → (before : List Item) → List Event → List Item

@@ -21,7 +21,7 @@ use Rattle.dap_accessed.specs.Sessions.{SessionValue, open_at, phase_moved_up, s
 use Rattle.dap_shared.specs.declared.fault.RemoveFault.{RemoveFault}
 use Rattle.dap_shared.specs.declared.fault.RemoveFault.TheVariants as removing
 use Rattle.dap_shared.specs.Sharing.{is_file}
-use Rattle.dap_shared.specs.Nodes.{Exchange, Node, Event, Serves, Begins, Drops, before_files, node_after, added_on, limit_on, setup_with}
+use Rattle.dap_shared.specs.Nodes.{Exchange, Node, Event, Serves, Begins, Drops, IsSilentOn, before_files, node_after, added_on, limit_on, setup_with}
 use Rattle.dap_shared.specs.Keeping.{AreOf}
 
 -- what a node keeps
@@ -66,6 +66,11 @@ pub record SharedServed (link : ℕ) (bytes : List ℕ) (at : ℕ) (old new : Sh
   pub item : Item
   pub reads : ItemAt bytes at item served.next
   pub serves : SharedServes link item old new served.answers
+
+-- After some history that leaves this, an item of a link is one that takes no memory.
+abbrev pub IsSilentAt : (link : ℕ) → SharedValue → Item → Type 0
+IsSilentAt link v item =
+    (first : Files) × (events : List Event) × SharedAfter first events v × IsSilentOn link v.setup first (length v.sessions) events item
 
 -- what is kept of a link where there is none of this number
 abbrev pub no_session : (own : ServerSetup) → SessionValue

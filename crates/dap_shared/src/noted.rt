@@ -9,7 +9,7 @@ ghost use Rattle.dap_accessed.specs.Standing.{Files, file_at, index_by};
 ghost use Rattle.dap_shared.specs.Nodes.{Event, Gives, GivesRecord, exchange_at, node_after, with_record_at};
 ghost use Rattle.dap_shared.specs.Noted.{IsLowest, NotedServed};
 ghost use Rattle.dap_shared.specs.Inner.Lower.{IsLower};
-ghost use Rattle.dap_shared.specs.Shared.{AtFile, NotAdded, NotRemoved, RecordNotAdded, SharedAfter, SharedBegins, SharedDrops, SharedGiven, rights_on};
+ghost use Rattle.dap_shared.specs.Shared.{AtFile, IsSilentAt, NotAdded, NotRemoved, RecordNotAdded, SharedAfter, SharedBegins, SharedDrops, SharedGiven, rights_on};
 
 use crate::fault::RemoveFault;
 use crate::server::Serving;
@@ -249,6 +249,8 @@ impl Serving for NotedFiles {
     ghost has_link = { λ noted link. link < length noted.shared.sessions };
 
     ghost serves = { λ link bytes at old new served. NotedServed link bytes at old new served };
+
+    ghost is_silent = { λ link noted item. IsSilentAt link noted.shared item };
 
     fn serve(&mut self, link: usize, item: Item<'_>, next: usize) -> Result<Served, NoMemory> {
         let Some(address) = locking(&self.shared, &self.addresses, link, &item) else {

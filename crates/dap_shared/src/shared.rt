@@ -1,6 +1,6 @@
 //! One table of files, and what is kept of each link before it.
 
-ghost use Rattle.std.specs.Prelude.{◌≡◌, ◌≤◌, ◌<◌, ◌∷◌, ◌++◌, ℕ, List, [], length, map, nat_lt, if◌then◌else◌, IfOk, IfErr, IsTrue, OnOk, OnErr, Some, None, replicate};
+ghost use Rattle.std.specs.Prelude.{◌≡◌, ◌≤◌, ◌<◌, ◌∷◌, ◌++◌, ℕ, List, [], length, map, nat_lt, if◌then◌else◌, IfOk, IfErr, IsOk, IsTrue, OnOk, OnErr, Some, None, replicate};
 ghost use Rattle.dap_msg.specs.BothEnds.{min_buffer};
 ghost use Rattle.dap_msg.specs.Decoding.{IsSpelled};
 ghost use Rattle.dap_msg.specs.declared.items.Item.TheVariants.{Whole};
@@ -10,10 +10,10 @@ ghost use Rattle.dap_accessed.specs.Standing.{Files, file_at, index_by};
 ghost use Rattle.dap_accessed.specs.Adding.{MayStore, with_new_file};
 ghost use Rattle.dap_accessed.specs.Sessions.{IsOpenIn, session_with};
 ghost use Rattle.dap_accessed.specs.Setup.{IsServerSetup, plain_setup};
-ghost use Rattle.dap_shared.specs.Nodes.{Event, FilesAfter, Gives, GivesRecord, exchange_at, is_locked_out, locks_out, node_after, with_record_at};
+ghost use Rattle.dap_shared.specs.Nodes.{Event, FilesAfter, Gives, GivesRecord, IsSilentOn, exchange_at, is_locked_out, locks_out, node_after, with_record_at};
 ghost use Rattle.dap_shared.specs.Shared.{AtFile, NotAdded, NotRemoved, RecordNotAdded, SharedAfter, SharedBegins, SharedDrops, SharedGiven, SharedServes, rights_on, session_without};
-ghost use Rattle.dap_shared.specs.Inner.Beside.{MovesAmong, session_moved_up};
-ghost use Rattle.dap_shared.specs.Inner.Held.{MovesOn, session_at};
+ghost use Rattle.dap_shared.specs.Inner.Beside.{IsSilentBetween, MovesAmong, session_moved_up};
+ghost use Rattle.dap_shared.specs.Inner.Held.{IsSilentAmong, MovesOn, session_at};
 
 use crate::fault::RemoveFault;
 use crate::locks::{FILE_LOCKED, is_barred, is_barred_by_file, is_held};
@@ -111,6 +111,8 @@ fn serve_beside(
     ensures next { IfOk result (λ served. served.next ≡ next) }
     ensures err { OnErr result ((files.new ≡ files.old) × (before.new ≡ before.old)
         × (after.new ≡ after.old) × (session.new ≡ session.old)) }
+    ensures unrefused { IsSilentBetween item.entry files.old before.old session.old after.old
+        → IsOk result }
 {
     let asked = session.asked(files, &item);
     if is_barred(before, asked) || is_barred(after, asked) {
@@ -142,6 +144,8 @@ fn serve_on(
         sessions.old files.new sessions.new served.answers) }
     ensures next { IfOk result (λ served. served.next ≡ next) }
     ensures err { OnErr result ((files.new ≡ files.old) × (sessions.new ≡ sessions.old)) }
+    ensures unrefused { (own : ServerSetup)
+        → IsSilentAmong own link item.entry files.old sessions.old → IsOk result }
 {
     let (before, rest) = sessions.split_at_mut(link);
     match rest.split_first_mut() {
@@ -227,7 +231,8 @@ impl SharedFiles {
     /// (DAP 5.6.0, message sequences). An Access to a file that another link has open is refused as locked, where one
     /// of the two would change the file or has made it.
     ///
-    /// The only refusal is [`NoMemory`]. Nothing has changed then, and the same call may be made again.
+    /// The only refusal is [`NoMemory`]. Nothing has changed then, and the same call may be made again. A message that
+    /// has no answer and stores no record takes no memory.
     pub fn serve_item(
         &mut self,
         link: usize,
@@ -240,6 +245,10 @@ impl SharedFiles {
             self.old self.new served.answers) }
         ensures next { IfOk result (λ served. served.next ≡ next) }
         ensures no_memory { OnErr result (self.new ≡ self.old) }
+        ensures unrefused { (first : Files) (events : List Event)
+            → SharedAfter first events self.old
+            → IsSilentOn link self.old.setup first (length self.old.sessions) events item.entry
+            → IsOk result }
     {
         serve_on(&mut self.files, &mut self.sessions, link, item, next)
     }

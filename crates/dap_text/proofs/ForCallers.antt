@@ -2,3 +2,5 @@
 
 -- hex text has an even number of digits, and all of it are hex digits
 pub use Rattle.dap_text.proofs.HexTextLemmas.{all_digits, even_hex}
+-- the parts of a text, where a byte is between two of them: the first and those after it, or only one
+pub use Rattle.dap_text.proofs.WordLemmas.{some_part, only_part}

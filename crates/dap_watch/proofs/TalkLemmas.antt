@@ -388,20 +388,20 @@ breaks words input (x ∷ rest) said were now new (Some BadLine) text held mid h
     let s = some_read words input (drop_through 10 (x ∷ rest)) (said ++ (text ++ [])) (were ++ Some BadLine ∷ []) new after in
     (s.0, said ++ (text ++ []), s.1, s.2, inl (front_behind held mid holds said (text ++ []) held_so front))
 
-pub fails : (first now : Watching) (unread held holds : Option (List ℕ)) (f : CaptureFault) → Starts first
-    → IfSome unread (λ input. Fails answered waiting first input now held holds f) → IfSome unread (λ input. WatchFails first.in_words input held holds f)
-fails first now None held holds f start failed = _
-fails first now (Some input) held holds ReadFailed start (rest, said, were, talked, held_so, unbroken) =
+pub fails : (first now : Watching) (unread left held holds : Option (List ℕ)) (f : CaptureFault) → Starts first
+    → IfSome unread (λ input. Fails answered waiting first input now left held holds f) → IfSome unread (λ input. WatchFails first.in_words input held holds f)
+fails first now None left held holds f start failed = _
+fails first now (Some input) left held holds ReadFailed start (rest, said, were, talked, held_so, unbroken, reads) =
     let s = some_read first.in_words input rest said were now (talked_so first now input rest said were talked start (unbroken (λ e. refl))) in
     (s.0, said, s.1, s.2, held_so)
-fails first now (Some input) held holds OutOfMemory start (rest, said, were, talked, held_so, none, unbroken) =
+fails first now (Some input) left held holds OutOfMemory start (rest, said, were, talked, held_so, none, unbroken, is_left) =
     let s = memory_last first now input rest said (were ++ Some NoMemory ∷ []) were talked refl start (unbroken (λ e. refl)) in
     (s.0, said, s.1, s.2, held_so)
-fails first new (Some input) held holds WriteFailed start (now, mid, rest, said, more, were, became, talked, held_so, says, front, unbroken) =
+fails first new (Some input) left held holds WriteFailed start (now, mid, rest, said, more, were, became, talked, held_so, says, front, unbroken, is_left) =
     let w = talked_so first now input rest said were talked start (unbroken (λ e. refl)) in
     breaks first.in_words input rest said were now new became says.text held mid holds w held_so says.answers (subst (λ l. WritesFront mid holds l) says.says front)
-fails first now (Some input) held holds TooLarge start failed = absurd failed
-fails first now (Some input) held holds (BadLineFault number) start failed = absurd failed
+fails first now (Some input) left held holds TooLarge start failed = absurd failed
+fails first now (Some input) left held holds (BadLineFault number) start failed = absurd failed
 
 -- memory was refused before the first line
 pub nothing_listed : (words : Bool) (input : List ℕ) (held holds : Option (List ℕ)) → Keeps held holds → WatchFails words input held holds OutOfMemory

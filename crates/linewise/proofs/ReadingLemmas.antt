@@ -31,7 +31,7 @@ none_at_all bytes nowhere =
 -- more of a line
 pub longer : (kept : Kept) (bytes read more : List ℕ) → kept ≢ whole → HoldsAs kept bytes read → HoldsAs kept bytes (read ++ more)
 longer whole bytes read more other holds = absurd (other refl)
-longer TooLong bytes read more other holds = omega (arith, holds, length-append read more)
+longer TooLong bytes read more other holds = (omega (arith, holds.0, length-append read more), holds.1)
 longer NoMemory bytes read more other holds = omega (arith, holds, length-append read more)
 
 -- no line was read: there was none

@@ -4,13 +4,14 @@ use Rattle.std.specs.List.{AllByRecursion, list_any}
 use Rattle.std.proofs.lemmas.List.Folds.{list_any-append}
 use Rattle.std.specs.Io.KnownBytes.{Appends, IsAtEnd}
 use Rattle.std.specs.Io.BufRead.{first_line, drop_through}
-use Rattle.std.proofs.KnownBytes.{Appends-nil, Appends-trans, Appends-kept, Keeps-refl}
+use Rattle.std.proofs.lemmas.List.Elements.{All-nil}
+use Rattle.std.proofs.KnownBytes.{Consumes-nil, Appends-nil, Appends-trans, Appends-kept, Keeps-refl}
 use Rattle.linewise.specs.declared.talking.Became.{Became}
 use Rattle.linewise.specs.declared.talking.Became.TheVariants.{NoMemory}
 use Rattle.linewise.specs.declared.fault.CaptureFault.{CaptureFault}
 use Rattle.linewise.specs.declared.fault.CaptureFault.TheVariants.{BadLine, TooLarge, ReadFailed, WriteFailed, NoMemory as OutOfMemory}
 use Rattle.linewise.specs.declared.talking.Next.TheVariants.{Over, Line}
-use Rattle.linewise.specs.Talks.{Answering, Fails, IsUnbroken, AnswersInput, is_bad}
+use Rattle.linewise.specs.Talks.{Answering, Fails, IsUnbroken, ReadsPart, AnswersInput, is_bad}
 use Rattle.linewise.specs.Inner.Steps.{HasTalked, Breaks, TurnGoes, TalkEnds}
 
 or_none : (b : Bool) → (b || false) ≡ b
@@ -68,31 +69,32 @@ module _ {E : Type 0} (answered : Answering E) (waiting : E → Option ℕ) wher
     before.7,
   )
 
-  pub fails : (old now next : E) (unread written left holds last : Option (List ℕ)) (bad : Bool) (f : CaptureFault)
+  pub fails : (old now next : E) (unread written left later holds last : Option (List ℕ)) (bad : Bool) (f : CaptureFault)
       → HasTalked answered waiting old unread written now left holds bad
-      → TalkEnds answered waiting now next left holds last f
-      → IfSome unread (λ input. Fails answered waiting old input next written last f)
-  fails old now next None written left holds last bad f before end = _
-  fails old now next (Some input) written left holds last bad WriteFailed before end =
-      let broke : Breaks answered waiting now (first_line before.0) next holds last = rw before.3 at end in
-      (now, holds, before.0, before.1, broke.1, before.2, broke.0, before.5, before.4, broke.2, broke.3, before.7)
-  fails old now next (Some input) written left holds last bad OutOfMemory before end = absurd end
-  fails old now next (Some input) written left holds last bad TooLarge before end = absurd end
-  fails old now next (Some input) written left holds last bad (BadLine number) before end = absurd end
-  fails old now next (Some input) written left holds last bad ReadFailed before end = (
+      → TalkEnds answered waiting now next left later holds last f
+      → IfSome unread (λ input. Fails answered waiting old input next later written last f)
+  fails old now next None written left later holds last bad f before end = _
+  fails old now next (Some input) written left later holds last bad WriteFailed before end =
+      let broke : (later ≡ Some (drop_through 10 before.0)) × Breaks answered waiting now (first_line before.0) next holds last = rw before.3 at end in
+      (now, holds, before.0, before.1, broke.1.1, before.2, broke.1.0, before.5, before.4, broke.1.2, broke.1.3, before.7, broke.0)
+  fails old now next (Some input) written left later holds last bad OutOfMemory before end = absurd end
+  fails old now next (Some input) written left later holds last bad TooLarge before end = absurd end
+  fails old now next (Some input) written left later holds last bad (BadLine number) before end = absurd end
+  fails old now next (Some input) written left later holds last bad ReadFailed before end = (
     before.0,
     before.1,
     before.2,
     subst (λ e. AnswersInput answered waiting old input e before.0 before.1 before.2) (sym end.0) before.5,
     Appends-kept written holds last before.1 before.4 end.1,
     before.7,
+    subst (λ unread. ReadsPart unread later) before.3 end.2,
   )
 
   -- memory was refused to a line
   pub stops : (old now next : E) (unread written left holds later_left later_holds : Option (List ℕ)) (bad : Bool) (became : Option Became)
       → HasTalked answered waiting old unread written now left holds bad
       → TurnGoes answered waiting now next left later_left holds later_holds (Line became) → became ≡ Some NoMemory → waiting next ≡ None
-      → IfSome unread (λ input. Fails answered waiting old input next written later_holds OutOfMemory)
+      → IfSome unread (λ input. Fails answered waiting old input next later_left written later_holds OutOfMemory)
   stops old now next None written left holds later_left later_holds bad became before line memory none = _
   stops old now next (Some input) written left holds later_left later_holds bad became before line memory none =
       let (some, dropped, says) = rw before.3 at line in (
@@ -104,11 +106,12 @@ module _ {E : Type 0} (answered : Answering E) (waiting : E → Option ℕ) wher
         Appends-trans written holds later_holds before.1 says.0 before.4 says.2,
         none,
         before.7,
+        dropped,
       )
 
   -- the last round ends a talk too
   pub gives_up : (old now : E) (unread written left holds : Option (List ℕ)) (bad : Bool)
       → HasTalked answered waiting old unread written now left holds bad
-      → IfSome unread (λ input. Fails answered waiting old input now written holds ReadFailed)
+      → IfSome unread (λ input. Fails answered waiting old input now left written holds ReadFailed)
   gives_up old now unread written left holds bad before =
-      fails old now now unread written left holds holds bad ReadFailed before (refl, Keeps-refl holds)
+      fails old now now unread written left left holds holds bad ReadFailed before (refl, Keeps-refl holds, ([], Consumes-nil left, All-nil (λ byte. byte ≢ 10)))

@@ -1,12 +1,12 @@
 -- What a command over a whole input does.
-use Rattle.std.specs.Prelude.{◌≡◌, ◌≢◌, OnErr, ℕ, ◌+◌, ◌<◌, ◌≤◌, List, [], length, slice_get, Option, Some, Result, Ok, Err, ◌⊎◌}
+use Rattle.std.specs.Prelude.{◌≡◌, ◌≢◌, OnErr, OnOk, ℕ, ◌+◌, ◌<◌, ◌≤◌, List, [], codes, length, slice_get, Option, Some, Result, Ok, Err, ◌⊎◌}
 use Rattle.std.specs.Io.KnownBytes.{Appends, Consumes, Keeps}
 use Rattle.linewise.specs.Talks.{max_line}
 use Rattle.linewise.specs.Output.{WritesFront}
 use Rattle.linewise.specs.declared.fault.Outcome.{Outcome}
 use Rattle.linewise.specs.declared.fault.Outcome.TheVariants.{Good, Stopped}
 use Rattle.linewise.specs.declared.fault.CaptureFault.{CaptureFault}
-use Rattle.linewise.specs.declared.fault.CaptureFault.TheVariants.{BadLine, TooLarge, WriteFailed}
+use Rattle.linewise.specs.declared.fault.CaptureFault.TheVariants.{BadLine, NoMemory, ReadFailed, TooLarge, WriteFailed}
 
 -- A prefix of the reader's known bytes is read: at most one byte more than an input may have (16,777,216).
 abbrev pub TakesWithinLimit : Option (List ℕ) → Option (List ℕ) → Type 0
@@ -51,6 +51,16 @@ status_of (Err (BadLine number)) = 1
 status_of (Err TooLarge) = 1
 status_of (Err _) = 3
 
--- the command does so with some outcome, and the exit status is that of the outcome
-abbrev pub HasStatus : (Result Outcome CaptureFault → Type 0) → ℕ → Type 0
-HasStatus Answers status = (outcome : Result Outcome CaptureFault) × Answers outcome × (status ≡ status_of outcome)
+-- A fault with status 3 is told in its own line: nothing else is written, and all of it unless the error writer failed.
+-- What is told of other faults, which name a line or the input, isn't said here.
+abbrev pub TellsFault : CaptureFault → (told tells : Option (List ℕ)) → Type 0
+TellsFault ReadFailed told tells = WritesFront told tells (codes "read failed\n")
+TellsFault WriteFailed told tells = WritesFront told tells (codes "write failed\n")
+TellsFault NoMemory told tells = WritesFront told tells (codes "no memory\n")
+TellsFault fault told tells = Unit {0}
+
+-- The command does so with some outcome, and the exit status is that of the outcome. Where it is no fault, this is true:
+-- that nothing is reported.
+abbrev pub HasStatus : (Result Outcome CaptureFault → Type 0) → (quiet : Type 0) → ℕ → Type 0
+HasStatus Answers quiet status =
+    (outcome : Result Outcome CaptureFault) × Answers outcome × (status ≡ status_of outcome) × OnOk outcome quiet

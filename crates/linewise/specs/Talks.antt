@@ -1,8 +1,8 @@
 -- A conversation: each line of an input has an answer.
-use Rattle.std.specs.Prelude.{◌≡◌, ◌≢◌, ◌⊎◌, ℕ, ◌<◌, ◌≤◌, ◌==◌, not, Bool, true, false, List, [], ◌∷◌, ◌++◌, length, codes, Some, None, Option}
+use Rattle.std.specs.Prelude.{◌≡◌, ◌≢◌, ◌⊎◌, ℕ, ◌<◌, ◌≤◌, ◌==◌, not, All, Bool, true, false, List, [], ◌∷◌, ◌++◌, length, codes, Some, None, Option}
 use Rattle.std.specs.Fmt.{decimal}
 use Rattle.std.specs.List.{AllByRecursion, concat}
-use Rattle.std.specs.Io.KnownBytes.{Appends}
+use Rattle.std.specs.Io.KnownBytes.{Appends, Consumes}
 use Rattle.std.specs.Io.BufRead.{first_line, drop_through}
 use Rattle.linewise.specs.Output.{WritesFront}
 use Rattle.linewise.specs.declared.talking.Became.{Became}
@@ -116,18 +116,24 @@ HaveOneText answered waiting AreSame =
     → AnswersInput answered waiting one input new [] text lines → AnswersInput answered waiting other input end [] more others
     → AllByRecursion (λ became. became ≢ Some NoMemory) (lines ++ others) → (text ≡ more) × (lines ≡ others)
 
--- What was written where a conversation ended before its input. The reader failed: the answers to all lines before.
--- The writer failed: these, and a prefix of the next answer. Memory was refused to an answer that has no ending to say
--- so: all answers with that one. A conversation ends with no other fault.
-abbrev pub Fails : {E : Type 0} → Answering E → (E → Option ℕ) → E → List ℕ → E → Option (List ℕ) → Option (List ℕ) → CaptureFault → Type 0
-Fails answered waiting old input new written holds ReadFailed =
+-- of these bytes at most a part of the first line was read, without its line feed
+abbrev pub ReadsPart : (unread left : Option (List ℕ)) → Type 0
+ReadsPart unread left = (part : List ℕ) × Consumes unread left part × All (λ byte. byte ≢ 10) part
+
+-- What was written, and what the reader has left, where a conversation ended before its input. The reader failed: the
+-- answers to all lines before the one that was being read. The writer failed: these, and a prefix of the next answer;
+-- what is after that line wasn't read. Memory was refused to an answer that has no ending to say so: all answers with
+-- that one; what is after its line wasn't read. A conversation ends with no other fault.
+abbrev pub Fails : {E : Type 0} → Answering E → (E → Option ℕ) → E → List ℕ → E → (left written holds : Option (List ℕ)) → CaptureFault → Type 0
+Fails answered waiting old input new left written holds ReadFailed =
     (rest said : List ℕ) × (lines : List (Option Became)) × AnswersInput answered waiting old input new rest said lines × Appends written holds said
-    × IsUnbroken waiting lines
-Fails answered waiting old input new written holds OutOfMemory =
+    × IsUnbroken waiting lines × ReadsPart (Some rest) left
+Fails answered waiting old input new left written holds OutOfMemory =
     (rest said : List ℕ) × (lines : List (Option Became)) × AnswersInput answered waiting old input new rest said (lines ++ Some NoMemory ∷ [])
-    × Appends written holds said × (waiting new ≡ None) × IsUnbroken waiting lines
-Fails {E} answered waiting old input new written holds WriteFailed =
+    × Appends written holds said × (waiting new ≡ None) × IsUnbroken waiting lines × (left ≡ Some rest)
+Fails {E} answered waiting old input new left written holds WriteFailed =
     (now : E) × (held : Option (List ℕ)) × (rest said more : List ℕ) × (lines : List (Option Became)) × (became : Option Became)
     × AnswersInput answered waiting old input now rest said lines × Appends written held said
     × SaysTo answered waiting now (first_line rest) new more became × WritesFront held holds more × IsUnbroken waiting lines
-Fails answered waiting old input new written holds _ = ⊥
+    × (left ≡ Some (drop_through 10 rest))
+Fails answered waiting old input new left written holds _ = ⊥

@@ -1,10 +1,10 @@
 //! Reading a whole input.
-ghost use Rattle.std.specs.Prelude.{◌≡◌, ◌≤◌, ◌<◌, ◌+◌, ◌⊎◌, IfOk, IfErr, IsErrOf, OnOk, IfSome, length, take, true};
-ghost use Rattle.std.specs.Io.KnownBytes.{Consumes, IsAtEnd};
+ghost use Rattle.std.specs.Prelude.{◌≡◌, ◌≤◌, ◌<◌, ◌+◌, ◌⊎◌, IfOk, IfErr, IsErrOf, OnOk, OnErr, IfSome, length, take, true};
+ghost use Rattle.std.specs.Io.KnownBytes.{Consumes, IsAtEnd, Keeps};
 ghost use Rattle.linewise.specs.Talks.{max_line};
 ghost use Rattle.linewise.specs.Gives.{TakesAnInput, TakesWithinLimit};
 ghost use Rattle.linewise.specs.declared.fault.CaptureFault.TheVariants.{NoMemory, ReadFailed, TooLarge};
-ghost use Rattle.linewise.specs.Input.{IsFaultAfter, TakesAfter, TakesUpTo};
+ghost use Rattle.linewise.specs.Input.{IsFaultAfter, TakesAfter, TakesCounted, TakesUpTo};
 
 use crate::CaptureFault;
 use crate::reading::MAX_LINE;
@@ -18,7 +18,8 @@ pub const MAX_INPUT: usize = MAX_LINE;
 pub const CHUNK: usize = 65_536;
 
 /// Reads on into the start of the chunk, no further than the byte that breaks the limit, and returns how many bytes
-/// were read: 0 at the end. The count is of the bytes that were read before.
+/// were read: 0 at the end. The count is of the bytes that were read before; after a fault it stays, and a read that
+/// failed took nothing.
 #[tactic(auto, unfolding(crate::specs::Input::TakesAfter, crate::specs::Input::TakesUpTo))]
 pub fn read_some<R: Read>(
     reader: &mut R,
@@ -31,6 +32,9 @@ pub fn read_some<R: Read>(
     ensures came { IfOk result (λ came. came ≤ length chunk.new) }
     ensures count { IfOk result (λ came. count.new ≡ count.old + came) }
     ensures small { OnOk result (count.new ≤ MAX_INPUT) }
+    ensures uncounted { OnErr result (count.new ≡ count.old) }
+    ensures failed { IsErrOf result ReadFailed
+        → Keeps (R.remaining reader.old) (R.remaining reader.new) }
     ensures bytes { IfOk result (λ came.
         Consumes (R.remaining reader.old) (R.remaining reader.new) (take came chunk.new)) }
     ensures end { IfOk result (λ came. came ≡ 0 → IsAtEnd (R.remaining reader.new)) }
@@ -63,6 +67,8 @@ fn skip_rest<R: Read>(
     ensures taken { TakesAfter count.old (R.remaining reader.old) (R.remaining reader.new) }
     ensures within { (IsErrOf result TooLarge → ⊥)
         → TakesUpTo count.old (R.remaining reader.old) (R.remaining reader.new) }
+    ensures counted { (IsErrOf result TooLarge → ⊥)
+        → TakesCounted count.old count.new (R.remaining reader.old) (R.remaining reader.new) }
     ensures fault { IfErr result (IsFaultAfter count.old (R.remaining reader.old)) }
 {
     while read_some(reader, chunk, count)? > 0 {}
@@ -84,6 +90,8 @@ pub fn skip_unread<R: Read>(
     ensures taken { TakesAfter count.old (R.remaining reader.old) (R.remaining reader.new) }
     ensures within { (IsErrOf result TooLarge → ⊥)
         → TakesUpTo count.old (R.remaining reader.old) (R.remaining reader.new) }
+    ensures counted { (IsErrOf result TooLarge → ⊥)
+        → TakesCounted count.old count.new (R.remaining reader.old) (R.remaining reader.new) }
     ensures fault { IfErr result (IsFaultAfter count.old (R.remaining reader.old)) }
 {
     if is_met {

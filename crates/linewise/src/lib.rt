@@ -14,7 +14,7 @@ mod refusing;
 mod talking;
 mod telling;
 
-pub use fault::{CaptureFault, Outcome, finish};
+pub use fault::{CaptureFault, Outcome, finish, tell_fault};
 pub use front::Fronted;
 pub use input::{CHUNK, MAX_INPUT, read_input, read_some, skip_unread};
 pub use lines::{cut_line, find_byte, is_skipped, next_line};

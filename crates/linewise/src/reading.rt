@@ -1,8 +1,9 @@
 //! Reading one line.
 
-ghost use Rattle.std.specs.Prelude.{◌≡◌, ◌≢◌, ◌≤◌, ◌<◌, ◌-◌, ◌++◌, [], ℕ, List, All, length, take, true, false, Ok, IfOk, OnOk, IfSome, OnSome};
+ghost use Rattle.std.specs.Prelude.{◌≡◌, ◌≢◌, ◌≤◌, ◌<◌, ◌-◌, ◌++◌, [], ℕ, List, All, length, take, true, false, Ok, IfOk, OnOk, OnErr, IfSome, OnSome};
 ghost use Rattle.std.specs.Io.{StopsAt, IsEmptyOrEndsWith};
-ghost use Rattle.std.specs.Io.KnownBytes.{Consumes, IsAtEnd};
+ghost use Rattle.std.specs.Io.KnownBytes.{Consumes, IsAtEnd, Keeps};
+ghost use Rattle.linewise.specs.Talks.{ReadsPart};
 ghost use Rattle.linewise.specs.Inner.Kept.{HoldsLine, HoldsMore, HasReadLine, Passes};
 
 use memchr::memchr;
@@ -97,7 +98,8 @@ fn len_through(bytes: &[u8]) -> usize
 
 /// Takes what the reader shows, no further than the first line feed, and returns whether the line ends there.
 fn take_some<R: BufRead>(reader: &mut R, line: &mut Line) -> Result<bool>
-    ensures { IfOk result (Passes (R.remaining reader.old) (R.remaining reader.new)
+    ensures failed { OnErr result (Keeps (R.remaining reader.old) (R.remaining reader.new)) }
+    ensures some { IfOk result (Passes (R.remaining reader.old) (R.remaining reader.new)
         line.old line.new) }
 {
     let shown = match reader.fill_buf() {
@@ -111,9 +113,12 @@ fn take_some<R: BufRead>(reader: &mut R, line: &mut Line) -> Result<bool>
     Ok(is_done)
 }
 
-/// Reads a line, of which there may be nothing left.
+/// Reads a line, of which there may be nothing left. Where the reader fails, at most a part of it was read.
 pub(crate) fn read_line<R: BufRead>(reader: &mut R, line: &mut Line) -> Result<()>
-    ensures { OnOk result (HasReadLine (R.remaining reader.old) (R.remaining reader.new) line.new) }
+    ensures whole { OnOk result
+        (HasReadLine (R.remaining reader.old) (R.remaining reader.new) line.new) }
+    ensures failed { OnErr result
+        (ReadsPart (R.remaining reader.old) (R.remaining reader.new)) }
 {
     line.begin();
     for _ in 0..u64::MAX {

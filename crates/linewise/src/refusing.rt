@@ -3,7 +3,9 @@
 ghost use Rattle.std.specs.Prelude.{◌≡◌, ◌⊎◌};
 ghost use Rattle.std.specs.Io.KnownBytes.{Keeps};
 ghost use Rattle.clap.specs.Words.{kind_of};
+ghost use Rattle.linewise.specs.Gives.{TellsFault};
 ghost use Rattle.linewise.specs.Mistakes.{IsMistake};
+ghost use Rattle.linewise.specs.declared.fault.CaptureFault.TheVariants.{NoMemory};
 
 use crate::fault::{CaptureFault, finish};
 use crate::output::write_text;
@@ -23,9 +25,10 @@ pub fn refuse<W: Write, E: Write>(
     error_writer: &mut E,
 ) -> u8
     ensures memory { kind_of error ≡ ErrorKind.OutOfMemory
-        → (result ≡ 3) × Keeps (W.contents writer.old) (W.contents writer.new) }
+        → (result ≡ 3) × Keeps (W.contents writer.old) (W.contents writer.new)
+        × TellsFault NoMemory (E.contents error_writer.old) (E.contents error_writer.new) }
     ensures help { kind_of error ≡ ErrorKind.DisplayHelp → (result ≡ 0) ⊎ (result ≡ 3) }
-    ensures quiet { kind_of error ≡ ErrorKind.DisplayHelp → result ≡ 0
+    ensures quiet { result ≡ 0
         → Keeps (E.contents error_writer.old) (E.contents error_writer.new) }
     ensures mistake { IsMistake (kind_of error) → (kind_of error ≡ ErrorKind.OutOfMemory)
         ⊎ ((result ≡ 2) × Keeps (W.contents writer.old) (W.contents writer.new)) }

@@ -253,7 +253,8 @@ fn answer_next<E: Answers, R: BufRead, W: Write, F: Write>(
         (R.remaining reader.old) (R.remaining reader.new) (W.contents writer.old)
         (W.contents writer.new) next) }
     ensures fault { IfErr result (λ fault. TalkEnds E.answered E.waiting end.old end.new
-        (R.remaining reader.old) (W.contents writer.old) (W.contents writer.new) fault) }
+        (R.remaining reader.old) (R.remaining reader.new) (W.contents writer.old)
+        (W.contents writer.new) fault) }
 {
     match read_line(reader, line) {
         Ok(()) => {}
@@ -292,8 +293,9 @@ fn ends_talk<E: Answers>(end: &E, became: Option<Became>) -> bool
 /// bytes, and ends with a line feed, or a carriage return and a line feed, or with the input; of a longer one
 /// nothing is kept. A bad line is reported to the error writer by its number, from 1, before its answer is written.
 ///
-/// Faults: the reader failed, and all lines before are answered; the writer failed, and a prefix of the answers is
-/// written; memory was refused to an answer that has no ending, and all lines up to that one are answered.
+/// Faults: the reader failed, and all lines before the one that was being read are answered; the writer failed, and a
+/// prefix of the answers is written; memory was refused to an answer that has no ending, and all lines up to that one
+/// are answered. After the last two nothing is read after the line of the last answer.
 pub fn talk<E: Answers, R: BufRead, W: Write, F: Write>(
     alloc: Global,
     end: &mut E,
@@ -307,8 +309,8 @@ pub fn talk<E: Answers, R: BufRead, W: Write, F: Write>(
         × Appends (W.contents writer.old) (W.contents writer.new) text
         × (bad ≡ list_any is_bad_line lines) × IsUnbroken E.waiting lines)) }
     ensures fault { IfErr result (λ fault. IfSome (R.remaining reader.old) (λ input.
-        Fails E.answered E.waiting end.old input end.new (W.contents writer.old)
-        (W.contents writer.new) fault)) }
+        Fails E.answered E.waiting end.old input end.new (R.remaining reader.new)
+        (W.contents writer.old) (W.contents writer.new) fault)) }
 {
     let mut line = Line::new(alloc);
     let mut text = Vec::new(alloc);

@@ -1,7 +1,8 @@
 //! Lines that a command can't read.
 
-ghost use Rattle.std.specs.Prelude.{◌≡◌};
-ghost use Rattle.linewise.specs.Gives.{status_of};
+ghost use Rattle.std.specs.Prelude.{◌≡◌, IfErr, OnOk};
+ghost use Rattle.std.specs.Io.KnownBytes.{Keeps};
+ghost use Rattle.linewise.specs.Gives.{TellsFault, status_of};
 
 use crate::fault::{CaptureFault, Outcome, finish};
 use crate::files::file_kind;
@@ -50,10 +51,14 @@ pub fn finish_reading<E: Write>(
     outcome: Result<Outcome, CaptureFault>,
     error_writer: &mut E,
 ) -> u8
-    ensures { result ≡ status_of outcome }
+    ensures status { result ≡ status_of outcome }
+    ensures quiet { OnOk outcome
+        (Keeps (E.contents error_writer.old) (E.contents error_writer.new)) }
+    ensures told { IfErr outcome (λ fault. TellsFault fault
+        (E.contents error_writer.old) (E.contents error_writer.new)) }
 {
     let status = finish(outcome, error_writer);
-    if let Err(fault) = outcome {
+    if let Err(fault @ (CaptureFault::BadLine(_) | CaptureFault::TooLarge)) = outcome {
         help(named, front, fault, error_writer);
     }
     status

@@ -1,2 +1,3 @@
+mod FirstLemmas
 mod GivenLemmas
 mod RunLemmas

@@ -20,6 +20,7 @@ use Rattle.linewise.specs.declared.fault.CaptureFault.TheVariants.{NoMemory}
 use Rattle.dap_watch.proofs.ForCallers.{nothing_listed}
 use Rattle.decnet_frames.proofs.ForCallers.{nothing_written}
 use Rattle.decnet_frames.specs.declared.run.FramesFault.TheVariants.{NoMemory as Wants}
+use Rattle.linewise.specs.Gives.{TellsFault}
 use Rattle.live_cli.specs.Running.{TaskGives}
 use Rattle.live_cli.specs.Words.{daplive, follow_line, frames_line, task_of, usual, watch_line}
 use Rattle.live_cli.specs.Inner.CommandLine.{end_line_by, serve_line_by}
@@ -124,12 +125,13 @@ unfolding clap_on_literals digits
 names_watch_in_words program = refl
 
 -- out of memory, of whatever input
-pub refused : (task : Task) (known old new : Option (List ℕ)) (status : ℕ) → (status ≡ 3) × Keeps old new → IfSome known (λ input. TaskGives task input old new status)
-refused task None old new status memory = tt
-refused (End options) (Some input) old new status memory = inr (memory.1, memory.0)
-refused (Follow in_words) (Some input) old new status memory = (Err NoMemory, memory.1, memory.0)
-refused (Watch in_words) (Some input) old new status memory = inr (NoMemory, nothing_listed in_words input old new memory.1, memory.0)
-refused (Frames ends) (Some input) old new status memory = inr (Wants, nothing_written ends input old new memory.1, memory.0)
+pub refused : (task : Task) (known left old new told tells : Option (List ℕ)) (status : ℕ) → (status ≡ 3) × Keeps old new × TellsFault NoMemory told tells
+    → IfSome known (λ input. TaskGives task input left old new told tells status)
+refused task None left old new told tells status memory = tt
+refused (End options) (Some input) left old new told tells status memory = inr (memory.1, memory.0, memory.2)
+refused (Follow in_words) (Some input) left old new told tells status memory = (Err NoMemory, (memory.1, memory.2), memory.0, tt)
+refused (Watch in_words) (Some input) left old new told tells status memory = inr (NoMemory, nothing_listed in_words input old new memory.1, memory.0)
+refused (Frames ends) (Some input) left old new told tells status memory = inr (Wants, nothing_written ends input old new memory.1, memory.0, memory.2)
 
 -- two things that the words name are one
 pub one_task : (words : List Text) (a b : Task) → Some a ≡ task_of words → task_of words ≡ Some b → a ≡ b

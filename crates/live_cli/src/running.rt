@@ -3,7 +3,9 @@
 ghost use Rattle.std.specs.Prelude.{◌≡◌, ◌≢◌, ◌≤◌, ◌<◌, ◌^◌, ◌⊎◌, ◌∷◌, ℕ, List, [], false, true, IfSome, None, Some, codes, if◌then◌else◌, map, string_bytes};
 ghost use Rattle.std.specs.Io.KnownBytes.{Keeps};
 ghost use Rattle.clap.specs.Words.{fault_of};
+ghost use Rattle.linewise.specs.Gives.{TellsFault};
 ghost use Rattle.linewise.specs.Mistakes.{AreMistakes};
+ghost use Rattle.linewise.specs.declared.fault.CaptureFault.TheVariants.{NoMemory};
 ghost use Rattle.dap_accessed.specs.Setup.{IsServerSetup};
 ghost use Rattle.dap_msg.specs.BothEnds.{min_buffer};
 ghost use Rattle.dap_msg.specs.Fitting.{FieldsFit};
@@ -11,7 +13,7 @@ ghost use Rattle.dap_msg.specs.declared.message.Message.TheVariants.{Config};
 ghost use Rattle.live_cli.specs.declared.words.Task.{Task as TheTask};
 ghost use Rattle.live_cli.specs.declared.words.Role.TheVariants as role;
 ghost use Rattle.live_cli.specs.declared.words.Role.{Role as TheRole};
-ghost use Rattle.live_cli.specs.Running.{AnswersAll, GivesAs, ServesLines, TaskGives, frames_status, identity_of, names_by, server_of, link_setup};
+ghost use Rattle.live_cli.specs.Running.{AnswersAll, GivesAs, ServesLines, TaskGives, TellsFramesFault, frames_status, identity_of, names_by, server_of, link_setup};
 ghost use Rattle.live_cli.specs.Inner.CommandLine.{HasBufferRoom};
 ghost use Rattle.live_cli.specs.Words.{daplive, task_of, usual};
 
@@ -23,7 +25,9 @@ use dap_live::{Asking, Node};
 use dap_msg::Configuration;
 use dap_watch::watch;
 use decnet_frames::{Counts, Ends, FramesFault, list_frames};
-use linewise::{Answers, Fronted, LineCommand, finish_reading, refuse, talk};
+use linewise::{
+    Answers, CaptureFault, Fronted, LineCommand, finish_reading, refuse, talk, tell_fault,
+};
 use nsp_link::{LinkFault, LinkSetup, MAX_LIMIT};
 use std::alloc::Global;
 use std::fmt::Display;
@@ -67,7 +71,7 @@ fn converse<A: Answers, R: BufRead, W: Write, E: Write>(
 ) -> u8
     ensures { IfSome (R.remaining reader.old)
         (λ input. AnswersAll A.answered A.waiting end.old input
-        (W.contents writer.old) (W.contents writer.new) result) }
+        (R.remaining reader.new) (W.contents writer.old) (W.contents writer.new) result) }
 {
     match talk(alloc, end, reader, writer, error_writer) {
         Ok(bad) => status(bad),
@@ -77,9 +81,11 @@ fn converse<A: Answers, R: BufRead, W: Write, E: Write>(
 
 /// Reports why an end isn't made, and returns the exit status.
 fn no_end<E: Write>(_fault: LinkFault, error_writer: &mut E) -> u8
-    ensures { result ≡ 3 }
+    ensures status { result ≡ 3 }
+    ensures told { TellsFault NoMemory
+        (E.contents error_writer.old) (E.contents error_writer.new) }
 {
-    tell("no memory", error_writer)
+    tell_fault(CaptureFault::NoMemory, error_writer)
 }
 
 /// Returns what an end says of itself.
@@ -128,8 +134,9 @@ fn serve<R: BufRead, W: Write, E: Write>(
     requires room { min_buffer ≤ options.buffer }
     requires syscap { options.syscap < 2 ^ 84 }
     ensures { IfSome (R.remaining reader.old) (λ input. ServesLines options input
-        (W.contents writer.old) (W.contents writer.new) result
-        ⊎ (Keeps (W.contents writer.old) (W.contents writer.new) × (result ≡ 3))) }
+        (R.remaining reader.new) (W.contents writer.old) (W.contents writer.new) result
+        ⊎ (Keeps (W.contents writer.old) (W.contents writer.new) × (result ≡ 3)
+        × TellsFault NoMemory (E.contents error_writer.old) (E.contents error_writer.new))) }
 {
     let most_waiting = u64::from(options.waiting);
     let links = options.links as usize;
@@ -156,8 +163,9 @@ fn ask<R: BufRead, W: Write, E: Write>(
     requires room { min_buffer ≤ options.buffer }
     requires syscap { options.syscap < 2 ^ 84 }
     ensures { IfSome (R.remaining reader.old) (λ input. GivesAs role.Ask options input
-        (W.contents writer.old) (W.contents writer.new) result
-        ⊎ (Keeps (W.contents writer.old) (W.contents writer.new) × (result ≡ 3))) }
+        (R.remaining reader.new) (W.contents writer.old) (W.contents writer.new) result
+        ⊎ (Keeps (W.contents writer.old) (W.contents writer.new) × (result ≡ 3)
+        × TellsFault NoMemory (E.contents error_writer.old) (E.contents error_writer.new))) }
 {
     match Asking::new(alloc, identity(options), link_setup(options)) {
         Ok(mut end) => converse(alloc, &mut end, reader, writer, error_writer),
@@ -178,7 +186,8 @@ pub fn run_options<R: BufRead, W: Write, E: Write>(
     requires room { min_buffer ≤ options.buffer }
     requires syscap { options.syscap < 2 ^ 84 }
     ensures { IfSome (R.remaining reader.old) (λ input. TaskGives (Task.End options) input
-        (W.contents writer.old) (W.contents writer.new) result) }
+        (R.remaining reader.new) (W.contents writer.old) (W.contents writer.new)
+        (E.contents error_writer.old) (E.contents error_writer.new) result) }
 {
     match options.role {
         Role::Serve => serve(alloc, options, reader, writer, error_writer),
@@ -202,7 +211,8 @@ fn list<R: BufRead, W: Write, E: Write>(
     error_writer: &mut E,
 ) -> u8
     ensures { IfSome (R.remaining reader.old) (λ input. TaskGives (Task.Follow in_words) input
-        (W.contents writer.old) (W.contents writer.new) result) }
+        (R.remaining reader.new) (W.contents writer.old) (W.contents writer.new)
+        (E.contents error_writer.old) (E.contents error_writer.new) result) }
 {
     let mut lines = Fronted::new(reader);
     let outcome = follow(alloc, &mut lines, writer, in_words);
@@ -218,7 +228,8 @@ fn watch_lines<R: BufRead, W: Write, E: Write>(
     error_writer: &mut E,
 ) -> u8
     ensures { IfSome (R.remaining reader.old) (λ input. TaskGives (Task.Watch in_words) input
-        (W.contents writer.old) (W.contents writer.new) result) }
+        (R.remaining reader.new) (W.contents writer.old) (W.contents writer.new)
+        (E.contents error_writer.old) (E.contents error_writer.new) result) }
 {
     match watch(alloc, reader, writer, error_writer, in_words) {
         Ok(any_bad) => status(any_bad),
@@ -245,19 +256,28 @@ fn tell_lines<E: Write>(front: &[u8], error_writer: &mut E) {
     }
 }
 
+/// Reports a fault of a capture file, of which these are the first bytes, with the counts up to it.
+fn tell_file<E: Write>(fault: FramesFault, counts: Counts, front: &[u8], error_writer: &mut E) {
+    let _ = writeln!(error_writer, "{fault}");
+    tell_lines(front, error_writer);
+    tell_counts(counts, error_writer);
+}
+
 /// Reports why the frames of a capture file, of which these are the first bytes, aren't written to its end, and returns
 /// the exit status.
 fn finish_frames<E: Write>(fault: FramesFault, front: &[u8], error_writer: &mut E) -> u8
-    ensures { result ≡ frames_status fault }
+    ensures status { result ≡ frames_status fault }
+    ensures told { TellsFramesFault fault
+        (E.contents error_writer.old) (E.contents error_writer.new) }
 {
-    let _ = writeln!(error_writer, "{fault}");
     match fault {
         FramesFault::File(_, counts) => {
-            tell_lines(front, error_writer);
-            tell_counts(counts, error_writer);
+            tell_file(fault, counts, front, error_writer);
             1
         }
-        FramesFault::ReadFailed | FramesFault::WriteFailed | FramesFault::NoMemory => 3,
+        FramesFault::ReadFailed => tell_fault(CaptureFault::ReadFailed, error_writer),
+        FramesFault::WriteFailed => tell_fault(CaptureFault::WriteFailed, error_writer),
+        FramesFault::NoMemory => tell_fault(CaptureFault::NoMemory, error_writer),
     }
 }
 
@@ -270,7 +290,8 @@ fn write_frames<R: BufRead, W: Write, E: Write>(
     error_writer: &mut E,
 ) -> u8
     ensures { IfSome (R.remaining reader.old) (λ input. TaskGives (Task.Frames ends) input
-        (W.contents writer.old) (W.contents writer.new) result) }
+        (R.remaining reader.new) (W.contents writer.old) (W.contents writer.new)
+        (E.contents error_writer.old) (E.contents error_writer.new) result) }
 {
     let mut file = Fronted::new(reader);
     match list_frames(alloc, ends, &mut file, writer) {
@@ -292,7 +313,8 @@ fn run_task<R: BufRead, W: Write, E: Write>(
 ) -> u8
     requires { HasBufferRoom task }
     ensures { IfSome (R.remaining reader.old) (λ input. TaskGives task input
-        (W.contents writer.old) (W.contents writer.new) result) }
+        (R.remaining reader.new) (W.contents writer.old) (W.contents writer.new)
+        (E.contents error_writer.old) (E.contents error_writer.new) result) }
 {
     match task {
         Task::End(options) => run_options(alloc, options, reader, writer, error_writer),
@@ -329,36 +351,47 @@ pub fn run_words<R: BufRead, W: Write, E: Write>(
         → fault_of daplive (map string_bytes words.now) ≡ []
         → task_of (map string_bytes words.now) ≡ Some task
         → IfSome (R.remaining reader.old) (λ input. TaskGives task input
-        (W.contents writer.old) (W.contents writer.new) result) }
+        (R.remaining reader.new) (W.contents writer.old) (W.contents writer.new)
+        (E.contents error_writer.old) (E.contents error_writer.new) result) }
     ensures usual { (program : List ℕ) (role : TheRole)
         → map string_bytes words.now ≡ program ∷ (usual role).0 ∷ []
         → IfSome (R.remaining reader.old) (λ input. TaskGives (Task.End (usual role).1) input
-        (W.contents writer.old) (W.contents writer.new) result) }
+        (R.remaining reader.new) (W.contents writer.old) (W.contents writer.new)
+        (E.contents error_writer.old) (E.contents error_writer.new) result) }
     ensures follow { (program : List ℕ)
         → map string_bytes words.now ≡ program ∷ codes "follow" ∷ []
         → IfSome (R.remaining reader.old) (λ input. TaskGives (Task.Follow false) input
-        (W.contents writer.old) (W.contents writer.new) result) }
+        (R.remaining reader.new) (W.contents writer.old) (W.contents writer.new)
+        (E.contents error_writer.old) (E.contents error_writer.new) result) }
     ensures in_words { (program : List ℕ)
         → map string_bytes words.now ≡ program ∷ codes "follow" ∷ codes "--words" ∷ []
         → IfSome (R.remaining reader.old) (λ input. TaskGives (Task.Follow true) input
-        (W.contents writer.old) (W.contents writer.new) result) }
+        (R.remaining reader.new) (W.contents writer.old) (W.contents writer.new)
+        (E.contents error_writer.old) (E.contents error_writer.new) result) }
     ensures frames { (program : List ℕ)
         → map string_bytes words.now ≡ program ∷ codes "frames" ∷ []
         → IfSome (R.remaining reader.old) (λ input. TaskGives (Task.Frames None) input
-        (W.contents writer.old) (W.contents writer.new) result) }
+        (R.remaining reader.new) (W.contents writer.old) (W.contents writer.new)
+        (E.contents error_writer.old) (E.contents error_writer.new) result) }
     ensures watch { (program : List ℕ)
         → map string_bytes words.now ≡ program ∷ codes "watch" ∷ []
         → IfSome (R.remaining reader.old) (λ input. TaskGives (Task.Watch false) input
-        (W.contents writer.old) (W.contents writer.new) result) }
+        (R.remaining reader.new) (W.contents writer.old) (W.contents writer.new)
+        (E.contents error_writer.old) (E.contents error_writer.new) result) }
     ensures watch_in_words { (program : List ℕ)
         → map string_bytes words.now ≡ program ∷ codes "watch" ∷ codes "--words" ∷ []
         → IfSome (R.remaining reader.old) (λ input. TaskGives (Task.Watch true) input
-        (W.contents writer.old) (W.contents writer.new) result) }
+        (R.remaining reader.new) (W.contents writer.old) (W.contents writer.new)
+        (E.contents error_writer.old) (E.contents error_writer.new) result) }
     ensures digits { fault_of daplive (map string_bytes words.now) ≡ []
         → task_of (map string_bytes words.now) ≡ None
-        → ((result ≡ 2) ⊎ (result ≡ 3)) × Keeps (W.contents writer.old) (W.contents writer.new) }
+        → ((result ≡ 2) ⊎ ((result ≡ 3)
+        × TellsFault NoMemory (E.contents error_writer.old) (E.contents error_writer.new)))
+        × Keeps (W.contents writer.old) (W.contents writer.new) }
     ensures mistake { AreMistakes (fault_of daplive (map string_bytes words.now))
-        → ((result ≡ 2) ⊎ (result ≡ 3)) × Keeps (W.contents writer.old) (W.contents writer.new) }
+        → ((result ≡ 2) ⊎ ((result ≡ 3)
+        × TellsFault NoMemory (E.contents error_writer.old) (E.contents error_writer.new)))
+        × Keeps (W.contents writer.old) (W.contents writer.new) }
     ensures unread { (fault_of daplive (map string_bytes words.now) ≢ [])
         ⊎ (task_of (map string_bytes words.now) ≡ None)
         → R.remaining reader.new ≡ R.remaining reader.old }

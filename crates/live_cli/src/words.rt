@@ -1,7 +1,7 @@
 //! What the words say.
 
 ghost use Rattle.std.specs.Result.{result_ok};
-ghost use Rattle.std.specs.Prelude.{◌≡◌, ◌≤◌, false, ◌<◌, ◌^◌, ◌++◌, ◌-◌, IfErr, IfOk, IfSome, IsTrue, None, Some, codes, length, map, option_and_then, option_map, pos, replicate, string_bytes};
+ghost use Rattle.std.specs.Prelude.{◌≡◌, ◌≤◌, false, ◌<◌, ◌^◌, ◌++◌, ◌-◌, ◌∷◌, [], if◌then◌else◌, IfErr, IfOk, IfSome, IsTrue, None, OnErr, OnOk, Some, codes, length, map, option_and_then, option_map, pos, replicate, string_bytes};
 ghost use Rattle.std.specs.Int.{from_be_bytes, w128};
 ghost use Rattle.hex.specs.Hex.{decode_sized};
 ghost use Rattle.clap.specs.Words.{FailsBy, all_of, fault_of, first_of, found_of, kind_of, rows_of, rule_of, subcommand_of};
@@ -13,7 +13,7 @@ ghost use Rattle.dap_live.specs.Orders.{address_of};
 ghost use Rattle.decnet_frames.specs.Nodes.{node_of};
 ghost use Rattle.live_cli.specs.Words.{code_of, folded_of, names_of, syscap_of, daplive, ends_of, max_waiting, has_address, has_value as is_given_in, is_word as is_in_words, min_waiting, links_of, max_links, option as option_rule, options_of, task_in as task_of_rows, task_of, has_words as words_wanted, waiting_of};
 ghost use Rattle.live_cli.specs.Inner.CommandLine.{HasAddresses, HasCodes, HasIdentity, HasLimits, HasLinks, HasNames, HasBufferRoom, HasSyscap, HasWaiting, IsDapliveLine, IsEndLine, IsFollowLine, IsFramesLine, IsServeLine, IsWatchLine};
-ghost use Rattle.live_cli.specs.Inner.Spelling.{IsMisspelt};
+ghost use Rattle.live_cli.specs.Inner.Spelling.{AreRight, IsFirstWrong, IsMisspelt, first_no_node, link_spellings, spellings};
 
 use clap::builder::ValueParser;
 use clap::error::ErrorKind;
@@ -39,9 +39,9 @@ more is counted where a line ran out of memory. Empty lines, and those that begi
   > HEX                       a packet that arrived: accepted, repeat, early or ack-only; reports; packets to send, each '< HEX'
   resend                      the packets that aren't acknowledged, the oldest first; then what was left to do
   ack                         an acknowledgement of all that arrived
-  new [LOCAL REMOTE [BYTES [FAC]]]
-                              a new link, with these addresses, segments of at most BYTES, and the rights of FAC, 0 to 15, which
-                              only serve has; serve keeps its files
+  new [LOCAL REMOTE [BYTES [RIGHTS]]]
+                              a new link, with these addresses and segments of at most BYTES; serve keeps its files. RIGHTS, which
+                              only serve has: get, put, upd and del with commas between them, - for none, or the number of a FAC
   close LOCAL                 serve --links 2 and more: the link ends; there new, resend and ack name their link by LOCAL
   files                       serve: the files, as the two lines below
   file NAME seq|rel fixed|variable MRS MRN
@@ -549,10 +549,15 @@ fn text_in<'a>(matches: &ArgMatches<'a>, name: &str) -> Option<&'a str>
 }
 
 /// Reads an address: four hex digits.
+#[tactic(auto, using(crate::proofs::FirstLemmas::one_right, crate::proofs::FirstLemmas::one_wrong))]
 fn address_in<'a>(matches: &ArgMatches<'a>, name: &'static str) -> Result<u16, Misspelt<'a>>
     ensures value { result_ok result
         ≡ option_and_then address_of (first_of name.now (rows_of (found_of matches.now))) }
     ensures misspelt { IfErr result (IsMisspelt (rows_of (found_of matches.now))) }
+    ensures right { OnOk result
+        (AreRight ((name.now, Digits.Address) ∷ []) (rows_of (found_of matches.now))) }
+    ensures first { IfErr result
+        (IsFirstWrong ((name.now, Digits.Address) ∷ []) (rows_of (found_of matches.now))) }
 {
     let value = text_in(matches, name).unwrap_or("");
     match read_address(value.as_bytes()) {
@@ -568,10 +573,15 @@ fn address_in<'a>(matches: &ArgMatches<'a>, name: &'static str) -> Result<u16, M
 }
 
 /// Reads a number: decimal digits.
+#[tactic(auto, using(crate::proofs::FirstLemmas::one_right, crate::proofs::FirstLemmas::one_wrong))]
 fn number_in<'a>(matches: &ArgMatches<'a>, name: &'static str) -> Result<u16, Misspelt<'a>>
     ensures value { result_ok result
         ≡ option_and_then short (first_of name.now (rows_of (found_of matches.now))) }
     ensures misspelt { IfErr result (IsMisspelt (rows_of (found_of matches.now))) }
+    ensures right { OnOk result
+        (AreRight ((name.now, Digits.Number) ∷ []) (rows_of (found_of matches.now))) }
+    ensures first { IfErr result
+        (IsFirstWrong ((name.now, Digits.Number) ∷ []) (rows_of (found_of matches.now))) }
 {
     let value = text_in(matches, name).unwrap_or("");
     match read_short(value.as_bytes()) {
@@ -587,10 +597,15 @@ fn number_in<'a>(matches: &ArgMatches<'a>, name: &'static str) -> Result<u16, Mi
 }
 
 /// Reads a code of a Configuration.
+#[tactic(auto, using(crate::proofs::FirstLemmas::one_right, crate::proofs::FirstLemmas::one_wrong))]
 fn code_in<'a>(matches: &ArgMatches<'a>, name: &'static str) -> Result<u8, Misspelt<'a>>
     ensures value { result_ok result
         ≡ option_and_then code_of (first_of name.now (rows_of (found_of matches.now))) }
     ensures misspelt { IfErr result (IsMisspelt (rows_of (found_of matches.now))) }
+    ensures right { OnOk result
+        (AreRight ((name.now, Digits.Code) ∷ []) (rows_of (found_of matches.now))) }
+    ensures first { IfErr result
+        (IsFirstWrong ((name.now, Digits.Code) ∷ []) (rows_of (found_of matches.now))) }
 {
     let value = text_in(matches, name).unwrap_or("");
     match read_code(value) {
@@ -658,11 +673,16 @@ fn read_syscap(text: &str) -> Option<u128>
 }
 
 /// Reads what an end says that it can do.
+#[tactic(auto, using(crate::proofs::FirstLemmas::one_right, crate::proofs::FirstLemmas::one_wrong))]
 fn syscap_in<'a>(matches: &ArgMatches<'a>) -> Result<u128, Misspelt<'a>>
     ensures value { result_ok result ≡ option_and_then syscap_of
         (first_of (codes "syscap") (rows_of (found_of matches.now))) }
     ensures small { IfOk result (λ syscap. syscap < 2 ^ 84) }
     ensures misspelt { IfErr result (IsMisspelt (rows_of (found_of matches.now))) }
+    ensures right { OnOk result
+        (AreRight ((codes "syscap", Digits.Abilities) ∷ []) (rows_of (found_of matches.now))) }
+    ensures first { IfErr result
+        (IsFirstWrong ((codes "syscap", Digits.Abilities) ∷ []) (rows_of (found_of matches.now))) }
 {
     let value = text_in(matches, "syscap").unwrap_or("");
     match read_syscap(value) {
@@ -689,9 +709,15 @@ fn read_folded(text: &str) -> Option<bool>
 }
 
 /// Reads whether names are compared by their folds; a client has no such option.
+#[tactic(auto, using(crate::proofs::FirstLemmas::one_right, crate::proofs::FirstLemmas::one_wrong))]
 fn folded_in<'a>(role: Role, matches: &ArgMatches<'a>) -> Result<bool, Misspelt<'a>>
     ensures value { result_ok result ≡ names_of role (rows_of (found_of matches.now)) }
     ensures misspelt { IfErr result (IsMisspelt (rows_of (found_of matches.now))) }
+    ensures right { OnOk result (role ≡ Role.Serve
+        → AreRight ((codes "names", Digits.Comparing) ∷ []) (rows_of (found_of matches.now))) }
+    ensures first { IfErr result
+        (IsFirstWrong ((codes "names", Digits.Comparing) ∷ []) (rows_of (found_of matches.now))) }
+    ensures served { OnErr result (role ≡ Role.Serve) }
 {
     if role == Role::Ask {
         return Ok(false);
@@ -710,9 +736,15 @@ fn folded_in<'a>(role: Role, matches: &ArgMatches<'a>) -> Result<bool, Misspelt<
 }
 
 /// Reads how many bytes may wait while an end serves more; a client has no such option.
+#[tactic(auto, using(crate::proofs::FirstLemmas::one_right, crate::proofs::FirstLemmas::one_wrong))]
 fn waiting_in<'a>(role: Role, matches: &ArgMatches<'a>) -> Result<u32, Misspelt<'a>>
     ensures value { result_ok result ≡ waiting_of role (rows_of (found_of matches.now)) }
     ensures misspelt { IfErr result (IsMisspelt (rows_of (found_of matches.now))) }
+    ensures right { OnOk result (role ≡ Role.Serve
+        → AreRight ((codes "waiting", Digits.Bytes) ∷ []) (rows_of (found_of matches.now))) }
+    ensures first { IfErr result
+        (IsFirstWrong ((codes "waiting", Digits.Bytes) ∷ []) (rows_of (found_of matches.now))) }
+    ensures served { OnErr result (role ≡ Role.Serve) }
 {
     if role == Role::Ask {
         return Ok(USUAL_WAITING);
@@ -754,7 +786,8 @@ fn is_addressed(matches: &ArgMatches<'_>) -> bool
 /// Returns the fault of an address that the words give where no address is allowed.
 fn addressed<'a>(matches: &ArgMatches<'a>, name: &'static str) -> Misspelt<'a>
     requires { IsTrue (is_given_in name.now (rows_of (found_of matches.now))) }
-    ensures { IsMisspelt (rows_of (found_of matches.now)) result }
+    ensures misspelt { IsMisspelt (rows_of (found_of matches.now)) result }
+    ensures told { (result.option.now ≡ name.now) × (result.digits ≡ Digits.Nowhere) }
 {
     Misspelt {
         option: name,
@@ -766,7 +799,11 @@ fn addressed<'a>(matches: &ArgMatches<'a>, name: &'static str) -> Misspelt<'a>
 /// Returns the fault of the first address that the words give.
 fn first_address<'a>(matches: &ArgMatches<'a>) -> Misspelt<'a>
     requires { IsTrue (has_address (rows_of (found_of matches.now))) }
-    ensures { IsMisspelt (rows_of (found_of matches.now)) result }
+    ensures misspelt { IsMisspelt (rows_of (found_of matches.now)) result }
+    ensures digits { result.digits ≡ Digits.Nowhere }
+    ensures first { result.option.now
+        ≡ (if is_given_in (codes "local") (rows_of (found_of matches.now))
+        then codes "local" else codes "remote") }
 {
     if is_given(matches, "local") {
         addressed(matches, "local")
@@ -776,9 +813,15 @@ fn first_address<'a>(matches: &ArgMatches<'a>) -> Misspelt<'a>
 }
 
 /// Reads how many links there is room for; with several of them the words give no address. A client has one.
+#[tactic(auto, using(crate::proofs::FirstLemmas::links_right, crate::proofs::FirstLemmas::links_wrong))]
 fn links_in<'a>(role: Role, matches: &ArgMatches<'a>) -> Result<u16, Misspelt<'a>>
     ensures value { result_ok result ≡ links_of role (rows_of (found_of matches.now)) }
     ensures misspelt { IfErr result (IsMisspelt (rows_of (found_of matches.now))) }
+    ensures right { OnOk result (role ≡ Role.Serve
+        → AreRight link_spellings (rows_of (found_of matches.now))) }
+    ensures first { IfErr result
+        (IsFirstWrong link_spellings (rows_of (found_of matches.now))) }
+    ensures served { OnErr result (role ≡ Role.Serve) }
 {
     if role == Role::Ask {
         return Ok(1);
@@ -797,6 +840,8 @@ fn options_in<'a>(role: Role, matches: &ArgMatches<'a>) -> Result<Options, Missp
     ensures room { IfOk result (λ o. min_buffer ≤ o.buffer) }
     ensures syscap { IfOk result (λ o. o.syscap < 2 ^ 84) }
     ensures misspelt { IfErr result (IsMisspelt (rows_of (found_of matches.now))) }
+    ensures first { IfErr result
+        (IsFirstWrong (spellings role) (rows_of (found_of matches.now))) }
 {
     let local = address_in(matches, "local")?;
     let remote = address_in(matches, "remote")?;
@@ -856,6 +901,8 @@ fn ends_in<'a>(matches: &ArgMatches<'a>) -> Result<Option<Ends>, Misspelt<'a>>
     ensures ends { result_ok result
         ≡ ends_of (all_of (codes "nodes") (rows_of (found_of matches.now))) }
     ensures misspelt { IfErr result (IsMisspelt (rows_of (found_of matches.now))) }
+    ensures first { IfErr result (λ m. first_no_node
+        (all_of (codes "nodes") (rows_of (found_of matches.now))) ≡ Some m.value.now) }
 {
     match nodes_of(matches) {
         Some([first, other]) => {

@@ -6,10 +6,11 @@ use Rattle.dap_msg.specs.BothEnds.{max_nsp_message}
 use Rattle.dap_msg.specs.declared.items.Item.{Item}
 use Rattle.dap_accessed.specs.declared.phase.OpenFile.{OpenFile}
 use Rattle.dap_accessed.specs.declared.phase.Phase.{Phase}
+use Rattle.dap_accessed.specs.Groups.{GroupedItems}
 use Rattle.dap_accessed.specs.Standing.{Files}
 use Rattle.dap_accessed.specs.Replies.{bare_status}
 use Rattle.dap_accessed.specs.Served.{AreAnswers}
-use Rattle.dap_accessed.specs.Sessions.{SessionValue, IsOpenIn, ServesItem, asked_in, with_files, open_at, refused_session}
+use Rattle.dap_accessed.specs.Sessions.{SessionValue, IsIn, IsOpenIn, IsSilentIn, ServesItem, asked_in, with_files, open_at, refused_session}
 use Rattle.dap_shared.specs.Sharing.{bars, file_locked}
 use Rattle.dap_shared.specs.Shared.{session_without}
 
@@ -33,6 +34,17 @@ ServesOrRefuses true item files s files' s' answers =
     (files' ≡ files) × (s' ≡ refused_session s) × AreAnswers s.limit (bare_status file_locked ∷ []) answers
     × (s.limit ≤ max_nsp_message)
 ServesOrRefuses false item files s files' s' answers = ServesItem item (with_files files s) (with_files files' s') answers
+
+-- an item of a link beside these others isn't barred, and has no answer, nor is it a Data message which is stored
+abbrev pub IsSilentBeside : (locked : Bool) → Item → Files → SessionValue → Type 0
+IsSilentBeside locked item files s =
+    (locked ≡ false) × ((c : GroupedItems) × IsIn c (with_files files s) × IsSilentIn s.setup c item)
+
+-- so it is between the links before it and those after it
+abbrev pub IsSilentBetween : Item → Files → (before : List SessionValue) → SessionValue → (after : List SessionValue) → Type 0
+IsSilentBetween item files before s after =
+    let asked = asked_in s.setup files s.phase item in
+    IsSilentBeside (is_barred before asked || is_barred after asked) item files s
 
 -- one link's session moved beside others, which are moved up where a file was removed
 pub record MovesBeside (item : Item) (files : Files) (others : List SessionValue) (s : SessionValue) (files' : Files) (others' : List SessionValue) (s' : SessionValue) (answers : Vec (Vec ℕ)) : Type 0 where

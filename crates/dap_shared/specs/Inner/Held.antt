@@ -8,13 +8,19 @@ use Rattle.dap_accessed.specs.declared.phase.Phase.{Phase}
 use Rattle.dap_accessed.specs.declared.phase.Phase.TheVariants as phases
 use Rattle.dap_accessed.specs.Setup.{IsServerSetup}
 use Rattle.dap_accessed.specs.Standing.{Files}
-use Rattle.dap_accessed.specs.Sessions.{SessionValue}
+use Rattle.dap_accessed.specs.Sessions.{SessionValue, asked_in}
 use Rattle.dap_shared.specs.Nodes.{Event}
 use Rattle.dap_shared.specs.Shared.{SharedValue, SharedAfter, no_session}
-use Rattle.dap_shared.specs.Inner.Beside.{MovesBeside}
+use Rattle.dap_shared.specs.Inner.Beside.{IsSilentBeside, MovesBeside, is_barred}
 
 abbrev pub session_at : (own : ServerSetup) (link : ℕ) → List SessionValue → SessionValue
 session_at own link sessions = get_or sessions link (no_session own)
+
+-- so it is on this link, among all
+abbrev pub IsSilentAmong : (own : ServerSetup) → (link : ℕ) → Item → Files → List SessionValue → Type 0
+IsSilentAmong own link item files sessions =
+    let s = session_at own link sessions in
+    IsSilentBeside (is_barred (set sessions link (no_session own)) (asked_in s.setup files s.phase item)) item files s
 
 -- a fetch stops at a record's number
 abbrev pub HasNumber : Phase → Type 0

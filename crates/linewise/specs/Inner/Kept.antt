@@ -8,10 +8,10 @@ use Rattle.linewise.specs.declared.reading.Kept.{Kept}
 use Rattle.linewise.specs.declared.reading.Kept.TheVariants.{All as whole, TooLong, NoMemory}
 use Rattle.linewise.specs.declared.reading.Line.{Line}
 
--- these bytes were read of it
+-- these bytes were read of it; no more is kept than the longest line has
 abbrev pub HoldsAs : Kept → List ℕ → List ℕ → Type 0
 HoldsAs whole kept read = (kept ≡ read) × (length kept ≤ max_line + 2)
-HoldsAs TooLong kept read = max_line + 2 < length read
+HoldsAs TooLong kept read = (max_line + 2 < length read) × (length kept ≤ max_line + 2)
 HoldsAs NoMemory kept read = 0 < length read
 
 abbrev pub HoldsLine : Line → List ℕ → Type 0

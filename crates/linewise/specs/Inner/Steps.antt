@@ -4,7 +4,7 @@ use Rattle.std.specs.List.{list_any, concat}
 use Rattle.std.specs.Io.KnownBytes.{Appends, Keeps, IsAtEnd}
 use Rattle.std.specs.Io.BufRead.{first_line, drop_through}
 use Rattle.linewise.specs.Output.{WritesFront}
-use Rattle.linewise.specs.Talks.{Answering, AnswersLine, BeginsAnswer, ComesIn, IsUnbroken, SaysTo, AnswersInput, is_bad}
+use Rattle.linewise.specs.Talks.{Answering, AnswersLine, BeginsAnswer, ComesIn, IsUnbroken, ReadsPart, SaysTo, AnswersInput, is_bad}
 use Rattle.linewise.specs.declared.talking.Became.{Became}
 use Rattle.linewise.specs.declared.talking.Answer.{Answer}
 use Rattle.linewise.specs.declared.talking.Answer.TheVariants.{Whole, Begun}
@@ -48,12 +48,12 @@ TurnGoes answered waiting old new unread left written holds (Line became) =
     × SaysLine answered waiting old (first_line rest) new written holds became)
 
 -- and where it fails
-abbrev pub TalkEnds : {E : Type 0} → Answering E → (E → Option ℕ) → E → E → (unread written holds : Option (List ℕ)) → CaptureFault → Type 0
-TalkEnds answered waiting old new unread written holds ReadFailed =
-    (new ≡ old) × Keeps written holds
-TalkEnds answered waiting old new unread written holds WriteFailed =
-    IfSome unread (λ rest. Breaks answered waiting old (first_line rest) new written holds)
-TalkEnds answered waiting old new unread written holds _ = ⊥
+abbrev pub TalkEnds : {E : Type 0} → Answering E → (E → Option ℕ) → E → E → (unread left written holds : Option (List ℕ)) → CaptureFault → Type 0
+TalkEnds answered waiting old new unread left written holds ReadFailed =
+    (new ≡ old) × Keeps written holds × ReadsPart unread left
+TalkEnds answered waiting old new unread left written holds WriteFailed =
+    IfSome unread (λ rest. (left ≡ Some (drop_through 10 rest)) × Breaks answered waiting old (first_line rest) new written holds)
+TalkEnds answered waiting old new unread left written holds _ = ⊥
 
 -- the lines up to what is left are answered, and the writer holds the answers
 abbrev pub HasTalked : {E : Type 0} → Answering E → (E → Option ℕ) → E → (unread written : Option (List ℕ)) → E → (left holds : Option (List ℕ)) → Bool → Type 0

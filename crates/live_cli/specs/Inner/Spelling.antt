@@ -1,5 +1,7 @@
 -- Values of options that aren't spelled as they have to be.
-use Rattle.std.specs.Prelude.{◌≡◌, ℕ, List, Option, None, IfSome, IsTrue, option_map}
+use Rattle.std.specs.Prelude.{◌≡◌, ℕ, Bool, ◌&&◌, nat_lt, is_none, List, [], ◌∷◌, ◌++◌, codes, Option, Some, None, IfSome, IsTrue, option_map, option_and_then, false}
+use Rattle.std.specs.Option.{option_map_or}
+use Rattle.std.specs.List.{find}
 use Rattle.clap.specs.Words.{Row, Text, first_of}
 use Rattle.dap_text.specs.Words.{decimal_of, short}
 use Rattle.dap_live.specs.Orders.{address_of}
@@ -7,6 +9,8 @@ use Rattle.decnet_frames.specs.Nodes.{node_of}
 use Rattle.live_cli.specs.declared.words.Digits.{Digits}
 use Rattle.live_cli.specs.declared.words.Digits.TheVariants.{Abilities, Address, Bytes, Code, Comparing, Node, Nowhere, Number}
 use Rattle.live_cli.specs.declared.words.Misspelt.{Misspelt}
+use Rattle.live_cli.specs.declared.words.Role.{Role}
+use Rattle.live_cli.specs.declared.words.Role.TheVariants.{Serve, Ask}
 use Rattle.live_cli.specs.Words.{code_of, folded_of, max_waiting, has_value, syscap_of}
 
 -- what a value says that has to be spelled so
@@ -29,3 +33,40 @@ IsValue _ rows option text = IfSome (first_of option rows) (λ value. value ≡ 
 -- it is the value of its option, if that has one, and says nothing
 abbrev pub IsMisspelt : List Row → Misspelt → Type 0
 IsMisspelt rows m = IsValue m.digits rows m.option.now m.value.now × (read_of m.digits m.value.now ≡ None)
+
+-- there is room for several links
+abbrev pub has_several : List Row → Bool
+has_several rows = option_map_or (λ links. nat_lt 1 links) (option_and_then short (first_of (codes "links") rows)) false
+
+-- the value of an option isn't spelled so, or is there where none is allowed
+abbrev pub is_wrong : List Row → Text × Digits → Bool
+is_wrong rows (option, Nowhere) = has_several rows && has_value option rows
+is_wrong rows (option, digits) = is_none (option_and_then (read_of digits) (first_of option rows))
+
+-- the options about links, in the order in which they are looked at
+abbrev pub link_spellings : List (Text × Digits)
+link_spellings = (codes "links", Number) ∷ (codes "local", Nowhere) ∷ (codes "remote", Nowhere) ∷ []
+
+-- the options of the server alone, in that order
+abbrev pub own_spellings : Role → List (Text × Digits)
+own_spellings Serve = (codes "waiting", Bytes) ∷ (link_spellings ++ (codes "names", Comparing) ∷ [])
+own_spellings Ask = []
+
+-- the options of an end, in that order
+abbrev pub spellings : Role → List (Text × Digits)
+spellings role =
+    (codes "local", Address) ∷ (codes "remote", Address) ∷ (codes "segment", Number) ∷ (codes "window", Number) ∷ (codes "buffer", Number)
+    ∷ (codes "ostype", Code) ∷ (codes "filesys", Code) ∷ (codes "syscap", Abilities) ∷ own_spellings role
+
+-- of these options' values, this is the first that is wrong
+abbrev pub IsFirstWrong : List (Text × Digits) → List Row → Misspelt → Type 0
+IsFirstWrong options rows m = find (is_wrong rows) options ≡ Some (m.option.now, m.digits)
+
+-- none is wrong
+abbrev pub AreRight : List (Text × Digits) → List Row → Type 0
+AreRight options rows = find (is_wrong rows) options ≡ None
+
+-- the first of two words that is no node
+abbrev pub first_no_node : Option (List Text) → Option Text
+first_no_node (Some words) = find (λ word. is_none (node_of word)) words
+first_no_node None = None

@@ -18,4 +18,4 @@ returns-then-in_words c =
     (λ words.
     subst (λ (b : Bool). new ≡ old ++ item_line_in b (item_with_record item (digit_bytes c.args.digits.now))) (sym c.if-in_words.true)
     (subst (λ (i : Item). new ≡ old ++ item_line_in true i) (sym whole) (line_in_words item old c.push_item.new.text.items new line words)))
-    c.add_item_words.ensures
+    c.add_item_words.ensures.words

@@ -13,7 +13,7 @@ loop-word-preserved c =
     let ws = flat_map word_list (take i words) in
     let word = said_text (get_or words i Nothing) in
     let more = words_more words i c.loop-word-test.true c.in_default.not-Nothing in
-    let here = told_more c.args.text.now.items c.loop-word.text.items c.push_str.new.text.items c.push_word.new.text.items c.loop-word.mark.now word ws c.loop-word.invariant.text c.loop-word.invariant.mark c.in_ok-push_str.ensures.added c.in_ok-push_word.ensures in
+    let here = told_more c.args.text.now.items c.loop-word.text.items c.push_str.new.text.items c.push_word.new.text.items c.loop-word.mark.now word ws c.loop-word.invariant.text c.loop-word.invariant.mark c.in_ok-push_str.ensures.added c.in_ok-push_word.ensures.added in
     record {
       text = here ∙ ap (λ (s : List (List ℕ)). c.args.text.now.items ++ words_text s) (sym more);
       mark = mark-more ws word ∙ ap mark_after (sym more);

@@ -3,7 +3,7 @@ use Rattle.dap_watch.proofs.TalkLemmas.{ends_short, fails, gives, tells_bad}
 use Rattle.dap_watch.proofs.watching.watch_all.Goals as goal
 
 pub returns-in-Err-clause-fault : goal.returns-in-Err-clause-fault
-returns-in-Err-clause-fault g c = fails c.args.watching.now _ _ _ _ c.in-Err.fault c.requires c.in-Err.ensures.fault
+returns-in-Err-clause-fault g c = fails c.args.watching.now _ _ _ _ _ c.in-Err.fault c.requires c.in-Err.ensures.fault
 
 pub returns-in-Ok-write_rest-clause-watched : goal.returns-in-Ok-write_rest-clause-watched
 returns-in-Ok-write_rest-clause-watched g c =

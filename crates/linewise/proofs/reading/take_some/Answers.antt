@@ -7,8 +7,8 @@ use Rattle.std.proofs.Transfers.{StopsAt-take}
 use Rattle.linewise.proofs.reading.take_some.Goals.{then-end-eq0, else-end-eq0}
 use Rattle.linewise.proofs.reading.take_some.Goals as goal
 
-pub returns : goal.returns
-returns g c =
+pub returns-clause-some : goal.returns-clause-some
+returns-clause-some g c =
     let shown = c.in-Ok.shown.now in
     let end = c.len_through-end in
     let long = length-take-le end.result shown end.ensures.bound in

@@ -12,7 +12,7 @@ returns-in-Ok-Over-clause-whole g c =
 
 pub returns-in-Err-clause-fault : goal.returns-in-Err-clause-fault
 returns-in-Err-clause-fault g c =
-    fails g.E.Answers.answered g.E.Answers.waiting _ _ _ _ _ _ _ _ _ c.in-Err.fault c.loop-number.invariant c.in-Err.ensures.fault
+    fails g.E.Answers.answered g.E.Answers.waiting _ _ _ _ _ _ _ _ _ _ c.in-Err.fault c.loop-number.invariant c.in-Err.ensures.fault
 
 pub loop-number-preserved : goal.loop-number-preserved
 loop-number-preserved g c =

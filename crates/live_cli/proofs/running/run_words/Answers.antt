@@ -1,4 +1,4 @@
-use Rattle.std.proofs.Common.{arith, ◌≡◌, rules, map, string_bytes, ap, subst, ◌∙◌, inl, inr, refl, true, false}
+use Rattle.std.proofs.Common.{◌≡◌, rules, map, string_bytes, ap, subst, ◌∙◌, inl, inr, refl, true, false}
 use Rattle.std.specs.Prelude.{IfSome, Some, None}
 use Rattle.clap.specs.Words.{fault_of}
 use Rattle.linewise.proofs.ForCallers.{memory_or_help, memory_or_mistake, only_memory}
@@ -17,27 +17,29 @@ returns-in-Err g c =
     let input = g.R.Read.remaining c.args.reader.now in
     let old = g.W.Write.contents c.args.writer.now in
     let new = g.W.Write.contents c.refuse.new.writer in
+    let told = g.E.Write.contents c.args.error_writer.now in
+    let tells = g.E.Write.contents c.refuse.new.error_writer in
     record {
-      named = λ task none named. refused task input old new c.refuse.result (c.refuse.ensures.memory (only_memory kinds e none has));
-      usual = λ program role words. refused (End (usual role).1) input old new c.refuse.result
+      named = λ task none named. refused task input input old new told tells c.refuse.result (c.refuse.ensures.memory (only_memory kinds e none has));
+      usual = λ program role words. refused (End (usual role).1) input input old new told tells c.refuse.result
           (c.refuse.ensures.memory (only_memory kinds e (ap (fault_of daplive) words ∙ no_fault program role) has));
-      follow = λ program words. refused (Follow false) input old new c.refuse.result
+      follow = λ program words. refused (Follow false) input input old new told tells c.refuse.result
           (c.refuse.ensures.memory (only_memory kinds e (ap (fault_of daplive) words ∙ no_fault_follow program) has));
-      in_words = λ program words. refused (Follow true) input old new c.refuse.result
+      in_words = λ program words. refused (Follow true) input input old new told tells c.refuse.result
           (c.refuse.ensures.memory (only_memory kinds e (ap (fault_of daplive) words ∙ no_fault_in_words program) has));
-      frames = λ program words. refused (Frames None) input old new c.refuse.result
+      frames = λ program words. refused (Frames None) input input old new told tells c.refuse.result
           (c.refuse.ensures.memory (only_memory kinds e (ap (fault_of daplive) words ∙ no_fault_frames program) has));
-      watch = λ program words. refused (Watch false) input old new c.refuse.result
+      watch = λ program words. refused (Watch false) input input old new told tells c.refuse.result
           (c.refuse.ensures.memory (only_memory kinds e (ap (fault_of daplive) words ∙ no_fault_watch program) has));
-      watch_in_words = λ program words. refused (Watch true) input old new c.refuse.result
+      watch_in_words = λ program words. refused (Watch true) input input old new told tells c.refuse.result
           (c.refuse.ensures.memory (only_memory kinds e (ap (fault_of daplive) words ∙ no_fault_watch_in_words program) has));
-      digits = λ none unnamed. let kept = c.refuse.ensures.memory (only_memory kinds e none has) in (inr kept.0, kept.1);
+      digits = λ none unnamed. let kept = c.refuse.ensures.memory (only_memory kinds e none has) in (inr (kept.0, kept.2), kept.1);
       mistake = λ mistakes.
           elim (memory_or_mistake kinds e mistakes has) [
-            | inl memory ↦ let kept = c.refuse.ensures.memory memory in (inr kept.0, kept.1)
+            | inl memory ↦ let kept = c.refuse.ensures.memory memory in (inr (kept.0, kept.2), kept.1)
             | inr mistake ↦
                 elim (c.refuse.ensures.mistake mistake) [
-                  | inl memory ↦ let kept = c.refuse.ensures.memory memory in (inr kept.0, kept.1)
+                  | inl memory ↦ let kept = c.refuse.ensures.memory memory in (inr (kept.0, kept.2), kept.1)
                   | inr told ↦ (inl told.0, told.1)
                 ]
           ];
@@ -47,11 +49,7 @@ returns-in-Err g c =
             | inl memory ↦ inr (c.refuse.ensures.memory memory).0
             | inr asked ↦ c.refuse.ensures.help asked
           ];
-      quiet = λ help zero.
-          elim (memory_or_help kinds e help has) [
-            | inl memory ↦ (let three = (c.refuse.ensures.memory memory).0 in let none : ⊥ = omega (arith, three, zero) in absurd none)
-            | inr asked ↦ c.refuse.ensures.quiet asked zero
-          ];
+      quiet = λ help zero. c.refuse.ensures.quiet zero;
     }
 
 pub returns-in-Ok-Ok-clause-usual : goal.returns-in-Ok-Ok-clause-usual
@@ -59,42 +57,42 @@ returns-in-Ok-Ok-clause-usual g c program role named =
     let words = map string_bytes c.args.words.now in
     let named_first : Some c.in-Ok-Ok.task ≡ task_of words = search rules in
     let same = one_task words c.in-Ok-Ok.task (End (usual role).1) named_first (ap task_of named ∙ names_usual program role) in
-    subst (λ (task : Task). IfSome (g.R.Read.remaining c.args.reader.now) (λ input. TaskGives task input (g.W.Write.contents c.args.writer.now) (g.W.Write.contents c.run_task.new.writer) c.run_task.result)) same c.run_task.ensures
+    subst (λ (task : Task). IfSome (g.R.Read.remaining c.args.reader.now) (λ input. TaskGives task input (g.R.Read.remaining c.run_task.new.reader) (g.W.Write.contents c.args.writer.now) (g.W.Write.contents c.run_task.new.writer) (g.E.Write.contents c.args.error_writer.now) (g.E.Write.contents c.run_task.new.error_writer) c.run_task.result)) same c.run_task.ensures
 
 pub returns-in-Ok-Ok-clause-follow : goal.returns-in-Ok-Ok-clause-follow
 returns-in-Ok-Ok-clause-follow g c program named =
     let words = map string_bytes c.args.words.now in
     let named_first : Some c.in-Ok-Ok.task ≡ task_of words = search rules in
     let same = one_task words c.in-Ok-Ok.task (Follow false) named_first (ap task_of named ∙ names_follow program) in
-    subst (λ (task : Task). IfSome (g.R.Read.remaining c.args.reader.now) (λ input. TaskGives task input (g.W.Write.contents c.args.writer.now) (g.W.Write.contents c.run_task.new.writer) c.run_task.result)) same c.run_task.ensures
+    subst (λ (task : Task). IfSome (g.R.Read.remaining c.args.reader.now) (λ input. TaskGives task input (g.R.Read.remaining c.run_task.new.reader) (g.W.Write.contents c.args.writer.now) (g.W.Write.contents c.run_task.new.writer) (g.E.Write.contents c.args.error_writer.now) (g.E.Write.contents c.run_task.new.error_writer) c.run_task.result)) same c.run_task.ensures
 
 pub returns-in-Ok-Ok-clause-in_words : goal.returns-in-Ok-Ok-clause-in_words
 returns-in-Ok-Ok-clause-in_words g c program named =
     let words = map string_bytes c.args.words.now in
     let named_first : Some c.in-Ok-Ok.task ≡ task_of words = search rules in
     let same = one_task words c.in-Ok-Ok.task (Follow true) named_first (ap task_of named ∙ names_in_words program) in
-    subst (λ (task : Task). IfSome (g.R.Read.remaining c.args.reader.now) (λ input. TaskGives task input (g.W.Write.contents c.args.writer.now) (g.W.Write.contents c.run_task.new.writer) c.run_task.result)) same c.run_task.ensures
+    subst (λ (task : Task). IfSome (g.R.Read.remaining c.args.reader.now) (λ input. TaskGives task input (g.R.Read.remaining c.run_task.new.reader) (g.W.Write.contents c.args.writer.now) (g.W.Write.contents c.run_task.new.writer) (g.E.Write.contents c.args.error_writer.now) (g.E.Write.contents c.run_task.new.error_writer) c.run_task.result)) same c.run_task.ensures
 
 pub returns-in-Ok-Ok-clause-watch : goal.returns-in-Ok-Ok-clause-watch
 returns-in-Ok-Ok-clause-watch g c program named =
     let words = map string_bytes c.args.words.now in
     let named_first : Some c.in-Ok-Ok.task ≡ task_of words = search rules in
     let same = one_task words c.in-Ok-Ok.task (Watch false) named_first (ap task_of named ∙ names_watch program) in
-    subst (λ (task : Task). IfSome (g.R.Read.remaining c.args.reader.now) (λ input. TaskGives task input (g.W.Write.contents c.args.writer.now) (g.W.Write.contents c.run_task.new.writer) c.run_task.result)) same c.run_task.ensures
+    subst (λ (task : Task). IfSome (g.R.Read.remaining c.args.reader.now) (λ input. TaskGives task input (g.R.Read.remaining c.run_task.new.reader) (g.W.Write.contents c.args.writer.now) (g.W.Write.contents c.run_task.new.writer) (g.E.Write.contents c.args.error_writer.now) (g.E.Write.contents c.run_task.new.error_writer) c.run_task.result)) same c.run_task.ensures
 
 pub returns-in-Ok-Ok-clause-watch_in_words : goal.returns-in-Ok-Ok-clause-watch_in_words
 returns-in-Ok-Ok-clause-watch_in_words g c program named =
     let words = map string_bytes c.args.words.now in
     let named_first : Some c.in-Ok-Ok.task ≡ task_of words = search rules in
     let same = one_task words c.in-Ok-Ok.task (Watch true) named_first (ap task_of named ∙ names_watch_in_words program) in
-    subst (λ (task : Task). IfSome (g.R.Read.remaining c.args.reader.now) (λ input. TaskGives task input (g.W.Write.contents c.args.writer.now) (g.W.Write.contents c.run_task.new.writer) c.run_task.result)) same c.run_task.ensures
+    subst (λ (task : Task). IfSome (g.R.Read.remaining c.args.reader.now) (λ input. TaskGives task input (g.R.Read.remaining c.run_task.new.reader) (g.W.Write.contents c.args.writer.now) (g.W.Write.contents c.run_task.new.writer) (g.E.Write.contents c.args.error_writer.now) (g.E.Write.contents c.run_task.new.error_writer) c.run_task.result)) same c.run_task.ensures
 
 pub returns-in-Ok-Ok-clause-frames : goal.returns-in-Ok-Ok-clause-frames
 returns-in-Ok-Ok-clause-frames g c program named =
     let words = map string_bytes c.args.words.now in
     let named_first : Some c.in-Ok-Ok.task ≡ task_of words = search rules in
     let same = one_task words c.in-Ok-Ok.task (Frames None) named_first (ap task_of named ∙ names_frames program) in
-    subst (λ (task : Task). IfSome (g.R.Read.remaining c.args.reader.now) (λ input. TaskGives task input (g.W.Write.contents c.args.writer.now) (g.W.Write.contents c.run_task.new.writer) c.run_task.result)) same c.run_task.ensures
+    subst (λ (task : Task). IfSome (g.R.Read.remaining c.args.reader.now) (λ input. TaskGives task input (g.R.Read.remaining c.run_task.new.reader) (g.W.Write.contents c.args.writer.now) (g.W.Write.contents c.run_task.new.writer) (g.E.Write.contents c.args.error_writer.now) (g.E.Write.contents c.run_task.new.error_writer) c.run_task.result)) same c.run_task.ensures
 
 pub returns-in-Ok-Err-clause-usual : goal.returns-in-Ok-Err-clause-usual
 returns-in-Ok-Err-clause-usual g c program role named =

@@ -7,8 +7,8 @@ use Rattle.dap_end.specs.By.{end_with}
 use Rattle.dap_end.proofs.Turning.{answered_by}
 use Rattle.dap_end.proofs.asking.End+Accessing.answer.Goals as goal
 
-pub returns : goal.returns
-returns c =
+pub returns-clause-writes : goal.returns-clause-writes
+returns-clause-writes c =
     let end = hears c.args.reports.now.items c.hear_all.new.reports.items in
     let old = c.args.self.now in
     let heard = end_with c.self.inside.port c.self.inside.role in

@@ -2,9 +2,13 @@ use Rattle.std.proofs.Common.{◌<◌, List, length, sym, subst, ◌∙◌}
 use Rattle.std.specs.Vec.{with_items}
 use Rattle.std.proofs.lemmas.Result.{IfOk-weaker, on_err_weaker}
 use Rattle.dap_accessed.specs.Sessions.{SessionValue, IsOpenIn}
-use Rattle.dap_shared.specs.Shared.{SharedValue, SharedServes}
-use Rattle.dap_shared.specs.Inner.Held.{IsHeld, MovesOn, session_at}
+use Rattle.std.specs.Prelude.{IsOk}
+use Rattle.dap_accessed.specs.Standing.{Files}
+use Rattle.dap_shared.specs.Nodes.{Event, IsSilentOn}
+use Rattle.dap_shared.specs.Shared.{SharedAfter, SharedValue, SharedServes}
+use Rattle.dap_shared.specs.Inner.Held.{IsHeld, IsSilentAmong, MovesOn, session_at}
 use Rattle.dap_shared.proofs.Held.{held-open, on-shared, open-alike, refilled, served-held, served-many}
+use Rattle.dap_shared.proofs.Stepping.{silent-kept}
 use Rattle.dap_shared.proofs.shared.SharedFiles.serve_item.Goals as goal
 
 pub serve_on-requires-clause-there : goal.serve_on-requires-clause-there
@@ -40,3 +44,10 @@ returns-clause-serves c =
     (subst (λ (l : List SessionValue). SharedServes c.args.link c.args.item v (record { own = v.own; setup = v.setup; files = c.serve_on.new.files; sessions = l }) served.answers) (sym (refilled c.self.inside.sessions c.serve_on.new.sessions many))
     (on-shared v c.args.link c.args.item c.serve_on.new.files c.serve_on.new.sessions served.answers c.self.invariant lt m)))
     ok
+
+pub returns-clause-unrefused : goal.returns-clause-unrefused
+returns-clause-unrefused c =
+    let v : SharedValue = record { own = c.self.inside.setup.identity.bufsiz; setup = c.self.inside.setup; files = c.self.inside.files; sessions = c.self.inside.sessions.items } in
+    subst (λ (w : SharedValue). (first : Files) (events : List Event) → SharedAfter first events w → IsSilentOn c.args.link w.setup first (length w.sessions) events c.args.item → IsOk c.serve_on.result) c.self.view_is
+    (λ first events h silent. c.serve_on.ensures.unrefused v.setup
+    (subst (λ (l : List SessionValue). IsSilentAmong v.setup c.args.link c.args.item v.files l) (sym c.deref_mut.ensures.value) (silent-kept v c.args.link c.args.item first events h silent)))

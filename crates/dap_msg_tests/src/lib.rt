@@ -1,5 +1,0 @@
-//! Tests of `dap_msg`. They are a separate crate, since a crate with tests is proved twice.
-#![tactic(auto)]
-
-#[cfg(test)]
-mod tests;

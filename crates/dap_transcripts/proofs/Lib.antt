@@ -1,0 +1,6 @@
+pub mod Speaking
+pub mod Lines
+pub mod Talking
+pub mod Leading
+pub mod Reporting
+pub mod AskLines

@@ -1,0 +1,3 @@
+pub mod Transcripts
+pub mod AskLines
+pub mod Programs
