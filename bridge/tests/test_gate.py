@@ -69,8 +69,10 @@ class PartsTest(GateCase):
     def test_all_parts_run_in_their_order_and_are_counted(self):
         status, last, ran = self.check()
         self.assertEqual((status, last), (0, "45 passed, 0 failed"), self.told)
-        self.assertEqual([line for line in ran if line != "tool/rt version"], [
-            "examples/check ", "docs/check ", "wrong_bodies --look", "tool/rt ci", "wrong_bodies ", "wrong_bodies_tests.py ",
+        ran = [line for line in ran if line != "tool/rt version"]
+        self.assertGreater(ran.index("wrong_bodies "), ran.index("tool/rt ci"))
+        self.assertEqual([line for line in ran if line != "wrong_bodies "], [
+            "examples/check ", "docs/check ", "wrong_bodies --look", "tool/rt ci", "wrong_bodies_tests.py ",
             "hostile/check ", "tool/python3 examples/lossy_tests.py --seeds 200", "tool/python3 examples/links_tests.py --seeds 200",
             "tool/python3 bench/links --links 100 --puts 5000 --each --rounds 1", "tool/python3 examples/live_tests.py",
             "tool/python3 examples/bounded_tests.py", "examples/check --run crates/dapnsp/out/dapnsp",
@@ -78,6 +80,26 @@ class PartsTest(GateCase):
             "tools/check --daplive crates/daplive/out/daplive --captures KEPT"])
         for part in PARTS:
             self.assertRegex(self.told, rf"(?m)^check: {part}: [0-9.]+ minutes, [0-9.]+ of processor$")
+
+    def test_the_wrong_bodies_are_tried_beside_what_follows(self):
+        """A stand-in that begins to talk, and ends only when the last of the others has run; it yields to them."""
+        (self.tree / "wrong_bodies").write_text("""#!/bin/sh
+            [ "$*" = --look ] && { echo "3 passed, 0 failed"; exit; }
+            echo "its first line"
+            for try in $(seq 400); do grep -q tools/check "$GATE_LOG" && break; sleep 0.05; done
+            echo "$(nice) after $try looks"
+            grep -q tools/check "$GATE_LOG" && echo "3 passed, 0 failed"
+            """)
+        status, last, _ = self.check()
+        self.assertEqual((status, last), (0, "45 passed, 0 failed"), self.told)
+        said = self.told.splitlines()
+        self.assertGreater(said.index("its first line"), said.index("check: tools: compares captures in Wireshark and as pages "
+                                                                    "with the listing; 0 minutes so far"))
+        self.assertRegex(self.told, r"(?m)^19 after \d+ looks$")
+
+    def test_the_wrong_bodies_alone_are_shown_as_they_are_tried(self):
+        self.assertEqual(self.check("--only", "wrong")[1:], ("3 passed, 0 failed", ["tool/rt version", "wrong_bodies "]))
+        self.assertEqual(self.check("--only", "proofs", "wrong")[2][1:], ["tool/rt ci", "wrong_bodies "])
 
     def test_what_fails_and_what_is_skipped_is_counted(self):
         self.assertEqual(self.check(GATE_FAILS="hostile/check", GATE_SKIPS="bridge/check tools/check")[:2],

@@ -6,7 +6,7 @@ import time
 from decnet.kept import read_lines
 from tests.pairs import HASTE, PairCase
 from tests.station import SERVING
-from tests.support import BRIDGE, PROGRAM, PYTHON, child_of, file_lines, need_live_end, until
+from tests.support import BRIDGE, PATIENCE, PROGRAM, PYTHON, child_of, file_lines, need_live_end, until
 
 FILE = ["file 46 seq variable 0 0", "  1 41"]
 
@@ -73,7 +73,7 @@ class SavedTest(PairCase):
         begun = time.monotonic()
         server, _ = self.serve("--files", self.path, "--save", other)
         self.stop(server)
-        self.assertLess(time.monotonic() - begun, 30)
+        self.assertLess(time.monotonic() - begun, 2 * PATIENCE, "work that grows faster than the file")
         self.assertEqual(file_lines(other), lines)
 
 
