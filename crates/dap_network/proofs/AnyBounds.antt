@@ -1,6 +1,6 @@
 -- How many bytes wait on a link of a node, and when nothing is left.
 use Rattle.std.proofs.Common.{◌≡◌, ℕ, ◌+◌, ◌<◌, ◌≤◌, arith, refl, sym, ◌∙◌, subst, ap, false, List, [], ◌∷◌, ◌++◌, length, inl, inr}
-use Rattle.std.specs.Prelude.{Result, Ok, Err}
+use Rattle.std.specs.Prelude.{◌⊎◌, Result, Ok, Err}
 use Rattle.std.proofs.lemmas.Bool.{cases_lt, both_ways}
 use Rattle.nsp_link.specs.declared.link.Got.{Got}
 use Rattle.nsp_link.specs.declared.link.Got.TheVariants.{AckOnly}
@@ -18,7 +18,10 @@ use Rattle.dap_end.specs.Moved.{sent_more}
 use Rattle.dap_end.specs.Ports.{EndValue, HandsOver, PortValue, bytes_waiting}
 use Rattle.dap_end.specs.Turns.{DidAll, TakesPacket, TookIn, TookThen, WentOn, WritesReplies, WroteThen}
 use Rattle.dap_end.proofs.ForCallers.{inbox_posted, none_waits, grown}
-use Rattle.dap_network.specs.Bounded.{IsBoundedBy, IsDone}
+
+-- nothing came that isn't served, no answer waits or is queued, and all that was sent is acknowledged
+abbrev pub IsRested : PortValue → Type 0
+IsRested port = (port.link.coming.inbox ≡ []) × (port.outbox ≡ []) × (port.link.queue ≡ []) × (port.link.sent ≡ port.link.acked)
 
 module _ {P : Type 0} (serves : ServesAt P) where
   abbrev V : Type 0
@@ -45,8 +48,11 @@ module _ {P : Type 0} (serves : ServesAt P) where
       let none = ap total_length (none_waits old mid count p) in
       omega (arith, here, none, bytes_posted old mid count p pos)
 
+  -- what waits before, or what waits beside the answers to one item
   abbrev Bounded : (most : ℕ) (old first new : V) → Type 0
-  Bounded most old first new = IsBoundedBy serves most old first new
+  Bounded most old first new =
+      (bytes_waiting new.port ≤ bytes_waiting old.port)
+      ⊎ ((last posted mid : V) × (count n : ℕ) × TurnsBy serves most first last × HandsOver last posted count × ServedBy serves posted mid n × (bytes_waiting new.port < most + total_length mid.port.outbox))
 
   turn_bounded : (most : ℕ) (old new : V) → 0 < old.port.link.setup.seg_size → TurnsBy serves most old new → Bounded most old old new
   turn_bounded most old new pos no_turn = inl (omega arith)
@@ -221,11 +227,5 @@ module _ {P : Type 0} (serves : ServesAt P) where
         let posted = bytes_posted turned mid w.done.1 w.done.4 turned_size in
         omega (arith, some, more, zero_bytes, idle, same, posted)
 
-    pub nothing_left : new.port.link.sent ≡ new.port.link.acked → IsDone new.port
-    nothing_left acked =
-        record {
-          served = elim w.done.3 [ inl none ↦ inbox_new ∙ none | inr more ↦ absurd (much acked more) ];
-          idle = outbox_new;
-          empty = queue_new acked;
-          acknowledged = acked;
-        }
+    pub nothing_left : new.port.link.sent ≡ new.port.link.acked → IsRested new.port
+    nothing_left acked = (elim w.done.3 [ inl none ↦ inbox_new ∙ none | inr more ↦ absurd (much acked more) ], outbox_new, queue_new acked, acked)

@@ -37,7 +37,7 @@ pub record AnyLink (came : List Arrival) (wrote : List WrittenPacket) (items : L
   pub peer : (size : ℕ) (messages : List (List ℕ)) → FromPeer size messages came → StandsThen port.link (some_size size) messages given
 
 -- the link began
-pub any_new : (setup : LinkSetup) → AnyLink [] [] [] [] [] (new_port setup)
+unfoldable pub any_new : (setup : LinkSetup) → AnyLink [] [] [] [] [] (new_port setup)
 any_new setup =
     record {
       given = [];
@@ -50,18 +50,18 @@ any_new setup =
 
 -- ---- Of all that came.
 
-all_front : {A : Type 0} (P : A → Type 0) (xs : List A) (x : A) → AllByRecursion P (xs ++ x ∷ []) → AllByRecursion P xs × P x
+pub all_front : {A : Type 0} (P : A → Type 0) (xs : List A) (x : A) → AllByRecursion P (xs ++ x ∷ []) → AllByRecursion P xs × P x
 all_front P [] x h = (tt, h.0)
 all_front P (y ∷ xs) x h = let rest = all_front P xs x h.1 in ((h.0, rest.0), rest.1)
 
 -- ---- What was taken doesn't move where the node goes on.
 
-counts_same : (given left : List (List ℕ)) (old new : LinkValue) → SameCounts old new → left ++ new.coming.inbox ≡ given ++ old.coming.inbox → record old.coming { inbox = given ++ old.coming.inbox } ≡ record new.coming { inbox = left ++ new.coming.inbox }
+pub counts_same : (given left : List (List ℕ)) (old new : LinkValue) → SameCounts old new → left ++ new.coming.inbox ≡ given ++ old.coming.inbox → record old.coming { inbox = given ++ old.coming.inbox } ≡ record new.coming { inbox = left ++ new.coming.inbox }
 counts_same given left old new same all =
     ap (λ (l : List (List ℕ)). record old.coming { inbox = l }) (sym all)
     ∙ ap (λ (c : Coming). record c { inbox = left ++ new.coming.inbox }) (sym (ap (λ (l : LinkValue). l.coming) same))
 
-made_grew : (came : List Arrival) (given left : List (List ℕ)) (old new : LinkValue) → SameCounts old new → left ++ new.coming.inbox ≡ given ++ old.coming.inbox → IsMadeOf came old given → IsMadeOf came new left
+pub made_grew : (came : List Arrival) (given left : List (List ℕ)) (old new : LinkValue) → SameCounts old new → left ++ new.coming.inbox ≡ given ++ old.coming.inbox → IsMadeOf came old given → IsMadeOf came new left
 made_grew came given left old new same all m =
     record {
       pieces = m.pieces;
@@ -72,7 +72,7 @@ made_grew came given left old new same all m =
 
 module _ (came : List Arrival) (wrote : List WrittenPacket) (items : List Item) (packets : List NspMessage) (answers : List Message) (port : PortValue) (h : AnyLink came wrote items packets answers port) where
   -- a packet came
-  pub any_came : (link : LinkValue) (bytes : List ℕ) (r : Result Got LinkFault) → Receives port.link link bytes r → AnyLink (came ++ (port.link, bytes) ∷ []) wrote items packets answers (with_link port link)
+  unfoldable pub any_came : (link : LinkValue) (bytes : List ℕ) (r : Result Got LinkFault) → Receives port.link link bytes r → AnyLink (came ++ (port.link, bytes) ∷ []) wrote items packets answers (with_link port link)
   any_came link bytes r x =
       let g = grown port.link link bytes r x in
       record {
@@ -86,7 +86,7 @@ module _ (came : List Arrival) (wrote : List WrittenPacket) (items : List Item) 
       }
 
   -- a packet was written again, or an acknowledgement
-  pub any_again : (k : Option ℕ) (w : WrittenPacket) → WroteOne port.link k w → AnyLink came (wrote ++ w ∷ []) items packets answers port
+  unfoldable pub any_again : (k : Option ℕ) (w : WrittenPacket) → WroteOne port.link k w → AnyLink came (wrote ++ w ∷ []) items packets answers port
   any_again k w one =
       record {
         given = h.given;
@@ -98,7 +98,7 @@ module _ (came : List Arrival) (wrote : List WrittenPacket) (items : List Item) 
       }
 
   -- the port went on, and then wrote packets
-  pub any_went : (given handed : List (List ℕ)) (blocks : List NspMessage) (more : List Item) (others : List Message) (mid new : PortValue) (bytes : List (List ℕ)) → PortStands given handed blocks more others mid → PortGrew h.given h.handed given handed port mid → WroteMore mid new bytes
+  unfoldable pub any_went : (given handed : List (List ℕ)) (blocks : List NspMessage) (more : List Item) (others : List Message) (mid new : PortValue) (bytes : List (List ℕ)) → PortStands given handed blocks more others mid → PortGrew h.given h.handed given handed port mid → WroteMore mid new bytes
       → AnyLink came (wrote ++ numbered_packets (mid.link.sent + 1) mid.link.coming.received bytes) more blocks others new
   any_went given handed blocks more others mid new bytes stands grew w =
       let ws = numbered_packets (mid.link.sent + 1) mid.link.coming.received bytes in
@@ -116,7 +116,14 @@ module _ (came : List Arrival) (wrote : List WrittenPacket) (items : List Item) 
             let works : mid.link.failed ≡ false = ap (λ (l : LinkValue). l.failed) grew.link ∙ before.1 in
             (record { taken = then.taken; held = then.held }, works));
       } in
-      subst (AnyLink came (wrote ++ ws) more blocks others) (sym w.sent) here
+      record {
+        given = given;
+        handed = handed;
+        stands = subst (PortStands given handed blocks more others) (sym w.sent) here.stands;
+        made = subst (λ (p : PortValue). IsMadeOf came p.link given) (sym w.sent) here.made;
+        carried = subst (λ (p : PortValue). AreWrittenOf p.link handed (wrote ++ ws)) (sym w.sent) here.carried;
+        peer = λ size messages all. subst (λ (p : PortValue). StandsThen p.link (some_size size) messages given) (sym w.sent) (here.peer size messages all);
+      }
 
   -- what was served are the first items of what a peer sent
   pub any_front : (size : ℕ) (messages : List (List ℕ)) → FromPeer size messages came → AreFrontOf messages items

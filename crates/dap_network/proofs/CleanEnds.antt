@@ -18,8 +18,8 @@ use Rattle.dap_shared.specs.Noted.{NotedServed}
 use Rattle.dap_network.proofs.Sets.{set_here}
 use Rattle.dap_end.specs.Ports.{EndValue, PortValue}
 use Rattle.dap_end.specs.Turns.{TakesPacket, TookIn, WritesReplies}
-use Rattle.dap_network.specs.Bounded.{CleanStretch, IsClean, IsDone, at_rest, one_clean, others_do}
-use Rattle.dap_network.proofs.AnyBounds.{HasSent, acked_new, has_new, new_setup, nothing_left, sent_new, turn_idle}
+use Rattle.dap_network.specs.Bounded.{CleanStretch, IsClean, at_rest, one_clean, others_do}
+use Rattle.dap_network.proofs.AnyBounds.{HasSent, IsRested, acked_new, has_new, new_setup, nothing_left, sent_new, turn_idle}
 
 -- ---- A packet that only acknowledges.
 
@@ -89,7 +89,7 @@ module _ {P : Type 0} (serves : ServesAt P) (most : ℕ) (some : 0 < most) where
     sent_is = let le = sent_new serves most mid new AckOnly c.out c.all some good_mid has_mid c.answers in omega (arith, le, same.1)
 
     -- it wrote a segment, or nothing is left
-    pub one_call : (old.port.link.sent + 1 ≤ new.port.link.sent) ⊎ IsDone new.port
+    pub one_call : (old.port.link.sent + 1 ≤ new.port.link.sent) ⊎ IsRested new.port
     one_call =
         elim (cases_lt old.port.link.sent new.port.link.sent) [
           | inl lt ↦ inl (omega (arith, lt))
@@ -97,15 +97,15 @@ module _ {P : Type 0} (serves : ServesAt P) (most : ℕ) (some : 0 < most) where
         ]
 
     -- where nothing was left, nothing is
-    pub still_done : IsDone old.port → IsDone new.port
+    pub still_done : IsRested old.port → IsRested new.port
     still_done d =
         let w = c.answers in
         let turned : EndValue P = w.done.0 in
-        let outbox : mid.port.outbox ≡ [] = ap (λ (v : EndValue P). v.port.outbox) c.took.rest ∙ d.idle in
-        let idle : turned ≡ mid = turn_idle serves most mid turned w.done.2 (same.0 ∙ d.served) in
+        let outbox : mid.port.outbox ≡ [] = ap (λ (v : EndValue P). v.port.outbox) c.took.rest ∙ d.1 in
+        let idle : turned ≡ mid = turn_idle serves most mid turned w.done.2 (same.0 ∙ d.0) in
         let none : turned.port.outbox ≡ [] = ap (λ (v : EndValue P). v.port.outbox) idle ∙ outbox in
         let sends = has_mid.1 in
-        let empty : length mid.port.link.queue ≡ 0 = (let is = ap length same.4 in let l = length-drop same.3 old.port.link.queue in let e = ap length d.empty in omega (arith, is, l, e)) in
+        let empty : length mid.port.link.queue ≡ 0 = (let is = ap length same.4 in let l = length-drop same.3 old.port.link.queue in let e = ap length d.2 in omega (arith, is, l, e)) in
         let posted : length w.mid.port.link.queue ≡ 0 = ap (λ (v : EndValue P). length v.port.link.queue) w.done.4.1 ∙ queue_more turned.port.link turned.port.outbox none (ap (λ (v : EndValue P). length v.port.link.queue) idle ∙ empty) in
         let acked : w.mid.port.link.acked ≡ mid.port.link.acked = ap (λ (v : EndValue P). v.port.link.acked) w.done.4.1 ∙ ap (λ (v : EndValue P). v.port.link.acked) idle in
         let sent : w.mid.port.link.sent ≡ mid.port.link.sent = ap (λ (v : EndValue P). v.port.link.sent) w.done.4.1 ∙ ap (λ (v : EndValue P). v.port.link.sent) idle in
@@ -126,7 +126,7 @@ open_port link v p q a b = let same : Some (Some p) ≡ Some (Some q) = sym a �
 module _ (link most : ℕ) (some : 0 < most) where
   -- so far it wrote as many segments, or nothing is left
   abbrev Ends : ℕ → PortValue → PortValue → Type 0
-  Ends n old new = (old.link.sent + n ≤ new.link.sent) ⊎ IsDone new
+  Ends n old new = (old.link.sent + n ≤ new.link.sent) ⊎ IsRested new
 
   abbrev plain : NodeValue → PortValue → NodeLinkValue
   plain v port = end_with port (without_notes v.noted)
@@ -137,8 +137,8 @@ module _ (link most : ℕ) (some : 0 < most) where
       let there : HasPort link mid on.after = ap (λ (l : List (Option PortValue)). slice_get l link) on.ports ∙ set_here old.ports link (Some on.before) (Some on.after) on.there in
       (on.after, mid.noted, there, subst (λ (p : PortValue). IsClean (serves_on link most) (plain old p) (end_with on.after mid.noted)) same on.does)
 
-  pub done_stays : (n : ℕ) (old new : NodeValue) (port last : PortValue) → CleanStretch link most n old new → HasPort link old port → HasPort link new last → IsSetup port.link.setup → HasSent (NotedServed link) port → IsDone port → IsDone last
-  done_stays n old new port last at_rest at to good has d = subst IsDone (open_port link old port last at to) d
+  pub done_stays : (n : ℕ) (old new : NodeValue) (port last : PortValue) → CleanStretch link most n old new → HasPort link old port → HasPort link new last → IsSetup port.link.setup → HasSent (NotedServed link) port → IsRested port → IsRested last
+  done_stays n old new port last at_rest at to good has d = subst IsRested (open_port link old port last at to) d
   done_stays n old new port last (one_clean mid on more) at to good has d =
       let (after, present, there, c) = node_port old mid port on at in
       let old_end = plain old port in
@@ -164,7 +164,7 @@ module _ (link most : ℕ) (some : 0 < most) where
       ]
   stretch_ends n old new port last (others_do mid same more) at to good has = stretch_ends _ mid new port last more (same ∙ at) to good has
 
-  pub clean_ends : (n : ℕ) (old new : NodeValue) (port last : PortValue) → CleanStretch link most n old new → HasPort link old port → HasPort link new last → IsSetup port.link.setup → HasSent (NotedServed link) port → last.link.sent < port.link.sent + n → IsDone last
+  pub clean_ends : (n : ℕ) (old new : NodeValue) (port last : PortValue) → CleanStretch link most n old new → HasPort link old port → HasPort link new last → IsSetup port.link.setup → HasSent (NotedServed link) port → last.link.sent < port.link.sent + n → IsRested last
   clean_ends n old new port last c at to good has lt = elim (stretch_ends n old new port last c at to good has) [ inl le ↦ absurd (omega (arith, le, lt)) | inr d ↦ d ]
 
 -- ---- A peer that keeps the rules.

@@ -1,6 +1,6 @@
 -- Lists in which one element was set.
 use Rattle.std.proofs.Common.{◌≡◌, ◌≢◌, ℕ, zero, suc, List, [], ◌∷◌, Some, refl, ap}
-use Rattle.std.specs.Prelude.{set, slice_get}
+use Rattle.std.specs.Prelude.{get_or, set, slice_get}
 
 pub set_there : {A : Type 0} (xs : List A) (i : ℕ) (a b : A) → slice_get (set xs i a) i ≡ Some b → b ≡ a
 set_there [] i a b e = let none : ⊥ = cc in absurd none
@@ -31,3 +31,9 @@ pub set_again : {A : Type 0} (xs : List A) (i : ℕ) (a b : A) → set (set xs i
 set_again [] i a b = refl
 set_again (x ∷ xs) zero a b = refl
 set_again (x ∷ xs) (suc i) a b = ap (λ (l : List _). x ∷ l) (set_again xs i a b)
+
+-- what is there is there, whatever stands for nothing
+pub there_is : {A : Type 0} (xs : List A) (i : ℕ) (a d : A) → slice_get xs i ≡ Some a → get_or xs i d ≡ a
+there_is [] i a d e = let none : ⊥ = cc in absurd none
+there_is (x ∷ xs) zero a d e = let same : x ≡ a = cc in same
+there_is (x ∷ xs) (suc i) a d e = there_is xs i a d e

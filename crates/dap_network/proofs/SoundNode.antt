@@ -1,8 +1,7 @@
 -- After any history the files of a node obey their shapes, and no two have one name.
-use Rattle.std.proofs.Common.{◌≡◌, ℕ, zero, suc, ◌<◌, ◌≤◌, Bool, true, false, sym, ◌∙◌, subst, ap, List, [], ◌∷◌, ◌++◌, length, map, Option, Some, None, lit≤, append_assoc}
-use Rattle.std.specs.Prelude.{IfSome, bytes_eq, get_or, replicate, if◌then◌else◌}
+use Rattle.std.proofs.Common.{◌≡◌, ℕ, ◌<◌, ◌≤◌, Bool, true, false, sym, ◌∙◌, subst, ap, List, [], ◌∷◌, ◌++◌, length, map, Option, Some, None, lit≤}
+use Rattle.std.specs.Prelude.{IfSome, bytes_eq, get_or, if◌then◌else◌}
 use Rattle.std.proofs.Math.ListN.{get_or-map}
-use Rattle.std.proofs.lemmas.List.{append-nil}
 use Rattle.rec_file.specs.declared.picks.Rights.{Rights}
 use Rattle.rec_file.specs.Files.{file_with_record}
 use Rattle.dap_msg.specs.BothEnds.{max_nsp_message, min_buffer}
@@ -18,10 +17,9 @@ use Rattle.dap_accessed.specs.Standing.{Files, ServerState, Fresh, Ready, Opened
 use Rattle.dap_accessed.specs.declared.phase.OpenFile.{OpenFile}
 use Rattle.dap_accessed.specs.declared.setup.ServerSetup.{ServerSetup}
 use Rattle.dap_accessed.proofs.ForCallers.{stored-file, more-sound, all-without, distinct-more, distinct-with, distinct-without, file-there, files-more, files-with, none-passes, none_exact, more-leaves}
-use Rattle.dap_shared.specs.Keeping.{AreOf}
-use Rattle.dap_shared.specs.Nodes.{Event, Exchange, Node, Serves, Begins, Drops, Gives, GivesRecord, FilesAfter, after_all, after_event, end_at, exchange_at, exchange_moved_up, exchange_of, is_open, more_beside, new_exchange, new_node, no_exchange, node_after, open_beside, removed_by, setup_on, without_file}
+use Rattle.dap_shared.specs.Nodes.{Event, Exchange, Node, Serves, Begins, Drops, Gives, GivesRecord, after_all, after_event, end_at, exchange_at, exchange_moved_up, exchange_of, is_open, more_beside, new_exchange, no_exchange, open_beside, removed_by, setup_on, without_file}
 use Rattle.dap_shared.specs.Sharing.{asks_to_open, file_locked, is_locked, open_in}
-use Rattle.dap_shared.proofs.ForCallers.{IsShared, history-shares, new-stays, one-new, all-more}
+use Rattle.dap_shared.proofs.ForCallers.{IsShared, new-stays, one-new}
 use Rattle.dap_network.specs.GivenFiles.{AreGiven, IsGiven}
 
 -- ---- Lists of events.
@@ -37,7 +35,7 @@ pub record HasLimit (exchange : Exchange) : Type 0 where
   pub least : min_buffer ≤ exchange.limit
   pub most : exchange.limit ≤ max_nsp_message
 
-new_limit : (most : Rights) → HasLimit (new_exchange most)
+pub new_limit : (most : Rights) → HasLimit (new_exchange most)
 new_limit most = record { least = lit≤ tt; most = lit≤ tt }
 
 moved_limit : (r : Option OpenFile) (exchange : Exchange) → HasLimit exchange → HasLimit (exchange_moved_up r exchange)
@@ -140,39 +138,3 @@ event_apart own node (Gives name shape) g h =
 event_apart own node (GivesRecord at number body) g h =
     distinct-with (λ one other. same_name own.names one other) node.files at (file_with_record (file_at at node.files) number body) h
 event_apart own node (Drops at) g h = apart_drop own node at h (is_open at node)
-
--- ---- Every history.
-
-module _ (own : ServerSetup) (first : Files) (links : ℕ) where
-  of_front : (xs : List Event) (e : Event) (ys : List Event) → AreOf links (xs ++ e ∷ ys) → AreOf links xs
-  of_front [] e ys h = tt
-  of_front (Serves link item ∷ xs) e ys h = (h.0, of_front xs e ys h.1)
-  of_front (Begins link most ∷ xs) e ys h = (h.0, of_front xs e ys h.1)
-  of_front (Gives name shape ∷ xs) e ys h = of_front xs e ys h
-  of_front (GivesRecord at number body ∷ xs) e ys h = of_front xs e ys h
-  of_front (Drops at ∷ xs) e ys h = of_front xs e ys h
-
-  more_sound : (past events : List Event) → AreOf links (past ++ events) → AreGiven own (node_after own first links past) events → IsSoundNode (node_after own first links past) → IsSoundNode (node_after own first links (past ++ events))
-  more_sound past [] o g h = subst (λ (l : List Event). IsSoundNode (node_after own first links l)) (sym (append-nil past)) h
-  more_sound past (event ∷ events) o g h =
-      let node = node_after own first links past in
-      let is : node_after own first links (past ++ event ∷ []) ≡ after_event own node event = all-more own (new_node own first links) past event in
-      let s = (history-shares own first links past (of_front past event events o)).0 in
-      let one = event_sound own node event s g.0 h in
-      subst (λ (l : List Event). IsSoundNode (node_after own first links l)) (append_assoc past (event ∷ []) events)
-      (more_sound (past ++ event ∷ []) events (subst (AreOf links) (sym (append_assoc past (event ∷ []) events)) o) (subst (λ (n : Node). AreGiven own n events) (sym is) g.1) (subst IsSoundNode (sym is) one))
-
-  start_limits : (links link : ℕ) → HasLimit (get_or (replicate links (new_exchange own.most)) link no_exchange)
-  start_limits zero link = new_limit all_rights
-  start_limits (suc n) zero = new_limit own.most
-  start_limits (suc n) (suc link) = start_limits n link
-
-  pub files_sound : (history : List Event) → AreOf links history → AreGiven own (new_node own first links) history → AreFiles first → AreFiles (FilesAfter own first links history)
-  files_sound history o g good = (more_sound [] history o g (record { files = good; limits = start_limits links })).files
-
-  more_apart : (node : Node) (events : List Event) → AreGiven own node events → NamesAreApart own.names node.files → NamesAreApart own.names (after_all own node events).files
-  more_apart node [] g h = h
-  more_apart node (event ∷ events) g h = more_apart (after_event own node event) events g.1 (event_apart own node event g.0 h)
-
-  pub names_apart : (history : List Event) → AreGiven own (new_node own first links) history → NamesAreApart own.names first → NamesAreApart own.names (FilesAfter own first links history)
-  names_apart history g h = more_apart (new_node own first links) history g h

@@ -1,19 +1,39 @@
 -- A serving node, whoever its peers are: what happens to it, one after another.
-use Rattle.std.specs.Prelude.{◌≡◌, ℕ, ◌<◌, ◌==◌, if◌then◌else◌, IsTrue, List, [], ◌∷◌, ◌++◌, length, map, Option, None}
+use Rattle.std.specs.Prelude.{◌≡◌, ℕ, ◌<◌, ◌==◌, if◌then◌else◌, IsTrue, List, [], ◌∷◌, ◌++◌, length, map, set, Option, None, Some}
 use Rattle.rec_file.specs.declared.shapes.Shape.{Shape}
 use Rattle.rec_file.specs.declared.picks.Rights.{Rights}
 use Rattle.rec_file.specs.Shapes.{is_shape}
 use Rattle.nsp_link.specs.declared.link.LinkSetup.{LinkSetup}
-use Rattle.nsp_link.specs.Link.{IsSetup}
+use Rattle.nsp_link.specs.Link.{IsSetup, LinkValue}
 use Rattle.dap_accessed.specs.Adding.{MayStore}
 use Rattle.dap_accessed.specs.Standing.{Files, file_at, index_by}
 use Rattle.dap_shared.specs.Nodes.{Gives, GivesRecord}
-use Rattle.dap_shared.specs.Shared.{SharedAfter, SharedDrops, SharedGiven}
-use Rattle.dap_end.specs.Calls.{Came, GoesOn, Repeats}
+use Rattle.dap_shared.specs.Shared.{SharedAfter, SharedDrops, SharedGiven, SharedServed, SharedValue}
+use Rattle.dap_end.specs.By.{ServedBy, ServesAt, end_with}
+use Rattle.dap_end.specs.Calls.{Came, EndEvent, EndStepped, GoesOn, Repeats}
 use Rattle.dap_end.specs.Headline.{Arrival, WrittenPacket}
 use Rattle.dap_end.specs.Node.{BeganOn, EndedOn, HasPort, NodeValue}
-use Rattle.dap_end.specs.Ports.{PortValue}
-use Rattle.dap_network.specs.Network.{LinkStepped}
+use Rattle.dap_end.specs.Ports.{EndValue, HandsOver, PortValue}
+
+-- ---- A link goes on.
+
+-- items that came were served so, and what waited was passed on, in any order
+pub data WorkedBy {P : Type 0} (serves : ServesAt P) : EndValue P → EndValue P → Type 0 where
+  rests : {v : EndValue P} → WorkedBy serves v v
+  serves_one : {old new : EndValue P} (mid : EndValue P) (n : ℕ) → ServedBy serves old mid n → WorkedBy serves mid new → WorkedBy serves old new
+  hands_over : {old new : EndValue P} (mid : EndValue P) (n : ℕ) → HandsOver old mid n → WorkedBy serves mid new → WorkedBy serves old new
+
+-- a port of a node, before what the node keeps of all links
+abbrev pub end_of_link : PortValue → NodeValue → EndValue SharedValue
+end_of_link port node = end_with port node.noted.shared
+
+-- On a link there is an event of the node, and it writes these packets. No other port moves. What comes, comes so.
+pub record LinkStepped (link : ℕ) (comes : LinkValue → List ℕ → Type 0) (old : NodeValue) (event : EndEvent) (more : List WrittenPacket) (new : NodeValue) : Type 0 where
+  pub before : PortValue
+  pub after : PortValue
+  pub there : HasPort link old before
+  pub steps : EndStepped (Unit {0}) (WorkedBy (SharedServed link)) comes (end_of_link before old) event (end_of_link after new) more
+  pub ports : new.ports ≡ set old.ports link (Some after)
 
 -- ---- What happens.
 

@@ -6,11 +6,12 @@ use Rattle.dap_accessed.specs.declared.setup.ServerSetup.{ServerSetup}
 use Rattle.dap_accessed.specs.Standing.{Files}
 use Rattle.dap_accessing.specs.Asked.{Asked}
 use Rattle.dap_accessing.specs.Told.{Told}
-use Rattle.dap_shared.specs.Nodes.{AnswersOn, Event, FilesAfter, items_on}
+use Rattle.dap_shared.specs.Nodes.{AnswersOn, Event, items_on}
 use Rattle.dap_end.specs.Ports.{PortValue}
 use Rattle.dap_end.specs.Node.{HasPort}
-use Rattle.dap_network.specs.Network.{Network, NetworkEvent, Peer}
-use Rattle.dap_network.specs.History.{IsHistory}
+use Rattle.dap_network.specs.Happening.{wrote_on}
+use Rattle.dap_network.specs.Network.{Network, NetworkEvent, Peer, node_events}
+use Rattle.dap_network.specs.Served.{NodeIsServed}
 
 -- Of a link, since it began. What was served are the first of the messages that the requests of its peer ask, each once
 -- and in order. The peer read the first of the answers that the history gives on this link, and its reports are what
@@ -23,13 +24,11 @@ pub record LinkHeadline (link : ℕ) (own : ServerSetup) (first : Files) (links 
   pub read_in_order : (rest : List Message) × (read ++ rest ≡ AnswersOn link own first links history)
   pub reports_told : peer.reports ≡ Told peer.requests (map Whole read)
 
--- There is one history of these events, in their order. The files are those after it, and of each link that is there
--- the headline holds, whatever strangers send on others.
+-- The node served by one history of these events, in their order, whoever its peers are. Of this history the headline
+-- holds of each link that is there and has a client, whatever strangers send on others; and what was sent to the client
+-- is what the node wrote on the link.
 pub record NetworkHeadline (first : Files) (events : List NetworkEvent) (net : Network) : Type 0 where
-  pub history : List Event
-  pub in_order : IsHistory events history
-  pub files_after :
-      let v = net.node.noted.shared in
-      v.files ≡ FilesAfter v.setup first (length v.sessions) history
+  pub node : NodeIsServed first (node_events events) net.node
   pub links : (link : ℕ) (port : PortValue) (peer : Peer) → HasPort link net.node port → slice_get net.peers link ≡ Some (Some peer)
-      → LinkHeadline link net.node.noted.shared.setup first (length net.node.noted.shared.sessions) history peer
+      → LinkHeadline link net.node.noted.shared.setup first (length net.node.noted.shared.sessions) node.history peer
+  pub sent : (link : ℕ) (port : PortValue) (peer : Peer) → HasPort link net.node port → slice_get net.peers link ≡ Some (Some peer) → peer.from_node ≡ wrote_on link (node_events events)

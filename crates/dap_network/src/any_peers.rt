@@ -37,7 +37,9 @@ pub fn any_peers_are_served()
         → IsNodeWithoutLinks first old → NodeRuns old events new
         → IsServedAlong old.noted.shared.setup first (length old.noted.shared.sessions)
         [] [] old events new }
-{}
+{
+    files_stay_sound();
+}
 
 /// Where all packets that came on a link since it began are those of one peer that keeps the rules, the next one of this
 /// peer is refused where memory is, or where the link would have taken more than 2^40 segments, and for nothing else; and

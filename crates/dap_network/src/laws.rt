@@ -26,15 +26,17 @@ ghost use Rattle.dap_network.specs.Calls.{Leads, node_then, peer_then};
 ghost use Rattle.dap_network.specs.Headline.{NetworkHeadline};
 ghost use Rattle.dap_network.specs.Network.{IsNewNetwork, Network, NetworkEvent, NetworkRuns, Peer};
 
-/// A node and the peers of its links keep the headline, over every list of their calls, links that begin and end among
+/// A node and the clients of its links keep the headline, over every list of their calls, links that begin and end among
 /// them, and over a network that loses, repeats and reorders packets, but brings none altered or more than 2,047
-/// numbers old. There is one order in which all was served: that of the calls. The files are those after it. On each
-/// link the messages of its peer were served, each once and in order, and the peer's reports are those of the answers
-/// that this order gives there.
+/// numbers old; beside them are strangers, who send anything. There is one order in which all was served: that of the
+/// calls. Of it all holds that `any_peers_are_served` says. And on each client's link its messages were served, each once
+/// and in order, and its reports are those of the answers that this order gives there.
 pub fn many_links_keep_the_headline()
     ensures { (first : Files) (events : List NetworkEvent) (old new : Network)
         → IsNewNetwork first old → NetworkRuns old events new → NetworkHeadline first events new }
-{}
+{
+    crate::files_stay_sound();
+}
 
 /// With one link that began once, the history is what was served on it, and its files and answers are those of a server
 /// of one link with the rights of this one. So the headline is that of two ends (`two_ends_keep_the_headline` of

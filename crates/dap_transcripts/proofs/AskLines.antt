@@ -361,7 +361,7 @@ module _ (line : List ℕ) where
   pub text_happened : (old new : Asking) (text : List ℕ) (became : Became) → DoesAskOrder old (ask_order_of line) new text became → AskLineHappened line old new text (Some became)
   text_happened old new text became h = by_order (ask_order_of line) old new text text became refl h (λ ps s. s)
 
-  by_line : (old new : Asking) (text said : List ℕ) (became : Option Became) → AnswersLine answered waiting old line new text became → said ≡ said_of text became (waiting new) → AskLineHappened line old new said became
+  pub by_line : (old new : Asking) (text said : List ℕ) (became : Option Became) → AnswersLine answered waiting old line new text became → said ≡ said_of text became (waiting new) → AskLineHappened line old new said became
   by_line old new text said None h e = quiet_line old new said None (subst (λ (l : List ℕ). Speaks l []) (sym e) speaks_none) h.2
   by_line old new text said (Some b) (inl h) e =
       quiet_line old new said (Some b)
@@ -369,13 +369,6 @@ module _ (line : List ℕ) where
   by_line old new text said (Some b) (inr h) e =
       by_order (ask_order_of line) old new text said b refl h.2
       (λ ps s. subst (λ (l : List ℕ). Speaks l ps) (sym e) (speaks_before text (ending_of b (waiting new)) ps s (speaks_ending b (waiting new))))
-
--- ---- A talk.
-
-pub asks_by_line : (one new : Asking) (input rest text : List ℕ) (lines : List (Option Became)) → AnswersInput answered waiting one input new rest text lines → RunsByLine one input new rest text lines
-asks_by_line one new input rest text lines no_line_more = no_line_ran
-asks_by_line one new input _ _ _ (one_line_more now rest said more lines became before some says) =
-    one_line_ran now rest said more lines became (asks_by_line one now input rest said lines before) (by_line (first_line rest) now new says.text more became says.answers says.says)
 
 -- ---- Over a network.
 

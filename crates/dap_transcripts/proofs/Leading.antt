@@ -1,6 +1,6 @@
 -- A line of the server is some events of a network.
 use Rattle.std.proofs.Common.{◌≡◌, ℕ, zero, suc, ◌+◌, ◌<◌, ◌≤◌, arith, refl, sym, ◌∙◌, subst, ap, Bool, true, false, List, [], ◌∷◌, ◌++◌, length, append_assoc, inl, inr}
-use Rattle.std.specs.Prelude.{◌⊎◌, ◌-◌, ◌==◌, if◌then◌else◌, MatchBool, MatchOption, MatchResult, Option, Some, None, Result, Ok, Err, slice_get}
+use Rattle.std.specs.Prelude.{◌⊎◌, ◌-◌, ◌==◌, if◌then◌else◌, IfSome, IsTrue, MatchBool, MatchOption, MatchResult, Option, Some, None, Result, Ok, Err, option_map, slice_get}
 use Rattle.std.specs.List.{position}
 use Rattle.std.proofs.lemmas.Bool.{cases_eq, eq-eqb, ne_eqb}
 use Rattle.std.proofs.lemmas.List.{append-nil, length-set, map-append}
@@ -11,7 +11,7 @@ use Rattle.nsp_link.specs.Link.{IsSpelling}
 use Rattle.nsp_link.specs.Sending.{WritesSent, ack_packet_of}
 use Rattle.rec_file.specs.declared.picks.Rights.{Rights}
 use Rattle.rec_file.specs.declared.shapes.Shape.{Shape}
-use Rattle.rec_file.specs.Shapes.{checked_shape}
+use Rattle.rec_file.specs.Shapes.{checked_shape, format_of_code, is_shape, org_of_code}
 use Rattle.dap_accessed.specs.Setup.{all_rights}
 use Rattle.dap_end.specs.declared.fault.EndFault.{EndFault}
 use Rattle.dap_end.specs.declared.fault.TakeFault.{TakeFault}
@@ -23,8 +23,9 @@ use Rattle.dap_end.specs.Turns.{TakesPacket, WentOn}
 use Rattle.dap_end.specs.Writing.{AreSegments}
 use Rattle.dap_text.specs.declared.filed.RecordLine.{RecordLine}
 use Rattle.dap_network.specs.Calls.{Leads}
-use Rattle.dap_network.specs.Network.{FileDropped, FileGiven, LinkEnds, Network, NetworkEvent, NetworkStepped, Peer, RecordGiven}
-use Rattle.dap_network.proofs.ForCallers.{leads_on, ack_leads, go_on_leads, peer_step, peers_at_first, peers_then, resend_leads, stranger_step, take_leads, set_here, set_other}
+use Rattle.dap_network.specs.Happening.{GotFile, GotRecord, LostFile, LostLink, NodeEvent, NodeStepped, all_written}
+use Rattle.dap_network.specs.Network.{AtNode, Network, Peer, PeersStepped, client_on, peers_sent, peer_sent}
+use Rattle.dap_network.proofs.ForCallers.{ack_leads, after_writing, comes_if, go_on_leads, leads_on, resend_leads, set_here, set_other, take_leads, there_is}
 use Rattle.linewise.specs.declared.talking.Became.{Became}
 use Rattle.linewise.specs.declared.talking.Became.TheVariants.{Done}
 use Rattle.dap_live.specs.declared.node.Node.{Node}
@@ -39,7 +40,7 @@ use Rattle.dap_transcripts.specs.Programs.{BeginsSome, BringsIn, ServerLeads, Wr
 use Rattle.dap_live.specs.Texts.{LineAnswer, add_refusal, done_said, link_refusal, locked_text, packet_text, packets_text, status_line}
 use Rattle.nsp_link.specs.declared.fault.LinkFault.TheVariants as fault
 use Rattle.dap_msg.specs.Codes.{reasons, stscode}
-use Rattle.dap_transcripts.proofs.Lines.{done_speaks, no_link_quiet, none_wrote, taken_speaks}
+use Rattle.dap_transcripts.proofs.Lines.{done_speaks, found_within, good_of, no_link_quiet, none_wrote, taken_speaks}
 use Rattle.dap_transcripts.proofs.Speaking.{Speaks, speaks_add, speaks_all, speaks_both, speaks_files, speaks_hex, speaks_link, speaks_locked, speaks_none, speaks_packets, speaks_remove, speaks_status}
 use Rattle.dap_transcripts.proofs.Talking.{not_done, some_self}
 
@@ -62,12 +63,11 @@ sent_none peer wrote none =
     ap (λ (l : List WrittenPacket). Some (Some (record peer { from_node = l }))) (sym (append-nil peer.from_node)) ∙ ap (sent peer) (sym none)
 
 -- The network goes on to one with this node, in which no client moved, and these packets were written for the link.
-record Led (link : ℕ) (net : Network) (node : NodeValue) (wrote : List WrittenPacket) : Type 0 where
-  then_net : Network
-  leads : Leads net then_net
-  is : then_net.node ≡ node
-  wrote_so : WroteFor link wrote net then_net
-  many : length then_net.peers ≡ length net.peers
+pub record Led (link : ℕ) (net : Network) (node : NodeValue) (wrote : List WrittenPacket) : Type 0 where
+  pub then_net : Network
+  pub leads : Leads net then_net
+  pub is : then_net.node ≡ node
+  pub wrote_so : WroteFor link wrote net then_net
 
 led_none : (link : ℕ) (net : Network) (node : NodeValue) → node ≡ net.node → Led link net node []
 led_none link net node e =
@@ -76,7 +76,6 @@ led_none link net node e =
       leads = ([], refl);
       is = sym e;
       wrote_so = λ j peer at. at ∙ sent_none peer (if j == link then [] else []) (if_none (j == link));
-      many = refl;
     }
 
 -- nothing was written
@@ -87,50 +86,30 @@ led_same link net node l =
       leads = l;
       is = refl;
       wrote_so = λ j peer at. at ∙ sent_none peer (if j == link then [] else []) (if_none (j == link));
-      many = refl;
     }
 
-one_step : (net : Network) (node : NodeValue) (event : NetworkEvent) → NetworkStepped net event [] (record { node = node; peers = net.peers }) → Led 0 net node []
-one_step net node event s = led_same 0 net node (event ∷ [], (record { node = node; peers = net.peers }, [], s, refl))
+one_step : (net : Network) (node : NodeValue) (event : NodeEvent) → NodeStepped net.node event node → PeersStepped net.peers event net.peers → Led 0 net node []
+one_step net node event s q = led_same 0 net node (AtNode event ∷ [], (record { node = node; peers = net.peers }, all_written (event ∷ []), (s, q, refl), refl))
 
--- there is no client on the link
-led_stranger : (link : ℕ) (net then_net : Network) (node : NodeValue) (wrote : List WrittenPacket) → slice_get net.peers link ≡ Some None → Leads net then_net → then_net.node ≡ node → then_net.peers ≡ net.peers → Led link net node wrote
-led_stranger link net then_net node wrote at l is same =
+-- packets were written on the link
+led_sent : (link : ℕ) (net : Network) (node : NodeValue) (wrote : List WrittenPacket) → Leads net (after_writing net node link wrote) → Led link net node wrote
+led_sent link net node wrote l =
+    let client = option_map (peer_sent wrote) (client_on link net.peers) in
+    let peers = peers_sent link wrote net.peers in
     record {
-      then_net = then_net;
-      leads = l;
-      is = is;
-      wrote_so = λ j peer there. (let rest : Some (Some peer) ≡ sent peer (if j == link then wrote else []) =
-          elim (cases_eq j link) [
-            | inl e ↦
-                let both : Some (Some peer) ≡ Some None = sym there ∙ ap (λ (k : ℕ). slice_get net.peers k) e ∙ at in
-                let none : ⊥ = cc in absurd none
-            | inr apart ↦ sent_none peer (if j == link then wrote else []) (ap (λ (b : Bool). if b then wrote else []) (ne_eqb j link apart))
-          ] in
-          ap (λ (l : List (Option Peer)). slice_get l j) same ∙ there ∙ rest);
-      many = ap length same;
-    }
-
--- a client is sent something
-led_client : (net : Network) (node : NodeValue) (link : ℕ) (peer : Peer) (wrote : List WrittenPacket) → slice_get net.peers link ≡ Some (Some peer) → Leads net (record { node = node; peers = peers_then net.peers link peer wrote }) → Led link net node wrote
-led_client net node link peer wrote at l =
-    let so : Peer = record peer { from_node = peer.from_node ++ wrote } in
-    let peers = peers_then net.peers link peer wrote in
-    record {
-      then_net = record { node = node; peers = peers };
+      then_net = after_writing net node link wrote;
       leads = l;
       is = refl;
-      wrote_so = λ j other there. elim (cases_eq j link) [
+      wrote_so = λ j peer there. elim (cases_eq j link) [
         | inl is ↦
-            let both : Some (Some other) ≡ Some (Some peer) = sym there ∙ ap (λ (k : ℕ). slice_get net.peers k) is ∙ at in
-            let same : peer ≡ other = cc in (
-            ap (λ (k : ℕ). slice_get peers k) is ∙ set_here net.peers link (Some peer) (Some so) at ∙ ap (λ (q : Peer). sent q wrote) same
-            ∙ ap (λ (b : Bool). sent other (if b then wrote else [])) (sym (eq-eqb j link is))
+            let at : slice_get net.peers link ≡ Some (Some peer) = ap (λ (k : ℕ). slice_get net.peers k) (sym is) ∙ there in (
+            ap (λ (k : ℕ). slice_get peers k) is ∙ set_here net.peers link (Some peer) client at
+            ∙ ap (λ (o : Option Peer). Some (option_map (peer_sent wrote) o)) (there_is net.peers link (Some peer) None at)
+            ∙ ap (λ (b : Bool). sent peer (if b then wrote else [])) (sym (eq-eqb j link is))
             )
         | inr apart ↦
-            set_other net.peers link j (Some so) apart ∙ there ∙ sent_none other (if j == link then wrote else []) (ap (λ (b : Bool). if b then wrote else []) (ne_eqb j link apart))
+            set_other net.peers link j client apart ∙ there ∙ sent_none peer (if j == link then wrote else []) (ap (λ (b : Bool). if b then wrote else []) (ne_eqb j link apart))
       ];
-      many = length-set net.peers link (Some so);
     }
 
 led_on : (link : ℕ) (net : Network) (mid new : NodeValue) (first more : List WrittenPacket) → (one : Led link net mid first) → Led link one.then_net new more → Led link net new (first ++ more)
@@ -143,15 +122,7 @@ led_on link net mid new first more one two =
           let ys = if j == link then more else [] in
           two.wrote_so j (record peer { from_node = peer.from_node ++ xs }) (one.wrote_so j peer at)
           ∙ ap (λ (l : List WrittenPacket). Some (Some (record peer { from_node = l }))) (append_assoc peer.from_node xs ys ∙ ap (λ (l : List WrittenPacket). peer.from_node ++ l) (if_both (j == link) first more)));
-      many = two.many ∙ one.many;
     }
-
--- there is a peer, or a stranger, where there is a port
-peer_there : {A B : Type 0} (xs : List A) (ys : List B) (i : ℕ) (a : A) → length ys ≡ length xs → slice_get xs i ≡ Some a → (b : B) × (slice_get ys i ≡ Some b)
-peer_there [] ys i a n e = let none : ⊥ = cc in absurd none
-peer_there (x ∷ xs) [] i a n e = absurd (omega (arith, n))
-peer_there (x ∷ xs) (y ∷ ys) zero a n e = (y, refl)
-peer_there (x ∷ xs) (y ∷ ys) (suc i) a n e = peer_there xs ys i a (omega (arith, n)) e
 
 -- ---- Calls on a link.
 
@@ -159,58 +130,32 @@ peer_there (x ∷ xs) (y ∷ ys) (suc i) a n e = peer_there xs ys i a (omega (ar
 abbrev LedBy : (link : ℕ) → Network → NodeValue → (out all : List (List ℕ)) → Type 0
 LedBy link net node out all = (wrote : List WrittenPacket) × Led link net node wrote × (all ≡ out ++ written_bytes wrote)
 
-module _ (net : Network) (many : length net.peers ≡ length net.node.ports) (link : ℕ) where
-  take_by : (o : Option Peer) (most : ℕ) (node : NodeValue) (bytes : List ℕ) (out all : List (List ℕ)) (r : Result Got TakeFault) → slice_get net.peers link ≡ Some o
-      → ((peer : Peer) → slice_get net.peers link ≡ Some (Some peer) → (p : PortValue) → HasPort link net.node p → IsBrought peer.from_peer p.link bytes)
+module _ (net : Network) (link : ℕ) where
+  take_by : (most : ℕ) (node : NodeValue) (bytes : List ℕ) (out all : List (List ℕ)) (r : Result Got TakeFault) → ((peer : Peer) → slice_get net.peers link ≡ Some (Some peer) → (p : PortValue) → HasPort link net.node p → IsBrought peer.from_peer p.link bytes)
       → OnLink link (λ before after. TakesPacket (serves_on link most) before after bytes out all r) net.node node → LedBy link net node out all
-  take_by None most node bytes out all r at brings on =
-      let t = take_leads link (λ _ _. Unit {0}) (λ _. net.peers) (stranger_step link net.peers at) most net node bytes out all r refl (λ p t. tt) on in
-      (t.0, led_stranger link net (record { node = node; peers = net.peers }) node t.0 at t.1 refl refl, t.2)
-  take_by (Some peer) most node bytes out all r at brings on =
-      let t = take_leads link (IsBrought peer.from_peer) (peers_then net.peers link peer) (peer_step link net.peers peer at) most net node bytes out all r (peers_at_first link net.peers peer at) (brings peer at) on in
-      (t.0, led_client net node link peer t.0 at t.1, t.2)
-
-  go_by : (o : Option Peer) (most : ℕ) (node : NodeValue) (out all : List (List ℕ)) (r : Result (Unit {0}) EndFault) → slice_get net.peers link ≡ Some o → OnLink link (λ before after. WentOn (serves_on link most) before after out all r) net.node node → LedBy link net node out all
-  go_by None most node out all r at on =
-      let t = go_on_leads link (λ _ _. Unit {0}) (λ _. net.peers) (stranger_step link net.peers at) most net node out all r refl on in
-      (t.0, led_stranger link net (record { node = node; peers = net.peers }) node t.0 at t.1 refl refl, t.2)
-  go_by (Some peer) most node out all r at on =
-      let t = go_on_leads link (IsBrought peer.from_peer) (peers_then net.peers link peer) (peer_step link net.peers peer at) most net node out all r (peers_at_first link net.peers peer at) on in
-      (t.0, led_client net node link peer t.0 at t.1, t.2)
-
-  again_by : (o : Option Peer) (p : PortValue) (i : ℕ) (bytes : List ℕ) → slice_get net.peers link ≡ Some o → HasPort link net.node p → i < p.link.sent - p.link.acked → WritesSent p.link (Some (p.link.acked + 1 + i)) bytes
-      → Led link net net.node (record { bytes = bytes; segment = Some (p.link.acked + 1 + i); acks = p.link.coming.received } ∷ [])
-  again_by None p i bytes at there lt w = led_stranger link net net net.node _ at ([], refl) refl refl
-  again_by (Some peer) p i bytes at there lt w =
-      led_client net net.node link peer _ at (resend_leads link (IsBrought peer.from_peer) (peers_then net.peers link peer) (peer_step link net.peers peer at) net p i bytes (peers_at_first link net.peers peer at) there lt w)
-
-  ack_by : (o : Option Peer) (p : PortValue) (bytes : List ℕ) → slice_get net.peers link ≡ Some o → HasPort link net.node p → IsSpelling (ack_packet_of p.link) bytes
-      → Led link net net.node (record { bytes = bytes; segment = None; acks = p.link.coming.received } ∷ [])
-  ack_by None p bytes at there s = led_stranger link net net net.node _ at ([], refl) refl refl
-  ack_by (Some peer) p bytes at there s =
-      led_client net net.node link peer _ at (ack_leads link (IsBrought peer.from_peer) (peers_then net.peers link peer) (peer_step link net.peers peer at) net p bytes (peers_at_first link net.peers peer at) there s)
+  take_by most node bytes out all r brings on =
+      let t = take_leads link net most node bytes out all r (λ p there. comes_if link net.peers p.link bytes (λ peer at. brings peer at p there)) on in (t.0, led_sent link net node t.0 t.1, t.2)
 
   go : (most : ℕ) (node : NodeValue) (out all : List (List ℕ)) (r : Result (Unit {0}) EndFault) → OnLink link (λ before after. WentOn (serves_on link most) before after out all r) net.node node → LedBy link net node out all
-  go most node out all r on = let o = peer_there net.node.ports net.peers link (Some on.before) many on.there in go_by o.0 most node out all r o.1 on
+  go most node out all r on = let t = go_on_leads link net most node out all r on in (t.0, led_sent link net node t.0 t.1, t.2)
 
 -- each segment from an index on
-again_from : (net : Network) (link : ℕ) (p : PortValue) (i : ℕ) (packets : List (List ℕ)) → length net.peers ≡ length net.node.ports → HasPort link net.node p → AreSegments p.link (p.link.acked + 1 + i) packets → i + length packets ≤ p.link.sent - p.link.acked
+again_from : (net : Network) (link : ℕ) (p : PortValue) (i : ℕ) (packets : List (List ℕ)) → HasPort link net.node p → AreSegments p.link (p.link.acked + 1 + i) packets → i + length packets ≤ p.link.sent - p.link.acked
     → LedBy link net net.node [] packets
-again_from net link p i [] many at h lt = ([], led_none link net net.node refl, refl)
-again_from net link p i (bytes ∷ packets) many at h lt =
-    let o = peer_there net.node.ports net.peers link (Some p) many at in
+again_from net link p i [] at h lt = ([], led_none link net net.node refl, refl)
+again_from net link p i (bytes ∷ packets) at h lt =
     let w : WrittenPacket = record { bytes = bytes; segment = Some (p.link.acked + 1 + i); acks = p.link.coming.received } in
-    let one = again_by net many link o.0 p i bytes o.1 at (omega (arith, lt)) h.0 in
+    let one = led_sent link net net.node (w ∷ []) (resend_leads link net p i bytes at (omega (arith, lt)) h.0) in
     let on = one.then_net in
-    let rest : LedBy link on on.node [] packets = again_from on link p (i + 1) packets (one.many ∙ many ∙ ap (λ (v : NodeValue). length v.ports) (sym one.is)) (subst (λ (v : NodeValue). HasPort link v p) (sym one.is) at)
+    let rest : LedBy link on on.node [] packets = again_from on link p (i + 1) packets (subst (λ (v : NodeValue). HasPort link v p) (sym one.is) at)
     (subst (λ (k : ℕ). AreSegments p.link k packets) (let e : (p.link.acked + 1 + i) + 1 ≡ p.link.acked + 1 + (i + 1) = omega arith in e) h.1) (omega (arith, lt)) in
     (w ∷ rest.0, subst (λ (v : NodeValue). Led link net v (w ∷ rest.0)) one.is (led_on link net net.node on.node (w ∷ []) rest.0 one rest.1), ap (λ (l : List (List ℕ)). bytes ∷ l) rest.2)
 
 -- ---- Lines.
 
-module _ (net : Network) (old new : Node) (same : net.node ≡ old.node) (many : length net.peers ≡ length net.node.ports) where
+module _ (net : Network) (old new : Node) (same : net.node ≡ old.node) where
   -- the network then, and the packets that the text says; or a link begins
-  abbrev Goes : List ℕ → Type 0
+  abbrev pub Goes : List ℕ → Type 0
   Goes text = ((link : ℕ) × (wrote : List WrittenPacket) × Led link net new.node wrote × Speaks text (written_bytes wrote)) ⊎ BeginsSome old new
 
   back : (P : NodeValue → Type 0) → P old.node → P net.node
@@ -226,8 +171,7 @@ module _ (net : Network) (old new : Node) (same : net.node ≡ old.node) (many :
       → ((peer : Peer) → slice_get net.peers link ≡ Some (Some peer) → (p : PortValue) → HasPort link old.node p → IsBrought peer.from_peer p.link bytes) → Goes text
   takes link bytes text became x brings =
       let on = back (λ v. OnLink link (λ before after. TakesPacket (serves_on link old.most_waiting) before after bytes [] x.packets x.taken) v new.node) x.took in
-      let o = peer_there net.node.ports net.peers link (Some on.before) many on.there in
-      let t = take_by net many link o.0 old.most_waiting new.node bytes [] x.packets x.taken o.1 (λ peer at p there. brings peer at p (subst (λ (v : NodeValue). HasPort link v p) same there)) on in
+      let t = take_by net link old.most_waiting new.node bytes [] x.packets x.taken (λ peer at p there. brings peer at p (subst (λ (v : NodeValue). HasPort link v p) same there)) on in
       let says : Speaks text x.packets =
       subst (λ (l : List ℕ). Speaks l x.packets) (sym x.says)
       (taken_speaks x.taken (locked_text new.node.noted.locked) x.packets (speaks_locked new.node.noted.locked) (none_wrote (serves_on link old.most_waiting) _ _ bytes x.packets x.taken x.took.does)) in
@@ -237,25 +181,25 @@ module _ (net : Network) (old new : Node) (same : net.node ≡ old.node) (many :
       → (more : List ℕ) × (text ≡ front ++ more) × (wrote : List WrittenPacket) × Led link net new.node wrote × Speaks more (written_bytes wrote)
   goes link front text became g =
       let more = (done_said (locked_text new.node.noted.locked) g.packets g.gone).0 in
-      let t = go net many link old.most_waiting new.node [] g.packets g.gone (back (λ v. OnLink link (λ before after. WentOn (serves_on link old.most_waiting) before after [] g.packets g.gone) v new.node) g.went) in
+      let t = go net link old.most_waiting new.node [] g.packets g.gone (back (λ v. OnLink link (λ before after. WentOn (serves_on link old.most_waiting) before after [] g.packets g.gone) v new.node) g.went) in
       (more, g.says, t.0, t.1, subst (Speaks more) t.2 (done_speaks (locked_text new.node.noted.locked) g.packets g.gone (speaks_locked new.node.noted.locked)))
 
   failed : (link : ℕ) (text : List ℕ) (became : Became) → LeavesEnd Done (about link (before_line old)) new became → text ≡ (link_refusal fault.Failed).0 → Goes text
   failed link text became l e = quiet text (subst (λ (t : List ℕ). Speaks t []) (sym e) (speaks_link fault.Failed)) (ap (λ (n : Node). n.node) l.0)
 
 -- the segments were written again, and then
-module _ (net : Network) (old new : Node) (same : net.node ≡ old.node) (many : length net.peers ≡ length net.node.ports) where
-  abbrev Ends : List ℕ → Type 0
-  Ends text = Goes net old new same many text
+module _ (net : Network) (old new : Node) (same : net.node ≡ old.node) where
+  abbrev pub Ends : List ℕ → Type 0
+  Ends text = Goes net old new same text
 
-  still : (text : List ℕ) → Speaks text [] → new.node ≡ old.node → Ends text
-  still text s e = quiet net old new same many text s e
+  pub still : (text : List ℕ) → Speaks text [] → new.node ≡ old.node → Ends text
+  still text s e = quiet net old new same text s e
 
   resends_by : (link : ℕ) (packets : List (List ℕ)) (text : List ℕ) (became : Became) (left : Bool) → LedBy link net net.node [] packets
       → MatchBool left (GoesOnWith link (before_line old) (packets_text packets) new text became) (Says (packets_text packets, Done) (about link (before_line old)) new text became) → Ends text
   resends_by link packets text became true (first, one, is) g =
       let on = one.then_net in
-      let rest = goes on old new (one.is ∙ same) (one.many ∙ many ∙ ap (λ (v : NodeValue). length v.ports) (sym one.is)) link (packets_text packets) text became g in
+      let rest = goes on old new (one.is ∙ same) link (packets_text packets) text became g in
       let says : Speaks (packets_text packets ++ rest.0) (written_bytes first ++ written_bytes rest.2) =
       speaks_both (packets_text packets) rest.0 (written_bytes first) (written_bytes rest.2) (subst (Speaks (packets_text packets)) is (speaks_packets packets)) rest.4 in
       inl (
@@ -274,19 +218,18 @@ module _ (net : Network) (old new : Node) (same : net.node ≡ old.node) (many :
 
   resends : (link : ℕ) (p : PortValue) (text : List ℕ) (became : Became) (failing : Bool) → HasPort link old.node p
       → MatchBool failing (LeavesEnd Done (about link (before_line old)) new became × (text ≡ (link_refusal fault.Failed).0)) (ResendsOn link p (before_line old) new text became) → Ends text
-  resends link p text became true at h = failed net old new same many link text became h.0 h.1
+  resends link p text became true at h = failed net old new same link text became h.0 h.1
   resends link p text became false at (packets, a, g) =
       resends_by link packets text became (is_work_left_at old.most_waiting p)
-      (again_from net link p 0 packets many (back net old new same many (λ v. HasPort link v p) at) (subst (λ (k : ℕ). AreSegments p.link k packets) (let e : p.link.acked + 1 ≡ p.link.acked + 1 + 0 = omega arith in e) a.0) (let n = a.1 in omega (arith, n))) g
+      (again_from net link p 0 packets (back net old new same (λ v. HasPort link v p) at) (subst (λ (k : ℕ). AreSegments p.link k packets) (let e : p.link.acked + 1 ≡ p.link.acked + 1 + 0 = omega arith in e) a.0) (let n = a.1 in omega (arith, n))) g
 
   acks : (link : ℕ) (p : PortValue) (text : List ℕ) (became : Became) (failing : Bool) → HasPort link old.node p → LeavesEnd Done (about link (before_line old)) new became
       → MatchBool failing (Unit {0} × (text ≡ (link_refusal fault.Failed).0)) ((bytes : List ℕ) × IsSpelling (ack_packet_of p.link) bytes × (text ≡ packet_text bytes)) → Ends text
-  acks link p text became true at l h = failed net old new same many link text became l h.1
+  acks link p text became true at l h = failed net old new same link text became l h.1
   acks link p text became false at l h =
-      let there = back net old new same many (λ v. HasPort link v p) at in
-      let o = peer_there net.node.ports net.peers link (Some p) many there in
+      let there = back net old new same (λ v. HasPort link v p) at in
       let w : WrittenPacket = record { bytes = h.0; segment = None; acks = p.link.coming.received } in
-      inl (link, w ∷ [], subst (λ (v : NodeValue). Led link net v (w ∷ [])) (same ∙ sym (ap (λ (n : Node). n.node) l.0)) (ack_by net many link o.0 p h.0 o.1 there h.1), subst (λ (t : List ℕ). Speaks t (h.0 ∷ [])) (sym h.2) (speaks_hex h.0))
+      inl (link, w ∷ [], subst (λ (v : NodeValue). Led link net v (w ∷ [])) (same ∙ sym (ap (λ (n : Node). n.node) l.0)) (led_sent link net net.node (w ∷ []) (ack_leads link net p h.0 there h.1)), subst (λ (t : List ℕ). Speaks t (h.0 ∷ [])) (sym h.2) (speaks_hex h.0))
 
   refuses : (f : LinkFault) (text : List ℕ) (became : Became) → RefusesLink f (before_line old) new text became → Ends text
   refuses f text became r = still text (subst (λ (t : List ℕ). Speaks t []) (sym r.1) (speaks_link f)) (ap (λ (n : Node). n.node) r.0)
@@ -297,13 +240,13 @@ module _ (net : Network) (old new : Node) (same : net.node ≡ old.node) (many :
 
   found_by : (found : Result ℕ LinkFault) (bytes text : List ℕ) (became : Became) → FindsLink old.node.ports bytes found → MatchResult found (λ link. TakesOn link (before_line old) bytes new text became) (λ f. RefusesLink f (before_line old) new text became)
       → ((link : ℕ) → FindsLink old.node.ports bytes (Ok link) → (peer : Peer) → slice_get net.peers link ≡ Some (Some peer) → (p : PortValue) → HasPort link old.node p → IsBrought peer.from_peer p.link bytes) → Ends text
-  found_by (Ok link) bytes text became is h brings = takes net old new same many link bytes text became h (brings link is)
+  found_by (Ok link) bytes text became is h brings = takes net old new same link bytes text became h (brings link is)
   found_by (Err f) bytes text became is h brings = refuses f text became h
 
   packet_by : (one : Option ℕ) (line bytes text : List ℕ) (became : Became) → one_link old.node.ports ≡ one → MatchOption one (TakesPacketBy (before_line old) bytes new text became) (λ link. TakesOn link (before_line old) bytes new text became)
       → node_order_of (is_alone old.node) line ≡ Some (order.Packet bytes) → BringsIn net old line → Ends text
   packet_by None line bytes text became e h is brings = found_by h.0 bytes text became h.1 h.2 (λ link found peer at p there. brings link bytes peer p (is, inr (e, found)) at there)
-  packet_by (Some link) line bytes text became e h is brings = takes net old new same many link bytes text became h (λ peer at p there. brings link bytes peer p (is, inl e) at there)
+  packet_by (Some link) line bytes text became e h is brings = takes net old new same link bytes text became h (λ peer at p there. brings link bytes peer p (is, inl e) at there)
 
   -- ---- Links and files.
 
@@ -325,63 +268,39 @@ module _ (net : Network) (old new : Node) (same : net.node ≡ old.node) (many :
   new_by (Some link) b text became h = renews link (Some b) text became h
 
   -- an event of the node, in which no packet came or was written
-  one_event : (event : NetworkEvent) (text : List ℕ) → text ≡ [] → NetworkStepped (record { node = old.node; peers = net.peers }) event [] (record { node = new.node; peers = net.peers }) → Ends text
-  one_event event text none s =
-      one_led net old new same many text (subst (λ (t : List ℕ). Speaks t []) (sym none) speaks_none)
-      (one_step net new.node event (subst (λ (v : NodeValue). NetworkStepped (record { node = v; peers = net.peers }) event [] (record { node = new.node; peers = net.peers })) (sym same) s))
+  one_event : (event : NodeEvent) (text : List ℕ) → text ≡ [] → NodeStepped old.node event new.node → PeersStepped net.peers event net.peers → Ends text
+  one_event event text none s q =
+      one_led net old new same text (subst (λ (t : List ℕ). Speaks t []) (sym none) speaks_none)
+      (one_step net new.node event (subst (λ (v : NodeValue). NodeStepped v event new.node) (sym same) s) q)
 
-  file_by : (shape : Option Shape) (code why : ℕ) (name text : List ℕ) (became : Became)
+  file_by : (shape : Option Shape) (code why : ℕ) (name text : List ℕ) (became : Became) → IfSome shape (λ s. IsTrue (is_shape s))
       → MatchOption shape (Says (status_line code why, Done) (node_without_file (before_line old)) new text became)
       (λ s. DoneOr (λ became. became) (GivesFile name s (before_line old) new) (FileNotGiven name (before_line old)) add_refusal (node_without_file (before_line old)) new text became) → Ends text
-  file_by None code why name text became h = still text (subst (λ (t : List ℕ). Speaks t []) (sym h.1) (speaks_status code why)) (ap (λ (n : Node). n.node) h.0)
-  file_by (Some s) code why name text became (inl h) = one_event (FileGiven name s) text h.1 (h.0.given.given, h.0.given.ports, refl, refl)
-  file_by (Some s) code why name text became (inr h) = still text (subst (λ (t : List ℕ). Speaks t []) (sym h.3) (speaks_add h.0)) (ap (λ (n : Node). n.node) h.2)
+  file_by None code why name text became good h = still text (subst (λ (t : List ℕ). Speaks t []) (sym h.1) (speaks_status code why)) (ap (λ (n : Node). n.node) h.0)
+  file_by (Some s) code why name text became good (inl h) = one_event (GotFile name s) text h.1 (good, h.0.first, h.0.given.given, h.0.given.ports) refl
+  file_by (Some s) code why name text became good (inr h) = still text (subst (λ (t : List ℕ). Speaks t []) (sym h.3) (speaks_add h.0)) (ap (λ (n : Node). n.node) h.2)
 
   records : (r : RecordLine) (text : List ℕ) (became : Became) → AddsRecordTo (before_line old) r new text became → Ends text
-  records r text became (inl h) = let g = h.0.given in one_event (RecordGiven g.0 r.number r.body) text h.1 (g.2.1.given, g.2.1.ports, refl, refl)
+  records r text became (inl h) =
+      let g = h.0.given in
+      let v = old.node.noted.shared in one_event (GotRecord g.0 r.number r.body) text h.1 (found_within v.setup.names h.0.name v.files g.0 g.1, g.2.0, g.2.1.given, g.2.1.ports) refl
   records r text became (inr h) = still text (subst (λ (t : List ℕ). Speaks t []) (sym h.3) (speaks_add h.0)) (ap (λ (n : Node). n.node) h.2)
 
   drops : (name text : List ℕ) (became : Became) → DropsFile (before_line old) name new text became → Ends text
-  drops name text became (inl h) = one_event (FileDropped h.0.drops.0) text h.1 (h.0.drops.2, h.0.ports, refl, refl)
+  drops name text became (inl h) = one_event (LostFile h.0.drops.0) text h.1 (h.0.drops.2, h.0.ports) refl
   drops name text became (inr h) = still text (subst (λ (t : List ℕ). Speaks t []) (sym h.3) (speaks_remove h.0)) (ap (λ (n : Node). n.node) h.2)
 
   -- ---- Every order.
 
-  order_leads : (o : NodeOrder) (line text : List ℕ) (became : Became) → node_order_of (is_alone old.node) line ≡ Some o → BringsIn net old line → NodeDoes (before_line old) o new text became → Ends text
+  pub order_leads : (o : NodeOrder) (line text : List ℕ) (became : Became) → node_order_of (is_alone old.node) line ≡ Some o → BringsIn net old line → NodeDoes (before_line old) o new text became → Ends text
   order_leads (order.Packet bytes) line text became is brings h = packet_by (one_link old.node.ports) line bytes text became refl h is brings
   order_leads (order.Resend local) line text became is brings h = meant_by (meant local old.node.ports) _ text became h (λ link d. resends link d.0 text became d.0.link.failed d.1 d.2)
   order_leads (order.Ack local) line text became is brings h = meant_by (meant local old.node.ports) _ text became h (λ link d. acks link d.0 text became d.0.link.failed d.1 d.2.0 d.2.1)
-  order_leads (order.Close local) line text became is brings h = meant_by (position (has_local local) old.node.ports) _ text became h (λ link d. one_event (LinkEnds link) text d.1 (d.0.ended, refl, refl))
+  order_leads (order.Close local) line text became is brings h = meant_by (position (has_local local) old.node.ports) _ text became h (λ link d. one_event (LostLink link) text d.1 d.0.ended refl)
   order_leads (order.Renew anew) line text became is brings h = meant_by (one_link old.node.ports) _ text became h (λ link d. renews link anew text became d)
   order_leads (order.New b) line text became is brings h = new_by (position (has_local b.local) old.node.ports) b text became h
   order_leads order.Files line text became is brings h = still text (speaks_files old.node.noted.shared.files text became h.1) (ap (λ (n : Node). n.node) h.0)
   order_leads (order.File file) line text became is brings h =
-      file_by (checked_shape file.org file.rfm file.mrs file.mrn) stscode.access_refused reasons.bad_attributes file.name text became h
+      file_by (checked_shape file.org file.rfm file.mrs file.mrn) stscode.access_refused reasons.bad_attributes file.name text became (good_of (org_of_code file.org) (format_of_code file.rfm) file.mrs file.mrn) h
   order_leads (order.Record r) line text became is brings h = records r text became h
   order_leads (order.Drop name) line text became is brings h = drops name text became h
-
-  -- the text says what was written, or memory was refused to it
-  parted : (text said : List ℕ) → Ends text → (said ≡ text) ⊎ (said ≡ []) → ServerLeads net old new said
-  parted text said (inr b) how = inr b
-  parted text said (inl (link, wrote, l, s)) (inl e) =
-      inl (
-        l.then_net,
-        link,
-        wrote,
-        l.leads,
-        l.is,
-        l.wrote_so,
-        (written_bytes wrote, speaks_all said (written_bytes wrote) (subst (λ (t : List ℕ). Speaks t (written_bytes wrote)) (sym e) s), some_self (written_bytes wrote)),
-      )
-  parted text said (inl (link, wrote, l, s)) (inr none) =
-      inl (l.then_net, link, wrote, l.leads, l.is, l.wrote_so, ([], speaks_all said [] (subst (λ (t : List ℕ). Speaks t []) (sym none) speaks_none), tt))
-
-  by_order : (o : Option NodeOrder) (line text : List ℕ) (became : Became) → node_order_of (is_alone old.node) line ≡ o → BringsIn net old line → DoesNodeOrder (before_line old) o new text became → ServerLeads net old new text
-  by_order None line text became is brings h = parted text text (still text (subst (λ (t : List ℕ). Speaks t []) (sym h.1) speaks_none) (ap (λ (n : Node). n.node) h.0)) (inl refl)
-  by_order (Some o) line text became is brings (inl h) = parted text text (order_leads o line text became is brings h) (inl refl)
-  by_order (Some o) line text became is brings (inr (inl n, none, w, may)) =
-      parted text text (still text (subst (λ (t : List ℕ). Speaks t []) (sym none) speaks_none) (not_done (before_line old) new o n)) (inl refl)
-  by_order (Some o) line text became is brings (inr (inr d, none, w, may)) = parted d.0 text (order_leads o line d.0 d.1 is brings d.2) (inr none)
-
-  pub server_leads : (line text : List ℕ) (became : Became) → BringsIn net old line → DoesNodeOrder (before_line old) (node_order_of (is_alone old.node) line) new text became → ServerLeads net old new text
-  server_leads line text became brings h = by_order (node_order_of (is_alone old.node) line) line text became refl brings h

@@ -226,7 +226,7 @@ allowed org format mrs mrn false e = tt
 allowed Seq format mrs mrn true e = ap (λ b. b && true && true) (both (has_length format mrs && nat_le mrs max_record) (nat_le mrn max_record_number) e).0
 allowed Rel format mrs mrn true e = ap (λ b. b && true) e
 
-good_of : (org : Option Org) (format : Option Format) (mrs mrn : ℕ) → IfSome (shape_of org format mrs mrn) (λ s. IsTrue (is_shape s))
+pub good_of : (org : Option Org) (format : Option Format) (mrs mrn : ℕ) → IfSome (shape_of org format mrs mrn) (λ s. IsTrue (is_shape s))
 good_of None format mrs mrn = tt
 good_of (Some org) None mrs mrn = tt
 good_of (Some org) (Some format) mrs mrn = allowed org format mrs mrn _ refl
@@ -239,7 +239,7 @@ file_by o (Some s) code why name old new text became good (inl h) =
     one_event o old.node new.node text (GotFile name s) (subst (λ (t : List ℕ). Speaks t []) (sym h.1) speaks_none) (good, h.0.first, h.0.given.given, h.0.given.ports) refl refl
 file_by o (Some s) code why name old new text became good (inr h) = nothing o old.node new.node text (subst (λ (t : List ℕ). Speaks t []) (sym h.3) (speaks_add h.0)) (ap (λ (n : Node). n.node) h.2)
 
-found_within : (names : Names) (name : List ℕ) (files : Files) (at : ℕ) → index_by names name files ≡ Some at → at < length files
+pub found_within : (names : Names) (name : List ℕ) (files : Files) (at : ℕ) → index_by names name files ≡ Some at → at < length files
 found_within names name files at e = subst (λ (x : Option ℕ). IfSome x (λ n. n < length files)) e (index-within names name files)
 
 record_line_did : (o : NodeOrder) (r : RecordLine) (old new : Node) (text : List ℕ) (became : Became) → AddsRecordTo old r new text became → LineDid o old.node new.node text

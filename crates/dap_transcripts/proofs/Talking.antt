@@ -36,7 +36,7 @@ some_after [] vs us h = h
 some_after (y ∷ ys) vs [] h = tt
 some_after (y ∷ ys) vs (u ∷ us) h = inr (some_after ys vs (u ∷ us) h)
 
-some_both : {A : Type 0} (xs ys us vs : List A) → AreSome xs ys → AreSome us vs → AreSome (xs ++ us) (ys ++ vs)
+pub some_both : {A : Type 0} (xs ys us vs : List A) → AreSome xs ys → AreSome us vs → AreSome (xs ++ us) (ys ++ vs)
 some_both [] ys us vs h k = some_after ys vs us k
 some_both (x ∷ xs) [] us vs h k = absurd h
 some_both (x ∷ xs) (y ∷ ys) us vs (inl h) k = inl (h.0, some_both xs ys us vs h.1 k)
@@ -46,7 +46,7 @@ pub some_self : {A : Type 0} (xs : List A) → AreSome xs xs
 some_self [] = tt
 some_self (x ∷ xs) = inl (refl, some_self xs)
 
-all_front : {A : Type 0} (P : A → Type 0) (xs : List A) (x : A) → AllByRecursion P (xs ++ x ∷ []) → AllByRecursion P xs × P x
+pub all_front : {A : Type 0} (P : A → Type 0) (xs : List A) (x : A) → AllByRecursion P (xs ++ x ∷ []) → AllByRecursion P xs × P x
 all_front P [] x h = (tt, h.0)
 all_front P (y ∷ xs) x h = let rest = all_front P xs x h.1 in ((h.0, rest.0), rest.1)
 
@@ -62,7 +62,7 @@ step_length (GotFile name shape) old new s = ap length s.3
 step_length (GotRecord at number body) old new s = ap length s.3
 step_length (LostFile at) old new s = ap length s.1
 
-runs_length : (events : List NodeEvent) (old new : NodeValue) → NodeRuns old events new → length new.ports ≡ length old.ports
+pub runs_length : (events : List NodeEvent) (old new : NodeValue) → NodeRuns old events new → length new.ports ≡ length old.ports
 runs_length [] old new r = ap (λ (v : NodeValue). length v.ports) r
 runs_length (event ∷ events) old new r = runs_length events r.0 new r.2 ∙ step_length event old r.0 r.1
 
@@ -73,14 +73,14 @@ named old new None e = ap (λ (n : Node). n.node) e
 named old new (Some link) e = ap (λ (n : Node). n.node) e
 
 -- What a line did, and what was answered to it.
-record Answered (alone : Bool) (rest : List ℕ) (old new : NodeValue) (said : List ℕ) (became : Option Became) : Type 0 where
-  events : List NodeEvent
-  runs : NodeRuns old events new
-  heard : (all_came events ≡ []) ⊎ IsPacketOfLine alone (first_line rest) (all_came events)
-  packets : List (List ℕ)
-  speaks : Speaks said packets
-  are_some : AreSome packets (written_bytes (all_written events))
-  are_all : became ≢ Some NoMemory → packets ≡ written_bytes (all_written events)
+pub record Answered (alone : Bool) (rest : List ℕ) (old new : NodeValue) (said : List ℕ) (became : Option Became) : Type 0 where
+  pub events : List NodeEvent
+  pub runs : NodeRuns old events new
+  pub heard : (all_came events ≡ []) ⊎ IsPacketOfLine alone (first_line rest) (all_came events)
+  pub packets : List (List ℕ)
+  pub speaks : Speaks said packets
+  pub are_some : AreSome packets (written_bytes (all_written events))
+  pub are_all : became ≢ Some NoMemory → packets ≡ written_bytes (all_written events)
 
 pub not_done : (old new : Node) (o : NodeOrder) → IsNotDone old o new → new.node ≡ old.node
 not_done old new (order.File file) e = ap (λ (n : Node). n.node) e
@@ -135,7 +135,7 @@ module _ (alone : Bool) (rest : List ℕ) where
       unsaid_line o old.node new.node d.0 said (Some b) is (order_did o (before_line old) new d.0 d.1 d.2)
       (subst (λ (l : List ℕ). Speaks l []) (sym (e ∙ ap (λ (t : List ℕ). t ++ ending_of b (waiting new)) none)) (speaks_ending b (waiting new))) (ap (λ (x : Became). Some x) w)
 
-  by_line : (old new : Node) (text said : List ℕ) (became : Option Became) → alone ≡ is_alone old.node → AnswersLine answered waiting old (first_line rest) new text became → said ≡ said_of text became (waiting new) → Answered alone rest old.node new.node said became
+  pub by_line : (old new : Node) (text said : List ℕ) (became : Option Became) → alone ≡ is_alone old.node → AnswersLine answered waiting old (first_line rest) new text became → said ≡ said_of text became (waiting new) → Answered alone rest old.node new.node said became
   by_line old new text said None same h e = quiet_line old.node new.node said None (subst (λ (l : List ℕ). Speaks l []) (sym e) speaks_none) (ap (λ (n : Node). n.node) h.2)
   by_line old new text said (Some b) same (inl h) e =
       quiet_line old.node new.node said (Some b)
@@ -143,55 +143,15 @@ module _ (alone : Bool) (rest : List ℕ) where
   by_line old new text said (Some b) same (inr h) e =
       by_order (node_order_of alone (first_line rest)) old new text said b refl (subst (λ (a : Bool). DoesNodeOrder (before_line old) (node_order_of a (first_line rest)) new text b) (sym same) h.2) e
 
--- ---- A talk.
-
-record Talked (alone : Bool) (input rest : List ℕ) (old new : NodeValue) (text : List ℕ) (lines : List (Option Became)) : Type 0 where
-  events : List NodeEvent
-  runs : NodeRuns old events new
-  by_line : HappensByLine alone old input new rest text lines events
-  packets : List (List ℕ)
-  speaks : Speaks text packets
-  are_some : AreSome packets (written_bytes (all_written events))
-  are_all : AllByRecursion (λ became. became ≢ Some NoMemory) lines → packets ≡ written_bytes (all_written events)
-
-bytes_both : (xs ys : List NodeEvent) → written_bytes (all_written (xs ++ ys)) ≡ written_bytes (all_written xs) ++ written_bytes (all_written ys)
-bytes_both xs ys = ap written_bytes (all_written_more xs ys) ∙ map-append (λ (w : WrittenPacket). w.bytes) (all_written xs) (all_written ys)
-
-line_happened : (alone : Bool) (rest : List ℕ) (old new : NodeValue) (said : List ℕ) (became : Option Became) (a : Answered alone rest old new said became) → LineHappened alone (first_line rest) old new said became a.events
-line_happened alone rest old new said became a =
-    record { runs = a.runs; came = a.heard; packets = a.packets; said = speaks_all said a.packets a.speaks; are_some = a.are_some; are_all = a.are_all }
-
-talk_more : (alone : Bool) (input rest said more : List ℕ) (lines : List (Option Became)) (became : Option Became) (old mid new : NodeValue) → Talked alone input rest old mid said lines → Answered alone rest mid new more became
-    → Talked alone input (drop_through 10 rest) old new (said ++ more) (lines ++ became ∷ [])
-talk_more alone input rest said more lines became old mid new t a =
-    record {
-      events = t.events ++ a.events;
-      runs = runs_join t.events a.events old mid new t.runs a.runs;
-      by_line = one_line_happened mid rest said more lines became t.events a.events t.by_line (line_happened alone rest mid new more became a);
-      packets = t.packets ++ a.packets;
-      speaks = speaks_both said more t.packets a.packets t.speaks a.speaks;
-      are_some = subst (AreSome (t.packets ++ a.packets)) (sym (bytes_both t.events a.events)) (some_both t.packets (written_bytes (all_written t.events)) a.packets (written_bytes (all_written a.events)) t.are_some a.are_some);
-      are_all = λ all. (let split = all_front (λ (x : Option Became). x ≢ Some NoMemory) lines became all in
-          ap (λ (l : List (List ℕ)). l ++ a.packets) (t.are_all split.0) ∙ ap (λ (l : List (List ℕ)). written_bytes (all_written t.events) ++ l) (a.are_all split.1) ∙ sym (bytes_both t.events a.events));
-    }
-
-talked : (one new : Node) (input rest text : List ℕ) (lines : List (Option Became)) → AnswersInput answered waiting one input new rest text lines → Talked (is_alone one.node) input rest one.node new.node text lines
-talked one new input rest text lines no_line_more =
-    record { events = []; runs = refl; by_line = no_line_happened; packets = []; speaks = speaks_none; are_some = tt; are_all = λ all. refl }
-talked one new input _ _ _ (one_line_more now rest said more lines became before some says) =
-    let t = talked one now input rest said lines before in
-    let same : is_alone one.node ≡ is_alone now.node = ap (λ (n : ℕ). n == 1) (sym (runs_length t.events one.node now.node t.runs)) in
-    talk_more (is_alone one.node) input rest said more lines became one.node now.node new.node t (by_line (is_alone one.node) rest now new says.text more became same says.answers says.says)
-
 -- ---- A new node.
 
-record Started (node : NodeValue) : Type 0 where
-  base : NodeValue
-  is_new : network.IsNodeWithoutLinks [] base
-  events : List NodeEvent
-  runs : NodeRuns base events node
-  none_came : all_came events ≡ []
-  none_written : all_written events ≡ []
+pub record Started (node : NodeValue) : Type 0 where
+  pub base : NodeValue
+  pub is_new : network.IsNodeWithoutLinks [] base
+  pub events : List NodeEvent
+  pub runs : NodeRuns base events node
+  pub none_came : all_came events ≡ []
+  pub none_written : all_written events ≡ []
 
 no_port : (n link : ℕ) (p : PortValue) → slice_get (replicate n None) link ≡ Some (Some p) → ⊥
 no_port zero link p e = cc
@@ -229,29 +189,6 @@ only own most usual one n =
       none_written = refl;
     }
 
-started : (own : ServerSetup) (links most : ℕ) (usual : LinkSetup) (one : Node) (b : Bool) → (links == 1) ≡ b → IsNewNode own links usual most one → Started one.node
+pub started : (own : ServerSetup) (links most : ℕ) (usual : LinkSetup) (one : Node) (b : Bool) → (links == 1) ≡ b → IsNewNode own links usual most one → Started one.node
 started own links most usual one true e n = let is : links ≡ 1 = grind (arith, e) in only own most usual one (subst (λ (k : ℕ). IsNewNode own k usual most one) is n)
 started own links most usual one false e n = several own links most usual one e n
-
--- ---- What it comes to.
-
-pub lines_happened : (own : ServerSetup) (links most : ℕ) (usual : LinkSetup) (one new : Node) (input rest text : List ℕ) (lines : List (Option Became)) → IsNewNode own links usual most one
-    → AnswersInput answered waiting one input new rest text lines → LinesHappened one input rest text lines new
-lines_happened own links most usual one new input rest text lines n talk =
-    let s = started own links most usual one (links == 1) refl n in
-    let t = talked one new input rest text lines talk in
-    record {
-      base = s.base;
-      is_new = s.is_new;
-      begun = s.events;
-      begins = s.runs;
-      none_came = s.none_came;
-      none_written = s.none_written;
-      events = t.events;
-      by_line = t.by_line;
-      runs = runs_join s.events t.events s.base one.node new.node s.runs t.runs;
-      packets = t.packets;
-      said = speaks_all text t.packets t.speaks;
-      are_some = t.are_some;
-      are_all = t.are_all;
-    }

@@ -33,4 +33,6 @@ pub fn transcripts_are_served()
         new.node
         × AreFiles new.node.noted.shared.files
         × NamesAreApart new.node.noted.shared.setup.names new.node.noted.shared.files }
-{}
+{
+    dap_network::any_peers_are_served();
+}

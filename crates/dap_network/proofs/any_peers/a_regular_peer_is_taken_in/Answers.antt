@@ -3,7 +3,7 @@ use Rattle.std.specs.Prelude.{Option, Some, set}
 use Rattle.dap_end.specs.Moved.{with_link}
 use Rattle.dap_end.specs.Node.{NodeLinkValue, without_notes}
 use Rattle.dap_end.specs.Ports.{PortValue}
-use Rattle.dap_network.proofs.AnyNode.{peer_refused}
+use Rattle.dap_network.proofs.Kept.{peer_refused}
 use Rattle.dap_network.proofs.Sets.{set_same}
 use Rattle.dap_network.proofs.any_peers.a_regular_peer_is_taken_in.Goals as goal
 

@@ -19,6 +19,8 @@ returns-clause-nothing_left c = λ link most old new out all handed some on.
       before = on.before;
       after = on.after;
       there = on.there;
-      does = nothing_left (NotedServed link) most (end_with on.before (without_notes old.noted)) (end_with on.after new.noted) AckOnly out all some on.does.0 (handed, on.does.1) on.does.2 on.does.3;
+      does =
+          let rested = nothing_left (NotedServed link) most (end_with on.before (without_notes old.noted)) (end_with on.after new.noted) AckOnly out all some on.does.0 (handed, on.does.1) on.does.2 on.does.3 in
+          record { served = rested.0; idle = rested.1; empty = rested.2; acknowledged = rested.3 };
       ports = on.ports;
     }
