@@ -37,7 +37,7 @@ use Rattle.dap_end.proofs.Stores.{store_goes}
 -- ---- One request, in the phase that it fits.
 
 module _ (own_a : Configuration) (own_b : ServerSetup) (a : IsBufsiz own_a.bufsiz) (b : IsBufsiz own_b.identity.bufsiz) (files : Files) (all : AllFiles files) (limit : ℕ) (past : List Group) (limit_a : ℕ) where
-  abbrev GoesAt : Phase → ServerState → Request → Type 0
+  abbrev pub GoesAt : Phase → ServerState → Request → Type 0
   GoesAt phase state r = Goes own_a own_b r phase (standing_at state files limit past) limit_a
 
   goes_fresh : (r : Request) → phase_fits Fresh r ≡ true → GoesAt Fresh at.Fresh r
@@ -73,7 +73,7 @@ module _ (own_a : Configuration) (own_b : ServerSetup) (a : IsBufsiz own_a.bufsi
   goes_stopped h o s request.Purge e = purge_stopped own_a own_b files limit past limit_a h o s
   goes_stopped h o s r e = cc
 
-  goes : (phase : Phase) (state : ServerState) → AgreeAt own_a own_b phase state limit limit_a → (r : Request) → phase_fits phase r ≡ true → GoesAt phase state r
+  pub goes : (phase : Phase) (state : ServerState) → AgreeAt own_a own_b phase state limit limit_a → (r : Request) → phase_fits phase r ≡ true → GoesAt phase state r
   goes Fresh at.Fresh h r e = goes_fresh r e
   goes Ready at.Ready h r e = goes_ready h r e
   goes Opened (at.Opened o) h r e = goes_opened h o r e
@@ -87,21 +87,21 @@ module _ (own_a : Configuration) (own_b : ServerSetup) (a : IsBufsiz own_a.bufsi
 
 -- ---- Answers that come to one report for each request.
 
-record First (r : Request) (answers : List Item) (reports : List Report) (Rest : List Item → List Report → Type 0) : Type 0 where
-  front : List Item
-  back : List Item
-  done : Report
-  later : List Report
-  parts : answers ≡ front ++ back
-  heard : hear r front ≡ Reports done []
-  reports_are : reports ≡ done ∷ later
-  rest : Rest back later
+pub record First (r : Request) (answers : List Item) (reports : List Report) (Rest : List Item → List Report → Type 0) : Type 0 where
+  pub front : List Item
+  pub back : List Item
+  pub done : Report
+  pub later : List Report
+  pub parts : answers ≡ front ++ back
+  pub heard : hear r front ≡ Reports done []
+  pub reports_are : reports ≡ done ∷ later
+  pub rest : Rest back later
 
-abbrev AllHeard : List Request → List Item → List Report → Type 0
+abbrev pub AllHeard : List Request → List Item → List Report → Type 0
 AllHeard [] answers reports = (answers ≡ []) × (reports ≡ [])
 AllHeard (r ∷ rs) answers reports = First r answers reports (λ back later. AllHeard rs back later)
 
-heard-more : (rs : List Request) (r : Request) (answers : List Item) (reports : List Report) (b : List Item) (done : Report) → AllHeard rs answers reports → hear r b ≡ Reports done []
+pub heard-more : (rs : List Request) (r : Request) (answers : List Item) (reports : List Report) (b : List Item) (done : Report) → AllHeard rs answers reports → hear r b ≡ Reports done []
     → AllHeard (rs ++ r ∷ []) (answers ++ b) (reports ++ done ∷ [])
 heard-more [] r answers reports b done h e =
     record {
@@ -127,12 +127,12 @@ heard-more (q ∷ rs) r answers reports b done h e =
     }
 
 -- with the answers to the requests after it
-hear-all : (r : Request) (answers front back : List Item) (done : Report) → answers ≡ front ++ back → hear r front ≡ Reports done [] → hear r answers ≡ Reports done back
+pub hear-all : (r : Request) (answers front back : List Item) (done : Report) → answers ≡ front ++ back → hear r front ≡ Reports done [] → hear r answers ≡ Reports done back
 hear-all r answers front back done parts heard =
     let s : Stays (Reports done []) (hear r (front ++ back)) back = subst (λ (h : Hearing). Stays h (hear r (front ++ back)) back) heard (stays r front back) in
     ap (hear r) parts ∙ s
 
-told-heard : (rs : List Request) (answers : List Item) (reports : List Report) → AllHeard rs answers reports → Told rs answers ≡ reports
+pub told-heard : (rs : List Request) (answers : List Item) (reports : List Report) → AllHeard rs answers reports → Told rs answers ≡ reports
 told-heard [] answers reports h = sym h.1
 told-heard (r ∷ rs) answers reports h =
     Told-told_by r rs answers ∙ ap (told_by rs) (hear-all r answers h.front h.back h.done h.parts h.heard)
@@ -144,7 +144,7 @@ as-many (r ∷ rs) answers reports h = ap length h.reports_are ∙ ap suc (as-ma
 
 -- ---- Nothing is unexpected on the way.
 
-same-rest : (d done : Report) (x back : List Item) → ◌≡◌ {A = Hearing} (Reports d x) (Reports done back) → x ≡ back
+pub same-rest : (d done : Report) (x back : List Item) → ◌≡◌ {A = Hearing} (Reports d x) (Reports done back) → x ≡ back
 same-rest d done x back e = cc
 
 wrong-by : (r : Request) (rs : List Request) (x y back : List Item) (done : Report) (hh later : Hearing) → Stays hh later y → later ≡ Reports done back
@@ -153,19 +153,19 @@ wrong-by r rs x y back done (Reports d rest) later s e on = on rest (same-rest d
 wrong-by r rs x y back done Waits later s e on = λ w. cc w
 wrong-by r rs x y back done Unexpected later s e on = λ w. cc (s, e)
 
-no-wrong : (rs : List Request) (answers : List Item) (reports : List Report) → AllHeard rs answers reports → (x y : List Item) → x ++ y ≡ answers → due_after rs x ≢ Wrong
+pub no-wrong : (rs : List Request) (answers : List Item) (reports : List Report) → AllHeard rs answers reports → (x y : List Item) → x ++ y ≡ answers → due_after rs x ≢ Wrong
 no-wrong [] answers reports h [] y e = λ w. cc w
 no-wrong [] answers reports h (i ∷ x) y e = cc (e ∙ h.0)
 no-wrong (r ∷ rs) answers reports h x y e =
     let whole : hear r (x ++ y) ≡ Reports h.done h.back = hear-all r (x ++ y) h.front h.back h.done (e ∙ h.parts) h.heard in
     λ w. wrong-by r rs x y h.back h.done (hear r x) (hear r (x ++ y)) (stays r x y) whole (λ rest f. no-wrong rs h.back h.later h.rest rest y f) (sym (due-due_by r rs x) ∙ w)
 
-abbrev is_wrong : Due → Bool
+abbrev pub is_wrong : Due → Bool
 is_wrong NothingDue = false
 is_wrong (AnswersDue r so_far) = false
 is_wrong Wrong = true
 
-unexpected-is : (rs : List Request) (answers : List Item) (answer : Item) → is_unexpected rs answers answer ≡ is_wrong (due_after rs (answers ++ answer ∷ []))
+pub unexpected-is : (rs : List Request) (answers : List Item) (answer : Item) → is_unexpected rs answers answer ≡ is_wrong (due_after rs (answers ++ answer ∷ []))
 unexpected-is rs answers answer =
     elim (due_after rs (answers ++ answer ∷ [])) as (λ (d : Due). ◌≡◌ {A = Bool} (elim d [ NothingDue ↦ false | AnswersDue _ _ ↦ false | Wrong ↦ true ]) (is_wrong d)) [
       | NothingDue ↦ refl
@@ -173,19 +173,19 @@ unexpected-is rs answers answer =
       | Wrong ↦ refl
     ]
 
-wrong-is : (d : Due) → is_wrong d ≡ true → d ≡ Wrong
+pub wrong-is : (d : Due) → is_wrong d ≡ true → d ≡ Wrong
 wrong-is NothingDue e = cc
 wrong-is (AnswersDue r so_far) e = cc
 wrong-is Wrong e = refl
 
-expected : (rs : List Request) (answers : List Item) (reports : List Report) → AllHeard rs answers reports → (front back : List Item) (answer : Item) → front ++ answer ∷ back ≡ answers → is_unexpected rs front answer ≢ true
+pub expected : (rs : List Request) (answers : List Item) (reports : List Report) → AllHeard rs answers reports → (front back : List Item) (answer : Item) → front ++ answer ∷ back ≡ answers → is_unexpected rs front answer ≢ true
 expected rs answers reports h front back answer e =
     λ u. no-wrong rs answers reports h (front ++ answer ∷ []) back (append_assoc front (answer ∷ []) back ∙ e)
     (wrong-is (due_after rs (front ++ answer ∷ [])) (sym (unexpected-is rs front answer) ∙ u))
 
 -- ---- One request more.
 
-asked-more : (own : Configuration) (rs : List Request) (r : Request) → Asked own (rs ++ r ∷ []) ≡ Asked own rs ++ messages_of own r
+pub asked-more : (own : Configuration) (rs : List Request) (r : Request) → Asked own (rs ++ r ∷ []) ≡ Asked own rs ++ messages_of own r
 asked-more own [] r = append-nil (messages_of own r)
 asked-more own (q ∷ rs) r = ap (λ (l : List Message). messages_of own q ++ l) (asked-more own rs r) ∙ sym (append_assoc (messages_of own q) (Asked own rs) (messages_of own r))
 

@@ -149,7 +149,7 @@ run_sound first good (event ∷ events) old new r s = run_sound first good event
 
 -- ---- The next answer.
 
-ends_within : (bytes : List ℕ) (at : ℕ) (item : Item) (next : ℕ) → ItemAt bytes at item next → next ≤ length bytes
+pub ends_within : (bytes : List ℕ) (at : ℕ) (item : Item) (next : ℕ) → ItemAt bytes at item next → next ≤ length bytes
 ends_within bytes at (Whole m) next h = let some = stands_some m h.0 (drop at bytes) h.1 in omega (arith, some, h.1.there, length-drop at bytes, h.2)
 ends_within bytes at (Malformed fault) next h = omega (arith, h.4)
 

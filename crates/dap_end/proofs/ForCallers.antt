@@ -65,3 +65,10 @@ pub use Rattle.dap_end.proofs.Stepping.{numbered_bytes}
 pub use Rattle.dap_end.proofs.Running.{StandsThen, refused_due, sent_link, some_peer, some_size, then_stands, went_written}
 -- passing on what waits leaves what came, and nothing that waits
 pub use Rattle.dap_end.proofs.ByTurns.{inbox_posted, none_waits}
+-- a client's requests and its link's exchange at a node, message by message, whatever other links do: no answer is
+-- unexpected
+pub use Rattle.dap_end.proofs.Follows.{IsFollowed, new-follows, follows-moved, follows-served, follows-asked, follows-expected}
+-- a client's Configuration stays
+pub use Rattle.dap_end.proofs.Identity.{identity-stays}
+-- an item ends within its NSP message
+pub use Rattle.dap_end.proofs.Expected.{ends_within}

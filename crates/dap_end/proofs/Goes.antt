@@ -173,7 +173,7 @@ limit-own n b = let e = le-ltb max_nsp_message n b.most in let least = b.least i
 adds-two : (past : List Group) (answers : List Message) → (answers_in past ++ []) ++ answers ≡ answers_in past ++ answers
 adds-two past answers = ap (λ l. l ++ answers) (append-nil (answers_in past))
 
-shape-there : (files : Files) (found : Option ℕ) → AllFiles files → IfSome found (λ n. n < length files) → IfSome found (λ n. IsTrue (is_shape (file_at n files).shape))
+pub shape-there : (files : Files) (found : Option ℕ) → AllFiles files → IfSome found (λ n. n < length files) → IfSome found (λ n. IsTrue (is_shape (file_at n files).shape))
 shape-there files None all h = tt
 shape-there files (Some n) all h = (file-there files n all h).shape
 

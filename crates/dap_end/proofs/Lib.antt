@@ -43,3 +43,6 @@ pub mod Agreeing
 pub mod Each
 pub mod AllRead
 pub mod Expected
+pub mod Awaits
+pub mod Follows
+pub mod Identity

@@ -31,7 +31,7 @@ use Rattle.dap_end.specs.Agreement.{AgreeAt, AreLimits}
 use Rattle.dap_end.proofs.Goes.{Goes, more_items, standing_at}
 
 -- these answers are Statuses, none of which is a success
-abbrev AreRefusals : List Message → Type 0
+abbrev pub AreRefusals : List Message → Type 0
 AreRefusals answers =
     (rest : List Item) → (has_success (statuses_in_front (map Whole answers ++ rest)) ≡ has_success (statuses_in_front rest)) × (after_those is_status (map Whole answers ++ rest) ≡ after_those is_status rest)
 
@@ -57,13 +57,13 @@ are_refusals (Err EndOfFile) ordinal = one_refusal _ refl
 are_refusals (Err NoMemory) ordinal = one_refusal _ refl
 
 -- the effect of one record leaves a Store, and its answers are refusals
-record OneStored (limit : ℕ) (o : OpenFile) (e : Effect) : Type 0 where
-  stream : StreamVal
-  state : e.state ≡ at.Store o stream
-  same : e.scene.limit ≡ limit
-  refusals : AreRefusals e.answers
+pub record OneStored (limit : ℕ) (o : OpenFile) (e : Effect) : Type 0 where
+  pub stream : StreamVal
+  pub state : e.state ≡ at.Store o stream
+  pub same : e.scene.limit ≡ limit
+  pub refusals : AreRefusals e.answers
 
-one_stored : (scene : Scene) (o : OpenFile) (s : StreamVal) (body : List ℕ) (ordinal : ℕ) (dropping : Bool) → OneStored scene.limit o (if dropping then enters scene (at.Store o s) [] else store_one ordinal scene o s body)
+pub one_stored : (scene : Scene) (o : OpenFile) (s : StreamVal) (body : List ℕ) (ordinal : ℕ) (dropping : Bool) → OneStored scene.limit o (if dropping then enters scene (at.Store o s) [] else store_one ordinal scene o s body)
 one_stored scene o s body ordinal true = record { stream = s; state = refl; same = refl; refusals = λ rest. (refl, refl) }
 one_stored scene o s body ordinal false =
     let outcome = act (put_record None body) (the_file scene.files o) s in
@@ -108,7 +108,7 @@ stores own (body ∷ bodies) files limit past o s =
     }
 
 -- the report of refusals and then the completion
-hear_stores : (answers : List Item) → has_success (statuses_in_front answers) ≡ false → after_those is_status answers ≡ Whole (complete_with 2) ∷ []
+pub hear_stores : (answers : List Item) → has_success (statuses_in_front answers) ≡ false → after_those is_status answers ≡ Whole (complete_with 2) ∷ []
     → hear_stored answers ≡ Reports (report.Stored (first_told (statuses_in_front answers))) []
 hear_stores answers refused completed =
     ap (λ b. if b then Unexpected else hear_store_end (first_told (statuses_in_front answers)) (after_those is_status answers)) refused
