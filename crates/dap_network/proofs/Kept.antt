@@ -386,7 +386,7 @@ module _ (own : ServerSetup) (links : ℕ) (first : Files) where
   next (LostFile at) history done old new s q h = dropped_at at history done old new s.0 s.1 q h
 
   -- the peer of a link is called
-  on_peer : (link : ℕ) (history : List Event) (done : List NodeEvent) (old new : Network) (event : AskingEvent) (more : List WrittenPacket) → PeerStepped link old event more new → NetworkStands done history old → NetworkStands done history new
+  pub on_peer : (link : ℕ) (history : List Event) (done : List NodeEvent) (old new : Network) (event : AskingEvent) (more : List WrittenPacket) → PeerStepped link old event more new → NetworkStands done history old → NetworkStands done history new
   on_peer link history done old new event more s h =
       let nodes : new.node ≡ old.node = ap (λ (n : Network). n.node) s.is in
       let peers : new.peers ≡ set old.peers link (Some s.then) = ap (λ (n : Network). n.peers) s.is in

@@ -14,4 +14,7 @@ pub mod SoundNode
 pub mod Happens
 pub mod AnyBounds
 pub mod CleanEnds
+pub mod ReadFronts
+pub mod Expecting
+pub mod NoneUnexpected
 pub mod ForCallers

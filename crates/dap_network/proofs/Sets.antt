@@ -1,6 +1,6 @@
 -- Lists in which one element was set.
 use Rattle.std.proofs.Common.{◌≡◌, ◌≢◌, ℕ, zero, suc, List, [], ◌∷◌, Some, refl, ap}
-use Rattle.std.specs.Prelude.{get_or, set, slice_get}
+use Rattle.std.specs.Prelude.{None, Option, get_or, set, slice_get}
 
 pub set_there : {A : Type 0} (xs : List A) (i : ℕ) (a b : A) → slice_get (set xs i a) i ≡ Some b → b ≡ a
 set_there [] i a b e = let none : ⊥ = cc in absurd none
@@ -37,3 +37,9 @@ pub there_is : {A : Type 0} (xs : List A) (i : ℕ) (a d : A) → slice_get xs i
 there_is [] i a d e = let none : ⊥ = cc in absurd none
 there_is (x ∷ xs) zero a d e = let same : x ≡ a = cc in same
 there_is (x ∷ xs) (suc i) a d e = there_is xs i a d e
+
+-- what stands there, where it isn't nothing, is there
+pub is_there : {A : Type 0} (xs : List (Option A)) (i : ℕ) (a : A) → get_or xs i None ≡ Some a → slice_get xs i ≡ Some (Some a)
+is_there [] i a e = let none : ⊥ = cc in absurd none
+is_there (x ∷ xs) zero a e = ap Some e
+is_there (x ∷ xs) (suc i) a e = is_there xs i a e

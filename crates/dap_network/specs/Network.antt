@@ -102,3 +102,7 @@ NetworkRuns old events new = RunsBy NetworkStepped old events new
 -- a node with these files, of which no link is there
 abbrev pub IsNewNetwork : (first : Files) → Network → Type 0
 IsNewNetwork first net = IsNodeWithoutLinks first net.node
+
+-- no link has a client
+abbrev pub HasNoClient : Network → Type 0
+HasNoClient net = (link : ℕ) (peer : Peer) → slice_get net.peers link ≡ Some (Some peer) → ⊥
