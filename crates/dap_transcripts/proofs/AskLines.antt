@@ -3,7 +3,6 @@ use Rattle.std.proofs.Common.{◌≡◌, ◌≢◌, ℕ, ◌+◌, ◌-◌, ◌�
 use Rattle.std.specs.Prelude.{◌⊎◌, MatchBool, Option, Some, None, Result, Ok, Err, IfErr, codes, slice_get}
 use Rattle.std.specs.List.{AllByRecursion, concat}
 use Rattle.std.specs.Fmt.{decimal}
-use Rattle.std.specs.Io.BufRead.{first_line}
 use Rattle.std.proofs.lemmas.List.{append-nil, map-append}
 use Rattle.nsp_link.specs.declared.link.Got.{Got}
 use Rattle.nsp_link.specs.declared.link.Got.TheVariants.{AckOnly}
@@ -35,7 +34,7 @@ use Rattle.dap_network.specs.Network.{Network, Peer}
 use Rattle.dap_network.proofs.ForCallers.{peer_leads}
 use Rattle.linewise.specs.declared.talking.Became.{Became}
 use Rattle.linewise.specs.declared.talking.Became.TheVariants.{Done, NoMemory}
-use Rattle.linewise.specs.Talks.{AnswersInput, AnswersLine, ending_of, no_line_more, one_line_more, said_of}
+use Rattle.linewise.specs.Talks.{AnswersLine, ending_of, said_of}
 use Rattle.dap_text.specs.Text.{line_feed}
 use Rattle.dap_live.specs.declared.asking.Asking.{Asking}
 use Rattle.dap_live.specs.declared.asking.Came.{Came}
@@ -49,7 +48,7 @@ use Rattle.dap_live.specs.Both.{LeavesEnd}
 use Rattle.dap_live.specs.Each.{told_text}
 use Rattle.dap_live.specs.Sending.{AllAgain}
 use Rattle.dap_live.specs.Texts.{ask_refusal, done_said, link_refusal, packet_text, packets_text}
-use Rattle.dap_transcripts.specs.AskLines.{AskLineHappened, AskLineRuns, HasFailed, IsArrivalOfLine, IsAskPacket, RunsByLine, no_line_ran, one_line_ran}
+use Rattle.dap_transcripts.specs.AskLines.{AskLineHappened, AskLineRuns, HasFailed, IsArrivalOfLine, IsAskPacket}
 use Rattle.dap_transcripts.specs.Programs.{ClientLeads}
 use Rattle.dap_transcripts.specs.Transcripts.{AreSome}
 use Rattle.dap_transcripts.proofs.Lines.{done_speaks, none_wrote, taken_speaks}

@@ -1,14 +1,14 @@
 -- A line of the server is some events of a network.
-use Rattle.std.proofs.Common.{◌≡◌, ℕ, zero, suc, ◌+◌, ◌<◌, ◌≤◌, arith, refl, sym, ◌∙◌, subst, ap, Bool, true, false, List, [], ◌∷◌, ◌++◌, length, append_assoc, inl, inr}
+use Rattle.std.proofs.Common.{◌≡◌, ℕ, ◌+◌, ◌≤◌, arith, refl, sym, ◌∙◌, subst, ap, Bool, true, false, List, [], ◌∷◌, ◌++◌, length, append_assoc, inl, inr}
 use Rattle.std.specs.Prelude.{◌⊎◌, ◌-◌, ◌==◌, if◌then◌else◌, IfSome, IsTrue, MatchBool, MatchOption, MatchResult, Option, Some, None, Result, Ok, Err, option_map, slice_get}
 use Rattle.std.specs.List.{position}
 use Rattle.std.proofs.lemmas.Bool.{cases_eq, eq-eqb, ne_eqb}
-use Rattle.std.proofs.lemmas.List.{append-nil, length-set, map-append}
+use Rattle.std.proofs.lemmas.List.{append-nil, map-append}
 use Rattle.nsp_link.specs.declared.link.Got.{Got}
 use Rattle.nsp_link.specs.declared.link.LinkSetup.{LinkSetup}
 use Rattle.nsp_link.specs.declared.fault.LinkFault.{LinkFault}
 use Rattle.nsp_link.specs.Link.{IsSpelling}
-use Rattle.nsp_link.specs.Sending.{WritesSent, ack_packet_of}
+use Rattle.nsp_link.specs.Sending.{ack_packet_of}
 use Rattle.rec_file.specs.declared.picks.Rights.{Rights}
 use Rattle.rec_file.specs.declared.shapes.Shape.{Shape}
 use Rattle.rec_file.specs.Shapes.{checked_shape, format_of_code, is_shape, org_of_code}
@@ -33,16 +33,15 @@ use Rattle.dap_live.specs.declared.node_orders.NodeOrder.{NodeOrder}
 use Rattle.dap_live.specs.declared.node_orders.NodeOrder.TheVariants as order
 use Rattle.dap_live.specs.declared.orders.Between.{Between}
 use Rattle.dap_live.specs.Both.{DoneOr, LeavesEnd}
-use Rattle.dap_live.specs.Node.{AddsLink, AddsRecordTo, BeginsOn, DoesNodeOrder, DropsFile, FileNotGiven, FindsLink, GivesFile, GoesOnWith, NodeDoes, OnMeant, RefusesLink, RenewsOn, ResendsOn, Says, TakesOn, TakesPacketBy, about, before_line, is_alone, is_work_left_at, meant, node_without_file, one_link, NoLink}
+use Rattle.dap_live.specs.Node.{AddsLink, AddsRecordTo, BeginsOn, DropsFile, FileNotGiven, FindsLink, GivesFile, GoesOnWith, NodeDoes, OnMeant, RefusesLink, RenewsOn, ResendsOn, Says, TakesOn, TakesPacketBy, about, before_line, is_alone, is_work_left_at, meant, node_without_file, one_link, NoLink}
 use Rattle.dap_live.specs.NodeOrders.{node_order_of}
 use Rattle.dap_live.specs.Orders.{most_beside, setup_beside}
-use Rattle.dap_transcripts.specs.Programs.{BeginsSome, BringsIn, ServerLeads, WroteFor}
+use Rattle.dap_transcripts.specs.Programs.{BeginsSome, BringsIn, WroteFor}
 use Rattle.dap_live.specs.Texts.{LineAnswer, add_refusal, done_said, link_refusal, locked_text, packet_text, packets_text, status_line}
 use Rattle.nsp_link.specs.declared.fault.LinkFault.TheVariants as fault
 use Rattle.dap_msg.specs.Codes.{reasons, stscode}
 use Rattle.dap_transcripts.proofs.Lines.{done_speaks, found_within, good_of, no_link_quiet, none_wrote, taken_speaks}
-use Rattle.dap_transcripts.proofs.Speaking.{Speaks, speaks_add, speaks_all, speaks_both, speaks_files, speaks_hex, speaks_link, speaks_locked, speaks_none, speaks_packets, speaks_remove, speaks_status}
-use Rattle.dap_transcripts.proofs.Talking.{not_done, some_self}
+use Rattle.dap_transcripts.proofs.Speaking.{Speaks, speaks_add, speaks_both, speaks_files, speaks_hex, speaks_link, speaks_locked, speaks_none, speaks_packets, speaks_remove, speaks_status}
 
 -- ---- What is written for one link.
 

@@ -2,8 +2,8 @@
 use Rattle.std.proofs.Common.{◌≡◌, ◌≢◌, ℕ, zero, suc, arith, refl, sym, ◌∙◌, subst, ap, Bool, true, false, List, [], ◌∷◌, ◌++◌, length, inl, inr}
 use Rattle.std.specs.Prelude.{◌⊎◌, ◌==◌, if◌then◌else◌, Option, Some, None, replicate, slice_get}
 use Rattle.std.specs.List.{AllByRecursion}
-use Rattle.std.specs.Io.BufRead.{drop_through, first_line}
-use Rattle.std.proofs.lemmas.List.{length-set, map-append}
+use Rattle.std.specs.Io.BufRead.{first_line}
+use Rattle.std.proofs.lemmas.List.{length-set}
 use Rattle.nsp_link.specs.declared.link.LinkSetup.{LinkSetup}
 use Rattle.dap_accessed.specs.Sessions.{session_with}
 use Rattle.dap_accessed.specs.Setup.{all_rights}
@@ -11,23 +11,22 @@ use Rattle.dap_accessed.specs.declared.setup.ServerSetup.{ServerSetup}
 use Rattle.dap_shared.specs.Nodes.{Begins, node_after}
 use Rattle.dap_shared.specs.Shared.{SharedAfter, SharedBegins, SharedValue, shared_of}
 use Rattle.dap_shared.proofs.ForCallers.{begins-shared, new-shared}
-use Rattle.dap_end.specs.Headline.{WrittenPacket, written_bytes}
+use Rattle.dap_end.specs.Headline.{written_bytes}
 use Rattle.dap_end.specs.Node.{NodeValue}
 use Rattle.dap_end.specs.Ports.{PortValue, new_port}
 use Rattle.dap_network.specs.Happening.{GotFile, GotRecord, GotLink, LostLink, LostFile, NodeEvent, NodeRuns, NodeStepped, PacketCame, Continued, WroteAgain, all_came, all_written}
 use Rattle.dap_network.specs.Happening as network
-use Rattle.dap_network.proofs.ForCallers.{runs_join, all_written_more}
 use Rattle.linewise.specs.declared.talking.Became.{Became}
 use Rattle.linewise.specs.declared.talking.Became.TheVariants.{NoMemory}
-use Rattle.linewise.specs.Talks.{AnswersInput, AnswersLine, ending_of, no_line_more, one_line_more, said_of}
+use Rattle.linewise.specs.Talks.{AnswersLine, ending_of, said_of}
 use Rattle.dap_live.specs.declared.node.Node.{Node}
 use Rattle.dap_live.specs.declared.node_orders.NodeOrder.{NodeOrder}
 use Rattle.dap_live.specs.declared.node_orders.NodeOrder.TheVariants as order
 use Rattle.dap_live.specs.Node.{DoesNodeOrder, IsNewNode, IsNotDone, about_any, answered, before_line, is_alone, named_by, waiting}
 use Rattle.dap_live.specs.NodeOrders.{node_order_of}
-use Rattle.dap_transcripts.specs.Transcripts.{AreSome, HappensByLine, IsPacketOfLine, LineHappened, LinesHappened, no_line_happened, one_line_happened}
+use Rattle.dap_transcripts.specs.Transcripts.{AreSome, IsPacketOfLine}
 use Rattle.dap_transcripts.proofs.Lines.{CameBy, LineDid, order_did}
-use Rattle.dap_transcripts.proofs.Speaking.{Speaks, speaks_all, speaks_before, speaks_both, speaks_ending, speaks_none}
+use Rattle.dap_transcripts.proofs.Speaking.{Speaks, speaks_before, speaks_ending, speaks_none}
 
 -- ---- Some of a list.
 
