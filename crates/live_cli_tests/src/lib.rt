@@ -2,13 +2,7 @@
 #![tactic(auto)]
 
 #[cfg(test)]
-mod end_rows;
-#[cfg(test)]
 mod listing_rows;
-#[cfg(test)]
-mod node_rows;
-#[cfg(test)]
-mod node_tests;
 #[cfg(test)]
 mod rows;
 #[cfg(test)]

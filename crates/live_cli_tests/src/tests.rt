@@ -1,6 +1,5 @@
 //! The rows, and devices that fail.
 
-use crate::end_rows::END_ROWS;
 use crate::listing_rows::LISTING_ROWS;
 use crate::rows::Row;
 use live_cli::run_words;
@@ -27,14 +26,6 @@ fn holds(alloc: Global, row: &Row) -> Result<bool, Fail> {
     let mut told = Vec::new(alloc);
     let status = run_words(alloc, &words, &mut reader, &mut written, &mut told);
     Ok(status == row.2 && written.as_slice() == row.3 && told.as_slice() == row.4)
-}
-
-#[test]
-fn each_row_of_an_end_holds(rt: HostRuntime) -> Result<(), Fail> {
-    for row in END_ROWS {
-        assert!(rt; holds(rt.alloc(), row)?);
-    }
-    Ok(())
 }
 
 #[test]

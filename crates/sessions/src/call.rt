@@ -10,6 +10,7 @@ use dap_text::{Words, read_hex, read_number, read_request};
 use nsp_link::LinkSetup;
 use rec_file::Shape;
 use std::alloc::{AllocError, Global};
+use std::mem;
 
 /// A call, and the words of it that are left.
 #[derive(Drop)]
@@ -38,6 +39,16 @@ fn request_of(alloc: Global, words: &str) -> Option<Request> {
         Some(asked) => asked.to_request(alloc).ok(),
         None => None,
     }
+}
+
+/// Returns what follows the first word, as a line.
+fn line_of(alloc: Global, text: &str) -> Result<Vec<u8>, AllocError> {
+    let mut line = Vec::new(alloc);
+    if let Some((_name, rest)) = text.split_once(' ') {
+        line.extend_from_slice(rest.as_bytes())?;
+    }
+    line.push(b'\n')?;
+    Ok(line)
 }
 
 impl Call {
@@ -159,6 +170,24 @@ impl Call {
             }
         }
         all
+    }
+
+    /// Takes all words, the first one too.
+    pub fn all_words(&mut self) -> Vec<String> {
+        self.next = self.words.len();
+        mem::replace(&mut self.words, Vec::new(self.alloc))
+    }
+
+    /// Takes the text after the first word, as a line.
+    pub fn line(&mut self) -> Vec<u8> {
+        self.next = self.words.len();
+        match line_of(self.alloc, self.line.as_str()) {
+            Ok(line) => line,
+            Err(_) => {
+                self.refuse();
+                Vec::new(self.alloc)
+            }
+        }
     }
 
     /// Takes the request that the words after the first one say.

@@ -7,6 +7,7 @@ mod call;
 mod ends;
 mod files;
 mod links;
+mod live;
 mod out;
 mod playing;
 mod serving;
@@ -17,6 +18,7 @@ use asking::Asking;
 use ends::Ending;
 use files::Filing;
 use links::Linking;
+use live::Live;
 use playing::{Script, Tally, play_all};
 use serving::Serving;
 use std::alloc::Global;
@@ -48,6 +50,7 @@ fn play_file(alloc: Global, script: &Script, tally: &mut Tally) -> Result<(), Tr
             let (serving, asking) = (None, None);
             play_all(script, tally, Ending { serving, asking })
         }
+        "live" => play_all(script, tally, Live::new(alloc)),
         "worlds" => {
             let (world, list) = (None, Vec::new(alloc));
             play_all(script, tally, Worlds { world, list })

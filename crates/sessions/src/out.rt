@@ -170,6 +170,35 @@ impl Out {
         }
     }
 
+    /// Appends lines with a bar between two of them, without the last line feed.
+    pub fn lines(&mut self, text: &[u8]) {
+        for byte in text.strip_suffix(b"\n".as_slice()).unwrap_or(text) {
+            if *byte == b'\n' {
+                self.put(" | ");
+            } else {
+                let appended = self.text.push(*byte).map_err(AllocError::from);
+                self.keep(appended);
+            }
+        }
+    }
+
+    /// Appends the lines that a program writes, if it writes any.
+    pub fn written(&mut self, text: &[u8]) {
+        if text.is_empty() {
+            return self.put("nothing");
+        }
+        self.lines(text);
+    }
+
+    /// Appends how a program ended: its exit status, and what it told.
+    pub fn ended(&mut self, status: u8, told: &[u8]) {
+        self.number("", status);
+        if !told.is_empty() {
+            self.put(" | ");
+        }
+        self.lines(told);
+    }
+
     /// Appends yes or no.
     pub fn yes(&mut self, is_so: bool) {
         self.put(if is_so { "yes" } else { "no" });
