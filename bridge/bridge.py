@@ -22,7 +22,7 @@ import contextlib
 import os
 import sys
 
-from decnet import log, nsp, program
+from decnet import log, manager, nsp, program
 from decnet import words as command
 from decnet.address import node_text
 from decnet.client import Client, InputFault, Requests
@@ -67,6 +67,7 @@ def serve(words, opened):
     where = words.interface or node.wire.name
     log.say(str(entry))
     log.say(f"node {node_text(words.node)} on {where}: takes links to object {nsp.FAL}")
+    manager.tell(manager.READY)
     for link in left:
         role.resume(link)
     return carry(role, signals)

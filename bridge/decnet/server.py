@@ -4,7 +4,7 @@ import itertools
 import time
 from dataclasses import dataclass
 
-from decnet import log, nsp
+from decnet import log, manager, nsp
 from decnet.address import node_text
 from decnet.end import Answer
 from decnet.journal import NOTE
@@ -261,6 +261,7 @@ class Server(Role):
             raise Stopped(FAULT)
         self.end.hurry()
         if self.stops == 1:
+            manager.tell(manager.STOPPING)
             self.disconnect(Reason.SHUTTING_DOWN, "stopped by a signal")
         else:
             self.end.close_seconds = 1

@@ -7,7 +7,7 @@ import re
 import sys
 from dataclasses import dataclass
 
-from decnet import nsp, options, privileges, program, udp
+from decnet import completion, nsp, options, privileges, program, udp
 from decnet.address import node_text
 from decnet.answers import shown
 from decnet.end import DAPLIVE
@@ -65,9 +65,14 @@ class Parser(argparse.ArgumentParser):
         raise Asked(self.format_help())
 
     @property
+    def actions(self):
+        """Its options and other words."""
+        return self._actions
+
+    @property
     def names(self):
         """The names of its options."""
-        return [name for action in self._actions for name in action.option_strings]
+        return [name for action in self.actions for name in action.option_strings]
 
 
 class Version(argparse.Action):
@@ -79,6 +84,13 @@ class Version(argparse.Action):
         except OSError:
             found = None
         raise Asked(f"{parser.prog} {found[1] if found else 'of no version'}\n")
+
+
+class Completion(argparse.Action):
+    """How bash completes the words."""
+
+    def __call__(self, parser, namespace, values, option_string=None):
+        raise Asked(completion.script(*build(), PEOPLE))
 
 
 # ---- what a word may be
@@ -341,6 +353,7 @@ def build():
     parser = Parser(prog="bridge.py", usage="bridge.py COMMAND ..", epilog="bridge.py COMMAND --help has the words of a command.",
                     description="One DECnet Phase IV end node before one live end of a DAP file access.")
     parser.add_argument("--version", action=Version, nargs=0, help="the version of this repository")
+    parser.add_argument("--completion", action=Completion, nargs=0, help="a script by which bash completes these words")
     roles = parser.add_subparsers(dest="role", required=True, metavar="COMMAND")
     found = {}
     for name, kind in ROLES.items():

@@ -24,6 +24,7 @@ ODD = {
     "examples/shown_tests.py": ["--no-such"],
     "hostile/check": ["--no-such", "--only nothing", "--programs /nowhere"],
     "tools/check": ["--no-such", "--seed x"],
+    "tools/man": ["--no-such", "", "/nowhere bridge/bridge.py"],
     "tools/screenshots": ["--no-such"],
     "tools/ladder": ["--no-such", "nowhere", "/", "README.md", "--range x", "--link 0", "--daplive /nowhere examples/wire.pcap"],
     "bench/capture.py": ["", "x", "10 x", "x typical", "10 typical x"],
