@@ -1,6 +1,6 @@
 //! Laws over the definitions alone. Each function does nothing: its contract is the law.
 
-ghost use Rattle.std.specs.Prelude.{◌≡◌, ◌+◌, ◌-◌, ◌<◌, ◌++◌, ◌∷◌, [], ℕ, List, None, Option, Result, Some, map, slice_get};
+ghost use Rattle.std.specs.Prelude.{◌≡◌, ◌+◌, ◌-◌, ◌<◌, ◌++◌, ◌∷◌, [], ℕ, List, length, None, Option, Result, Some, map, slice_get};
 ghost use Rattle.std.specs.List.{AllByRecursion};
 ghost use Rattle.nsp_link.specs.declared.link.Got.{Got as TheGot};
 ghost use Rattle.nsp_link.specs.Link.{IsSpelling};
@@ -23,17 +23,21 @@ ghost use Rattle.dap_end.specs.Node.{HasPort, NodeValue, OnLink, serves_on};
 ghost use Rattle.dap_end.specs.Ports.{PortValue};
 ghost use Rattle.dap_end.specs.Turns.{TakesPacket, WentOn};
 ghost use Rattle.dap_network.specs.Calls.{Leads, node_then, peer_then};
-ghost use Rattle.dap_network.specs.Headline.{NetworkHeadline};
+ghost use Rattle.dap_network.specs.Headline.{IsKeptAlong, NetworkHeadline};
 ghost use Rattle.dap_network.specs.Network.{IsNewNetwork, Network, NetworkEvent, NetworkRuns, Peer};
 
 /// A node and the clients of its links keep the headline, over every list of their calls, links that begin and end among
 /// them, and over a network that loses, repeats and reorders packets, but brings none altered or more than 2,047
 /// numbers old; beside them are strangers, who send anything. There is one order in which all was served: that of the
 /// calls. Of it all holds that `any_peers_are_served` says. And on each client's link its messages were served, each once
-/// and in order, and its reports are those of the answers that this order gives there.
+/// and in order, and its reports are those of the answers that this order gives there: at the end, and at every moment.
 pub fn many_links_keep_the_headline()
-    ensures { (first : Files) (events : List NetworkEvent) (old new : Network)
+    ensures at_last { (first : Files) (events : List NetworkEvent) (old new : Network)
         → IsNewNetwork first old → NetworkRuns old events new → NetworkHeadline first events new }
+    ensures along { (first : Files) (events : List NetworkEvent) (old new : Network)
+        → IsNewNetwork first old → NetworkRuns old events new
+        → IsKeptAlong old.node.noted.shared.setup first (length old.node.noted.shared.sessions)
+        [] [] old events new }
 {
     crate::files_stay_sound();
 }
