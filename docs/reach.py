@@ -14,11 +14,13 @@ LENT = re.compile(r"^pub use Rattle\.\w+\.specs\.Inner\.[\w.]+\.\{(.*?)\}$", re.
 WORD = re.compile(r"[A-Za-z_][\w-]*(?:\.[A-Za-z_][\w-]*)?")
 
 
+@functools.cache
 def read(path):
     with open(f"{ROOT}/{path}", encoding="utf-8") as file:
         return file.read()
 
 
+@functools.cache
 def paths():
     """The files of definitions, without those that only private contracts cite."""
     found = sorted(glob.glob("crates/*/specs/**/*.antt", root_dir=ROOT, recursive=True))
