@@ -1,5 +1,6 @@
 """Standard output that nobody reads: the link goes on, and what waits has a bound."""
 import os
+import select
 import signal
 import threading
 import time
@@ -232,7 +233,8 @@ class BridgeTest(PairCase):
 
     def test_a_signal_ends_a_client_whose_text_nobody_reads(self):
         child = self.client("type", f"{SERVING}::F", most=FEW)
-        time.sleep(2)
+        until(lambda: select.select([self.reading], [], [], 0)[0], "its text")
+        time.sleep(1)
         self.assertEqual(child.finish(signal.SIGINT), 1)
         self.assertIn("stopped by a signal", child.told())
         self.stop(self.server)
