@@ -35,7 +35,8 @@ TOP = re.compile(r"(?<![\w/.])\./(dapnsp|daplive)\b(?: --try\b)?")
 TRIED = re.compile(r"(?<![\w/.])crates/(dapnsp|daplive)/out/(?:try/)?\1\b")
 BUILT = re.compile(r"\b(?:dapnsp|daplive|bridge\.py|ladder|lossy\.py|probe)\b")  # what needs a program that is built
 TWO_NODES = "examples/two_nodes"
-PRINTED = ["dap_text", "dap_listing", "dap_follow", "dap_capture", "dap_live", "linewise"]  # their definitions have texts
+PRINTED = ["texts", "dap_text", "dap_listing", "dap_follow", "dap_capture", "dap_live", "linewise"]  # their definitions have texts
+ALSO = ["dap_meanings/specs/Faults.antt"]  # and these, but not the words behind lines
 LITERAL = re.compile(r'codes "((?:[^"\\]|\\.)*)"')
 CODE = re.compile(r"^```.*?^```|^    .*?$|`[^`\n]*`", re.M | re.S)
 WORD = re.compile(r"(?<![\w-])[a-z][a-z-]*")
@@ -58,7 +59,8 @@ def wrong_words():
     pages = {page: (ROOT / page).read_text() for page in PAGES}
     explained = {word for text in pages.values() for code in CODE.findall(text) for word in WORD.findall(code)}
     printed = set()
-    for file in sorted(file for name in PRINTED for file in (ROOT / "crates" / name / "specs").glob("*.antt")):
+    found = [file for name in PRINTED for file in (ROOT / "crates" / name / "specs").glob("*.antt")]
+    for file in sorted([*found, *(ROOT / "crates" / name for name in ALSO)]):
         words = {word for literal in LITERAL.findall(file.read_text()) for word in WORD.findall(literal.replace("\\n", " "))}
         printed |= words
         if words - explained:

@@ -1,10 +1,11 @@
 //! Laws over the definitions alone. The functions do nothing: their contracts are the laws.
 
-ghost use Rattle.std.specs.Prelude.{◌≡◌, ℕ, List, map};
-ghost use Rattle.std.specs.List.{AllByRecursion};
+ghost use Rattle.std.specs.Prelude.{◌≡◌, ◌<◌, ◌^◌, ℕ, List, length, map};
+ghost use Rattle.std.specs.List.{AllByRecursion, flat_map};
 ghost use Rattle.capture_file.specs.Files.{IsCutShort, IsWhole, Stops};
 ghost use Rattle.capture_file.specs.Meanings.{Record};
-ghost use Rattle.capture_file.specs.Written.{FitsFrame, Frame, pcap_bytes, record_of_frame};
+ghost use Rattle.capture_file.specs.Written.{FitsFrame, Frame, SecondParts, PcapHeader, pcap_bytes, record_of_frame};
+ghost use Rattle.capture_file.specs.WrittenBlocks.{FitsSection, WrittenSection, pcapng_bytes, records_of_section};
 ghost use Rattle.capture_file.specs.declared.fault.FaultKind.{FaultKind};
 ghost use Rattle.capture_file.specs.declared.units.Order.{Order as TheOrder};
 
@@ -27,8 +28,14 @@ pub fn files_have_one_reading()
         (at offset : ℕ) → IsCutShort bytes records offset → Stops bytes others kind at → ⊥ }
 {}
 
-/// States that a pcap file of frames, as a plain writer writes it, is read as these frames.
+/// States that a file that is made of frames is read as these frames: a pcap file of a header and records, in either
+/// byte order and with either parts of a second; a pcapng file of sections, which have interfaces with options, enhanced
+/// and simple packets, and other blocks.
 pub fn written_files_are_read()
-    ensures { (order : TheOrder) (frames : List Frame) → AllByRecursion FitsFrame frames
-        → IsWhole (pcap_bytes order frames) (map record_of_frame frames) }
+    ensures pcap { (order : TheOrder) (parts : SecondParts) (header : PcapHeader)
+        (frames : List Frame) → header.above < 2 ^ 16 → AllByRecursion FitsFrame frames
+        → IsWhole (pcap_bytes order parts header frames) (map (record_of_frame parts) frames) }
+    ensures pcapng { (sections : List WrittenSection) → 0 < length sections
+        → AllByRecursion FitsSection sections
+        → IsWhole (pcapng_bytes sections) (flat_map records_of_section sections) }
 {}

@@ -17,7 +17,7 @@ use Rattle.dap_world.specs.Setups.{IsWorldSetup}
 use Rattle.dap_world.specs.Wires.{IsOnWire}
 use Rattle.dap_world.specs.Runs.{writing_end}
 use Rattle.dap_text.specs.Answers.{ask_text, got_text}
-use Rattle.dap_text.specs.Text.{line_feed}
+use Rattle.texts.specs.Text.{line_feed}
 use Rattle.dap_text.specs.Reports.{report_text}
 use Rattle.dap_text.specs.Tables.{files_text}
 use Rattle.dap_orders.specs.Orders.{event_of, world_setup_of}

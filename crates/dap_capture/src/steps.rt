@@ -5,16 +5,17 @@ ghost use Rattle.dap_events.specs.declared.event.Event.TheVariants as event;
 ghost use Rattle.dap_world.specs.Machine.{reports_by_a, end_of};
 ghost use Rattle.dap_world.specs.Naming.{NamedIsThere};
 ghost use Rattle.dap_world.specs.Runs.{writing_end};
-ghost use Rattle.dap_text.specs.Adding.{Adds};
-ghost use Rattle.dap_text.specs.Adding.{AddsSome};
+ghost use Rattle.texts.specs.Adding.{Adds};
+ghost use Rattle.texts.specs.Adding.{AddsSome};
 ghost use Rattle.dap_orders.specs.Orders.{event_of_order};
 ghost use Rattle.dap_capture.specs.Inner.Playing.{AddsStep, IsPacketAt};
 ghost use Rattle.dap_capture.specs.Played.{IsPacketWritten, IsStepText, end_text, refusal_line, refusal_text};
 
 use dap_orders::Order;
-use dap_text::{ask_word, got_word, push_decimal, push_hex, push_number, push_report, push_str};
+use dap_text::{ask_word, got_word, push_report};
 use dap_world::{End, Step, World, WorldFault};
 use std::alloc::AllocError;
+use texts::{push_decimal, push_hex, push_number, push_str};
 
 /// Returns the word for an end.
 fn end_word(end: End) -> &'static str

@@ -1,9 +1,14 @@
 pub mod ForCallers
-pub mod InOrderLemmas
 pub mod NameLemmas
-pub mod KeepingLemmas
-pub mod ReadingLemmas
-pub mod CutLemmas
-pub mod JoiningLemmas
-pub mod StreamLemmas
-pub mod WholeLemmas
+pub mod OrderLemmas
+mod StayLemmas
+mod GlueLemmas
+mod KeptLemmas
+mod JoinLemmas
+mod SegmentLemmas
+mod GrowLemmas
+mod RestLemmas
+mod WatchLemmas
+mod FrameLemmas
+mod LineLemmas
+pub mod TalkLemmas

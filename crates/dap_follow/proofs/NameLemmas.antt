@@ -1,6 +1,6 @@
 -- Streams that are the same.
 use mathlib.Core.Path.{fun_ext}
-use Rattle.std.proofs.Common.{◌≡◌, ◌==◌, ◌&&◌, ◌||◌, ◌++◌, ◌+◌, ℕ, Bool, true, false, bytes_eq, not, List, [], ◌∷◌, length, refl, sym, ap, ◌∙◌, subst, Option, Some, None, Ok, Err, add-zero, arith, ⊎_elim}
+use Rattle.std.proofs.Common.{◌≡◌, ◌==◌, ◌&&◌, ◌||◌, ◌++◌, ◌+◌, ℕ, Bool, true, false, bytes_eq, List, [], ◌∷◌, length, refl, sym, ap, ◌∙◌, subst, Option, Some, None, Ok, Err, add-zero, arith, ⊎_elim}
 use Rattle.std.specs.List.{cons_option, enumerate_from, filter_map, list_any}
 use Rattle.std.proofs.lemmas.Bool.{and_parts, cases_Bool, eqb-true, false_from_ne_true, false≢true, or_from, or_parts}
 use Rattle.std.proofs.lemmas.Bool.Decides.{nat_tests}
@@ -15,7 +15,7 @@ use Rattle.dap_listing.specs.declared.lines.Direction.TheVariants.{Right, Left}
 use Rattle.dap_listing.specs.Listing.{arrow_text}
 use Rattle.dap_follow.specs.Streams.{CapturedItem, came_as, came_in, is_same, streams}
 use Rattle.dap_follow.specs.declared.streams.Stream.{Stream}
-use Rattle.dap_follow.specs.Inner.Keeping.{stream_of}
+use Rattle.dap_follow.specs.Inner.Streams.{stream_of}
 use Rattle.dap_follow.specs.Segments.{NumberedSegment, HasStreamAt}
 use Rattle.std.specs.Prelude.{slice_get}
 use Rattle.dap_follow.specs.contracts.streams.StreamPartialEq.TheImpl as impl
@@ -135,15 +135,7 @@ no_came k ((way, Err fault) ∷ packets) n none = no_came k packets (n + 1) none
 pub unseen : (k : Stream) (packets : List CapturedItem) → list_any (is_same k) (streams packets) ≡ false → came_in k packets ≡ []
 unseen k packets none = no_came k packets 1 (inserts_all k (filter_map stream_of packets) [] none).1
 
--- ---- answers of the program
-
-pub not_false : (b : Bool) → not b ≡ false → b ≡ true
-not_false true h = refl
-not_false false h = absurd cc
-
-pub not_true : (b : Bool) → not b ≡ true → b ≡ false
-not_true true h = absurd cc
-not_true false h = refl
+-- ---- where a stream stands
 
 pub same_at : (stream : Stream) (index : ℕ) (keys : List Stream) → (other : Stream) × (slice_get keys index ≡ Some other) × (program_eq stream other ≡ true) → HasStreamAt stream index keys
 same_at stream index keys at = (at.0, at.1, subst (λ (e : Stream → Stream → Bool). e stream at.0 ≡ true) eq_is at.2)

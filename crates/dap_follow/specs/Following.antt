@@ -1,13 +1,18 @@
 -- The listing of a capture in which messages are reassembled.
-use Rattle.std.specs.Prelude.{◌≡◌, ℕ, ◌+◌, ◌-◌, ◌%◌, ◌==◌, nat_lt, Bool, get_or, List, [], ◌∷◌, ◌++◌, length, codes, if◌then◌else◌, Option, Result, Ok}
+use Rattle.std.specs.Prelude.{◌≡◌, ℕ, ◌+◌, ◌-◌, ◌%◌, ◌==◌, nat_le, nat_lt, Bool, get_or, List, [], ◌∷◌, ◌++◌, length, codes, if◌then◌else◌, Option, None, Result, Ok}
 use Rattle.std.specs.List.{AllZip, concat, enumerate_from, filter, flat_map, zip}
 use Rattle.std.specs.Fmt.{decimal}
+use Rattle.std.specs.Option.{option_map_or}
+use Rattle.std.specs.Result.{result_unwrap_or}
+use Rattle.std.specs.Str.Lines.{lines}
 use Rattle.hex.specs.Hex.{decode_of}
-use Rattle.dap_text.specs.Text.{line_feed, word_text}
+use Rattle.texts.specs.Text.{line_feed, word_text}
+use Rattle.dap_meanings.specs.Frames.{frame_words}
 use Rattle.dap_meanings.specs.Meanings.{packet_words, with_words}
 use Rattle.linewise.specs.Gives.{GivesText}
-use Rattle.dap_listing.specs.Listing.{arrow_text, captures, frames, heading, packet_limit, faults_from}
-use Rattle.dap_listing.specs.Lines.{Capture}
+use Rattle.linewise.specs.Talks.{max_line}
+use Rattle.dap_listing.specs.Listing.{arrow_text, captures, heading, packet_limit, faults_from}
+use Rattle.dap_listing.specs.Lines.{Capture, line_of}
 use Rattle.dap_listing.specs.Messages.{IsMessagesText}
 use Rattle.dap_listing.specs.Packets.{IsSeen, seen_line}
 use Rattle.linewise.specs.declared.fault.CaptureFault.{CaptureFault}
@@ -37,6 +42,20 @@ piece_text word p = word ++ (range_text p.head.sequence (tail p).sequence ++ len
 -- the lines of a message: its heading, and those of the DAP messages in it
 abbrev pub IsMessageText : (in_words : Bool) → Fragment → List ℕ → Type 0
 IsMessageText in_words p text = (lines : List ℕ) × IsMessagesText in_words (payload p) lines × (text ≡ piece_text (codes "  message") p ++ lines)
+
+-- what a line tells of the packet directly after it: the words of the frame that it describes, unless it is too long
+abbrev pub comment_words : List ℕ → List (List ℕ)
+comment_words line = if nat_le (length line) max_line then frame_words line else []
+
+-- Of each packet in these lines, what the line directly before it tells; the line before the first one tells this.
+abbrev pub frames_after : ℕ → (told : List (List ℕ)) → List (List ℕ) → List (List (List ℕ))
+frames_after limit told [] = []
+frames_after limit told (line ∷ others) =
+    option_map_or (λ capture. told ∷ []) (result_unwrap_or (line_of limit line) None) [] ++ frames_after limit (comment_words line) others
+
+-- of each packet of an input, what the line directly before it tells
+abbrev pub frames : ℕ → List ℕ → List (List (List ℕ))
+frames limit input = frames_after limit [] (lines input)
 
 -- the line of a packet without words
 abbrev pub plain_line : ℕ → CapturedItem → List ℕ

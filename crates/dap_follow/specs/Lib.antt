@@ -3,3 +3,4 @@ pub mod Streams
 pub mod Segments
 pub mod Joined
 pub mod Following
+pub mod Watched

@@ -2,8 +2,6 @@
 use Rattle.std.specs.Prelude.{◌≡◌, ℕ, true, List, [], ◌∷◌, max, slice_get, Some, Ok}
 use Rattle.nsp_seg.specs.declared.packet.Packet.TheVariants.{Segment}
 use Rattle.nsp_seg.specs.declared.packet.SegmentFields.{SegmentFields}
-use Rattle.dap_listing.specs.Captured.{segment_fields}
-use Rattle.dap_listing.specs.declared.captured.CapturedSegment.{CapturedSegment}
 use Rattle.dap_listing.specs.declared.lines.Direction.{Direction}
 use Rattle.dap_follow.specs.Streams.{CapturedItem, Sequenced, is_same}
 use Rattle.dap_follow.specs.declared.streams.Stream.{Stream}
@@ -16,13 +14,9 @@ NumberedSegment = ℕ × SegmentFields
 abbrev pub sequenced_at : ℕ → NumberedSegment → Sequenced
 sequenced_at sequence c = record { sequence = sequence; packet = c.0; first = c.1.first; last = c.1.last; payload = c.1.payload }
 
--- a captured one
-abbrev pub numbered_segment : ℕ → CapturedSegment → NumberedSegment
-numbered_segment packet c = (packet, segment_fields c)
-
 -- the captured packet of a segment
-abbrev pub captured_segment : Direction → CapturedSegment → CapturedItem
-captured_segment way c = (way, Ok (Segment (segment_fields c)))
+abbrev pub captured_segment : Direction → SegmentFields → CapturedItem
+captured_segment way c = (way, Ok (Segment c))
 
 -- the highest of their sequence numbers, and of one before them
 abbrev pub highest_in : ℕ → List Sequenced → ℕ

@@ -1,16 +1,15 @@
-//! The listing of a capture in which the segments of each NSP message are reassembled.
+//! The listing of a capture in which the segments of each NSP message are reassembled, whole or as its lines come.
 #![tactic(auto)]
 
 mod following;
-mod joining;
+mod kept;
 mod laws;
-mod reading;
+mod rest;
 mod segments;
 mod streams;
+mod text;
+mod watching;
 
 pub use following::follow;
-pub use joining::{push_length, push_range, push_stream};
-pub use laws::cut_messages_are_listed;
-pub use reading::push_packet_line;
-pub use segments::{ROUND, sequence_near};
-pub use streams::Stream;
+pub use laws::{listed_messages_can_go, listed_messages_stay, watched_captures_are_followed};
+pub use watching::watch;

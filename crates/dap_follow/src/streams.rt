@@ -1,37 +1,36 @@
-//! The streams of a capture, and the segments of each.
+//! What is kept of the streams of a capture.
 
-ghost use Rattle.std.specs.Prelude.{◌≡◌, ◌<◌, ◌+◌, ◌/◌, ◌^◌, ◌++◌, ◌∷◌, [], List, IfOk, OnOk, length};
-ghost use Rattle.dap_listing.specs.Captured.{Spell};
-ghost use Rattle.dap_follow.specs.Streams.{CapturedItem};
-ghost use Rattle.dap_follow.specs.Inner.Keeping.{IsIndexed, KeepsAll, KeepsSome};
+ghost use Rattle.std.specs.Prelude.{◌≡◌, ◌<◌, ◌^◌, [], List, IfOk, length};
 ghost use Rattle.dap_follow.specs.Segments.{captured_segment};
+ghost use Rattle.dap_follow.specs.Streams.{CapturedItem, Sequenced};
+ghost use Rattle.dap_follow.specs.Inner.Streams.{Grows, IsIndexedStream, KeepsAllOrdered};
 
-use crate::segments::StreamSegments;
-use dap_listing::{CapturedSegment, Direction};
+use crate::kept::{KeptSegments, Whole};
+use dap_listing::Direction;
 use indexmap::IndexSet;
-use nsp_seg::Seq12;
+use nsp_seg::{SegmentFields, Seq12};
 use std::alloc::{AllocError, Global};
 
 /// The segments that go one way between two ends.
 #[derive(Clone, Copy, PartialEq, Eq, Hash)]
-pub struct Stream {
-    pub way: Direction,
-    pub dst: u16,
-    pub src: u16,
+pub(crate) struct Stream {
+    pub(crate) way: Direction,
+    pub(crate) dst: u16,
+    pub(crate) src: u16,
 }
 
-/// The streams in the order in which they appear, and the segments of each that count.
+/// The streams in the order in which they appear, and what is kept of each.
 #[derive(Drop)]
-pub(crate) struct Streams<'a> {
+pub(crate) struct Streams {
     pub(crate) alloc: Global,
     pub(crate) names: IndexSet<Stream>,
-    pub(crate) by_stream: Vec<StreamSegments<'a>>,
+    pub(crate) by_stream: Vec<KeptSegments>,
 }
 
-impl<'a> Streams<'a> {
+impl Streams {
     /// Returns no streams. It takes no memory.
     pub(crate) fn new(alloc: Global) -> Self
-        ensures { KeepsAll [] result }
+        ensures { KeepsAllOrdered [] [] result }
     {
         Streams {
             alloc,
@@ -40,32 +39,30 @@ impl<'a> Streams<'a> {
         }
     }
 
-    /// Returns the index at which the segments of a stream are kept. Where the stream is new, it begins with the
-    /// number.
+    /// Returns the index at which a stream is kept. Where the stream is new, it begins with the number.
     fn stream_index(&mut self, stream: Stream, number: Seq12) -> Result<usize, AllocError>
-        ensures { IfOk result (IsIndexed stream number self.old self.new) }
+        ensures within { IfOk result (λ index. index < length self.new.by_stream.items) }
+        ensures indexed { length self.old.names.keys ≡ length self.old.by_stream.items
+            → IfOk result (IsIndexedStream stream number self.old self.new) }
     {
         let (index, is_new) = self.names.insert_full(stream)?;
-        if !is_new {
+        if !is_new && index < self.by_stream.len() {
             return Ok(index);
         }
-        self.by_stream
-            .push(StreamSegments::new(self.alloc, number))?;
-        Ok(index)
+        self.by_stream.push(KeptSegments::new(self.alloc, number))?;
+        Ok(self.by_stream.len() - 1)
     }
 
-    /// Takes the segment of the packet after some packets.
+    /// Takes a segment; returns the message that is whole with it, and its bytes in the vector.
     pub(crate) fn add(
         &mut self,
-        packet: usize,
         way: Direction,
-        segment: &CapturedSegment<'a>,
-    ) -> Result<(), AllocError>
-        requires { KeepsSome packet self.old }
-        ensures { OnOk result ((packets : List CapturedItem)
-            → KeepsAll packets self.old → packet ≡ length packets + 1
-            → Spell segment.now.digits.now (length segment.now.digits.now / 2)
-            → KeepsAll (packets ++ captured_segment way segment.now ∷ []) self.new) }
+        segment: &SegmentFields<'_>,
+        bytes: &mut Vec<u8>,
+    ) -> Result<Option<Whole>, AllocError>
+        ensures { IfOk result (λ found. (packets : List CapturedItem) (ordered : List (List Sequenced))
+            → length packets < 2 ^ 50 → KeepsAllOrdered packets ordered self.old
+            → Grows packets (captured_segment way segment.now) ordered self.new bytes.new.items found) }
     {
         let stream = Stream {
             way,
@@ -73,6 +70,6 @@ impl<'a> Streams<'a> {
             src: segment.src,
         };
         let index = self.stream_index(stream, segment.number)?;
-        self.by_stream[index].add(packet, segment)
+        self.by_stream[index].add(segment, bytes)
     }
 }

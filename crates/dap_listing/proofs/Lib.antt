@@ -1,11 +1,3 @@
-pub mod ForCallers
-pub mod FrameLemmas
-pub mod ProgressLemmas
-pub mod DecodeLemmas
-pub mod DigitLemmas
-pub mod HexTextLemmas
-pub mod ItemLemmas
 pub mod ListingLemmas
 pub mod MessageLemmas
 pub mod OneListing
-pub mod PacketLemmas

@@ -3,13 +3,21 @@ use Rattle.std.proofs.Common.{◌≡◌, ◌<◌, ◌+◌, ◌-◌, ◌++◌, �
 use Rattle.std.specs.List.{flat_map}
 use Rattle.std.proofs.lemmas.List.{append_assoc, append-nil}
 use Rattle.std.proofs.Math.Seq.{take-append-add}
+use Rattle.std.specs.Global.{Vec}
+use Rattle.texts.specs.Adding.{StillBegins}
 use Rattle.dap_msg.specs.declared.items.Item.{Item}
 use Rattle.dap_msg.specs.Items.{ItemAt, ItemsFrom, Items}
 use Rattle.dap_listing.specs.Messages.{IsMessagesText, item_line, item_line_in}
-use Rattle.dap_text.specs.Text.{line_feed}
-use Rattle.dap_meanings.specs.Meanings.{item_words, words_text, with_words}
+use Rattle.texts.specs.Text.{line_feed}
+use Rattle.dap_meanings.specs.Meanings.{item_words, words_text, with_words, KeepsButEnd}
 use Rattle.dap_msg.specs.declared.items.Item.TheVariants.{Whole, Malformed}
 use Rattle.dap_msg.specs.declared.message.Message.TheVariants.{Config, Attrib, Access, Control, Contran, Ack, Accomp, Filedata, Status, Other}
+
+-- what began with a text still does when more is appended
+pub begins_further : (first then last : Vec ℕ) → StillBegins first then → StillBegins then last → StillBegins first last
+unfolding StillBegins
+begins_further first then last (one, is_one) (other, is_other) =
+    (one ++ other, is_other ∙ ap (λ (l : List ℕ). l ++ other) is_one ∙ append_assoc first.items one other)
 
 -- `done` is what stands before the lines of the items from the offset on
 abbrev pub GoesOn : (in_words : Bool) → List ℕ → ℕ → List ℕ → Type 0
@@ -62,6 +70,16 @@ words_appended words old line some =
 pub line_in_words : (item : Item) (old text new : List ℕ) → text ≡ old ++ item_line item → new ≡ with_words (item_words item) text → new ≡ old ++ item_line_in true item
 line_in_words item old text new line words =
     words ∙ ap (with_words (item_words item)) line ∙ words_appended (item_words item) old (item_line item) (some_in_line item)
+
+-- what begins with all of a text but for its last byte begins with what was before its last line
+pub begins_before_line : (item : Item) (old text new : Vec ℕ) → text.items ≡ old.items ++ item_line item → KeepsButEnd text new → StillBegins old new
+unfolding StillBegins KeepsButEnd
+begins_before_line item old text new line (more, is) =
+    let some = some_in_line item in
+    let count : length (old.items ++ item_line item) - 1 ≡ length old.items + (length (item_line item) - 1) = omega (arith, length-append old.items (item_line item), some) in
+    let front : take (length text.items - 1) text.items ≡ old.items ++ take (length (item_line item) - 1) (item_line item) =
+    rw line (ap (λ (n : ℕ). take n (old.items ++ item_line item)) count ∙ take-append-add old.items (item_line item) (length (item_line item) - 1)) in
+    (take (length (item_line item) - 1) (item_line item) ++ more, is ∙ ap (λ (l : List ℕ). l ++ more) front ∙ append_assoc old.items _ more)
 
 pub joined : (old text new done lines : List ℕ) → text ≡ old ++ done → new ≡ text ++ lines → new ≡ old ++ (done ++ lines)
 joined old text new done lines so_far appended = appended ∙ ap (λ t. t ++ lines) so_far ∙ append_assoc old done lines

@@ -16,7 +16,7 @@ use Rattle.dap_listing.specs.Listing.{CaptureLines, IsCapturedText, no_capture_m
 use Rattle.dap_listing.specs.Lines.{Capture}
 use Rattle.dap_listing.specs.declared.listing.Listed.{Listed}
 use Rattle.dap_listing.specs.declared.listing.Listed.TheVariants.{Packets, Messages}
-use Rattle.dap_text.specs.Text.{line_feed}
+use Rattle.texts.specs.Text.{line_feed}
 
 -- each is a byte
 abbrev AreBytes : List ℕ → Type 0

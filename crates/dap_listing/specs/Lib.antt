@@ -3,4 +3,3 @@ pub mod Lines
 pub mod Messages
 pub mod Packets
 pub mod Listing
-pub mod Captured

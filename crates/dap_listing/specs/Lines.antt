@@ -1,7 +1,7 @@
 -- The lines of a capture.
-use Rattle.std.specs.Prelude.{ℕ, ◌*◌, ◌==◌, ◌&&◌, nat_le, List, [], ◌∷◌, if◌then◌else◌, length, Option, Some, None, Result, Ok, Err}
+use Rattle.std.specs.Prelude.{ℕ, ◌*◌, ◌==◌, ◌&&◌, nat_le, List, ◌∷◌, if◌then◌else◌, length, Option, Some, None, Result, Ok, Err}
 use Rattle.linewise.specs.Talks.{is_skipped}
-use Rattle.dap_text.specs.Words.{is_hex_text}
+use Rattle.texts.specs.Words.{is_hex_text}
 use Rattle.linewise.specs.declared.fault.CaptureFault.{CaptureFault}
 use Rattle.linewise.specs.declared.fault.CaptureFault.TheVariants.{BadLine, TooLarge}
 use Rattle.dap_listing.specs.declared.lines.Direction.{Direction}

@@ -2,15 +2,13 @@
 use Rattle.std.specs.Prelude.{◌≡◌, ℕ, ◌+◌, false, List, [], ◌∷◌, ◌++◌, length, codes, Option, None, option_map, Result, Ok}
 use Rattle.std.specs.List.{concat, filter_map, enumerate_from}
 use Rattle.std.specs.Fmt.{decimal}
-use Rattle.std.specs.Option.{option_map_or}
-use Rattle.dap_meanings.specs.Frames.{frame_words}
 use Rattle.std.specs.Result.{result_err, result_unwrap_or}
 use Rattle.std.specs.Str.Lines.{lines}
 use Rattle.hex.specs.Hex.{decode_of}
 use Rattle.dap_msg.specs.BothEnds.{max_nsp_message}
 use Rattle.dap_listing.specs.Lines.{Capture, line_of}
 use Rattle.dap_listing.specs.Packets.{IsPacketText}
-use Rattle.dap_text.specs.Text.{line_feed}
+use Rattle.texts.specs.Text.{line_feed}
 use Rattle.dap_listing.specs.Messages.{IsMessagesText}
 use Rattle.linewise.specs.Gives.{GivesText}
 use Rattle.dap_listing.specs.declared.listing.Listed.{Listed}
@@ -29,16 +27,6 @@ faults_from limit number bytes =
 -- what was captured, in order
 abbrev pub captures : ℕ → List ℕ → List Capture
 captures limit input = filter_map (λ line. result_unwrap_or (line_of limit line) None) (lines input)
-
--- Of each packet in these lines, the words of the line directly before it; this line was before the first one.
-abbrev pub frames_after : ℕ → (before : List ℕ) → List (List ℕ) → List (List (List ℕ))
-frames_after limit before [] = []
-frames_after limit before (line ∷ others) =
-    option_map_or (λ capture. frame_words before ∷ []) (result_unwrap_or (line_of limit line) None) [] ++ frames_after limit line others
-
--- of each packet of an input, the words of the line directly before it
-abbrev pub frames : ℕ → List ℕ → List (List (List ℕ))
-frames limit input = frames_after limit [] (lines input)
 
 -- the direction
 abbrev pub arrow_text : Direction → List ℕ

@@ -7,8 +7,8 @@ use Rattle.nsp_seg.specs.Packets.{Spells, HasFault}
 use Rattle.nsp_seg.specs.declared.packet.Packet.TheVariants.{Segment, DataAck}
 use Rattle.nsp_seg.specs.declared.packet.AckField.{AckField}
 use Rattle.nsp_seg.specs.declared.packet.SegFault.{SegFault}
-use Rattle.dap_text.specs.Answers.{fault_line}
-use Rattle.dap_text.specs.Text.{line_feed, word_text}
+use Rattle.dap_meanings.specs.Faults.{fault_line}
+use Rattle.texts.specs.Text.{line_feed, word_text}
 use Rattle.dap_listing.specs.Messages.{IsMessagesText}
 
 -- an acknowledgement field: its qualifier and its number

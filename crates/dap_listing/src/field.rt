@@ -2,15 +2,15 @@
 
 ghost use Rattle.std.specs.Prelude.{◌≡◌, ◌++◌, ◌∷◌, [], OnOk, codes, length, option_copied};
 ghost use Rattle.std.specs.List.{concat, flat_map};
-ghost use Rattle.dap_text.specs.Adding.{Adds};
+ghost use Rattle.texts.specs.Adding.{Adds, StillBegins};
 ghost use Rattle.dap_listing.specs.Messages.{attributes_text, control_text};
-ghost use Rattle.dap_text.specs.Text.{line_feed};
+ghost use Rattle.texts.specs.Text.{line_feed};
 ghost use Rattle.dap_listing.specs.Inner.Fields.{field_text};
 
 use dap_msg::{Attributes, Bytes, ControlFields};
-use dap_text::{push_image, push_number, push_str};
 use itoa::Integer;
 use std::alloc::AllocError;
+use texts::{push_image, push_number, push_str};
 
 /// A field by its name, with its value where it is there.
 #[derive(Clone, Copy)]
@@ -76,9 +76,11 @@ pub(crate) fn control_fields<'a>(c: &ControlFields<'a>) -> [Field<'a>; 6]
 }
 
 /// Appends a number after its name.
+#[tactic(auto, unfolding(texts::specs::Adding::StillBegins))]
 fn push_value<I: Integer>(text: &mut Vec<u8>, name: &str, value: I) -> Result<(), AllocError>
-    ensures { OnOk result (Adds text.old text.new
+    ensures added { OnOk result (Adds text.old text.new
         (concat (codes " " ∷ name.now ∷ codes "=" ∷ I.text value ∷ []))) }
+    ensures kept { StillBegins text.old text.new }
 {
     push_str(text, " ")?;
     push_str(text, name)?;
@@ -86,8 +88,10 @@ fn push_value<I: Integer>(text: &mut Vec<u8>, name: &str, value: I) -> Result<()
 }
 
 /// Appends a field that is there.
+#[tactic(auto, unfolding(texts::specs::Adding::StillBegins))]
 fn push_field(text: &mut Vec<u8>, field: Field<'_>) -> Result<(), AllocError>
-    ensures { OnOk result (Adds text.old text.new (field_text field.entry)) }
+    ensures added { OnOk result (Adds text.old text.new (field_text field.entry)) }
+    ensures kept { StillBegins text.old text.new }
 {
     match field {
         Field::Byte(name, Some(value)) => push_value(text, name, value),
@@ -108,8 +112,10 @@ fn push_field(text: &mut Vec<u8>, field: Field<'_>) -> Result<(), AllocError>
 }
 
 /// Appends the fields that are there, and ends the line.
+#[tactic(auto, unfolding(texts::specs::Adding::StillBegins))]
 pub(crate) fn push_fields(text: &mut Vec<u8>, fields: &[Field<'_>]) -> Result<(), AllocError>
-    ensures { OnOk result (Adds text.old text.new (flat_map field_text fields.now ++ line_feed)) }
+    ensures added { OnOk result (Adds text.old text.new (flat_map field_text fields.now ++ line_feed)) }
+    ensures kept { StillBegins text.old text.new }
 {
     for field in fields {
         push_field(text, *field)?;

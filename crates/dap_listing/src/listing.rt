@@ -1,28 +1,26 @@
 //! The listing of an input: of packets, or of NSP messages.
 
-ghost use Rattle.std.specs.Prelude.{◌≡◌, ◌≢◌, ◌≤◌, ◌<◌, ◌+◌, ◌-◌, ◌⊎◌, [], drop, OnErr, IfSome, ◌*◌, ◌^◌, Some, true, false, IfErr, IfOk, None, OnOk, Ok, length, option_map, IsErrOf};
+ghost use Rattle.std.specs.Prelude.{◌≡◌, ◌≢◌, ◌≤◌, ◌<◌, ◌*◌, ◌^◌, ◌⊎◌, [], IfErr, IfOk, IfSome, IsErrOf, Ok, OnOk, Some, length, option_map, true};
+ghost use Rattle.linewise.specs.Firsts.{IsFirst};
 ghost use Rattle.linewise.specs.Gives.{TakesAnInput, TakesWithinLimit};
-ghost use Rattle.dap_listing.specs.Inner.Adding.{AddsCapture};
-ghost use Rattle.dap_text.specs.Adding.{AddsSome};
-ghost use Rattle.linewise.specs.Cuts.{HasNoEnd, IsEnd};
-ghost use Rattle.dap_listing.specs.Inner.Cutting.{FaultsGoOn, IsFirstFault, ListingGoesOn};
-ghost use Rattle.dap_listing.specs.Captured.{Spell, digit_bytes};
-ghost use Rattle.dap_listing.specs.Inner.Progress.{IsInputFault, IsAllListed, TextGives};
-ghost use Rattle.linewise.specs.declared.fault.CaptureFault.TheVariants.{NoMemory, TooLarge, WriteFailed};
-ghost use Rattle.dap_text.specs.Words.{is_hex_text as is_spelled};
+ghost use Rattle.linewise.specs.declared.fault.CaptureFault.TheVariants.{NoMemory, ReadFailed, TooLarge, WriteFailed};
+ghost use Rattle.texts.specs.Adding.{AddsSome};
+ghost use Rattle.texts.specs.Words.{is_hex_text as is_spelled};
 ghost use Rattle.dap_listing.specs.Lines.{digits_line, line_of};
-ghost use Rattle.dap_listing.specs.Listing.{IsCapturedText, line_limit};
+ghost use Rattle.dap_listing.specs.Listing.{IsCapturedText, faults_from, line_limit};
+ghost use Rattle.dap_listing.specs.Inner.Adding.{AddsCapture};
 ghost use Rattle.dap_listing.specs.Inner.Lines.{fault_of_line};
+ghost use Rattle.dap_listing.specs.Inner.Texts.{IsListing, TextGives};
 
 use crate::captures::{MAX_PACKET, push_heading};
 use crate::lines::{Direction, Head, parse_head};
 use crate::message::push_messages;
 use crate::packet::push_packet;
 use dap_msg::MAX_MESSAGE;
-use dap_text::{is_hex_text, push_number, push_str};
-use linewise::{CHUNK, CaptureFault, cut_line, find_byte, read_some, skip_unread};
+use linewise::{CaptureFault, MAX_INPUT, next_line, read_input};
 use std::alloc::{AllocError, Global};
 use std::io::Read;
+use texts::{decode_hex, is_hex_text, push_number, push_str};
 
 /// What the lines of an input hold, as the contracts of [`crate::show`] and [`crate::messages`] say it.
 #[derive(Clone, Copy, PartialEq, Eq)]
@@ -90,31 +88,23 @@ pub(crate) fn read_line(
     }
 }
 
-/// Appends what the lines of the NSP message that the digits spell say after its number and direction.
-fn push_message(text: &mut Vec<u8>, digits: &[u8], bytes: &mut [u8]) -> Result<(), AllocError>
-    requires { Spell digits.now (length bytes.old) }
+/// Appends what the lines of an NSP message say after its number and direction.
+fn push_message(text: &mut Vec<u8>, bytes: &[u8]) -> Result<(), AllocError>
     ensures { OnOk result (AddsSome text.old text.new
-        (IsCapturedText Listed.Messages (digit_bytes digits.now))) }
+        (IsCapturedText Listed.Messages bytes.now)) }
 {
     push_number(text, "message len=", bytes.len())?;
     push_str(text, "\n")?;
-    push_messages(text, digits, bytes, 0, false)
+    push_messages(text, bytes, false)
 }
 
-/// Appends what the lines of the bytes that the digits spell say after their number and direction.
-fn push_captured(
-    listed: Listed,
-    text: &mut Vec<u8>,
-    digits: &[u8],
-    bytes: &mut [u8],
-) -> Result<(), AllocError>
-    requires { Spell digits.now (length bytes.old) }
-    ensures { OnOk result
-        (AddsSome text.old text.new (IsCapturedText listed (digit_bytes digits.now))) }
+/// Appends what the lines of captured bytes say after their number and direction.
+fn push_captured(listed: Listed, text: &mut Vec<u8>, bytes: &[u8]) -> Result<(), AllocError>
+    ensures { OnOk result (AddsSome text.old text.new (IsCapturedText listed bytes.now)) }
 {
     match listed {
-        Listed::Packets => push_packet(text, digits, bytes),
-        Listed::Messages => push_message(text, digits, bytes),
+        Listed::Packets => push_packet(text, bytes),
+        Listed::Messages => push_message(text, bytes),
     }
 }
 
@@ -136,200 +126,70 @@ fn push_capture(
     requires size { length digits.now < 2 ^ 32 }
     ensures room { length room.new ≡ length room.old }
     ensures added { OnOk result
-        (AddsCapture listed number direction (digit_bytes digits.now) text.old text.new) }
+        (AddsCapture listed number direction digits.now text.old text.new) }
 {
     text.reserve(digits.len() + WORDS)?;
     push_heading(text, number, direction)?;
-    push_captured(listed, text, digits, &mut room[..digits.len() / 2])
+    let bytes = &mut room[..digits.len() / 2];
+    decode_hex(digits, bytes);
+    push_captured(listed, text, bytes)
 }
 
-/// A listing under way: what is listed so far.
-#[derive(Drop)]
-struct Progress {
-    text: Vec<u8>,
-    /// The number of the next capture.
-    number: usize,
-    /// The number of the next line.
-    at: usize,
-    /// The text is out of memory, so lines are only checked.
-    wants: bool,
-}
-
-/// Lists the first lines of the bytes, up to the first line at fault, and returns what is left: a line without its
-/// end, unless the bytes are the last. The room is for the bytes of a line.
-fn list_cut<'a>(
-    listed: Listed,
-    progress: &mut Progress,
-    bytes: &'a [u8],
-    is_last: bool,
-    room: &mut [u8],
-) -> Result<&'a [u8], CaptureFault>
-    requires lines { progress.old.at + length bytes.now < 2 ^ 32 }
-    requires captures { progress.old.number + length bytes.now < 2 ^ 32 }
-    requires room { length room.old ≡ line_limit listed }
-    ensures room { length room.new ≡ length room.old }
-    ensures left { IfOk result (λ left. IsEnd bytes.now left.now) }
-    ensures short { IfOk result (λ left. length left.now ≤ length bytes.now) }
-    ensures last { IfOk result (λ left. is_last ≡ true → left.now ≡ []) }
-    ensures rest { IfOk result (λ left. HasNoEnd left.now) }
-    ensures lines { IfOk result
-        (λ left. progress.new.at + length left.now ≤ progress.old.at + length bytes.now) }
-    ensures captures { IfOk result
-        (λ left. progress.new.number + length left.now ≤ progress.old.number + length bytes.now) }
-    ensures clean { IfOk result (λ left. FaultsGoOn (line_limit listed) is_last
-        progress.old.at bytes.now progress.new.at left.now) }
-    ensures listed { IfOk result (λ left. ListingGoesOn listed is_last
-        progress.old.number bytes.now progress.old.text.items
-        progress.new.number left.now progress.new.text.items) }
-    ensures fault { IfErr result (λ fault. (fault ≡ NoMemory)
-        ⊎ IsFirstFault (line_limit listed) is_last progress.old.at bytes.now fault) }
-    ensures at { OnErr result (progress.new.at ≡ progress.old.at) }
-    ensures number { OnErr result (progress.new.number ≡ progress.old.number) }
-    ensures wants { progress.new.wants ≡ progress.old.wants }
+/// Checks the lines of an input. `BadLine` or `TooLarge`: the first line at fault. Takes no memory.
+pub fn check_lines(listed: Listed, input: &[u8]) -> Result<(), CaptureFault>
+    requires { length input.now ≤ MAX_INPUT }
+    ensures good { OnOk result (faults_from (line_limit listed) 1 input.now ≡ []) }
+    ensures fault { IfErr result (IsFirst (faults_from (line_limit listed) 1 input.now)) }
 {
-    let mut number = progress.number;
-    let mut at = progress.at;
-    let mut rest = bytes;
-    while let Some((line, after)) = cut_line(rest, is_last) {
+    let mut at = 1;
+    let mut rest = input;
+    while let Some((line, after)) = next_line(rest) {
+        read_line(at, line, listed.limit())?;
+        at += 1;
+        rest = after;
+    }
+    Ok(())
+}
+
+/// Returns the listing of an input up to its first line at fault. There is one room for the bytes of each line.
+fn list_lines(listed: Listed, alloc: Global, input: &[u8]) -> Result<Vec<u8>, CaptureFault>
+    requires { length input.now ≤ MAX_INPUT }
+    ensures whole { IfOk result (λ text. IsListing listed input.now text.items) }
+    ensures clean { OnOk result (faults_from (line_limit listed) 1 input.now ≡ []) }
+    ensures fault { IfErr result (λ fault. (fault ≡ NoMemory)
+        ⊎ IsFirst (faults_from (line_limit listed) 1 input.now) fault) }
+{
+    let mut text = Vec::new(alloc);
+    let mut room = vec![in alloc; 0; listed.limit()]?;
+    let mut number = 1;
+    let mut at = 1;
+    let mut rest = input;
+    while let Some((line, after)) = next_line(rest) {
         match read_line(at, line, listed.limit())? {
             None => {}
             Some((direction, digits)) => {
-                push_capture(listed, &mut progress.text, number, direction, digits, room)?;
+                push_capture(listed, &mut text, number, direction, digits, &mut room)?;
                 number += 1;
             }
         }
         at += 1;
         rest = after;
     }
-    progress.number = number;
-    progress.at = at;
-    Ok(rest)
+    Ok(text)
 }
 
-/// Checks the first lines of the bytes, of which the first has the number, up to the first line at fault, and returns
-/// what is left, as [`list_cut`] does.
-fn check_cut<'a>(
-    listed: Listed,
-    at: &mut usize,
-    bytes: &'a [u8],
-    is_last: bool,
-) -> Result<&'a [u8], CaptureFault>
-    requires lines { at.old + length bytes.now < 2 ^ 32 }
-    ensures left { IfOk result (λ left. IsEnd bytes.now left.now) }
-    ensures short { IfOk result (λ left. length left.now ≤ length bytes.now) }
-    ensures last { IfOk result (λ left. is_last ≡ true → left.now ≡ []) }
-    ensures rest { IfOk result (λ left. HasNoEnd left.now) }
-    ensures lines { IfOk result (λ left. at.new + length left.now ≤ at.old + length bytes.now) }
-    ensures clean { IfOk result (λ left. FaultsGoOn (line_limit listed) is_last
-        at.old bytes.now at.new left.now) }
-    ensures fault { IfErr result (IsFirstFault (line_limit listed) is_last at.old bytes.now) }
+/// Returns the listing of an input. A line at fault is reported also where memory was refused before it.
+fn list_checked(listed: Listed, alloc: Global, input: &[u8]) -> Result<Vec<u8>, CaptureFault>
+    requires { length input.now ≤ MAX_INPUT }
+    ensures gives { TextGives listed input.now result }
+    ensures unwritten { IfErr result (λ fault. (fault ≢ WriteFailed) × (fault ≢ ReadFailed)) }
 {
-    let mut rest = bytes;
-    while let Some((line, after)) = cut_line(rest, is_last) {
-        read_line(*at, line, listed.limit())?;
-        *at += 1;
-        rest = after;
-    }
-    Ok(rest)
-}
-
-/// Lists the first lines of the bytes, or only checks them where memory is refused for the text, and returns how many
-/// bytes are left.
-fn take_lines(
-    listed: Listed,
-    progress: &mut Progress,
-    bytes: &[u8],
-    is_last: bool,
-    room: &mut [u8],
-) -> Result<usize, CaptureFault>
-    requires lines { progress.old.at + length bytes.now < 2 ^ 32 }
-    requires captures { progress.old.number + length bytes.now < 2 ^ 32 }
-    requires room { progress.old.wants ≡ false → length room.old ≡ line_limit listed }
-    ensures room { length room.new ≡ length room.old }
-    ensures short { IfOk result (λ left. left ≤ length bytes.now) }
-    ensures last { IfOk result (λ left. is_last ≡ true → left ≡ 0) }
-    ensures rest { IfOk result (λ left. HasNoEnd (drop (length bytes.now - left) bytes.now)) }
-    ensures lines { IfOk result
-        (λ left. progress.new.at + left ≤ progress.old.at + length bytes.now) }
-    ensures captures { IfOk result
-        (λ left. progress.new.number + left ≤ progress.old.number + length bytes.now) }
-    ensures clean { IfOk result (λ left. FaultsGoOn (line_limit listed) is_last
-        progress.old.at bytes.now progress.new.at (drop (length bytes.now - left) bytes.now)) }
-    ensures wanted { OnOk result (progress.new.wants ≡ false → progress.old.wants ≡ false) }
-    ensures listed { IfOk result (λ left. progress.new.wants ≡ false → ListingGoesOn listed is_last
-        progress.old.number bytes.now progress.old.text.items
-        progress.new.number (drop (length bytes.now - left) bytes.now) progress.new.text.items) }
-    ensures fault { IfErr result
-        (IsFirstFault (line_limit listed) is_last progress.old.at bytes.now) }
-{
-    if !progress.wants {
-        match list_cut(listed, progress, bytes, is_last, room) {
-            Ok(left) => return Ok(left.len()),
-            Err(fault @ (CaptureFault::BadLine(_) | CaptureFault::TooLarge)) => return Err(fault),
-            Err(_) => progress.wants = true,
+    match list_lines(listed, alloc, input) {
+        Err(CaptureFault::NoMemory) => {
+            check_lines(listed, input)?;
+            Err(CaptureFault::NoMemory)
         }
-    }
-    let left = check_cut(listed, &mut progress.at, bytes, is_last)?;
-    Ok(left.len())
-}
-
-/// Drops all bytes but this many at the end.
-fn keep_end(bytes: &mut Vec<u8>, left: usize)
-    requires { left ≤ length bytes.old.items }
-    ensures { bytes.new.items ≡ drop (length bytes.old.items - left) bytes.old.items }
-{
-    let done = bytes.len() - left;
-    bytes.copy_within(done.., 0);
-    bytes.truncate(left);
-}
-
-/// Reads an input to its end and lists what was captured. Lines are listed as they come, so that no more of the
-/// input is kept than a line that has no end yet. A line at fault is reported also where memory was refused before
-/// it for a line's bytes or for the text.
-fn list_as_read<R: Read>(
-    listed: Listed,
-    alloc: Global,
-    reader: &mut R,
-) -> Result<Progress, CaptureFault>
-    ensures whole { IfOk result
-        (λ progress. IfSome (R.remaining reader.old) (λ input. IsAllListed listed input progress)) }
-    ensures fault { IfErr result
-        (λ fault. IfSome (R.remaining reader.old) (λ input. IsInputFault listed input fault)) }
-    ensures taken { TakesWithinLimit (R.remaining reader.old) (R.remaining reader.new) }
-    ensures within { (IsErrOf result TooLarge → ⊥)
-        → TakesAnInput (R.remaining reader.old) (R.remaining reader.new) }
-    ensures unwritten { IfErr result (λ fault. fault ≢ WriteFailed) }
-{
-    let mut chunk = [0; CHUNK];
-    let mut bytes = Vec::new(alloc);
-    let (mut room, wants) = match vec![in alloc; 0; listed.limit()] {
-        Ok(room) => (room, false),
-        Err(_) => (Vec::new(alloc), true),
-    };
-    let mut progress = Progress {
-        text: Vec::new(alloc),
-        number: 1,
-        at: 1,
-        wants,
-    };
-    let mut count = 0;
-    'chunks: loop {
-        let came = read_some(reader, &mut chunk, &mut count)?;
-        let is_last = came == 0;
-        bytes.extend_from_slice(&chunk[..came])?;
-        if !is_last && find_byte(b'\n', &chunk[..came]).is_none() {
-            continue;
-        }
-        match take_lines(listed, &mut progress, &bytes, is_last, &mut room) {
-            Ok(left) => keep_end(&mut bytes, left),
-            Err(fault) => {
-                skip_unread(reader, &mut chunk, &mut count, is_last)?;
-                return Err(fault);
-            }
-        }
-        if is_last {
-            return Ok(progress);
-        }
+        given => given,
     }
 }
 
@@ -346,9 +206,6 @@ pub(crate) fn list_input<R: Read>(
         → TakesAnInput (R.remaining reader.old) (R.remaining reader.new) }
     ensures unwritten { IfErr result (λ fault. fault ≢ WriteFailed) }
 {
-    let progress = list_as_read(listed, alloc, reader)?;
-    if progress.wants {
-        return Err(CaptureFault::NoMemory);
-    }
-    Ok(progress.text)
+    let input = read_input(alloc, reader)?;
+    list_checked(listed, alloc, &input)
 }

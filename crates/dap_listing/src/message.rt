@@ -5,26 +5,24 @@ ghost use Rattle.std.specs.Option.{option_map_or};
 ghost use Rattle.std.specs.Fmt.{decimal};
 ghost use Rattle.dap_msg.specs.declared.items.Item.TheVariants.{Malformed};
 ghost use Rattle.dap_msg.specs.declared.message.Message.TheVariants.{Access, Attrib, Config, Control, Filedata, Other, Status};
-ghost use Rattle.dap_text.specs.Adding.{Adds};
-ghost use Rattle.dap_text.specs.Adding.{AddsSome};
-ghost use Rattle.dap_listing.specs.Captured.{AreDecoded, Spell, digit_bytes};
-ghost use Rattle.dap_listing.specs.Inner.Decoding.{item_with_record, record_size as size_of_record, with_other_record};
+ghost use Rattle.texts.specs.Adding.{Adds, StillBegins};
+ghost use Rattle.texts.specs.Adding.{AddsSome, StillBegins};
 ghost use Rattle.dap_listing.specs.Messages.{IsMessagesText, item_line, item_line_in, kind_text, message_line, version_text, wanted_text};
 
-use crate::decode::{FRONT, decode_to};
 use crate::field::{attributes_fields, control_fields, push_fields};
-use crate::text::push_spelled;
 use dap_meanings::add_item_words;
 use dap_msg::{
     AccessFields, Attributes, Configuration, ControlFields, FaultKind, Item, MessageValue,
     MsgFault, StatusFields, item_at,
 };
-use dap_text::{push_decimal, push_image, push_number, push_str, push_word};
 use std::alloc::AllocError;
+use texts::{push_decimal, push_image, push_number, push_str, push_word};
 
 /// Appends the check of a completed file, if there is one.
+#[tactic(auto, unfolding(texts::specs::Adding::StillBegins))]
 fn push_check(text: &mut Vec<u8>, check: Option<u16>) -> Result<(), AllocError>
-    ensures { OnOk result (Adds text.old text.new (option_map_or decimal check (codes "-"))) }
+    ensures added { OnOk result (Adds text.old text.new (option_map_or decimal check (codes "-"))) }
+    ensures kept { StillBegins text.old text.new }
 {
     match check {
         None => push_str(text, "-"),
@@ -33,6 +31,7 @@ fn push_check(text: &mut Vec<u8>, check: Option<u16>) -> Result<(), AllocError>
 }
 
 /// Appends the versions of a system's DAP and of its software.
+#[tactic(auto, using(crate::proofs::MessageLemmas::begins_further))]
 fn push_version(
     text: &mut Vec<u8>,
     vernum: u8,
@@ -41,8 +40,9 @@ fn push_version(
     softver: u8,
     usrsoft: u8,
 ) -> Result<(), AllocError>
-    ensures { OnOk result (Adds text.old text.new
+    ensures added { OnOk result (Adds text.old text.new
         (version_text vernum econum usrnum softver usrsoft)) }
+    ensures kept { StillBegins text.old text.new }
 {
     push_decimal(text, vernum)?;
     push_number(text, ".", econum)?;
@@ -52,25 +52,22 @@ fn push_version(
 }
 
 /// Appends what an Access asks for: FAC, SHR and DISPLAY.
+#[tactic(auto, unfolding(texts::specs::Adding::StillBegins))]
 fn push_wanted(text: &mut Vec<u8>, fac: u32, shr: u32, display: u32) -> Result<(), AllocError>
-    ensures { OnOk result (Adds text.old text.new (wanted_text fac shr display)) }
+    ensures added { OnOk result (Adds text.old text.new (wanted_text fac shr display)) }
+    ensures kept { StillBegins text.old text.new }
 {
     push_number(text, "fac=", fac)?;
     push_number(text, " shr=", shr)?;
     push_number(text, " display=", display)
 }
 
-/// Appends the line of a message. The record of a Data message is taken from these hex digits of it, since its bytes
-/// may not be decoded.
+/// Appends the line of a message.
+#[tactic(auto, using(crate::proofs::MessageLemmas::begins_further))]
 #[inline(always)]
-fn push_message(
-    text: &mut Vec<u8>,
-    message: &MessageValue<'_>,
-    digits: &[u8],
-) -> Result<(), AllocError>
-    requires { Spell digits.now (length digits.now / 2) }
-    ensures { OnOk result (Adds text.old text.new
-        (message_line (with_other_record message.now (digit_bytes digits.now)))) }
+fn push_message(text: &mut Vec<u8>, message: &MessageValue<'_>) -> Result<(), AllocError>
+    ensures added { OnOk result (Adds text.old text.new (message_line message.now)) }
+    ensures kept { StillBegins text.old text.new }
 {
     match message {
         MessageValue::Config(config) => push_config(text, *config),
@@ -89,16 +86,18 @@ fn push_message(
             push_str(text, "\n")
         }
         MessageValue::Access(access) => push_access(text, access),
-        MessageValue::Filedata { recnum, .. } => push_data(text, recnum.0, digits),
+        MessageValue::Filedata { recnum, payload } => push_data(text, recnum.0, payload.0),
         MessageValue::Status(status) => push_status(text, status),
         MessageValue::Other { number, body } => push_other(text, *number, body.0),
     }
 }
 
 /// Appends the line of a Configuration message.
+#[tactic(auto, using(crate::proofs::MessageLemmas::begins_further))]
 #[inline(always)]
 fn push_config(text: &mut Vec<u8>, config: Configuration) -> Result<(), AllocError>
-    ensures { OnOk result (Adds text.old text.new (message_line (Config config))) }
+    ensures added { OnOk result (Adds text.old text.new (message_line (Config config))) }
+    ensures kept { StillBegins text.old text.new }
 {
     push_number(text, "  config bufsiz=", config.bufsiz)?;
     push_number(text, " ostype=", config.ostype)?;
@@ -117,9 +116,11 @@ fn push_config(text: &mut Vec<u8>, config: Configuration) -> Result<(), AllocErr
 }
 
 /// Appends the line of an Access message.
+#[tactic(auto, unfolding(texts::specs::Adding::StillBegins))]
 #[inline(always)]
 fn push_access(text: &mut Vec<u8>, access: &AccessFields<'_>) -> Result<(), AllocError>
-    ensures { OnOk result (Adds text.old text.new (message_line (Access access.now))) }
+    ensures added { OnOk result (Adds text.old text.new (message_line (Access access.now))) }
+    ensures kept { StillBegins text.old text.new }
 {
     let name = &access.name;
     let password = &access.password;
@@ -133,39 +134,46 @@ fn push_access(text: &mut Vec<u8>, access: &AccessFields<'_>) -> Result<(), Allo
 }
 
 /// Appends the line of an Attributes message.
+#[tactic(auto, unfolding(texts::specs::Adding::StillBegins))]
 #[inline(never)]
 fn push_attributes(text: &mut Vec<u8>, attributes: &Attributes<'_>) -> Result<(), AllocError>
-    ensures { OnOk result (Adds text.old text.new
+    ensures added { OnOk result (Adds text.old text.new
         (message_line (Attrib attributes.now))) }
+    ensures kept { StillBegins text.old text.new }
 {
     push_str(text, "  attributes")?;
     push_fields(text, &attributes_fields(attributes))
 }
 
 /// Appends the line of a Control message.
+#[tactic(auto, using(crate::proofs::MessageLemmas::begins_further))]
 #[inline(never)]
 fn push_control(text: &mut Vec<u8>, control: &ControlFields<'_>) -> Result<(), AllocError>
-    ensures { OnOk result (Adds text.old text.new
+    ensures added { OnOk result (Adds text.old text.new
         (message_line (Control control.now))) }
+    ensures kept { StillBegins text.old text.new }
 {
     push_number(text, "  control func=", control.func)?;
     push_fields(text, &control_fields(control))
 }
 
-/// Appends the line of a Data message, whose record the digits spell.
-fn push_data(text: &mut Vec<u8>, recnum: &[u8], digits: &[u8]) -> Result<(), AllocError>
-    requires { Spell digits.now (length digits.now / 2) }
-    ensures { OnOk result (Adds text.old text.new
-        (message_line (Filedata recnum.now (digit_bytes digits.now)))) }
+/// Appends the line of a Data message.
+#[tactic(auto, unfolding(texts::specs::Adding::StillBegins))]
+fn push_data(text: &mut Vec<u8>, recnum: &[u8], bytes: &[u8]) -> Result<(), AllocError>
+    ensures added { OnOk result (Adds text.old text.new
+        (message_line (Filedata recnum.now bytes.now))) }
+    ensures kept { StillBegins text.old text.new }
 {
     push_image(text, "  data recnum=", recnum)?;
-    push_spelled(text, " body=", digits)?;
+    push_image(text, " body=", bytes)?;
     push_str(text, "\n")
 }
 
 /// Appends the line of a Status message.
+#[tactic(auto, using(crate::proofs::MessageLemmas::begins_further))]
 fn push_status(text: &mut Vec<u8>, status: &StatusFields<'_>) -> Result<(), AllocError>
-    ensures { OnOk result (Adds text.old text.new (message_line (Status status.now))) }
+    ensures added { OnOk result (Adds text.old text.new (message_line (Status status.now))) }
+    ensures kept { StillBegins text.old text.new }
 {
     push_word(text, "  status ", status.code)?;
     push_image(text, " rfa=", status.rfa.0)?;
@@ -175,8 +183,10 @@ fn push_status(text: &mut Vec<u8>, status: &StatusFields<'_>) -> Result<(), Allo
 }
 
 /// Appends the line of a message of another type.
+#[tactic(auto, unfolding(texts::specs::Adding::StillBegins))]
 fn push_other(text: &mut Vec<u8>, number: u8, body: &[u8]) -> Result<(), AllocError>
-    ensures { OnOk result (Adds text.old text.new (message_line (Other number body.now))) }
+    ensures added { OnOk result (Adds text.old text.new (message_line (Other number body.now))) }
+    ensures kept { StillBegins text.old text.new }
 {
     push_number(text, "  other type=", number)?;
     push_image(text, " body=", body)?;
@@ -199,8 +209,10 @@ fn kind_word(kind: FaultKind) -> &'static str
 }
 
 /// Appends the line of a fault.
+#[tactic(auto, using(crate::proofs::MessageLemmas::begins_further))]
 fn push_fault(text: &mut Vec<u8>, fault: MsgFault) -> Result<(), AllocError>
-    ensures { OnOk result (Adds text.old text.new (item_line (Malformed fault))) }
+    ensures added { OnOk result (Adds text.old text.new (item_line (Malformed fault))) }
+    ensures kept { StillBegins text.old text.new }
 {
     push_str(text, "  bad ")?;
     push_str(text, kind_word(fault.kind))?;
@@ -209,96 +221,48 @@ fn push_fault(text: &mut Vec<u8>, fault: MsgFault) -> Result<(), AllocError>
     push_str(text, "\n")
 }
 
-/// Returns how many bytes at the end of an item are its record: only a Data message has one.
-fn record_size(item: &Item<'_>) -> usize
-    ensures { result ≡ size_of_record item.now }
-{
-    match item {
-        Item::Whole(MessageValue::Filedata { payload, .. }) => payload.0.len(),
-        Item::Whole(_) | Item::Malformed(_) => 0,
-    }
-}
-
-/// Appends the line of an item of an NSP message. The digits are those of its record, where it is a Data
-/// message.
+/// Appends the line of an item of an NSP message.
+#[tactic(auto, unfolding(texts::specs::Adding::StillBegins))]
 #[inline(always)]
-fn push_item(text: &mut Vec<u8>, item: &Item<'_>, digits: &[u8]) -> Result<(), AllocError>
-    requires { Spell digits.now (length digits.now / 2) }
-    ensures { OnOk result (Adds text.old text.new
-        (item_line (item_with_record item.now (digit_bytes digits.now)))) }
+fn push_item(text: &mut Vec<u8>, item: &Item<'_>) -> Result<(), AllocError>
+    ensures added { OnOk result (Adds text.old text.new (item_line item.now)) }
+    ensures kept { StillBegins text.old text.new }
 {
     match item {
-        Item::Whole(message) => push_message(text, message, digits),
+        Item::Whole(message) => push_message(text, message),
         Item::Malformed(fault) => push_fault(text, *fault),
     }
 }
 
-/// Appends the line of an item, with its words if they are wanted; then the item has its record.
+/// Appends the line of an item, with its words if they are wanted.
+#[tactic(auto, unfolding(texts::specs::Adding::StillBegins))]
 #[inline(always)]
-fn push_item_line(
-    text: &mut Vec<u8>,
-    item: &Item<'_>,
-    digits: &[u8],
-    in_words: bool,
-) -> Result<(), AllocError>
-    requires spelled { Spell digits.now (length digits.now / 2) }
-    requires record { in_words ≡ true
-        → item_with_record item.now (digit_bytes digits.now) ≡ item.now }
-    ensures { OnOk result (Adds text.old text.new
-        (item_line_in in_words (item_with_record item.now (digit_bytes digits.now)))) }
+fn push_item_line(text: &mut Vec<u8>, item: &Item<'_>, in_words: bool) -> Result<(), AllocError>
+    ensures added { OnOk result (Adds text.old text.new (item_line_in in_words item.now)) }
+    ensures kept { StillBegins text.old text.new }
 {
-    push_item(text, item, digits)?;
+    push_item(text, item)?;
     if in_words {
         return add_item_words(text, item);
     }
     Ok(())
 }
 
-/// Decodes all bytes where words are wanted, and returns how many are decoded then.
-fn decode_wanted(digits: &[u8], bytes: &mut [u8], known: usize, in_words: bool) -> usize
-    requires spelled { Spell digits.now (length bytes.old) }
-    requires within { known ≤ length bytes.old }
-    requires decoded { AreDecoded digits.now 0 known bytes.old }
-    ensures size { length bytes.new ≡ length bytes.old }
-    ensures within { result ≤ length bytes.old }
-    ensures all { in_words ≡ true → result ≡ length bytes.old }
-    ensures decoded { AreDecoded digits.now 0 result bytes.new }
-{
-    if in_words {
-        let end = bytes.len();
-        decode_to(digits, bytes, known, end)
-    } else {
-        known
-    }
-}
-
-/// Appends the lines of the NSP message that the digits spell, with their words if these are wanted. The first bytes,
-/// this many, are decoded already. More are decoded as they are needed, but a record's are not where no words are
-/// wanted: its line repeats its digits. Fails only if memory is refused.
+/// Appends the lines of an NSP message, with their words if these are wanted. Fails only if memory is refused.
+#[tactic(auto, unfolding(texts::specs::Adding::StillBegins))]
 pub fn push_messages(
     text: &mut Vec<u8>,
-    digits: &[u8],
-    nsp_message: &mut [u8],
-    decoded: usize,
+    nsp_message: &[u8],
     in_words: bool,
 ) -> Result<(), AllocError>
-    requires spelled { Spell digits.now (length nsp_message.old) }
-    requires within { decoded ≤ length nsp_message.old }
-    requires decoded { AreDecoded digits.now 0 decoded nsp_message.old }
-    ensures { OnOk result
-        (AddsSome text.old text.new (IsMessagesText in_words (digit_bytes digits.now))) }
+    ensures added { OnOk result
+        (AddsSome text.old text.new (IsMessagesText in_words nsp_message.now)) }
+    ensures kept { StillBegins text.old text.new }
 {
     let mut at = 0;
-    let mut known = decode_wanted(digits, nsp_message, decoded, in_words);
     'items: loop {
-        known = decode_to(digits, nsp_message, known.max(at), at + FRONT);
         let (item, next) = item_at(nsp_message, at);
-        let start = next - record_size(&item);
-        if known < start {
-            known = decode_to(digits, nsp_message, known, nsp_message.len());
-            continue;
-        }
-        push_item_line(text, &item, &digits[2 * start..2 * next], in_words)?;
+        push_item_line(text, &item, in_words)?;
         if next == nsp_message.len() {
             return Ok(());
         }

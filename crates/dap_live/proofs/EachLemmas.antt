@@ -6,7 +6,7 @@ use Rattle.std.proofs.lemmas.List.{append-nil, take_more}
 use Rattle.dap_accessing.specs.declared.report.Ending.{Ending}
 use Rattle.dap_accessing.specs.declared.report.Report.{Report}
 use Rattle.dap_accessing.specs.declared.report.Report.TheVariants.{Batch}
-use Rattle.dap_text.specs.Text.{image_text}
+use Rattle.texts.specs.Text.{image_text}
 use Rattle.dap_live.specs.Each.{batch_line, each_text, record_report_line, records_text}
 
 -- one record more

@@ -2,7 +2,7 @@
 use Rattle.std.proofs.Common.{◌≡◌, Bool, true, false, List, [], ◌∷◌, refl}
 use Rattle.std.specs.Prelude.{ℕ, Option, Some, None, bytes_eq, option_map, if◌then◌else◌}
 use Rattle.std.specs.Option.{option_and_then, option_or}
-use Rattle.dap_text.specs.Words.{Words, ends, field, one_of, word}
+use Rattle.texts.specs.Words.{Words, ends, field, one_of, word}
 
 module _ {O : Type 0} (Fits : Option O → Type 0) (none : Fits None) where
   -- a line of one word, or the last word of a line

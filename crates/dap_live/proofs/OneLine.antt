@@ -22,7 +22,7 @@ use Rattle.dap_end.specs.declared.fault.TakeFault.{TakeFault}
 use Rattle.dap_end.specs.declared.fault.TakeFault.TheVariants as take
 use Rattle.dap_end.specs.Wanting.{is_want}
 use Rattle.dap_end.specs.Inner.Wanting.{went_wanting, took_wanting}
-use Rattle.dap_text.specs.Words.{Words, ends, hex_of, is_hex_text, word, words_of}
+use Rattle.texts.specs.Words.{Words, ends, hex_of, is_hex_text, word, words_of}
 use Rattle.dap_text.specs.Requests.{request_of}
 use Rattle.linewise.specs.declared.talking.Became.{Became}
 use Rattle.linewise.specs.declared.talking.Became.TheVariants.{BadLine, NoMemory}

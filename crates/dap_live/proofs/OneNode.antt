@@ -35,7 +35,7 @@ use Rattle.dap_end.specs.Ports.{PortValue, new_port}
 use Rattle.dap_end.specs.Node.{AtPort, HasAddress, HasPort, NodeLinkValue, NodeNotGiven, NodeValue, NoneHasCome, OnLink, SomeHasCome, without_notes, has_local, is_between, is_free_link}
 use Rattle.dap_text.specs.declared.filed.RecordLine.{RecordLine}
 use Rattle.dap_text.specs.Tables.{files_lines}
-use Rattle.dap_text.specs.Words.{Words, ends, hex_of, words_of}
+use Rattle.texts.specs.Words.{Words, ends, hex_of, words_of}
 use Rattle.dap_text.specs.Filed.{file_line_of, record_line_of}
 use Rattle.linewise.specs.declared.talking.Became.{Became}
 use Rattle.linewise.specs.declared.talking.Became.TheVariants.{Done, NoMemory}

@@ -3,7 +3,7 @@ use Rattle.std.proofs.Common.{◌≡◌, ◌==◌, refl, ◌+◌, ◌∙◌, ℕ
 use Rattle.std.specs.List.{position}
 use Rattle.std.specs.Option.{option_and_then}
 use Rattle.rec_file.specs.declared.picks.Rights.{Rights}
-use Rattle.dap_text.proofs.ForCallers.{some_part, only_part}
+use Rattle.texts.proofs.ForCallers.{some_part, only_part}
 use Rattle.dap_live.specs.Rights.{comma_separated, with_right, with_rights}
 
 last_right : (found : Option Rights) → option_and_then (λ more. Some more) found ≡ found

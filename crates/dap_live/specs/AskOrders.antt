@@ -1,6 +1,6 @@
 -- The orders that a line of a client may be.
 use Rattle.std.specs.Prelude.{Bool, false, ℕ, List, [], ◌∷◌, codes, is_some, if◌then◌else◌, Option, Some, None, option_and_then, option_map}
-use Rattle.dap_text.specs.Words.{Words, ends, one_of, word, words_of}
+use Rattle.texts.specs.Words.{Words, ends, one_of, word, words_of}
 use Rattle.dap_text.specs.Requests.{request_of}
 use Rattle.dap_live.specs.declared.orders.Between.{Between}
 use Rattle.dap_live.specs.declared.ask_orders.AskOrder.{AskOrder}

@@ -29,7 +29,7 @@ use Rattle.dap_live.specs.declared.ask_orders.AskOrder.TheVariants as order
 use Rattle.dap_live.specs.AskOrders.{ask_order_of}
 use Rattle.dap_live.specs.Orders.{setup_anew}
 use Rattle.dap_live.specs.Sending.{AllAgain, SaysAck, UnlessFailed, has_message, is_left, waits_of}
-use Rattle.dap_text.specs.Text.{line_feed}
+use Rattle.texts.specs.Text.{line_feed}
 use Rattle.dap_live.specs.Texts.{ask_refusal, done_said, link_refusal, packets_text, taken_said}
 use Rattle.dap_live.specs.Each.{each_after, told_after, told_text, waits_told}
 use Rattle.dap_live.specs.Both.{DoneOr, LeavesEnd}

@@ -9,7 +9,7 @@ use Rattle.dap_accessing.specs.declared.report.Report.TheVariants.{Batch}
 use Rattle.dap_accessing.specs.declared.report.Ending.{Ending}
 use Rattle.dap_accessing.specs.Each.{records_kept}
 use Rattle.dap_text.specs.Reports.{ending_text}
-use Rattle.dap_text.specs.Text.{image_text, line_feed}
+use Rattle.texts.specs.Text.{image_text, line_feed}
 use Rattle.dap_live.specs.declared.asking.Asking.{Asking}
 use Rattle.dap_live.specs.Texts.{report_line, reports_text}
 

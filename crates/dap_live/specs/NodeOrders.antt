@@ -1,7 +1,7 @@
 -- The orders that a line of a server may be. With room for several links a line names its link; where there is one link
 -- alone, it names none.
 use Rattle.std.specs.Prelude.{ℕ, Bool, if◌then◌else◌, List, [], ◌∷◌, codes, Option, Some, None, option_map}
-use Rattle.dap_text.specs.Words.{Words, ends, field, one_of, text_of, word, words_of}
+use Rattle.texts.specs.Words.{Words, ends, field, one_of, text_of, word, words_of}
 use Rattle.dap_text.specs.Filed.{file_line_of, record_line_of}
 use Rattle.dap_live.specs.declared.node_orders.NodeOrder.{NodeOrder}
 use Rattle.dap_live.specs.declared.node_orders.NodeOrder.TheVariants as order

@@ -5,7 +5,7 @@ use Rattle.std.specs.Result.{result_ok}
 use Rattle.hex.specs.Hex.{decode_sized}
 use Rattle.nsp_link.specs.declared.link.LinkSetup.{LinkSetup}
 use Rattle.rec_file.specs.declared.picks.Rights.{Rights}
-use Rattle.dap_text.specs.Words.{Words, ends, field, hex_of, long, one_of}
+use Rattle.texts.specs.Words.{Words, ends, field, hex_of, long, one_of}
 use Rattle.dap_live.specs.declared.orders.Between.{Between}
 use Rattle.dap_live.specs.Rights.{rights_by}
 

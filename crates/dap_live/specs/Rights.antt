@@ -4,7 +4,7 @@ use Rattle.std.specs.Option.{option_and_then, option_map, option_or}
 use Rattle.std.specs.List.{slice_split}
 use Rattle.rec_file.specs.declared.picks.Rights.{Rights}
 use Rattle.dap_accessed.specs.Accesses.{rights_of}
-use Rattle.dap_text.specs.Words.{decimal_of}
+use Rattle.texts.specs.Words.{decimal_of}
 
 -- no right
 abbrev pub no_rights : Rights

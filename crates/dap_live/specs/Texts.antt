@@ -17,10 +17,11 @@ use Rattle.dap_end.specs.declared.fault.EndFault.{EndFault}
 use Rattle.dap_end.specs.declared.fault.EndFault.TheVariants as end
 use Rattle.dap_end.specs.declared.fault.TakeFault.{TakeFault}
 use Rattle.dap_end.specs.declared.fault.TakeFault.TheVariants as take
-use Rattle.dap_text.specs.Answers.{ask_text, fault_line, got_text}
+use Rattle.dap_meanings.specs.Faults.{fault_line}
+use Rattle.dap_text.specs.Answers.{ask_text, got_text}
 use Rattle.dap_shared.specs.declared.fault.RemoveFault.{RemoveFault}
 use Rattle.dap_shared.specs.declared.fault.RemoveFault.TheVariants as removing
-use Rattle.dap_text.specs.Text.{line_feed, word_text}
+use Rattle.texts.specs.Text.{line_feed, word_text}
 use Rattle.dap_text.specs.Reports.{refused_text, report_text}
 use Rattle.linewise.specs.declared.talking.Became.{Became}
 use Rattle.linewise.specs.declared.talking.Became.TheVariants.{Done, NoMemory}

@@ -1,12 +1,13 @@
 //! What the lines of a client say.
 
 ghost use Rattle.std.specs.Prelude.{◌≡◌, option_and_then};
-ghost use Rattle.dap_text.specs.Words.{ends};
+ghost use Rattle.texts.specs.Words.{ends};
 ghost use Rattle.dap_live.specs.Orders.{anew_of};
 ghost use Rattle.dap_live.specs.AskOrders.{ask_order_of, asked_of, each_of, new_link_order, names_rights};
 
 use crate::orders::{Between, read_anew, read_hex_alone};
-use dap_text::{RequestText, Text, Words, is, read_request};
+use dap_text::{RequestText, Text, read_request};
+use texts::{Words, is};
 
 /// What a line says. Its bytes are still digits.
 #[derive(Drop)]

@@ -11,26 +11,27 @@ ghost use Rattle.dap_end.specs.Asking.{HasAsked};
 ghost use Rattle.dap_end.specs.Hearing.{hears};
 ghost use Rattle.dap_end.specs.Done.{nothing_asked};
 ghost use Rattle.dap_end.specs.Turns.{WentOn, TakesPacket};
-ghost use Rattle.dap_text.specs.Adding.{Adds};
+ghost use Rattle.texts.specs.Adding.{Adds};
 ghost use Rattle.dap_live.specs.declared.asking.Came.{Came as TheCame};
 ghost use Rattle.dap_live.specs.Inner.Reaching.{Reaches};
 ghost use Rattle.dap_live.specs.Each.{each_after, waits_told};
 ghost use Rattle.dap_live.specs.Asking.{AnswersAsk, AskingDoes, ClientGoesOn, DoesAskOrder, Ends, Resends, TellsAlone, WasTold, begun, came_by, has_more as has_more_of};
 ghost use Rattle.dap_live.specs.Inner.Saying.{front_text};
 
+use crate::answers::{
+    push_ask_refusal, push_done, push_link_refusal, push_refused, push_taken, push_told,
+};
 use crate::ask_orders::{AskOrder, read_ask_order};
 use crate::orders::{Between, set_up_anew};
 use crate::sending::{has_message, is_left, push_again, say_ack, waits};
-use crate::texts::{
-    push_ask_refusal, push_done, push_link_refusal, push_refused, push_taken, push_told,
-};
 use dap_accessing::{AskFault, Report, Request};
 use dap_end::{AskingEnd, EndFault, TakeFault};
 use dap_msg::Configuration;
-use dap_text::{RequestText, Text, push_number, push_str};
+use dap_text::{RequestText, Text};
 use linewise::{Answer, Answers, Became};
 use nsp_link::{Got, LinkFault, LinkSetup};
 use std::alloc::{AllocError, Global};
+use texts::{push_number, push_str};
 
 /// The client, as an answerer of lines.
 #[derive(Drop)]

@@ -1,6 +1,7 @@
 //! Both live ends: what a client or a server does by a line, and the text of its answer.
 #![tactic(auto)]
 
+mod answers;
 mod ask_orders;
 mod asking;
 mod laws;
@@ -9,7 +10,6 @@ mod node_orders;
 mod orders;
 mod rights;
 mod sending;
-mod texts;
 mod used;
 
 pub use ask_orders::AskOrder;

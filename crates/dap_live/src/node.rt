@@ -19,13 +19,13 @@ ghost use Rattle.dap_live.specs.Inner.Filing.{AddsShapedTo, GivesRecordBy, HasNo
 ghost use Rattle.dap_live.specs.Orders.{most_anew, most_beside, setup_anew};
 ghost use Rattle.dap_live.specs.Node.{AddsFileTo, AddsLink, AddsRecordTo, BeginsOn, NodeDoes, DoesNodeOrder, DropsFile, FindsLink, GoesOnWith, IsNewNode, IsNotDone, MayWantMemory, NoLink, ResendsOn, TakesOn, TakesPacketBy, RenewsOn, about, before_line, given_beside, is_alone, is_work_left_at, is_used, meant, one_link, pieces, receiver_of, sender_of, node_without_file, used_by, waits_on as waits_by};
 
-use crate::node_orders::{NodeOrder, read_node_order};
-use crate::orders::{Between, set_up_anew, set_up_beside};
-use crate::sending::{has_message, is_left, push_again, say_ack, waits};
-use crate::texts::{
+use crate::answers::{
     push_add_refusal, push_link_refusal, push_node_taken, push_refused, push_remove_refusal,
     push_served, push_status,
 };
+use crate::node_orders::{NodeOrder, read_node_order};
+use crate::orders::{Between, set_up_anew, set_up_beside};
+use crate::sending::{has_message, is_left, push_again, say_ack, waits};
 use crate::used::Used;
 use dap_accessed::{ALL_RIGHTS, AddFault, Names, NoMemory, ServerSetup};
 use dap_accessing::Octets;

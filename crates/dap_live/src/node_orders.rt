@@ -1,13 +1,12 @@
 //! What the lines of a server say.
 
 ghost use Rattle.std.specs.Prelude.{◌≡◌, ◌∷◌};
-ghost use Rattle.dap_text.specs.Words.{ends, one_of};
+ghost use Rattle.texts.specs.Words.{ends, one_of};
 ghost use Rattle.dap_live.specs.NodeOrders.{address_alone, filing_forms, links_order_of, node_order_of, one_order_of, text_alone};
 
 use crate::orders::{Between, read_address, read_anew, read_between, read_hex_alone};
-use dap_text::{
-    FileLine, RecordLine, Text, Words, is, read_file_line, read_record_line, read_text,
-};
+use dap_text::{FileLine, RecordLine, Text, read_file_line, read_record_line, read_text};
+use texts::{Words, is};
 
 /// What a line says. The bytes of a packet and of a name are still digits. A line names a link by its local address;
 /// where there is one link alone, it names none.

@@ -4,9 +4,10 @@ ghost use Rattle.std.specs.Prelude.{◌≡◌, Some};
 ghost use Rattle.dap_live.specs.Orders.{address_of, anew_of, between_of, hex_alone, limits_from, rights_from, setup_anew, setup_beside};
 
 use crate::rights::read_rights;
-use dap_text::{Text, Words, read_hex, read_number};
+use dap_text::{Text, read_hex};
 use nsp_link::LinkSetup;
 use rec_file::Rights;
+use texts::{Words, read_number};
 
 /// How a link begins: between these addresses, the local one first. What isn't named is as before.
 #[derive(Clone, Copy)]

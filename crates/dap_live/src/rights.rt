@@ -4,9 +4,9 @@ ghost use Rattle.std.specs.Prelude.{◌≡◌};
 ghost use Rattle.dap_live.specs.Rights.{named_rights, comma_separated, rights_by, with_right, with_rights};
 
 use dap_accessed::rights_of_fac;
-use dap_text::{MAX_FAC, read_number};
-use linewise::find_byte;
+use dap_text::MAX_FAC;
 use rec_file::Rights;
+use texts::{find_byte, read_number};
 
 /// No right.
 const NO_RIGHTS: Rights = Rights {

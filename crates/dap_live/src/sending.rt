@@ -6,7 +6,7 @@ ghost use Rattle.nsp_link.specs.Sending.{may_queue as may_queue_on};
 ghost use Rattle.dap_live.specs.Sending.{SaysAck, has_message as has_message_on, is_left as is_left_of, waits_of};
 ghost use Rattle.dap_live.specs.Inner.Again.{AddsAgain, AddsOneAgain};
 
-use crate::texts::{push_link_refusal, push_packet};
+use crate::answers::{push_link_refusal, push_packet};
 use linewise::Became;
 use nsp_link::{LinkEnd, LinkFault};
 use std::alloc::AllocError;

@@ -1,3 +1,4 @@
+pub mod Faults
 pub mod Inner
 pub mod Tables
 pub mod Quoted

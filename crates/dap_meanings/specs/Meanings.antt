@@ -14,7 +14,7 @@ use Rattle.nsp_seg.specs.declared.packet.SegFault.TheVariants.{NotHere}
 use Rattle.nsp_seg.specs.declared.packet.Packet.{Packet}
 use Rattle.nsp_seg.specs.declared.packet.SegFault.{SegFault}
 use Rattle.std.specs.Prelude.{Result}
-use Rattle.dap_text.specs.Text.{line_feed}
+use Rattle.texts.specs.Text.{line_feed}
 use Rattle.dap_meanings.specs.Tables.{Table, word_in, access_functions, complete_functions, continue_functions, control_functions, control_packets, formats, organizations, other_types, reason_table, record_accesses, status_codes, status_kinds, systems}
 use Rattle.dap_meanings.specs.Quoted.{quoted_bytes}
 

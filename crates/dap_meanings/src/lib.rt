@@ -1,11 +1,13 @@
 //! What the lines of a listing say in words: functions, systems, formats, status codes, names and records.
 #![tactic(auto)]
 
+mod faults;
 mod frames;
 mod meanings;
 mod quoted;
 mod tables;
 mod words;
 
+pub use faults::push_packet_fault;
 pub use frames::frame_text;
 pub use meanings::{add_item_words, add_packet_words};

@@ -2,13 +2,13 @@
 
 ghost use Rattle.std.specs.Prelude.{◌≡◌, OnOk, take};
 ghost use Rattle.std.specs.List.{flat_map, list_all};
-ghost use Rattle.dap_text.specs.Adding.{Adds, StillBegins};
+ghost use Rattle.texts.specs.Adding.{Adds, StillBegins};
 ghost use Rattle.dap_meanings.specs.Quoted.{closing, escaped_byte, max_quoted, is_printable as printable, quote, quoted_bytes as quoted_words};
 ghost use Rattle.dap_meanings.specs.Inner.Words.{word_list};
 
 use crate::words::Word;
-use dap_text::push_str;
 use std::alloc::AllocError;
+use texts::push_str;
 
 /// The maximum number of bytes that are quoted.
 const MAX_QUOTED: usize = 60;
@@ -44,7 +44,7 @@ pub(crate) fn quoted(bytes: &[u8]) -> Word<'_>
 }
 
 /// Appends bytes, with a backslash before each quote and each backslash.
-#[tactic(auto, unfolding(dap_text::specs::Adding::StillBegins))]
+#[tactic(auto, unfolding(texts::specs::Adding::StillBegins))]
 fn push_escaped(text: &mut Vec<u8>, bytes: &[u8]) -> Result<(), AllocError>
     ensures added { OnOk result (Adds text.old text.new (flat_map escaped_byte bytes.now)) }
     ensures kept { StillBegins text.old text.new }
@@ -70,7 +70,7 @@ fn first_bytes(bytes: &[u8]) -> &[u8]
 }
 
 /// Appends the quote at the end, and two dots where there are more bytes.
-#[tactic(auto, unfolding(dap_text::specs::Adding::StillBegins))]
+#[tactic(auto, unfolding(texts::specs::Adding::StillBegins))]
 fn push_closing(text: &mut Vec<u8>, bytes: &[u8]) -> Result<(), AllocError>
     ensures added { OnOk result (Adds text.old text.new (closing bytes.now)) }
     ensures kept { StillBegins text.old text.new }
@@ -83,7 +83,7 @@ fn push_closing(text: &mut Vec<u8>, bytes: &[u8]) -> Result<(), AllocError>
 }
 
 /// Appends the first bytes in quotes.
-#[tactic(auto, unfolding(dap_text::specs::Adding::StillBegins))]
+#[tactic(auto, unfolding(texts::specs::Adding::StillBegins))]
 pub(crate) fn push_quote(text: &mut Vec<u8>, bytes: &[u8]) -> Result<(), AllocError>
     ensures added { OnOk result (Adds text.old text.new (quote bytes.now)) }
     ensures kept { StillBegins text.old text.new }

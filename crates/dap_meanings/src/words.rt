@@ -3,14 +3,14 @@
 ghost use Rattle.std.specs.Prelude.{◌≡◌, ◌<◌, ℕ, OnOk, length};
 ghost use Rattle.std.specs.List.{flat_map};
 ghost use Rattle.dap_msg.specs.Codes.{asks_for};
-ghost use Rattle.dap_text.specs.Adding.{Adds, StillBegins};
+ghost use Rattle.texts.specs.Adding.{Adds, StillBegins};
 ghost use Rattle.dap_meanings.specs.Meanings.{right_text, rights_text, rights_words, words_text, with_words, KeepsButEnd};
 ghost use Rattle.dap_meanings.specs.Inner.Words.{word_list, said_text};
 
 use crate::quoted::push_quote;
 use dap_msg::FileAccess;
-use dap_text::{push_number, push_str};
 use std::alloc::AllocError;
+use texts::{push_number, push_str};
 
 /// What a field says.
 #[derive(Clone, Copy)]
@@ -46,7 +46,7 @@ pub(crate) fn rights_word(fac: u32) -> Word<'static>
 }
 
 /// Appends a word, if a bit of FAC is set.
-#[tactic(auto, unfolding(dap_text::specs::Adding::StillBegins))]
+#[tactic(auto, unfolding(texts::specs::Adding::StillBegins))]
 fn push_right(text: &mut Vec<u8>, is_set: bool, word: &str) -> Result<(), AllocError>
     ensures added { (fac bit : ℕ) → is_set ≡ asks_for fac bit
         → OnOk result (Adds text.old text.new (right_text fac bit word.now)) }
@@ -56,7 +56,7 @@ fn push_right(text: &mut Vec<u8>, is_set: bool, word: &str) -> Result<(), AllocE
 }
 
 /// Appends the operations of FAC.
-#[tactic(auto, using(crate::proofs::ToldLemmas::appended_twice), unfolding(dap_text::specs::Adding::StillBegins))]
+#[tactic(auto, using(crate::proofs::ToldLemmas::appended_twice), unfolding(texts::specs::Adding::StillBegins))]
 fn push_rights(text: &mut Vec<u8>, fac: u32) -> Result<(), AllocError>
     ensures added { OnOk result (Adds text.old text.new (rights_text fac)) }
     ensures kept { StillBegins text.old text.new }
@@ -69,7 +69,7 @@ fn push_rights(text: &mut Vec<u8>, fac: u32) -> Result<(), AllocError>
 }
 
 /// Appends what a field says.
-#[tactic(auto, unfolding(dap_text::specs::Adding::StillBegins))]
+#[tactic(auto, unfolding(texts::specs::Adding::StillBegins))]
 fn push_word(text: &mut Vec<u8>, word: Word<'_>) -> Result<(), AllocError>
     ensures added { OnOk result (Adds text.old text.new (said_text word.entry)) }
     ensures kept { StillBegins text.old text.new }
@@ -88,7 +88,7 @@ fn push_word(text: &mut Vec<u8>, word: Word<'_>) -> Result<(), AllocError>
 }
 
 /// Appends words, each after its mark.
-#[tactic(auto, using(crate::proofs::ToldLemmas::appended_twice), unfolding(dap_text::specs::Adding::StillBegins))]
+#[tactic(auto, using(crate::proofs::ToldLemmas::appended_twice), unfolding(texts::specs::Adding::StillBegins))]
 fn push_told(text: &mut Vec<u8>, words: &[Word<'_>]) -> Result<(), AllocError>
     ensures added { OnOk result
         (Adds text.old text.new (words_text (flat_map word_list words.now))) }
@@ -107,7 +107,7 @@ fn push_told(text: &mut Vec<u8>, words: &[Word<'_>]) -> Result<(), AllocError>
 }
 
 /// Puts words before the end of a text's last line.
-#[tactic(auto, unfolding(dap_text::specs::Adding::StillBegins, crate::specs::Meanings::KeepsButEnd))]
+#[tactic(auto, unfolding(texts::specs::Adding::StillBegins, crate::specs::Meanings::KeepsButEnd))]
 pub(crate) fn add_words(text: &mut Vec<u8>, words: &[Word<'_>]) -> Result<(), AllocError>
     requires { 0 < length text.old.items }
     ensures words { OnOk result

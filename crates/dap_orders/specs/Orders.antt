@@ -9,7 +9,7 @@ use Rattle.dap_events.specs.declared.setup.WorldSetup.{WorldSetup}
 use Rattle.dap_orders.specs.declared.orders.Order.{Order}
 use Rattle.dap_orders.specs.declared.orders.Order.TheVariants as order
 use Rattle.dap_text.specs.Requests.{request_of}
-use Rattle.dap_text.specs.Words.{Words, ends, field, long, one_of, short, word, words_of}
+use Rattle.texts.specs.Words.{Words, ends, field, long, one_of, short, word, words_of}
 
 -- an end
 abbrev pub end_word : List ℕ → Option End

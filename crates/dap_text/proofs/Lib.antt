@@ -1,9 +1,3 @@
-pub mod ForCallers
-pub mod HexTextLemmas
-pub mod NumberLemmas
 pub mod ReadBack
 pub mod RequestLemmas
 pub mod TableLemmas
-pub mod TextLemmas
-pub mod TextWords
-pub mod WordLemmas

@@ -10,7 +10,7 @@ use Rattle.std.proofs.lemmas.List.Elements.{All-weaker}
 use Rattle.std.proofs.lemmas.List.Splits.{slice_split_at, slice_split_none}
 use Rattle.std.proofs.lemmas.List.Sums.{AllPass-from_list_all, list_all-from_AllPass}
 use Rattle.std.specs.Str.Parse.{digits_value}
-use Rattle.dap_text.proofs.NumberLemmas.{values}
+use Rattle.texts.proofs.ForCallers.{values}
 use Rattle.hex.specs.Hex.{encode_lower, encode_with, is_hex_digit, lower_digits}
 use Rattle.hex.proofs.HexLemmas.{decode_of-encode_lower, decode_of-ok, length-encode_with}
 use Rattle.dap_fields.specs.Spelling.{AreBytes}
@@ -24,8 +24,8 @@ use Rattle.rec_file.specs.declared.shapes.Format.TheVariants.{Fixed, Variable}
 use Rattle.dap_text.specs.Filed.{file_line_of, org_of, record_line_of, rfm_of}
 use Rattle.dap_text.specs.declared.filed.FileLine.{FileLine}
 use Rattle.dap_text.specs.Tables.{file_line, format_text, org_text, record_line}
-use Rattle.dap_text.specs.Text.{image_text, line_feed}
-use Rattle.dap_text.specs.Words.{decimal_of, is_hex_text, text_of, words_of}
+use Rattle.texts.specs.Text.{image_text, line_feed}
+use Rattle.texts.specs.Words.{decimal_of, is_hex_text, text_of, words_of}
 
 -- ---- Numbers.
 

@@ -3,7 +3,7 @@
 use Rattle.std.specs.Prelude.{ℕ, List, [], ◌∷◌, codes, bytes_eq, Option}
 use Rattle.std.specs.Map.{lookup}
 use Rattle.dap_msg.specs.Codes.{org, rfm}
-use Rattle.dap_text.specs.Words.{ends, field, long, short, text_of, word, words_of}
+use Rattle.texts.specs.Words.{ends, field, long, short, text_of, word, words_of}
 use Rattle.dap_text.specs.declared.filed.FileLine.{FileLine}
 use Rattle.dap_text.specs.declared.filed.RecordLine.{RecordLine}
 

@@ -2,4 +2,3 @@
 pub mod Reports
 pub mod Requests
 pub mod Tables
-pub mod Words

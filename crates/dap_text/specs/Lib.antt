@@ -1,8 +1,5 @@
 pub mod Inner
-pub mod Adding
 pub mod Answers
-pub mod Text
-pub mod Words
 pub mod Requests
 pub mod Reports
 pub mod Tables

@@ -4,7 +4,7 @@ use Rattle.dap_accessing.specs.Request.{Request}
 use Rattle.dap_accessing.specs.declared.request.Request.TheVariants as request
 use Rattle.dap_accessing.specs.declared.request.By.TheVariants.{Next, Key, Rfa}
 use Rattle.dap_accessing.specs.declared.request.How.TheVariants.{Again, Skip, Abort}
-use Rattle.dap_text.specs.Words.{Words, decimal_of, ends, field, long, one_of, short, text_of, texts_of, word}
+use Rattle.texts.specs.Words.{Words, decimal_of, ends, field, long, one_of, short, text_of, texts_of, word}
 
 -- the request that these words are, all of them: one of fourteen words, and its arguments
 abbrev pub request_of : Words → Option Request

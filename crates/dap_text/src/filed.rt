@@ -3,8 +3,9 @@
 ghost use Rattle.std.specs.Prelude.{◌≡◌};
 ghost use Rattle.dap_text.specs.Filed.{file_line_of, org_of, record_line_of, rfm_of};
 
-use crate::words::{Text, Words, is};
+use crate::words::{Text, next_text};
 use dap_msg::codes::{ORG_RELATIVE, ORG_SEQUENTIAL, RFM_FIXED, RFM_VARIABLE};
+use texts::{Words, is};
 
 /// What the line of a file says: its name, which is still digits, and ORG, RFM, MRS in bytes and MRN (DAP 5.6.0,
 /// Attributes message).
@@ -60,7 +61,7 @@ pub fn read_file_line(line: &[u8]) -> Option<FileLine<'_>>
     if !is(words.next()?, "file") {
         return None;
     }
-    let name = words.text()?;
+    let name = next_text(&mut words)?;
     let org = read_org(words.next()?)?;
     let rfm = read_rfm(words.next()?)?;
     let mrs = words.short()?;
@@ -84,7 +85,7 @@ pub fn read_record_line(line: &[u8]) -> Option<RecordLine<'_>>
         return None;
     }
     let number = words.number(u32::MAX)?;
-    let body = words.text()?;
+    let body = next_text(&mut words)?;
     words.end()?;
     Some(RecordLine { number, body })
 }

@@ -7,7 +7,7 @@ ghost use Rattle.rec_file.specs.Shapes.{checked_shape, is_shape};
 ghost use Rattle.rec_file.specs.declared.shapes.Shape.{Shape};
 ghost use Rattle.dap_text.specs.Filed.{file_line_of, record_line_of};
 ghost use Rattle.dap_text.specs.Tables.{file_line, record_line};
-ghost use Rattle.dap_text.specs.Text.{line_feed};
+ghost use Rattle.texts.specs.Text.{line_feed};
 ghost use Rattle.dap_text.specs.declared.filed.FileLine.{FileLine};
 
 /// States that what is printed of a file is read back: its name, and its shape by its attributes.

@@ -2,18 +2,18 @@
 
 ghost use Rattle.std.specs.Prelude.{◌≡◌, ◌++◌, IfOk, OnOk};
 ghost use Rattle.std.specs.List.{flat_map};
-ghost use Rattle.dap_text.specs.Adding.{Adds, StillBegins};
+ghost use Rattle.texts.specs.Adding.{Adds, StillBegins};
 ghost use Rattle.dap_text.specs.Inner.Reports.{batch_text, codes_text};
 ghost use Rattle.dap_text.specs.Reports.{ending_text, numbered_text, refused_text, report_text};
 ghost use Rattle.dap_accessing.specs.declared.report.Report.TheVariants as report;
 
 use crate::tables::push_sizes;
-use crate::text::{push_image, push_number, push_str, push_word};
 use dap_accessing::{Ending, Octets, Report};
 use std::alloc::AllocError;
+use texts::{push_image, push_number, push_str, push_word};
 
 /// Appends the code of a Status, and its reason.
-#[tactic(auto, unfolding(crate::specs::Adding::StillBegins))]
+#[tactic(auto, unfolding(texts::specs::Adding::StillBegins))]
 fn push_refused(text: &mut Vec<u8>, code: u16, reason: u8) -> Result<(), AllocError>
     ensures added { OnOk result (Adds text.old text.new (refused_text code reason)) }
     ensures kept { StillBegins text.old text.new }
@@ -23,7 +23,7 @@ fn push_refused(text: &mut Vec<u8>, code: u16, reason: u8) -> Result<(), AllocEr
 }
 
 /// Appends how a batch ended.
-#[tactic(auto, unfolding(crate::specs::Adding::StillBegins))]
+#[tactic(auto, unfolding(texts::specs::Adding::StillBegins))]
 fn push_ending(text: &mut Vec<u8>, ending: Ending) -> Result<(), AllocError>
     ensures added { OnOk result (Adds text.old text.new (ending_text ending)) }
     ensures kept { StillBegins text.old text.new }
@@ -36,7 +36,7 @@ fn push_ending(text: &mut Vec<u8>, ending: Ending) -> Result<(), AllocError>
 }
 
 /// Appends the records of a batch.
-#[tactic(auto, unfolding(crate::specs::Adding::StillBegins))]
+#[tactic(auto, unfolding(texts::specs::Adding::StillBegins))]
 fn push_records(text: &mut Vec<u8>, records: &[(u64, Octets)]) -> Result<(), AllocError>
     ensures added { OnOk result (Adds text.old text.new (flat_map numbered_text records.now)) }
     ensures kept { StillBegins text.old text.new }
@@ -49,7 +49,7 @@ fn push_records(text: &mut Vec<u8>, records: &[(u64, Octets)]) -> Result<(), All
 }
 
 /// Appends what a Store came to.
-#[tactic(auto, unfolding(crate::specs::Adding::StillBegins))]
+#[tactic(auto, unfolding(texts::specs::Adding::StillBegins))]
 fn push_stored(text: &mut Vec<u8>, kept: Option<(u16, u8, u64)>) -> Result<(), AllocError>
     ensures added { OnOk result (Adds text.old text.new (report_text (report.Stored kept))) }
     ensures kept { StillBegins text.old text.new }
@@ -65,7 +65,7 @@ fn push_stored(text: &mut Vec<u8>, kept: Option<(u16, u8, u64)>) -> Result<(), A
 }
 
 /// Appends that a file was opened, with its codes ORG and RFM.
-#[tactic(auto, unfolding(crate::specs::Adding::StillBegins))]
+#[tactic(auto, unfolding(texts::specs::Adding::StillBegins))]
 fn push_opened(text: &mut Vec<u8>, org: u8, rfm: u8) -> Result<(), AllocError>
     ensures added { OnOk result (Adds text.old text.new (codes_text org rfm)) }
     ensures kept { StillBegins text.old text.new }
@@ -75,7 +75,7 @@ fn push_opened(text: &mut Vec<u8>, org: u8, rfm: u8) -> Result<(), AllocError>
 }
 
 /// Appends how many records a batch has, and how it ended.
-#[tactic(auto, unfolding(crate::specs::Adding::StillBegins))]
+#[tactic(auto, unfolding(texts::specs::Adding::StillBegins))]
 fn push_batch(text: &mut Vec<u8>, count: usize, ending: Ending) -> Result<(), AllocError>
     ensures added { OnOk result (Adds text.old text.new (batch_text count ending)) }
     ensures kept { StillBegins text.old text.new }
@@ -86,7 +86,7 @@ fn push_batch(text: &mut Vec<u8>, count: usize, ending: Ending) -> Result<(), Al
 }
 
 /// Appends a report.
-#[tactic(auto, unfolding(crate::specs::Adding::StillBegins))]
+#[tactic(auto, unfolding(texts::specs::Adding::StillBegins))]
 pub fn push_report(text: &mut Vec<u8>, report: &Report) -> Result<(), AllocError>
     ensures added { OnOk result (Adds text.old text.new (report_text report.now)) }
     ensures kept { StillBegins text.old text.new }

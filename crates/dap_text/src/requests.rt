@@ -4,10 +4,11 @@ ghost use Rattle.std.specs.Prelude.{◌≡◌};
 ghost use Rattle.dap_accessing.specs.declared.request.Request.TheVariants as request;
 ghost use Rattle.dap_text.specs.Requests.{request_of};
 ghost use Rattle.dap_text.specs.Inner.Requests.{continue_of, get_of, put_of};
-ghost use Rattle.dap_text.specs.Words.{decimal_of, ends, field, long, short, text_of};
+ghost use Rattle.texts.specs.Words.{decimal_of, ends, field, long, short, text_of};
 
-use crate::words::{Text, Texts, Words, is, read_text, read_texts};
+use crate::words::{Text, Texts, next_text, read_text, read_texts};
 use dap_accessing::{By, How, Octets, OctetsList, RequestOf};
+use texts::{Words, is};
 
 /// A request whose names and bodies are still the digits of a line. Contracts see the request.
 pub type RequestText<'a> = RequestOf<Octets<Text<'a>>, OctetsList<Texts<'a>>>;
@@ -31,7 +32,7 @@ fn read_create<'a>(mut words: Words<'a>) -> Option<RequestText<'a>>
         field (decimal_of 15) (λ fac. ends (request.Create name org rfm mrs mrn fac)))))))
         words.entry }
 {
-    let name = Octets(words.text()?);
+    let name = Octets(next_text(&mut words)?);
     let org = words.number(255)? as u8;
     let rfm = words.number(255)? as u8;
     let mrs = words.short()?;
@@ -53,7 +54,7 @@ fn read_open<'a>(mut words: Words<'a>) -> Option<RequestText<'a>>
     ensures { result ≡ field text_of
         (λ name. field (decimal_of 15) (λ fac. ends (request.OpenFile name fac))) words.entry }
 {
-    let name = Octets(words.text()?);
+    let name = Octets(next_text(&mut words)?);
     let fac = words.number(MAX_FAC)?;
     words.end()?;
     Some(RequestText::OpenFile { name, fac })
@@ -82,7 +83,7 @@ fn read_put<'a>(mut words: Words<'a>) -> Option<RequestText<'a>>
     match words.next()? {
         b"key" => {
             let key = Some(words.number(u32::MAX)?);
-            let body = Octets(words.text()?);
+            let body = Octets(next_text(&mut words)?);
             words.end()?;
             Some(RequestText::Put { key, body })
         }
@@ -98,7 +99,7 @@ fn read_put<'a>(mut words: Words<'a>) -> Option<RequestText<'a>>
 fn read_update<'a>(mut words: Words<'a>) -> Option<RequestText<'a>>
     ensures { result ≡ field text_of (λ body. ends (request.Update body)) words.entry }
 {
-    let body = Octets(words.text()?);
+    let body = Octets(next_text(&mut words)?);
     words.end()?;
     Some(RequestText::Update { body })
 }

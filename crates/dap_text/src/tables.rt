@@ -1,14 +1,14 @@
 //! How files are printed.
 
 ghost use Rattle.std.specs.Prelude.{◌≡◌, ◌<◌, ◌++◌, IfOk, OnErr, OnOk, codes, length};
-ghost use Rattle.dap_text.specs.Adding.{Adds, StillBegins};
+ghost use Rattle.texts.specs.Adding.{Adds, StillBegins};
 ghost use Rattle.dap_text.specs.Tables.{AddsLine, file_line, files_text, format_text, lines_from, org_text, record_line};
 ghost use Rattle.dap_text.specs.Inner.Tables.{shape_text, sizes_text};
 
-use crate::text::{push_image, push_number, push_str};
 use dap_accessed::FileTable;
 use rec_file::{Format, Org, RecordFile, Shape, first_record};
 use std::alloc::AllocError;
+use texts::{push_image, push_number, push_str};
 
 /// Returns the word for an organization.
 fn org_word(org: Org) -> &'static str
@@ -31,7 +31,7 @@ fn format_word(format: Format) -> &'static str
 }
 
 /// Appends a word after a space.
-#[tactic(auto, unfolding(crate::specs::Adding::StillBegins))]
+#[tactic(auto, unfolding(texts::specs::Adding::StillBegins))]
 fn push_next_word(text: &mut Vec<u8>, word: &str) -> Result<(), AllocError>
     ensures added { OnOk result (Adds text.old text.new (codes " " ++ word.now)) }
     ensures kept { StillBegins text.old text.new }
@@ -41,7 +41,7 @@ fn push_next_word(text: &mut Vec<u8>, word: &str) -> Result<(), AllocError>
 }
 
 /// Appends two sizes, each after a space.
-#[tactic(auto, unfolding(crate::specs::Adding::StillBegins))]
+#[tactic(auto, unfolding(texts::specs::Adding::StillBegins))]
 pub(crate) fn push_sizes(text: &mut Vec<u8>, mrs: u16, mrn: u32) -> Result<(), AllocError>
     ensures added { OnOk result (Adds text.old text.new (sizes_text mrs mrn)) }
     ensures kept { StillBegins text.old text.new }
@@ -51,7 +51,7 @@ pub(crate) fn push_sizes(text: &mut Vec<u8>, mrs: u16, mrn: u32) -> Result<(), A
 }
 
 /// Appends the organization, the record format and the sizes of a file, each after a space.
-#[tactic(auto, unfolding(crate::specs::Adding::StillBegins))]
+#[tactic(auto, unfolding(texts::specs::Adding::StillBegins))]
 fn push_shape(text: &mut Vec<u8>, shape: Shape) -> Result<(), AllocError>
     ensures added { OnOk result (Adds text.old text.new (shape_text shape)) }
     ensures kept { StillBegins text.old text.new }
@@ -62,7 +62,7 @@ fn push_shape(text: &mut Vec<u8>, shape: Shape) -> Result<(), AllocError>
 }
 
 /// Appends the line of a file.
-#[tactic(auto, unfolding(crate::specs::Adding::StillBegins))]
+#[tactic(auto, unfolding(texts::specs::Adding::StillBegins))]
 fn push_file_line(text: &mut Vec<u8>, name: &[u8], shape: Shape) -> Result<(), AllocError>
     ensures added { OnOk result (Adds text.old text.new (file_line name.now shape)) }
     ensures kept { StillBegins text.old text.new }
@@ -73,7 +73,7 @@ fn push_file_line(text: &mut Vec<u8>, name: &[u8], shape: Shape) -> Result<(), A
 }
 
 /// Appends the line of a record.
-#[tactic(auto, unfolding(crate::specs::Adding::StillBegins))]
+#[tactic(auto, unfolding(texts::specs::Adding::StillBegins))]
 fn push_record(text: &mut Vec<u8>, number: u32, body: &[u8]) -> Result<(), AllocError>
     ensures added { OnOk result (Adds text.old text.new (record_line (number, body.now))) }
     ensures kept { StillBegins text.old text.new }
@@ -93,7 +93,7 @@ pub enum FilesCursor {
 }
 
 /// Appends the line of the file at an index of the table, where there is one, and returns the next position.
-#[tactic(auto, unfolding(crate::specs::Adding::StillBegins))]
+#[tactic(auto, unfolding(texts::specs::Adding::StillBegins))]
 fn push_file_at(
     text: &mut Vec<u8>,
     files: &FileTable,
@@ -111,7 +111,7 @@ fn push_file_at(
 }
 
 /// Appends the line of a file's first record from a number on, or of the next file, and returns the next position.
-#[tactic(auto, unfolding(crate::specs::Adding::StillBegins))]
+#[tactic(auto, unfolding(texts::specs::Adding::StillBegins))]
 fn push_record_from(
     text: &mut Vec<u8>,
     files: &FileTable,
@@ -137,7 +137,7 @@ fn push_record_from(
 
 /// Appends the line at a position in the listing of all files, and returns the position of the next one. Where all
 /// lines are before it, nothing is appended.
-#[tactic(auto, unfolding(crate::specs::Adding::StillBegins))]
+#[tactic(auto, unfolding(texts::specs::Adding::StillBegins))]
 pub fn push_files_line(
     text: &mut Vec<u8>,
     files: &FileTable,
@@ -154,7 +154,7 @@ pub fn push_files_line(
 }
 
 /// Appends the lines of all files, in the order in which they were made.
-#[tactic(auto, unfolding(crate::specs::Adding::StillBegins))]
+#[tactic(auto, unfolding(texts::specs::Adding::StillBegins))]
 pub fn push_files(text: &mut Vec<u8>, files: &FileTable) -> Result<(), AllocError>
     ensures added { OnOk result (Adds text.old text.new (files_text files.now)) }
     ensures kept { StillBegins text.old text.new }

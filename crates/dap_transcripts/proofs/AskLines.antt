@@ -35,7 +35,7 @@ use Rattle.dap_network.proofs.ForCallers.{peer_leads}
 use Rattle.linewise.specs.declared.talking.Became.{Became}
 use Rattle.linewise.specs.declared.talking.Became.TheVariants.{Done, NoMemory}
 use Rattle.linewise.specs.Talks.{AnswersLine, ending_of, said_of}
-use Rattle.dap_text.specs.Text.{line_feed}
+use Rattle.texts.specs.Text.{line_feed}
 use Rattle.dap_live.specs.declared.asking.Asking.{Asking}
 use Rattle.dap_live.specs.declared.asking.Came.{Came}
 use Rattle.dap_live.specs.declared.asking.Came.TheVariants.{Told, Untold}

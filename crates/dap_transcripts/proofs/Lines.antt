@@ -42,7 +42,7 @@ use Rattle.dap_live.specs.Node.{AddsLink, AddsRecordTo, BeginsOn, NoLink, DropsF
 use Rattle.dap_live.specs.Sending.{AllAgain}
 use Rattle.dap_msg.specs.Codes.{reasons, stscode}
 use Rattle.dap_text.specs.Answers.{got_text}
-use Rattle.dap_text.specs.Text.{line_feed}
+use Rattle.texts.specs.Text.{line_feed}
 use Rattle.dap_end.specs.Turns.{EndOf, TakesPacket}
 use Rattle.dap_transcripts.proofs.Speaking.{Speaks, speaks_add, speaks_after, speaks_before, speaks_both, speaks_end, speaks_files, speaks_got, speaks_hex, speaks_link, speaks_locked, speaks_no_links, speaks_none, speaks_packets, speaks_remove, speaks_status}
 use Rattle.dap_live.specs.Texts.{LineAnswer, end_refusal, add_refusal, done_said, link_refusal, locked_text, packet_text, packets_text, status_line, taken_said}

@@ -9,7 +9,7 @@ use Rattle.dap_accessing.specs.declared.report.Report.TheVariants.{Ready, Opened
 use Rattle.dap_accessing.specs.declared.report.Ending.{Ending}
 use Rattle.dap_accessing.specs.declared.report.Ending.TheVariants as ending
 use Rattle.dap_text.specs.Reports.{ending_text, numbered_text, refused_text, report_text}
-use Rattle.dap_text.specs.Text.{image_text, line_feed, word_text}
+use Rattle.texts.specs.Text.{image_text, line_feed, word_text}
 use Rattle.dap_live.specs.declared.asking.Asking.{Asking}
 use Rattle.dap_live.specs.Each.{batch_line, batch_so_far, each_text, record_report_line, records_text, told_text}
 use Rattle.dap_live.specs.Texts.{report_line, reports_text}

@@ -34,9 +34,10 @@ use Rattle.dap_accessed.specs.declared.fault.AddFault.{AddFault}
 use Rattle.dap_accessed.specs.Standing.{Files}
 use Rattle.dap_shared.specs.declared.fault.RemoveFault.{RemoveFault}
 use Rattle.dap_end.specs.declared.fault.EndFault.{EndFault}
-use Rattle.dap_text.specs.Answers.{fault_line, flag_text, got_text}
+use Rattle.dap_meanings.specs.Faults.{fault_line, flag_text}
+use Rattle.dap_text.specs.Answers.{got_text}
 use Rattle.dap_text.specs.Tables.{file_line, file_lines, files_lines, format_text, org_text, record_line}
-use Rattle.dap_text.specs.Text.{image_text, line_feed, word_text}
+use Rattle.texts.specs.Text.{image_text, line_feed, word_text}
 use Rattle.linewise.specs.declared.talking.Became.{Became}
 use Rattle.linewise.specs.Talks.{ComesIn, ending_of, refusal_of}
 use Rattle.dap_live.specs.Texts.{add_refusal, end_refusal, link_refusal, locked_text, packet_text, packets_text, refused_with, remove_refusal, status_line}

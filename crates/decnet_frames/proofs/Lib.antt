@@ -2,4 +2,5 @@ mod ListingLemmas
 mod BytesLemmas
 mod TimeLemmas
 mod ReadBack
+mod MadeLemmas
 pub mod ForCallers

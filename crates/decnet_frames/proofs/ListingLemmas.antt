@@ -270,8 +270,8 @@ listed_to ends old mid input unread left first written holds piece fault counts 
     let P : FramesFault → Type 0 = λ e. IfSome input (λ bytes. IsListedTo ends bytes first holds e) in
     elim is_ended [
       | inl wants ↦
-          subst P (sym wants.0) (listed_so_far ends old input unread first holds
-          (record { came = a.came; text = a.text; consumed = a.consumed; listed = a.listed; appended = Appends-kept first written holds a.text a.appended wants.1; none_left = a.none_left }))
+          subst P (sym wants.1) (listed_so_far ends old input unread first holds
+          (record { came = a.came; text = a.text; consumed = a.consumed; listed = a.listed; appended = Appends-kept first written holds a.text a.appended wants.2; none_left = a.none_left }))
       | inr other ↦ elim fails [
         | inl memory ↦ absurd (other.0 memory)
         | inr stops ↦

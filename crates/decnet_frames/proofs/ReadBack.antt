@@ -15,8 +15,8 @@ use Rattle.std.proofs.lemmas.List.Sums.{AllPass-from_list_all, list_all-from_All
 use Rattle.hex.specs.Hex.{encode_lower, is_hex_digit, lower_digits}
 use Rattle.hex.proofs.HexLemmas.{decode_of-encode_lower, decode_of-ok, length-encode_with}
 use Rattle.dap_fields.specs.Spelling.{AreBytes}
-use Rattle.dap_text.specs.Text.{line_feed}
-use Rattle.dap_text.specs.Words.{is_hex_text}
+use Rattle.texts.specs.Text.{line_feed}
+use Rattle.texts.specs.Words.{is_hex_text}
 use Rattle.dap_listing.specs.Lines.{Capture, line_of}
 use Rattle.dap_listing.specs.Listing.{arrow_text, captures, faults_from, packet_limit}
 use Rattle.linewise.specs.declared.fault.CaptureFault.{CaptureFault}

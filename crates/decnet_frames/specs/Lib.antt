@@ -1,4 +1,5 @@
 pub mod Frames
+pub mod Made
 pub mod Lines
 pub mod Nodes
 pub mod Listed

@@ -3,7 +3,7 @@ use Rattle.std.specs.Prelude.{ℕ, ◌+◌, ◌-◌, ◌*◌, ◌/◌, ◌%◌, 
 use Rattle.std.specs.List.{concat}
 use Rattle.std.specs.Fmt.{decimal}
 use Rattle.hex.specs.Hex.{encode_lower}
-use Rattle.dap_text.specs.Text.{line_feed}
+use Rattle.texts.specs.Text.{line_feed}
 use Rattle.dap_listing.specs.Lines.{Capture}
 use Rattle.dap_listing.specs.Listing.{arrow_text}
 use Rattle.dap_listing.specs.declared.lines.Direction.{Direction}

@@ -1,7 +1,7 @@
 -- Addresses of nodes.
 use Rattle.std.specs.Prelude.{ℕ, ◌+◌, ◌*◌, ◌==◌, ◌||◌, List, take, drop, if◌then◌else◌, Option, Some, None, option_and_then}
 use Rattle.std.specs.List.{position}
-use Rattle.dap_text.specs.Words.{decimal_of}
+use Rattle.texts.specs.Words.{decimal_of}
 
 -- a node by its area and its number in it; neither is 0
 abbrev pub node_by : Option ℕ → Option ℕ → Option ℕ

@@ -7,7 +7,7 @@ mod packet;
 mod run;
 mod text;
 
-pub use laws::written_lines_are_read;
+pub use laws::{made_frames_are_read, written_lines_are_read};
 pub use nodes::read_node;
 pub use packet::{Carried, Passed, read_frame};
 pub use run::{FramesFault, list_frames};

@@ -1,11 +1,10 @@
 //! Addresses of nodes.
 
 ghost use Rattle.std.specs.Prelude.{◌≡◌, ◌≤◌, ◌<◌, ◌+◌, IfSome, drop, length, take};
-ghost use Rattle.dap_text.specs.Words.{decimal_of};
+ghost use Rattle.texts.specs.Words.{decimal_of};
 ghost use Rattle.decnet_frames.specs.Nodes.{node_by as the_node, node_of};
 
-use dap_text::read_number;
-use linewise::find_byte;
+use texts::{find_byte, read_number};
 
 /// The maximum of an area, and of a number in one (DECnet Phase IV, routing layer 2.0.0).
 const MAX_AREA: u32 = 63;

@@ -1,7 +1,7 @@
 //! The lines of a capture.
 
 ghost use Rattle.std.specs.Prelude.{◌≡◌, ◌<◌, ◌≤◌, ◌+◌, ◌-◌, ◌*◌, ◌/◌, ◌^◌, ◌++◌, OnOk, Some};
-ghost use Rattle.dap_text.specs.Adding.{Adds};
+ghost use Rattle.texts.specs.Adding.{Adds};
 ghost use Rattle.capture_file.specs.Files.{bounded_count};
 ghost use Rattle.decnet_frames.specs.Frames.{carried_of};
 ghost use Rattle.decnet_frames.specs.Lines.{data_text, digits_after_first, ends_after, ends_or_those_of as the_ends, heading_text, node_text, parts_in_second as the_parts_in_second, record_packets, record_text, seconds_text, shown_parts as the_shown_parts, taken_with, time_text, way_of as the_way, way_packets, way_text};
@@ -9,9 +9,9 @@ ghost use Rattle.decnet_frames.specs.Lines.{data_text, digits_after_first, ends_
 use crate::packet::{Carried, read_frame};
 use capture_file::Time;
 use dap_listing::{Direction, arrow};
-use dap_text::{push_decimal, push_hex, push_number, push_str};
 use itoa::Buffer;
 use std::alloc::AllocError;
+use texts::{push_decimal, push_hex, push_number, push_str};
 
 /// The two nodes whose packets are listed, `>` from the first one and `<` from the other: each an area in the upper
 /// six bits, and a number in it.

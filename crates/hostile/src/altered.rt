@@ -3,7 +3,7 @@
 use crate::bytes::{MESSAGES, PACKETS, RECORDS, STORING};
 use crate::ends::{ASKED_RECORDS, ASKED_STORING, Line, ask};
 use crate::growing::Trouble;
-use crate::texts::Text;
+use crate::text::Text;
 use dap_accessed::Accessed;
 use dap_accessing::{Accessing, ReadFault};
 use dap_msg::decode;

@@ -2,7 +2,7 @@
 
 use crate::altered::{Counts, Outcome, Taking, alter};
 use crate::growing::{Growing, Trouble};
-use crate::texts::Text;
+use crate::text::Text;
 use decnet_frames::{FramesFault, list_frames};
 use std::alloc::Global;
 use std::io;

@@ -4,7 +4,7 @@ use crate::bytes::*;
 use crate::growing::{Growing, Trouble, at};
 use crate::reading::{look_at_files, look_at_report};
 use crate::requests::request;
-use crate::texts::Text;
+use crate::text::Text;
 use dap_accessed::Accessed;
 use dap_accessing::{Accessing, AskFault, By, How, Request};
 use std::alloc::Global;

@@ -2,7 +2,7 @@
 
 use crate::growing::{Ending, Growing, Trouble, at};
 use crate::reading::look_at_file;
-use crate::texts::Text;
+use crate::text::Text;
 use rec_file::{AnyFile, Pick, RecordFile, Refusal, Rights, Shape, Stream};
 use std::alloc::Global;
 

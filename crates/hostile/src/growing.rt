@@ -1,6 +1,6 @@
 //! Calls that may want memory: each is made again where it did, and changed nothing.
 
-use crate::texts::Text;
+use crate::text::Text;
 use dap_accessed::NoMemory;
 use dap_accessing::{AskFault, ReadFault};
 use dap_fields::FieldFault;

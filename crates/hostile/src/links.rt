@@ -2,7 +2,7 @@
 
 use crate::growing::{Growing, Trouble, at, put};
 use crate::reading::look_at_link;
-use crate::texts::Text;
+use crate::text::Text;
 use nsp_link::{Got, LinkEnd, LinkFault, LinkSetup};
 use std::alloc::Global;
 

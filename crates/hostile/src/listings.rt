@@ -1,7 +1,7 @@
 //! Listings and schedules, as calls of the library and as words of the program.
 
 use crate::growing::{Growing, Trouble, at};
-use crate::texts::Text;
+use crate::text::Text;
 use dap_capture::schedule;
 use dap_cli::run_words;
 use dap_listing::{messages, show};

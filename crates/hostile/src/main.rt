@@ -19,7 +19,7 @@ mod peers;
 mod reading;
 mod requests;
 mod sharing;
-mod texts;
+mod text;
 mod worlds;
 mod writers;
 
@@ -37,7 +37,7 @@ use sharing::{SHARED, Sharing};
 use std::alloc::Global;
 use std::io::{Read, Stdout};
 use std::process::ExitCode;
-use texts::Text;
+use text::Text;
 use worlds::{Directing, LOST, Playing, SETTLING, STOPPING, Script};
 use writers::Writers;
 

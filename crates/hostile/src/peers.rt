@@ -4,7 +4,7 @@ use crate::growing::{Growing, Trouble, at, put};
 use crate::links::{keep, keep_next, packet_of};
 use crate::reading::{look_at_files, look_at_link, look_at_reports};
 use crate::requests::request;
-use crate::texts::Text;
+use crate::text::Text;
 use dap_accessed::AddFault;
 use dap_accessing::{ReadFault, Report};
 use dap_end::{AskingEnd, EndFault, Heard, ServingEnd, TakeFault};

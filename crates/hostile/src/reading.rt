@@ -1,6 +1,6 @@
 //! What the readers of files, reports and ends answer.
 
-use crate::texts::Text;
+use crate::text::Text;
 use dap_accessed::FileTable;
 use dap_accessing::{Ending, Octets, Report};
 use nsp_link::LinkEnd;

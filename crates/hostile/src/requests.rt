@@ -2,8 +2,9 @@
 
 use crate::growing::Trouble;
 use dap_accessing::Request;
-use dap_text::{Words, read_request};
+use dap_text::read_request;
 use std::alloc::Global;
+use texts::Words;
 
 /// Returns the request that words say.
 pub fn request(alloc: Global, words: &str) -> Result<Request, Trouble> {

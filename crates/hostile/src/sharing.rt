@@ -3,7 +3,7 @@
 use crate::bytes::{CLOSE, CONFIG, CREATE_ALL, OPEN, PURGE};
 use crate::growing::{Growing, Trouble, at};
 use crate::reading::look_at_files;
-use crate::texts::Text;
+use crate::text::Text;
 use dap_msg::item_at;
 use dap_shared::SharedFiles;
 use std::alloc::Global;

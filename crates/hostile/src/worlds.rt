@@ -3,7 +3,7 @@
 use crate::growing::{Growing, Trouble, put, when};
 use crate::reading::{look_at_files, look_at_link, look_at_reports};
 use crate::requests::request;
-use crate::texts::Text;
+use crate::text::Text;
 use End::{A, B};
 use dap_world::{End, Event, Request, Step, World, WorldFault, WorldSetup};
 use std::alloc::Global;

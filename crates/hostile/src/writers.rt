@@ -2,7 +2,7 @@
 
 use crate::bytes::{MESSAGES, PACKETS};
 use crate::growing::{Growing, Trouble, at};
-use crate::texts::Text;
+use crate::text::Text;
 use dap_fields::{FieldFault, write_ex, write_image, write_u8, write_u16};
 use dap_msg::{append_blocked, decode, encode, fits};
 use nsp_seg::{decode_packet, encode_packet};

@@ -1,10 +1,8 @@
 pub mod InputLemmas
 pub mod LineLemmas
-mod IndexLemmas
 mod ReadingLemmas
 mod OutputLemmas
 pub mod PieceLemmas
-pub mod SliceLemmas
 pub mod OneText
 pub mod ForCallers
 mod TalkLemmas

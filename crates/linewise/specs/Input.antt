@@ -1,5 +1,5 @@
 -- What the reading of an input takes, and when it fails.
-use Rattle.std.specs.Prelude.{◌≡◌, ℕ, List, ◌<◌, ◌≤◌, ◌+◌, length, Option, IfSome}
+use Rattle.std.specs.Prelude.{ℕ, List, ◌<◌, ◌≤◌, ◌+◌, length, Option, IfSome}
 use Rattle.std.specs.Io.KnownBytes.{Consumes}
 use Rattle.linewise.specs.Talks.{max_line}
 use Rattle.linewise.specs.declared.fault.CaptureFault.{CaptureFault}
@@ -12,10 +12,6 @@ TakesAfter count old new = (taken : List ℕ) × Consumes old new taken × (coun
 -- and with these no more than an input may have
 unfoldable pub TakesUpTo : ℕ → Option (List ℕ) → Option (List ℕ) → Type 0
 TakesUpTo count old new = (taken : List ℕ) × Consumes old new taken × (count + length taken ≤ max_line)
-
--- What was taken is counted.
-abbrev pub TakesCounted : (count later : ℕ) → (old new : Option (List ℕ)) → Type 0
-TakesCounted count later old new = (taken : List ℕ) × Consumes old new taken × (later ≡ count + length taken)
 
 -- why what is after this many bytes can't be read, where no memory is taken
 abbrev pub IsFaultAfter : ℕ → Option (List ℕ) → CaptureFault → Type 0

@@ -1,10 +1,10 @@
 //! Reading a whole input.
-ghost use Rattle.std.specs.Prelude.{◌≡◌, ◌≤◌, ◌<◌, ◌+◌, ◌⊎◌, IfOk, IfErr, IsErrOf, OnOk, OnErr, IfSome, length, take, true};
+ghost use Rattle.std.specs.Prelude.{◌≡◌, ◌≤◌, ◌<◌, ◌+◌, ◌⊎◌, IfOk, IfErr, IsErrOf, OnOk, OnErr, IfSome, length, take};
 ghost use Rattle.std.specs.Io.KnownBytes.{Consumes, IsAtEnd, Keeps};
 ghost use Rattle.linewise.specs.Talks.{max_line};
 ghost use Rattle.linewise.specs.Gives.{TakesAnInput, TakesWithinLimit};
 ghost use Rattle.linewise.specs.declared.fault.CaptureFault.TheVariants.{NoMemory, ReadFailed, TooLarge};
-ghost use Rattle.linewise.specs.Input.{IsFaultAfter, TakesAfter, TakesCounted, TakesUpTo};
+ghost use Rattle.linewise.specs.Input.{IsFaultAfter, TakesAfter, TakesUpTo};
 
 use crate::CaptureFault;
 use crate::reading::MAX_LINE;
@@ -21,7 +21,7 @@ pub const CHUNK: usize = 65_536;
 /// were read: 0 at the end. The count is of the bytes that were read before; after a fault it stays, and a read that
 /// failed took nothing.
 #[tactic(auto, unfolding(crate::specs::Input::TakesAfter, crate::specs::Input::TakesUpTo))]
-pub fn read_some<R: Read>(
+fn read_some<R: Read>(
     reader: &mut R,
     chunk: &mut [u8],
     count: &mut usize,
@@ -52,52 +52,6 @@ pub fn read_some<R: Read>(
         }
         Err(_) => Err(CaptureFault::ReadFailed),
     }
-}
-
-/// Reads on to the end. The count is of the bytes that were read before.
-fn skip_rest<R: Read>(
-    reader: &mut R,
-    chunk: &mut [u8],
-    count: &mut usize,
-) -> Result<(), CaptureFault>
-    requires chunk { 0 < length chunk.old }
-    requires count { count.old ≤ MAX_INPUT }
-    ensures small { OnOk result (IfSome (R.remaining reader.old)
-        (λ rest. count.old + length rest ≤ max_line)) }
-    ensures taken { TakesAfter count.old (R.remaining reader.old) (R.remaining reader.new) }
-    ensures within { (IsErrOf result TooLarge → ⊥)
-        → TakesUpTo count.old (R.remaining reader.old) (R.remaining reader.new) }
-    ensures counted { (IsErrOf result TooLarge → ⊥)
-        → TakesCounted count.old count.new (R.remaining reader.old) (R.remaining reader.new) }
-    ensures fault { IfErr result (IsFaultAfter count.old (R.remaining reader.old)) }
-{
-    while read_some(reader, chunk, count)? > 0 {}
-    Ok(())
-}
-
-/// Reads on to the end, unless it was met. The count is of the bytes that were read before.
-pub fn skip_unread<R: Read>(
-    reader: &mut R,
-    chunk: &mut [u8],
-    count: &mut usize,
-    is_met: bool,
-) -> Result<(), CaptureFault>
-    requires chunk { 0 < length chunk.old }
-    requires count { count.old ≤ MAX_INPUT }
-    requires met { is_met ≡ true → IsAtEnd (R.remaining reader.old) }
-    ensures small { OnOk result (IfSome (R.remaining reader.old)
-        (λ rest. count.old + length rest ≤ max_line)) }
-    ensures taken { TakesAfter count.old (R.remaining reader.old) (R.remaining reader.new) }
-    ensures within { (IsErrOf result TooLarge → ⊥)
-        → TakesUpTo count.old (R.remaining reader.old) (R.remaining reader.new) }
-    ensures counted { (IsErrOf result TooLarge → ⊥)
-        → TakesCounted count.old count.new (R.remaining reader.old) (R.remaining reader.new) }
-    ensures fault { IfErr result (IsFaultAfter count.old (R.remaining reader.old)) }
-{
-    if is_met {
-        return Ok(());
-    }
-    skip_rest(reader, chunk, count)
 }
 
 /// Returns all that the reader has left, where it is no more than the limit. No byte past the one that breaks the

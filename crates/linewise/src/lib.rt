@@ -16,8 +16,8 @@ mod telling;
 
 pub use fault::{CaptureFault, Outcome, finish, tell_fault};
 pub use front::Fronted;
-pub use input::{CHUNK, MAX_INPUT, read_input, read_some, skip_unread};
-pub use lines::{cut_line, find_byte, is_skipped, next_line};
+pub use input::{CHUNK, MAX_INPUT, read_input};
+pub use lines::{is_skipped, next_line};
 pub use output::write_text;
 pub use pipe::{CLOSED_PIPE, ErrorOutput, Output, exit_status};
 pub use reading::MAX_LINE;

@@ -1,22 +1,12 @@
 //! Where lines end, and which say nothing.
 
-ghost use Rattle.std.specs.Prelude.{◌≡◌, ◌<◌, ◌-◌, ◌==◌, drop, length, MatchOption, IfSome, IfNone, [], ◌∷◌, true, false};
-ghost use Rattle.std.specs.List.{position};
+ghost use Rattle.std.specs.Prelude.{◌≡◌, ◌<◌, ◌-◌, drop, length, MatchOption, IfSome, [], ◌∷◌};
 ghost use Rattle.std.specs.Io.BufRead.{strip_last};
 ghost use Rattle.std.specs.Str.Lines.{lines, strip_carriage_return};
-ghost use Rattle.linewise.specs.Cuts.{HasNoEnd, IsCut, IsEnd};
 ghost use Rattle.linewise.specs.Talks.{is_skipped as says_nothing};
 ghost use Rattle.linewise.specs.Inner.Kept.{without_end as ended};
 
-use memchr::memchr;
-
-/// Returns the first offset of a byte, or None where it is nowhere.
-#[tactic(auto, using(crate::proofs::IndexLemmas::first_index))]
-pub fn find_byte(wanted: u8, bytes: &[u8]) -> Option<usize>
-    ensures { result ≡ position (λ byte. byte == wanted) bytes.now }
-{
-    memchr(wanted, bytes)
-}
+use texts::find_byte;
 
 /// Returns a line without the carriage return at its end, if it has one.
 fn without_carriage_return(line: &[u8]) -> &[u8]
@@ -65,32 +55,5 @@ pub fn next_line(bytes: &[u8]) -> Option<(&[u8], &[u8])>
     match find_byte(b'\n', bytes) {
         None => Some((bytes, &[])),
         Some(end) => Some((without_carriage_return(&bytes[..end]), &bytes[end + 1..])),
-    }
-}
-
-/// Returns the first line that has its end, without that, and what is after it.
-#[tactic(auto, using(crate::proofs::LineLemmas::first_line, crate::proofs::LineLemmas::ended_first))]
-fn ended_line(bytes: &[u8]) -> Option<(&[u8], &[u8])>
-    ensures first { IfSome result (λ cut. IsCut false bytes.now cut.0.now cut.1.now
-        × (length cut.1.now < length bytes.now)) }
-    ensures end { IfSome result (λ cut. IsEnd bytes.now cut.1.now) }
-    ensures none { IfNone result (HasNoEnd bytes.now) }
-{
-    let end = find_byte(b'\n', bytes)?;
-    Some((without_carriage_return(&bytes[..end]), &bytes[end + 1..]))
-}
-
-/// Returns the first line and what is after it, where the line has its end or the bytes are the last.
-pub fn cut_line(bytes: &[u8], is_last: bool) -> Option<(&[u8], &[u8])>
-    ensures first { IfSome result (λ cut. IsCut is_last bytes.now cut.0.now cut.1.now
-        × (length cut.1.now < length bytes.now)) }
-    ensures end { IfSome result (λ cut. IsEnd bytes.now cut.1.now) }
-    ensures none { IfNone result (HasNoEnd bytes.now) }
-    ensures last { IfNone result (is_last ≡ true → bytes.now ≡ []) }
-{
-    if is_last {
-        next_line(bytes)
-    } else {
-        ended_line(bytes)
     }
 }

@@ -17,7 +17,7 @@ use Rattle.live_cli.specs.declared.words.Role.TheVariants.{Serve, Ask}
 use Rattle.live_cli.specs.declared.words.Task.{Task}
 use Rattle.live_cli.specs.declared.words.Task.TheVariants.{End, Follow, Frames, Watch}
 use Rattle.linewise.specs.declared.fault.CaptureFault.TheVariants.{NoMemory}
-use Rattle.dap_watch.proofs.ForCallers.{nothing_listed}
+use Rattle.dap_follow.proofs.ForCallers.{nothing_listed}
 use Rattle.decnet_frames.proofs.ForCallers.{nothing_written}
 use Rattle.decnet_frames.specs.declared.run.FramesFault.TheVariants.{NoMemory as Wants}
 use Rattle.linewise.specs.Gives.{TellsFault}

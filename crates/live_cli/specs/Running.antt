@@ -13,7 +13,7 @@ use Rattle.dap_accessed.specs.Setup.{all_rights}
 use Rattle.dap_follow.specs.Following.{FollowGives}
 use Rattle.nsp_link.specs.Limits.{max_limit}
 use Rattle.linewise.specs.Gives.{HasStatus, TellsFault}
-use Rattle.dap_watch.specs.Watched.{WatchFails, WatchGives, is_refused}
+use Rattle.dap_follow.specs.Watched.{WatchFails, WatchGives, is_refused}
 use Rattle.decnet_frames.specs.Listed.{IsListed, IsListedTo}
 use Rattle.decnet_frames.specs.declared.run.FramesFault.{FramesFault}
 use Rattle.decnet_frames.specs.declared.run.FramesFault.TheVariants as frames_fault

@@ -14,8 +14,8 @@ use Rattle.linewise.specs.Programs.{new_program}
 use Rattle.clap.specs.declared.builder.value_parser.ValueParser.TheVariants as parser
 use Rattle.dap_msg.specs.BothEnds.{max_nsp_message, min_buffer}
 use Rattle.nsp_link.specs.Limits.{max_segment, max_window}
-use Rattle.dap_text.specs.Text.{word_text}
-use Rattle.dap_text.specs.Words.{decimal_of, short}
+use Rattle.texts.specs.Text.{word_text}
+use Rattle.texts.specs.Words.{decimal_of, short}
 use Rattle.dap_live.specs.Orders.{address_of}
 use Rattle.decnet_frames.specs.Nodes.{node_of}
 use Rattle.decnet_frames.specs.declared.text.Ends.{Ends}

@@ -20,10 +20,9 @@ ghost use Rattle.live_cli.specs.Words.{daplive, task_of, usual};
 use crate::words::{Misspelt, Options, Role, Task, read_words};
 use clap::error::ErrorKind;
 use dap_accessed::{ALL_RIGHTS, Names, ServerSetup};
-use dap_follow::follow;
+use dap_follow::{follow, watch};
 use dap_live::{Asking, Node};
 use dap_msg::Configuration;
-use dap_watch::watch;
 use decnet_frames::{Counts, Ends, FramesFault, list_frames};
 use linewise::{
     Answers, CaptureFault, Fronted, LineCommand, finish_reading, refuse, talk, tell_fault,

@@ -8,7 +8,7 @@ ghost use Rattle.clap.specs.Words.{FailsBy, all_of, fault_of, first_of, found_of
 ghost use Rattle.clap.specs.declared.builder.value_parser.ValueParser.TheVariants as parser;
 ghost use Rattle.dap_msg.specs.BothEnds.{max_nsp_message, min_buffer};
 ghost use Rattle.nsp_link.specs.Limits.{max_segment, max_window};
-ghost use Rattle.dap_text.specs.Words.{short};
+ghost use Rattle.texts.specs.Words.{short};
 ghost use Rattle.dap_live.specs.Orders.{address_of};
 ghost use Rattle.decnet_frames.specs.Nodes.{node_of};
 ghost use Rattle.live_cli.specs.Words.{code_of, folded_of, names_of, syscap_of, daplive, ends_of, max_waiting, has_address, has_value as is_given_in, is_word as is_in_words, min_waiting, links_of, max_links, option as option_rule, options_of, task_in as task_of_rows, task_of, has_words as words_wanted, waiting_of};
@@ -21,12 +21,12 @@ use clap::parser::ValueSource;
 use clap::{Arg, ArgAction, ArgMatches, Command, Error, value_parser};
 use dap_live::read_address;
 use dap_msg::{MAX_MESSAGE, MIN_BUFFER};
-use dap_text::{is, read_number, read_short};
 use decnet_frames::{Ends, read_node};
 use nsp_link::{MAX_SEGMENT, MAX_WINDOW};
 use std::alloc::Global;
 use std::fmt;
 use std::fmt::Display;
+use texts::{is, read_number, read_short};
 
 const ABOUT: &str =
     "A client or a server for DECnet file access, over lines of standard input and output. A bridge carries \

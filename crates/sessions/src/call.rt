@@ -6,11 +6,12 @@ ghost use Rattle.rec_file.specs.Shapes.{is_shape};
 
 use dap_accessing::Request;
 use dap_msg::MIN_BUFFER;
-use dap_text::{Words, read_hex, read_number, read_request};
+use dap_text::{read_hex, read_request};
 use nsp_link::LinkSetup;
 use rec_file::Shape;
 use std::alloc::{AllocError, Global};
 use std::mem;
+use texts::{Words, read_number};
 
 /// A call, and the words of it that are left.
 #[derive(Drop)]

@@ -2,14 +2,13 @@
 
 use dap_accessed::FileTable;
 use dap_accessing::{Octets, Report};
-use dap_text::{
-    got_word, push_decimal, push_files, push_image, push_number, push_report, push_str,
-};
+use dap_text::{got_word, push_files, push_report};
 use itoa::Integer;
 use nsp_link::Got;
 use std::alloc::{AllocError, Global};
 use std::fmt::Display;
 use std::io::Write;
+use texts::{push_decimal, push_image, push_number, push_str};
 
 /// The text of what a call comes to, and whether memory ran out for some of it.
 #[derive(Drop)]

@@ -3,12 +3,13 @@
 
 ghost use Rattle.std.specs.Prelude.{◌<◌};
 
-use dap_text::{Words, push_report, read_request};
+use dap_text::{push_report, read_request};
 use dap_world::{
     AnyFile, End, Event, FileTable, RecordFile, Report, Request, World, WorldFault, WorldSetup,
 };
 use std::alloc::Global;
 use std::test::Fail;
+use texts::Words;
 
 /// A request in the words of a schedule, and what is printed of its report.
 type Told = (&'static str, &'static str);

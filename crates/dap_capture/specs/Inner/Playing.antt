@@ -10,7 +10,7 @@ use Rattle.dap_world.specs.Machine.{State, Sending, Steps, RefusesEvent, end_of}
 use Rattle.dap_world.specs.Wires.{IsOnWire}
 use Rattle.linewise.specs.declared.fault.Outcome.{Outcome}
 use Rattle.linewise.specs.declared.fault.Outcome.TheVariants.{Good, Stopped}
-use Rattle.dap_text.specs.Adding.{Adds}
+use Rattle.texts.specs.Adding.{Adds}
 use Rattle.dap_orders.specs.Orders.{event_of}
 use Rattle.dap_orders.specs.Schedules.{Numbered}
 use Rattle.dap_capture.specs.Played.{IsStepText, event_line, refusal_line, refusal_text}

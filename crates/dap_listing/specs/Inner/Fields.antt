@@ -3,7 +3,7 @@ use Rattle.std.specs.Prelude.{ℕ, List, option_copied}
 use Rattle.dap_listing.specs.declared.field.Field.{Field}
 use Rattle.dap_listing.specs.declared.field.Field.TheVariants.{Byte, Word, Long, Quad, Image}
 use Rattle.std.specs.Fmt.{decimal}
-use Rattle.dap_text.specs.Text.{image_text}
+use Rattle.texts.specs.Text.{image_text}
 use Rattle.dap_listing.specs.Messages.{optional_text}
 
 -- its text, where it is there

@@ -2,7 +2,7 @@
 use Rattle.std.specs.Prelude.{ℕ, ◌+◌, List, Some}
 use Rattle.std.specs.Global.{Vec}
 use Rattle.nsp_link.specs.Link.{LinkValue}
-use Rattle.dap_text.specs.Adding.{Adds}
+use Rattle.texts.specs.Adding.{Adds}
 use Rattle.nsp_link.specs.Sending.{WritesSent}
 use Rattle.dap_live.specs.Texts.{packet_text, packets_text}
 use Rattle.dap_live.specs.Sending.{AllAgain}

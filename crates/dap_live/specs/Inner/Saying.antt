@@ -3,8 +3,8 @@ use Rattle.std.specs.Prelude.{◌≡◌, ℕ, List, [], ◌∷◌, codes}
 use Rattle.std.specs.List.{concat}
 use Rattle.std.specs.Fmt.{decimal}
 use Rattle.std.specs.Global.{Vec}
-use Rattle.dap_text.specs.Adding as adding
-use Rattle.dap_text.specs.Text.{line_feed}
+use Rattle.texts.specs.Adding as adding
+use Rattle.texts.specs.Text.{line_feed}
 use Rattle.linewise.specs.declared.talking.Became.{Became}
 use Rattle.dap_live.specs.Texts.{LineAnswer, refused_with}
 use Rattle.dap_live.specs.declared.asking.Front.{Front}

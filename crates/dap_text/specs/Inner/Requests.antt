@@ -4,7 +4,7 @@ use Rattle.dap_accessing.specs.Request.{Request}
 use Rattle.dap_accessing.specs.declared.request.Request.TheVariants as request
 use Rattle.dap_accessing.specs.declared.request.By.TheVariants.{Next, Key, Rfa}
 use Rattle.dap_accessing.specs.declared.request.How.TheVariants.{Again, Skip, Abort}
-use Rattle.dap_text.specs.Words.{Words, ends, field, long, one_of, text_of, word}
+use Rattle.texts.specs.Words.{Words, ends, field, long, one_of, text_of, word}
 
 -- nothing, or `key N`, or `rfa N`
 abbrev pub get_of : Words → Option Request

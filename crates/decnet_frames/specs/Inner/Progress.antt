@@ -59,8 +59,9 @@ pub record IsAt (ends : Option Ends) (f : Frames) (input left written holds : Op
   pub appended : Appends written holds text
   pub none_left : f.text.items ≡ []
 
--- what comes of a fault, by its kind: nothing is written, or the lines before it are, or a prefix of them
+-- what comes of a fault, by its kind: of refused memory alone nothing is written and no fault of the file is told; else
+-- the lines before it are written, or a prefix of them
 abbrev pub IsEnded : FileFault → Counts → (text : List ℕ) → (written holds : Option (List ℕ)) → FramesFault → Type 0
 IsEnded fault counts text written holds ended =
-    ((ended ≡ Wants) × Keeps written holds)
+    ((fault.kind ≡ NoMemory) × (ended ≡ Wants) × Keeps written holds)
     ⊎ ((fault.kind ≢ NoMemory) × (((ended ≡ File fault counts) × Appends written holds text) ⊎ ((ended ≡ WriteFailed) × WritesFront written holds text)))

@@ -3,7 +3,7 @@ use Rattle.std.specs.Prelude.{◌≡◌, ℕ, Bool, ◌&&◌, nat_lt, is_none, L
 use Rattle.std.specs.Option.{option_map_or}
 use Rattle.std.specs.List.{find}
 use Rattle.clap.specs.Words.{Row, Text, first_of}
-use Rattle.dap_text.specs.Words.{decimal_of, short}
+use Rattle.texts.specs.Words.{decimal_of, short}
 use Rattle.dap_live.specs.Orders.{address_of}
 use Rattle.decnet_frames.specs.Nodes.{node_of}
 use Rattle.live_cli.specs.declared.words.Digits.{Digits}

@@ -2,12 +2,12 @@ use Rattle.std.proofs.Common.{rules, ◌≡◌, ◌++◌, List, ℕ, OnOk}
 use Rattle.std.specs.Prelude.{codes}
 use Rattle.std.specs.Fmt.{decimal}
 use Rattle.std.proofs.lemmas.Result.{on_ok_weaker}
-use Rattle.dap_text.specs.Text.{image_text, line_feed}
+use Rattle.texts.specs.Text.{image_text, line_feed}
 use Rattle.dap_listing.proofs.MessageLemmas.{appended_twice}
 use Rattle.dap_listing.proofs.message.push_other.Goals as goal
 
-pub returns : goal.returns
-returns c =
+pub returns-clause-added : goal.returns-clause-added
+returns-clause-added c =
     let t0 = c.args.text.now.items in
     let t1 = c.push_number.new.text.items in
     let p1 : List ℕ = codes "  other type=" ++ decimal c.args.number in

@@ -1,5 +1,5 @@
 use Rattle.std.proofs.Common.{◌∙◌, ap, sym, ◌+◌}
-use Rattle.linewise.proofs.ForCallers.{slice_from}
+use Rattle.texts.proofs.ForCallers.{slice_from}
 use Rattle.dap_live.specs.Rights.{comma_separated, with_rights}
 use Rattle.dap_live.proofs.RightsLemmas.{some_right}
 use Rattle.dap_live.proofs.rights.+add_rights.Goals as goal

@@ -1,5 +1,5 @@
 use Rattle.std.proofs.Common.{◌≡◌, ℕ, ◌+◌, List, length}
-use Rattle.dap_text.specs.Adding.{Adds}
+use Rattle.texts.specs.Adding.{Adds}
 use Rattle.dap_live.specs.Texts.{packets_text}
 use Rattle.dap_end.specs.Writing.{AreSegments}
 use Rattle.dap_live.proofs.sending.push_again.Given as goal

@@ -1,7 +1,7 @@
 use Rattle.std.proofs.Common.{◌≡◌, rules, true}
-use Rattle.dap_text.specs.Words.{is_hex_text}
-use Rattle.dap_text.specs.Words.{text_of}
-use Rattle.dap_text.proofs.TextWords.{hex_is_text, is_some, same_some}
+use Rattle.texts.specs.Words.{is_hex_text}
+use Rattle.texts.specs.Words.{text_of}
+use Rattle.texts.proofs.ForCallers.{hex_is_text, is_some, same_some}
 use Rattle.dap_text.proofs.words.read_text.Goals as goal
 
 pub invariant_of-result-in_default : goal.invariant_of-result-in_default

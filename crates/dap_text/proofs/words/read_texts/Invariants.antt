@@ -1,6 +1,6 @@
 use Rattle.std.proofs.Common.{◌≡◌, length}
 use Rattle.std.specs.Prelude.{is_some}
-use Rattle.dap_text.specs.Words.{texts_of}
+use Rattle.texts.specs.Words.{texts_of}
 use Rattle.dap_text.proofs.words.read_texts.Given as goal
 
 abbrev pub invariant-loop-word : goal.invariant-loop-word

@@ -1,5 +1,5 @@
 use Rattle.std.proofs.Common.{◌<◌, ◌+◌, length, arith, rules, sym, length-drop}
-use Rattle.linewise.proofs.SliceLemmas.{slice_from}
+use Rattle.texts.proofs.ForCallers.{slice_from}
 use Rattle.linewise.proofs.LineLemmas.{first_line, last_line}
 use Rattle.linewise.proofs.lines.next_line.Goals as goal
 

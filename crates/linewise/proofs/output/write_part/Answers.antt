@@ -1,5 +1,5 @@
 use Rattle.std.proofs.Common.{rules}
-use Rattle.linewise.proofs.SliceLemmas.{slice_from}
+use Rattle.texts.proofs.ForCallers.{slice_from}
 use Rattle.linewise.proofs.OutputLemmas.{writes_further}
 use Rattle.linewise.proofs.output.write_part.Goals as goal
 

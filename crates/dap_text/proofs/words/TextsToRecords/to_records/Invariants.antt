@@ -1,6 +1,6 @@
 use Rattle.std.proofs.Common.{◌≡◌, ◌++◌, length, []}
 use Rattle.std.specs.Prelude.{IsSome, unwrap_or}
-use Rattle.dap_text.specs.Words.{texts_of}
+use Rattle.texts.specs.Words.{texts_of}
 use Rattle.dap_text.proofs.words.TextsToRecords.to_records.Given as goal
 
 abbrev pub invariant-loop-word : goal.invariant-loop-word

@@ -1,0 +1,79 @@
+//! The parts of lines: a packet with its words, a stream, and what a piece of it has.
+
+ghost use Rattle.std.specs.Prelude.{◌≡◌, ◌++◌, [], OnOk};
+ghost use Rattle.texts.specs.Adding.{Adds};
+ghost use Rattle.dap_meanings.specs.Frames.{frame_words};
+ghost use Rattle.dap_meanings.specs.Meanings.{fault_words, if_there, packet_words};
+ghost use Rattle.dap_follow.specs.Following.{length_text, packet_line, range_text, stream_text};
+
+use crate::segments::ROUND;
+use crate::streams::Stream;
+use dap_listing::{Direction, arrow, push_heading, push_seen};
+use dap_meanings::add_packet_words;
+use nsp_seg::{PacketValue, SegFault};
+use std::alloc::AllocError;
+use texts::{push_number, push_str, push_word};
+
+/// Returns why bytes are no packet, if they are none.
+fn fault_of(seen: &Result<PacketValue<'_>, SegFault>) -> Option<SegFault>
+    ensures { if_there fault_words result ≡ packet_words seen.now }
+{
+    match seen {
+        Ok(_) => None,
+        Err(fault) => Some(*fault),
+    }
+}
+
+/// Appends the line of the packet that has the number, to a text that is empty; with its words, if these are wanted:
+/// those of the line directly before it, and of what is no segment. Fails only if memory is refused.
+pub(crate) fn push_packet_line(
+    text: &mut Vec<u8>,
+    number: usize,
+    way: Direction,
+    before: &[u8],
+    seen: &Result<PacketValue<'_>, SegFault>,
+    in_words: bool,
+) -> Result<(), AllocError>
+    requires { text.old.items ≡ [] }
+    ensures { OnOk result (text.new.items
+        ≡ packet_line in_words (frame_words before.now) number (way, seen.now)) }
+{
+    push_heading(text, number, way)?;
+    push_seen(text, seen)?;
+    if in_words {
+        return add_packet_words(text, before, fault_of(seen));
+    }
+    Ok(())
+}
+
+/// Appends two sequence numbers.
+pub(crate) fn push_range(text: &mut Vec<u8>, from: u64, to: u64) -> Result<(), AllocError>
+    ensures { OnOk result (Adds text.old text.new (range_text from to)) }
+{
+    push_number(text, " seg=", from % ROUND)?;
+    push_number(text, "..", to % ROUND)
+}
+
+/// Appends the sequence numbers of the first and the last segment, how many bytes they have, and the end of the line.
+pub(crate) fn push_piece(
+    text: &mut Vec<u8>,
+    from: u64,
+    to: u64,
+    bytes: &[u8],
+) -> Result<(), AllocError>
+    ensures { OnOk result (Adds text.old text.new (range_text from to ++ length_text bytes.now)) }
+{
+    push_range(text, from, to)?;
+    push_number(text, " len=", bytes.len())?;
+    push_str(text, "\n")
+}
+
+/// Appends a stream: its way, its receiver and its sender.
+pub(crate) fn push_stream(text: &mut Vec<u8>, stream: &Stream) -> Result<(), AllocError>
+    ensures { OnOk result (Adds text.old text.new (stream_text stream.now)) }
+{
+    push_str(text, " ")?;
+    push_str(text, arrow(stream.way))?;
+    push_word(text, " dst=", stream.dst)?;
+    push_word(text, " src=", stream.src)
+}

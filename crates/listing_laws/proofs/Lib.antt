@@ -1,0 +1,2 @@
+mod JoiningLemmas
+mod CutLemmas

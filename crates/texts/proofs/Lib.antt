@@ -1,0 +1,10 @@
+pub mod EncodeLemmas
+pub mod ForCallers
+pub mod DecodeLemmas
+pub mod HexTextLemmas
+pub mod IndexLemmas
+pub mod NumberLemmas
+pub mod SliceLemmas
+pub mod TextLemmas
+pub mod TextWords
+pub mod WordLemmas

@@ -1,0 +1,2 @@
+-- What only the contracts of private functions cite, and proofs: nobody has to believe it.
+pub mod Words

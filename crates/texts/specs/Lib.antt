@@ -1,0 +1,4 @@
+pub mod Inner
+pub mod Adding
+pub mod Text
+pub mod Words
