@@ -1,11 +1,6 @@
 """What a Configuration message says of a system, in words. All of it is from memory; a few bits in the middle may be
 others."""
 
-OSTYPE = {1: "RT-11", 2: "RSTS/E", 3: "RSX-11S", 4: "RSX-11M", 5: "RSX-11D", 6: "IAS", 7: "VAX/VMS", 8: "TOPS-20",
-          9: "TOPS-10", 10: "RTS-8", 11: "OS-8", 12: "RSX-11M-PLUS", 13: "COPOS/11", 14: "P/OS", 15: "VAXELN", 16: "CP/M",
-          17: "MS-DOS", 18: "Ultrix-32", 19: "Ultrix-11", 21: "DTF/MVS"}
-FILESYS = {1: "RMS-11", 2: "RMS-20", 3: "RMS-32", 4: "FCS-11", 5: "RT-11", 6: "none", 7: "TOPS-20", 8: "TOPS-10",
-           9: "OS-8", 10: "RMS-32S", 11: "CP/M", 12: "MS-DOS", 13: "Ultrix-32", 14: "Ultrix-11"}
 SYSCAP = (
     "preallocation", "sequential files", "relative files", "direct files", "indexed files, one key",
     "sequential file transfer", "random access by record number", "random access by block", "random access by key",

@@ -3,7 +3,7 @@ import enum
 import subprocess
 from dataclasses import dataclass
 
-from decnet import nsp, systems
+from decnet import nsp, systems, tables
 from decnet.end import EndFault
 from decnet.nsp import Kind, Qualifier
 
@@ -145,8 +145,8 @@ def described(line):
     _, found = fields(line)
     ostype, filesys = int(found["ostype"]), int(found["filesys"])
     able = systems.abilities(int(found["syscap"]))
-    return (f"system {ostype} ({systems.OSTYPE.get(ostype, 'unknown')}), files {filesys} "
-            f"({systems.FILESYS.get(filesys, 'unknown')}), DAP {found['version']}, buffer {found['bufsiz']}; "
+    return (f"system {ostype} ({tables.OSTYPE.get(ostype, 'unknown')}), files {filesys} "
+            f"({tables.FILESYS.get(filesys, 'unknown')}), DAP {found['version']}, buffer {found['bufsiz']}; "
             f"says that it can: {'; '.join(able) or 'nothing beyond the basic'}")
 
 

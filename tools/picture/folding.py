@@ -1,7 +1,8 @@
 """Which packets are one row of a picture, which opens to show them."""
 from dataclasses import dataclass
 
-from picture.messages import DELETE, FUNCTIONS, GET, PUT, RAC, UPDATE
+from decnet.tables import CTLFUNC, RAC
+from picture.messages import DELETE, GET, NEXT_RECORD, PUT, UPDATE
 
 MIN_ROWS = 4  # this many rows of Data, exchanges alike, or packets without a message are folded
 QUIET = ""  # the signature of what goes along in a fold
@@ -47,7 +48,8 @@ def word_of(one):
     if one.word == "status" and one.words[0] == "1000":
         return "status"
     if one.word == "control" and function in (GET, UPDATE, PUT, DELETE):
-        return f"control {FUNCTIONS[function]} {RAC.get(one.number('rac'), '')}".rstrip()
+        access = one.number("rac")
+        return f"control {CTLFUNC[function].upper()} {RAC.get(access, '') if access != NEXT_RECORD else ''}".rstrip()
     return None
 
 

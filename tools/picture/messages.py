@@ -1,31 +1,21 @@
-"""DAP messages: a line of the listing, and the same in words.
-
-The words of OSTYPE, of ACCFUNC 3, 4 and 6 and of RAC 4 and 5 are from memory of DAP 5.6.0; the reasons are those of this
-repository's server (docs/LISTING.md).
-"""
+"""DAP messages: a line of the listing, and the same in words."""
 import re
 
 from decnet.rights import FAC
+from decnet.tables import ACCFUNC, CMPFUNC, CONFUNC, CTLFUNC, MACCODE, ORG, OSTYPE, RAC, REASON, RFM, STSCODE
 
-OPEN, CLOSE, PURGE = 1, 1, 3  # ACCFUNC, and CMPFUNC
-GET, CONNECT, UPDATE, PUT, DELETE, REWIND = range(1, 7)  # CTLFUNC
-FUNCTIONS = {GET: "GET", CONNECT: "CONNECT", UPDATE: "UPDATE", PUT: "PUT", DELETE: "DELETE", REWIND: "REWIND"}
-ACCESS = {1: "open", 2: "create", 3: "rename", 4: "erase", 6: "directory"}
-RAC = {0: "", 1: "keyed", 2: "by RFA", 3: "whole file", 4: "by VBN", 5: "blocks"}
-CONTINUE = {1: "try again", 2: "skip", 3: "abort", 4: "resume"}
-COMPLETE = {1: "close", 2: "response", 3: "purge", 4: "end of stream", 5: "skip"}
-ORG = {0: "sequential", 16: "relative", 32: "indexed"}
-RFM = {0: "undefined", 1: "fixed", 2: "variable", 3: "VFC", 4: "stream"}
-OSTYPE = {1: "RT-11", 2: "RSTS/E", 3: "RSX-11S", 4: "RSX-11M", 5: "RSX-11D", 6: "IAS", 7: "VAX/VMS", 8: "TOPS-20",
-          9: "TOPS-10", 10: "RTS-8", 11: "OS-8", 12: "RSX-11M-PLUS"}
-MACCODE = {0: "pending", 1: "success", 2: "unsupported", 4: "open failed", 5: "transfer error", 6: "transfer warning",
-           7: "termination error", 8: "format", 9: "invalid", 10: "out of sequence"}
-SUCCESS, UNSUPPORTED, OPENING, TRANSFER, FORMAT, INVALID, SEQUENCE = 1, 2, 4, 5, 8, 9, 10
-STATUS = {0x5027: "end of file", 0x4032: "file not found"}
-END_OF_FILE = 0x5027
-REASON = {1: "file exists", 2: "not permitted", 3: "no current record", 4: "record not found", 5: "record exists",
-          6: "number out of range", 7: "bad length", 8: "bad access mode", 9: "delete not allowed",
-          10: "too large for the buffer", 11: "bad attributes", 12: "bad key"}
+
+def number_of(words, wanted):
+    """The number that has a word."""
+    return next(number for number, word in words.items() if word == wanted)
+
+
+OPEN, CLOSE, PURGE = number_of(ACCFUNC, "open"), number_of(CMPFUNC, "close"), number_of(CMPFUNC, "purge")
+GET, CONNECT, UPDATE, PUT, DELETE, REWIND = (number_of(CTLFUNC, word) for word in "get connect update put delete rewind".split())
+NEXT_RECORD = number_of(RAC, "sequential")
+END_OF_FILE = number_of(STSCODE, "end of file")
+SUCCESS, UNSUPPORTED, OPENING, TRANSFER, FORMAT, INVALID, SEQUENCE = (number_of(MACCODE, word) for word in (
+    "success", "unsupported", "error on opening", "transfer error", "format", "invalid", "out of synchronization"))
 NAMES = {1: "Configuration", 2: "Attributes", 3: "Access", 4: "Control", 5: "Continue Transfer", 6: "Acknowledge",
          7: "Access Complete", 8: "Data", 9: "Status", 10: "Key Definition", 11: "Allocation", 12: "Summary",
          13: "Date and Time", 14: "Protection", 15: "Name", 16: "Access Control List"}
@@ -108,14 +98,14 @@ def describe_attributes(one):
 def describe_access(one):
     one.file = as_text(one.image("name"))
     one.rights = " ".join(word.upper() for word, bit in FAC.items() if one.number("fac") & bit)
-    one.action = ACCESS.get(one.number("func"), f"ACCFUNC {one.fields['func']}")
+    one.action = ACCFUNC.get(one.number("func"), f"ACCFUNC {one.fields['func']}")
     one.detail = f"{one.action} {one.file}" + (f" for {one.rights}" if one.rights else "")
 
 
 def describe_control(one):
     function = one.number("func")
-    parts = [FUNCTIONS.get(function, f"CTLFUNC {function}")]
-    if "rac" in one.fields and function not in (CONNECT, DELETE, REWIND):
+    parts = [CTLFUNC[function].upper() if function in CTLFUNC else f"CTLFUNC {function}"]
+    if one.number("rac") != NEXT_RECORD and function not in (CONNECT, DELETE, REWIND):
         parts.append(one.word_of(RAC, "rac"))
     if "key" in one.fields:
         key = one.image_number("key")
@@ -124,7 +114,7 @@ def describe_control(one):
 
 
 def describe_continue(one):
-    one.name, one.detail = "Continue Transfer", CONTINUE.get(one.number("func"), f"CONFUNC {one.fields['func']}")
+    one.name, one.detail = "Continue Transfer", CONFUNC.get(one.number("func"), f"CONFUNC {one.fields['func']}")
 
 
 def describe_ack(one):
@@ -132,7 +122,7 @@ def describe_ack(one):
 
 
 def describe_complete(one):
-    one.name, one.detail = "Access Complete", COMPLETE.get(one.number("func"), f"CMPFUNC {one.fields['func']}")
+    one.name, one.detail = "Access Complete", CMPFUNC.get(one.number("func"), f"CMPFUNC {one.fields['func']}")
 
 
 def describe_data(one):
@@ -156,8 +146,8 @@ def describe_status(one):
 def status_text(code, stv):
     """A status in words."""
     major, minor = code >> 12, code & 0xFFF
-    text = STATUS.get(code, MACCODE.get(major, f"MACCODE {major}"))
-    if code not in STATUS:
+    text = STSCODE.get(code, MACCODE.get(major, f"MACCODE {major}"))
+    if code not in STSCODE:
         if major in (OPENING, TRANSFER) and not minor and len(stv) == 1:
             text += f": {REASON.get(stv[0], f'reason {stv[0]}')}"
         elif major == SEQUENCE:

@@ -301,36 +301,41 @@ local function listing_line(message)
 end
 
 ---------------------------------------------------------------------------------------------------------------------
--- Values in words. Those of OSTYPE and FILESYS, of ACCFUNC 3, 4 and 6, and of RAC 4 and 5 are from memory of DAP 5.6.0;
--- the reasons are those of this repository's server (docs/LISTING.md).
+-- Values in words.
 
+-- Made by tools/tables, which has their home:
 local WORDS = {
-  ostype = { [1] = "RT-11", [2] = "RSTS/E", [3] = "RSX-11S", [4] = "RSX-11M", [5] = "RSX-11D", [6] = "IAS",
-    [7] = "VAX/VMS", [8] = "TOPS-20", [9] = "TOPS-10", [10] = "RTS-8", [11] = "OS-8", [12] = "RSX-11M-PLUS" },
-  filesys = { [1] = "RMS-11", [2] = "RMS-20", [3] = "RMS-32", [4] = "FCS-11", [5] = "RT-11", [6] = "none",
-    [7] = "TOPS-20", [8] = "TOPS-10", [9] = "OS-8" },
+  ostype = { [1] = "RT-11", [2] = "RSTS/E", [3] = "RSX-11S", [4] = "RSX-11M", [6] = "IAS", [7] = "VAX/VMS",
+    [8] = "TOPS-20", [9] = "TOPS-10", [12] = "RSX-11M-PLUS", [18] = "Ultrix-32", [5] = "RSX-11D", [10] = "RTS-8",
+    [11] = "OS-8", [13] = "COPOS/11", [14] = "P/OS", [15] = "VAXELN", [16] = "CP/M", [17] = "MS-DOS",
+    [19] = "Ultrix-11", [21] = "DTF/MVS" },
   org = { [0] = "sequential", [16] = "relative", [32] = "indexed" },
   rfm = { [0] = "undefined", [1] = "fixed", [2] = "variable", [3] = "VFC", [4] = "stream" },
-  accfunc = { [1] = "open", [2] = "create", [3] = "rename", [4] = "erase", [6] = "directory list" },
-  ctlfunc = { [1] = "GET", [2] = "CONNECT", [3] = "UPDATE", [4] = "PUT", [5] = "DELETE", [6] = "REWIND" },
-  rac = { [0] = "sequential record", [1] = "keyed", [2] = "by RFA", [3] = "sequential file transfer",
-    [4] = "block by VBN", [5] = "block file transfer" },
+  accfunc = { [1] = "open", [2] = "create", [3] = "rename", [4] = "erase", [6] = "directory" },
+  ctlfunc = { [1] = "get", [2] = "connect", [3] = "update", [4] = "put", [5] = "delete", [6] = "rewind" },
+  rac = { [0] = "sequential", [1] = "by number", [2] = "by RFA", [3] = "whole file", [4] = "by VBN", [5] = "blocks" },
   confunc = { [1] = "try again", [2] = "skip", [3] = "abort", [4] = "resume" },
   cmpfunc = { [1] = "close", [2] = "response", [3] = "purge", [4] = "end of stream", [5] = "skip" },
+  stscode = { [0x5027] = "end of file", [0x4032] = "file not found", [0x4030] = "file locked" },
   maccode = { [0] = "pending", [1] = "success", [2] = "unsupported", [4] = "error on opening", [5] = "transfer error",
-    [6] = "transfer warning", [7] = "termination error", [8] = "format", [9] = "invalid", [10] = "out of sequence" },
+    [6] = "transfer warning", [7] = "termination error", [8] = "format", [9] = "invalid",
+    [10] = "out of synchronization" },
   reason = { [1] = "file exists", [2] = "not permitted", [3] = "no current record", [4] = "record not found",
     [5] = "record exists", [6] = "number out of range", [7] = "bad length", [8] = "bad access mode",
-    [9] = "delete not allowed", [10] = "too large for the buffer", [11] = "bad attributes", [12] = "bad key" },
+    [9] = "delete not allowed", [10] = "too large for buffer", [11] = "bad attributes", [12] = "bad key" },
+  filesys = { [1] = "RMS-11", [2] = "RMS-20", [3] = "RMS-32", [4] = "FCS-11", [5] = "RT-11", [6] = "none",
+    [7] = "TOPS-20", [8] = "TOPS-10", [9] = "OS-8", [10] = "RMS-32S", [11] = "CP/M", [12] = "MS-DOS",
+    [13] = "Ultrix-32", [14] = "Ultrix-11" },
 }
+-- Up to here it was made by tools/tables.
+for number, word in pairs(WORDS.ctlfunc) do WORDS.ctlfunc[number] = word:upper() end
 local BITS = {
   datatype = { [0] = "ASCII", "image" }, rat = { [0] = "FTN", "CR", "PRN", "BLK" },
   fac = { [0] = "PUT", "GET", "DEL", "UPD" }, shr = { [0] = "PUT", "GET", "DEL", "UPD" },
 }
 local CONNECT = 2
 local SUCCESS, UNSUPPORTED, OPENING, TRANSFER, FORMAT, INVALID, SEQUENCE = 1, 2, 4, 5, 8, 9, 10
-local END_OF_FILE, FILE_NOT_FOUND = 0x5027, 0x4032
-local STATUS = { [END_OF_FILE] = "end of file", [FILE_NOT_FOUND] = "file not found" }
+local END_OF_FILE = 0x5027
 
 local function words_of_bits(name, bits)
   local parts = {}
@@ -355,7 +360,7 @@ local function counted(count, one) return count == 1 and "1 " .. one or count ..
 local function is_refusal(code) return math.floor(code / 4096) ~= SUCCESS and code ~= END_OF_FILE end
 
 local function status_words(code, stv)
-  if STATUS[code] then return STATUS[code] end
+  if WORDS.stscode[code] then return WORDS.stscode[code] end
   local major, minor = math.floor(code / 4096), code % 4096
   local text = WORDS.maccode[major] or "unknown"
   local reason = stv and #stv.value == 1 and WORDS.reason[stv.value:byte()]

@@ -1,0 +1,20 @@
+"""Words of numbers, as the listing has them. This file is made by tools/tables."""
+
+OSTYPE = {1: "RT-11", 2: "RSTS/E", 3: "RSX-11S", 4: "RSX-11M", 6: "IAS", 7: "VAX/VMS", 8: "TOPS-20", 9: "TOPS-10",
+          12: "RSX-11M-PLUS", 18: "Ultrix-32", 5: "RSX-11D", 10: "RTS-8", 11: "OS-8", 13: "COPOS/11", 14: "P/OS",
+          15: "VAXELN", 16: "CP/M", 17: "MS-DOS", 19: "Ultrix-11", 21: "DTF/MVS"}
+ORG = {0: "sequential", 16: "relative", 32: "indexed"}
+RFM = {0: "undefined", 1: "fixed", 2: "variable", 3: "VFC", 4: "stream"}
+ACCFUNC = {1: "open", 2: "create", 3: "rename", 4: "erase", 6: "directory"}
+CTLFUNC = {1: "get", 2: "connect", 3: "update", 4: "put", 5: "delete", 6: "rewind"}
+RAC = {0: "sequential", 1: "by number", 2: "by RFA", 3: "whole file", 4: "by VBN", 5: "blocks"}
+CONFUNC = {1: "try again", 2: "skip", 3: "abort", 4: "resume"}
+CMPFUNC = {1: "close", 2: "response", 3: "purge", 4: "end of stream", 5: "skip"}
+STSCODE = {0x5027: "end of file", 0x4032: "file not found", 0x4030: "file locked"}
+MACCODE = {0: "pending", 1: "success", 2: "unsupported", 4: "error on opening", 5: "transfer error",
+           6: "transfer warning", 7: "termination error", 8: "format", 9: "invalid", 10: "out of synchronization"}
+REASON = {1: "file exists", 2: "not permitted", 3: "no current record", 4: "record not found", 5: "record exists",
+          6: "number out of range", 7: "bad length", 8: "bad access mode", 9: "delete not allowed",
+          10: "too large for buffer", 11: "bad attributes", 12: "bad key"}
+FILESYS = {1: "RMS-11", 2: "RMS-20", 3: "RMS-32", 4: "FCS-11", 5: "RT-11", 6: "none", 7: "TOPS-20", 8: "TOPS-10",
+           9: "OS-8", 10: "RMS-32S", 11: "CP/M", 12: "MS-DOS", 13: "Ultrix-32", 14: "Ultrix-11"}
