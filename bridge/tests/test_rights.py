@@ -7,7 +7,7 @@ from decnet.rights import ALL, FAC, NONE, are_rights, each_once, fac_of
 from decnet.users import make_hash
 from tests.datagrams import UdpCase
 from tests.station import CONFIGURATION, segment
-from tests.support import BRIDGE, PROGRAM, Case, file_lines, need_live_end
+from tests.support import BRIDGE, LISTER, Case, file_lines, need_live_end
 
 ROOT = BRIDGE.parent.parent
 OPENED, NO_RIGHT = "report opened 16 2 0 0", "report refused 4000 2"
@@ -110,7 +110,7 @@ class TableTest(Case):
             access = messages.access(messages.Access.OPEN, b"F", bit)
             packets = [segment(0x0202, 0x0101, 1, CONFIGURATION), segment(0x0202, 0x0101, 2, messages.attributes() + access)]
             text = "".join(f"> {packet.hex()}\n" for packet in packets)
-            done = subprocess.run([PROGRAM, "follow", "--words"], input=text, capture_output=True, text=True, check=True)
+            done = subprocess.run([LISTER], input=text, capture_output=True, text=True, check=True)
             self.assertRegex(done.stdout, rf'open, "F", for {word}')
 
     def test_the_words_of_wireshark(self):

@@ -26,7 +26,7 @@ ODD = {
     "tools/check": ["--no-such", "--seed x"],
     "tools/man": ["--no-such", "", "/nowhere bridge/bridge.py"],
     "tools/screenshots": ["--no-such"],
-    "tools/ladder": ["--no-such", "nowhere", "/", "README.md", "--range x", "--link 0", "--daplive /nowhere examples/wire.pcap"],
+    "tools/ladder": ["--no-such", "nowhere", "/", "README.md", "--range x", "--link 0", "--dapcap /nowhere examples/wire.pcap"],
     "bench/capture.py": ["", "x", "10 x", "x typical", "10 typical x"],
     "bench/schedules.py": ["", "x 1", "window x"],
     "bench/ratios": ["x"],
@@ -78,7 +78,7 @@ class CheckTest(ToolCase):
 
     def check(self, *tests):
         program = self.script("program", "import sys\nprint('it is being built', file=sys.stderr)\n")
-        return self.run_it("bridge/check", ["--daplive", program, *tests])
+        return self.run_it("bridge/check", ["--daplive", program, "--dapcap", program, *tests])
 
     def test_names_are_looked_at_before_anything_is_built(self):
         for name in ("tests.nope", "nope", "tests.test_guard.Nope", "tests.test_guard.GuessesTest.nope"):
@@ -89,7 +89,7 @@ class CheckTest(ToolCase):
 
     def test_a_build_is_heard(self):
         done = self.check("tests.test_guard.GuessesTest")
-        self.assertEqual((done.returncode, done.stderr), (0, "it is being built\n"))
+        self.assertEqual((done.returncode, done.stderr), (0, "it is being built\n" * 2))
         self.assertTrue(done.stdout.endswith("5 passed, 0 failed\n"), done.stdout)
 
 

@@ -462,10 +462,15 @@ local function read_connect(bytes)
   return format == 0 and object or -1, read_word(bytes, 3)
 end
 
+-- The sender's link address of a Connect Initiate, which opens its link anew; nil for another packet.
+local function opened_by(bytes)
+  return CONNECT_INITIATE[bytes:byte(1) or -1] and read_word(bytes, 3)
+end
+
 -- A stream: the segments of one direction of a link, by their sequence numbers without modulus; where the fragment of a
 -- message begins (`left`, by its last) and ends (`right`, by its first).
-local function new_stream()
-  return { segments = {}, left = {}, right = {} }
+local function new_stream(from, to, segment)
+  return { from = from, to = to, receiver = segment.receiver, sender = segment.sender, segments = {}, left = {}, right = {} }
 end
 
 -- The sequence number without modulus: nearest to the highest so far, and ahead where both are as near.
@@ -786,7 +791,18 @@ local function is_wanted(from, to, segment)
   return object == nil or object == FAL
 end
 
+-- The streams of a link that is opened again are over: those of the address that asks for it, both ways.
+local function end_streams(from, to, address)
+  for key, one in pairs(streams) do
+    local sent = one.from == from and one.to == to and one.sender == address
+    local received = one.from == to and one.to == from and one.receiver == address
+    if sent or received then streams[key] = nil end
+  end
+end
+
 local function keep(pinfo, from, to, bytes)
+  local opener = opened_by(bytes)
+  if opener then end_streams(from, to, opener) end
   local object, address = read_connect(bytes)
   if object then
     objects[from .. " " .. address] = object
@@ -797,7 +813,7 @@ local function keep(pinfo, from, to, bytes)
   if not is_wanted(from, to, segment) then return nil end
   segment.frame = pinfo.number
   local key = string.format("%d %d %d %d", from, to, segment.receiver, segment.sender)
-  streams[key] = streams[key] or new_stream()
+  streams[key] = streams[key] or new_stream(from, to, segment)
   local stream = streams[key]
   local counts, message = take_segment(stream, segment)
   return { stream = stream, segment = segment, counts = counts, whole = message }

@@ -1,8 +1,10 @@
 -- The units of a file: the header and the records of pcap, the blocks of pcapng. The head of each tells how long it is.
-use Rattle.std.specs.Prelude.{◌≡◌, ℕ, ◌+◌, ◌-◌, ◌%◌, ◌≤◌, ◌==◌, ◌||◌, not, nat_lt, Bool, true, List, ◌++◌, take, drop, length, if◌then◌else◌, Option, Some, None, Result, Ok, Err}
+use Rattle.std.specs.Prelude.{◌≡◌, ℕ, ◌+◌, ◌-◌, ◌%◌, ◌≤◌, ◌==◌, ◌||◌, not, nat_lt, Bool, true, List, ◌++◌, take, drop, length, if◌then◌else◌, Option, Some, None, option_map, Result, Ok, Err}
 use Rattle.capture_file.specs.Numbers.{u32_at}
 use Rattle.capture_file.specs.declared.fault.FaultKind.{FaultKind}
 use Rattle.capture_file.specs.declared.fault.FaultKind.TheVariants.{UnknownMagic, UnknownOrder, BadLength, TooLong}
+use Rattle.capture_file.specs.declared.kinds.FileKind.{FileKind}
+use Rattle.capture_file.specs.declared.kinds.FileKind.TheVariants as file
 use Rattle.capture_file.specs.declared.units.Order.{Order}
 use Rattle.capture_file.specs.declared.units.Order.TheVariants.{Big, Little}
 use Rattle.capture_file.specs.declared.units.Format.{Format}
@@ -48,6 +50,13 @@ record_extent count = if nat_lt max_unit count then Err TooLong else Ok (record 
 -- the type of a section header reads alike from both ends
 abbrev pub is_section : List ℕ → Bool
 is_section head = u32_at Big 0 head == 0x0A0D0D0A
+
+-- which file of captured frames begins with these bytes: the first four tell it
+abbrev pub file_kind_of : List ℕ → Option FileKind
+file_kind_of front =
+    if nat_lt (length front) 4 then None
+    else if is_section front then Some file.Pcapng
+    else option_map (λ format. file.Pcap) (pcap_of front)
 
 -- its third number tells the byte order
 abbrev pub byte_order_of : List ℕ → Option Order

@@ -80,7 +80,7 @@ pub(crate) fn head_len(format: Format) -> usize
 
 /// Returns whether the head is that of a section.
 pub(crate) fn is_section(head: &[u8]) -> bool
-    requires { 12 ≤ length head.now }
+    requires { 4 ≤ length head.now }
     ensures { result ≡ the_section head.now }
 {
     u32_at(Order::Big, head, 0) == SECTION
@@ -102,7 +102,7 @@ pub(crate) fn order_of(head: &[u8]) -> Option<Order>
 
 /// Returns what a pcap file's first four bytes say.
 pub(crate) fn pcap_of(head: &[u8]) -> Option<Format>
-    requires { 12 ≤ length head.now }
+    requires { 4 ≤ length head.now }
     ensures { result ≡ the_pcap head.now }
 {
     let magic = u32_at(Order::Big, head, 0);

@@ -9,26 +9,14 @@ ghost use Rattle.dap_words.specs.Choosing.{Chooses, dapnsp, word_of};
 ghost use Rattle.dap_words.specs.declared.choice.Choice.{Choice};
 ghost use Rattle.dap_cli.specs.Run.{CommandGives, RunGives};
 
+use crate::front::Fronted;
+use crate::telling::finish_reading;
 use clap::error::ErrorKind;
 use dap_capture::{CaptureFault, Outcome, messages, schedule, show};
 use dap_words::{Choice, read_words};
-use linewise::{Fronted, LineCommand, finish, finish_reading, refuse};
+use linewise::{finish, refuse};
 use std::alloc::Global;
 use std::io::{Read, Write};
-
-/// Returns what errors in the lines of a command name.
-fn line_command(choice: Choice) -> LineCommand {
-    let (command, lines) = match choice {
-        Choice::Show => ("show", "a capture"),
-        Choice::Msg => ("msg", "a capture"),
-        Choice::Run => ("run", "a schedule"),
-    };
-    LineCommand {
-        program: "dapnsp",
-        command,
-        lines,
-    }
-}
 
 /// Runs a command.
 fn run_lines<R: Read, W: Write>(
@@ -66,7 +54,7 @@ fn run_choice<R: Read, W: Write, E: Write>(
     let mut lines = Fronted::new(reader);
     let outcome = run_lines(alloc, choice, &mut lines, writer);
     if helps {
-        finish_reading(line_command(choice), lines.front(), outcome, error_writer)
+        finish_reading(choice, lines.front(), outcome, error_writer)
     } else {
         finish(outcome, error_writer)
     }

@@ -4,8 +4,8 @@ use Rattle.std.specs.List.{AllByRecursion, filter}
 use Rattle.std.proofs.lemmas.Bool.{false≢true}
 use Rattle.std.proofs.lemmas.List.Elements.{filter-append}
 use Rattle.dap_follow.specs.Joined.{Fragment, is_message, latest, tail}
-use Rattle.dap_follow.specs.Inner.Pieces.{all_segments, glue}
-use Rattle.dap_follow.specs.Inner.Kept.{AbsorbsAfter, AbsorbsBefore, HoldsPieces, IsAbsorbed, IsApart, IsLastApart, IsOpen, Joins, KeepsPieces, Lists, Regroups, Settles, Stays, do_join}
+use Rattle.dap_follow.specs.Keeping.Pieces.{all_segments, glue}
+use Rattle.dap_follow.specs.Keeping.Kept.{AbsorbsAfter, AbsorbsBefore, HoldsPieces, IsAbsorbed, IsApart, IsLastApart, IsOpen, Joins, KeepsPieces, Lists, Regroups, Settles, Stays, do_join}
 use Rattle.dap_follow.specs.declared.kept.Kept.{Kept}
 use Rattle.dap_follow.specs.declared.kept.Whole.{Whole}
 use Rattle.dap_follow.proofs.GlueLemmas.{glue_back, glue_front, glue_nil, latest_back, latest_front, segments_glue}

@@ -5,8 +5,8 @@ use Rattle.std.specs.List.{AllByRecursion, filter, flat_map}
 use Rattle.std.proofs.lemmas.Bool.{false≢true}
 use Rattle.std.proofs.lemmas.Bool.Decides.{nat_tests}
 use Rattle.dap_follow.specs.Joined.{Fragment, is_message, joins, payload, tail}
-use Rattle.dap_follow.specs.Inner.Pieces.{all_segments, glue, merged}
-use Rattle.dap_follow.specs.Inner.Kept.{AreListed, HoldsPieces, IsAbsorbed, IsOpen, KeepsPieces, Stays, do_join, kept_bytes}
+use Rattle.dap_follow.specs.Keeping.Pieces.{all_segments, glue, merged}
+use Rattle.dap_follow.specs.Keeping.Kept.{AreListed, HoldsPieces, IsAbsorbed, IsOpen, KeepsPieces, Stays, do_join, kept_bytes}
 use Rattle.dap_follow.specs.declared.kept.Kept.{Kept}
 use Rattle.dap_follow.proofs.StayLemmas.{and_false_one, and_false_two, and_one, and_two, by_bool, not_true}
 use Rattle.dap_follow.proofs.GlueLemmas.{Has, IsWithin, Proper, all_append, all_weaker, full, glued_two, has_back, has_front, payload_merged, tail_merged, unglued, within}

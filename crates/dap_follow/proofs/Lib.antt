@@ -7,8 +7,9 @@ mod KeptLemmas
 mod JoinLemmas
 mod SegmentLemmas
 mod GrowLemmas
+mod EntryLemmas
 mod RestLemmas
-mod WatchLemmas
-mod FrameLemmas
 mod LineLemmas
-pub mod TalkLemmas
+mod ListLemmas
+mod ShownLemmas
+mod LaterLemmas

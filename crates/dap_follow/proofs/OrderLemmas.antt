@@ -7,9 +7,9 @@ use Rattle.std.specs.declared.cmp.Ordering.TheVariants.{Less}
 use Rattle.std.proofs.lemmas.Bool.{cases_eq}
 use Rattle.std.proofs.lemmas.Bool.Decides.{nat_tests}
 use Rattle.std.proofs.lemmas.Map.Keys.{IsStrictlyIncreasing-from_sorted}
-use Rattle.dap_follow.specs.Streams.{AreSequenced, Sequenced, at, no_more, one_more}
-use Rattle.dap_follow.specs.Inner.Pieces.{IsPut, Rises}
-use Rattle.dap_follow.specs.Segments.{NumberedSegment, sequenced_at, highest_in}
+use Rattle.dap_follow.specs.Streams.{AreSequenced, NumberedSegment, Sequenced, at, no_more, one_more}
+use Rattle.dap_follow.specs.Keeping.Pieces.{IsPut, Rises}
+use Rattle.dap_follow.specs.Segments.{sequenced_at, highest_in}
 use Rattle.dap_follow.proofs.GlueLemmas.{all_append, all_back, all_front}
 
 -- ---- sequence numbers

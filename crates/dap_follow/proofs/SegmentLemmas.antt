@@ -8,8 +8,8 @@ use Rattle.nsp_seg.specs.declared.packet.SegmentFields.{SegmentFields}
 use Rattle.dap_follow.specs.Streams.{IsNear, Sequenced}
 use Rattle.dap_follow.specs.Joined.{Fragment, is_message, latest, fragments_of}
 use Rattle.dap_follow.specs.Segments.{sequenced_at}
-use Rattle.dap_follow.specs.Inner.Pieces.{Rises, all_segments, glue}
-use Rattle.dap_follow.specs.Inner.Kept.{AreTold, Ascends, Found, IsOpen, IsSegment, IsListedPiece, KeepsPieces, KeepsSequenced, Puts, is_taken}
+use Rattle.dap_follow.specs.Keeping.Pieces.{Rises, all_segments, glue}
+use Rattle.dap_follow.specs.Keeping.Kept.{AreTold, Ascends, Found, IsOpen, IsSegment, IsListedPiece, KeepsPieces, KeepsSequenced, Puts, is_taken}
 use Rattle.dap_follow.specs.declared.kept.Kept.{Kept}
 use Rattle.dap_follow.specs.declared.kept.KeptSegments.{KeptSegments}
 use Rattle.dap_follow.specs.declared.kept.Whole.{Whole}

@@ -3,7 +3,7 @@
 
 ghost use Rattle.std.specs.Prelude.{◌≡◌, ◌&&◌, true, ◌≤◌, ◌<◌, ◌+◌, [], IfOk, OnOk, drop, length, take};
 ghost use Rattle.std.specs.List.{AllByRecursion};
-ghost use Rattle.dap_follow.specs.Inner.Kept.{AbsorbsAfter, AbsorbsBefore, Ascends, Finds, IsAbsorbed, IsSegment, Joins, Lists, Puts, do_join, is_taken as takes, kept_bytes};
+ghost use Rattle.dap_follow.specs.Keeping.Kept.{AbsorbsAfter, AbsorbsBefore, Ascends, Finds, IsAbsorbed, IsSegment, Joins, Lists, Puts, do_join, is_taken as takes, kept_bytes};
 
 use crate::segments::{ROUND, sequence_near};
 use nsp_seg::{SegmentFields, Seq12};

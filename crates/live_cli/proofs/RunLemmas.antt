@@ -1,42 +1,34 @@
 -- What the program's command line makes of words, and what holds where a reader's bytes are known.
-use Rattle.std.proofs.Common.{◌≡◌, ◌∙◌, refl, inr, ap, sym, subst, ℕ, List, [], ◌∷◌, true, false, codes, Ok, Err}
+use Rattle.std.proofs.Common.{◌≡◌, ◌⊎◌, ◌∙◌, refl, inl, inr, ap, sym, subst, ℕ, List, [], ◌∷◌, true, codes, Ok, Err}
 use Rattle.std.specs.Prelude.{Option, Some, None, IfSome, IsErrAnd, Result, fold, option_map}
 use Rattle.std.specs.Fmt.{digits}
 use Rattle.std.specs.Io.KnownBytes.{Keeps}
 use Rattle.hex.specs.Hex.{decode_pairs}
-use Rattle.clap.specs.Words.{App, FailsBy, HasKind, HasMatchesOf, Kinds, Row, Text, app_of, fault_of, is_simple, is_simple_and_free}
+use Rattle.clap.specs.Words.{App, FailsBy, HasKind, HasMatchesOf, Kinds, Row, Text, app_of, fault_of, kind_of, is_simple, is_simple_and_free}
 use Rattle.clap.specs.Words.{subcommand_name_of, subcommand_of, subcommand_rows_of, with_subcommand}
 use Rattle.clap.specs.declared.builder.command.Command.{Command}
 use Rattle.clap.specs.declared.error.Error.{Error}
+use Rattle.clap.specs.declared.error.kind.ErrorKind.TheVariants.{OutOfMemory}
 use Rattle.clap.specs.declared.parser.matches.ArgMatches.{ArgMatches}
 use Rattle.clap.specs.declared.parser.matches.ArgMatches.TheViews.{out-ArgMatches}
 use Rattle.linewise.specs.Programs.{new_program}
 use Rattle.clap.proofs.OnLiterals.{clap_on_literals}
 use Rattle.live_cli.specs.declared.words.Role.{Role}
 use Rattle.live_cli.specs.declared.words.Role.TheVariants.{Serve, Ask}
-use Rattle.live_cli.specs.declared.words.Task.{Task}
-use Rattle.live_cli.specs.declared.words.Task.TheVariants.{End, Follow, Frames, Watch}
+use Rattle.live_cli.specs.declared.words.Options.{Options}
 use Rattle.linewise.specs.declared.fault.CaptureFault.TheVariants.{NoMemory}
-use Rattle.dap_follow.proofs.ForCallers.{nothing_listed}
-use Rattle.decnet_frames.proofs.ForCallers.{nothing_written}
-use Rattle.decnet_frames.specs.declared.run.FramesFault.TheVariants.{NoMemory as Wants}
 use Rattle.linewise.specs.Gives.{TellsFault}
-use Rattle.live_cli.specs.Running.{TaskGives}
-use Rattle.live_cli.specs.Words.{daplive, follow_line, frames_line, task_of, usual, watch_line}
+use Rattle.live_cli.specs.Running.{EndGives}
+use Rattle.live_cli.specs.Words.{IsStray, daplive, end_named, stray_words, usual}
 use Rattle.live_cli.specs.Inner.CommandLine.{end_line_by, serve_line_by}
 
 pub some_from : {X : Type 0} {P Q : X → Type 0} (o : Option X) → IfSome o P → ((x : X) → P x → Q x) → IfSome o Q
 some_from None holds next = tt
 some_from (Some x) holds next = next x holds
 
-pub some_both : {X : Type 0} {P Q R : X → Type 0} (o : Option X) → IfSome o P → IfSome o Q → ((x : X) → P x → Q x → R x) → IfSome o R
-some_both None one two next = tt
-some_both (Some x) one two next = next x one two
-
 -- the command line, with the digits of what is usual
 pub daplive_by : daplive ≡ fold with_subcommand (new_program (codes "daplive"))
-    (serve_line_by.top ∷ (end_line_by (codes "ask") (codes "0101") (codes "0202")).top
-    ∷ follow_line.top ∷ frames_line.top ∷ watch_line.top ∷ [])
+    (serve_line_by.top ∷ (end_line_by (codes "ask") (codes "0101") (codes "0202")).top ∷ [])
 unfolding digits
 daplive_by = refl
 
@@ -75,67 +67,28 @@ unfolding clap_on_literals digits
 no_fault program Serve = refl
 no_fault program Ask = refl
 
-pub names_usual : (program : Text) (role : Role) → task_of (program ∷ (usual role).0 ∷ []) ≡ Some (End (usual role).1)
+pub names_usual : (program : Text) (role : Role) → end_named (program ∷ (usual role).0 ∷ []) ≡ Some (usual role).1
 unfolding clap_on_literals decode_pairs digits
 names_usual program Serve = refl
 names_usual program Ask = refl
 
--- and on that of the listing
-pub no_fault_follow : (program : Text) → fault_of daplive (program ∷ codes "follow" ∷ []) ≡ []
-unfolding clap_on_literals digits
-no_fault_follow program = refl
-
-pub names_follow : (program : Text) → task_of (program ∷ codes "follow" ∷ []) ≡ Some (Follow false)
-unfolding clap_on_literals digits
-names_follow program = refl
-
--- with its flag
-pub no_fault_in_words : (program : Text) → fault_of daplive (program ∷ codes "follow" ∷ codes "--words" ∷ []) ≡ []
-unfolding clap_on_literals digits
-no_fault_in_words program = refl
-
-pub names_in_words : (program : Text) → task_of (program ∷ codes "follow" ∷ codes "--words" ∷ []) ≡ Some (Follow true)
-unfolding clap_on_literals digits
-names_in_words program = refl
-
--- and on that of the frames
-pub no_fault_frames : (program : Text) → fault_of daplive (program ∷ codes "frames" ∷ []) ≡ []
-unfolding clap_on_literals digits
-no_fault_frames program = refl
-
-pub names_frames : (program : Text) → task_of (program ∷ codes "frames" ∷ []) ≡ Some (Frames None)
-unfolding clap_on_literals digits
-names_frames program = refl
-
--- and on that of the listing as lines come
-pub no_fault_watch : (program : Text) → fault_of daplive (program ∷ codes "watch" ∷ []) ≡ []
-unfolding clap_on_literals digits
-no_fault_watch program = refl
-
-pub names_watch : (program : Text) → task_of (program ∷ codes "watch" ∷ []) ≡ Some (Watch false)
-unfolding clap_on_literals digits
-names_watch program = refl
-
-pub no_fault_watch_in_words : (program : Text) → fault_of daplive (program ∷ codes "watch" ∷ codes "--words" ∷ []) ≡ []
-unfolding clap_on_literals digits
-no_fault_watch_in_words program = refl
-
-pub names_watch_in_words : (program : Text) → task_of (program ∷ codes "watch" ∷ codes "--words" ∷ []) ≡ Some (Watch true)
-unfolding clap_on_literals digits
-names_watch_in_words program = refl
-
 -- out of memory, of whatever input
-pub refused : (task : Task) (known left old new told tells : Option (List ℕ)) (status : ℕ) → (status ≡ 3) × Keeps old new × TellsFault NoMemory told tells
-    → IfSome known (λ input. TaskGives task input left old new told tells status)
-refused task None left old new told tells status memory = tt
-refused (End options) (Some input) left old new told tells status memory = inr (memory.1, memory.0, memory.2)
-refused (Follow in_words) (Some input) left old new told tells status memory = (Err NoMemory, (memory.1, memory.2), memory.0, tt)
-refused (Watch in_words) (Some input) left old new told tells status memory = inr (NoMemory, nothing_listed in_words input old new memory.1, memory.0)
-refused (Frames ends) (Some input) left old new told tells status memory = inr (Wants, nothing_written ends input old new memory.1, memory.0, memory.2)
+pub refused : (o : Options) (known left old new told tells : Option (List ℕ)) (status : ℕ) → (status ≡ 3) × Keeps old new × TellsFault NoMemory told tells
+    → IfSome known (λ input. EndGives o input left old new told tells status)
+refused o None left old new told tells status memory = tt
+refused o (Some input) left old new told tells status memory = inr (memory.1, memory.0, memory.2)
 
--- two things that the words name are one
-pub one_task : (words : List Text) (a b : Task) → Some a ≡ task_of words → task_of words ≡ Some b → a ≡ b
-one_task words a b first second = let same : Some a ≡ Some b = first ∙ second in cc
+-- two ends that the words name are one
+pub one_end : (words : List Text) (a b : Options) → Some a ≡ end_named words → end_named words ≡ Some b → a ≡ b
+one_end words a b first second = let same : Some a ≡ Some b = first ∙ second in cc
 
-pub none_named : (words : List Text) (task : Task) → None ≡ task_of words → task_of words ≡ Some task → ⊥
-none_named words task none some = let no : None ≡ Some task = none ∙ some in cc
+pub none_named : (words : List Text) (o : Options) → None ≡ end_named words → end_named words ≡ Some o → ⊥
+none_named words o none some = let no : None ≡ Some o = none ∙ some in cc
+
+-- an error of a word that is no subcommand
+pub memory_or_stray : (kinds : Kinds) (e : Error) → kinds ≡ stray_words → HasKind kinds e → (kind_of e ≡ OutOfMemory) ⊎ IsStray (kind_of e)
+memory_or_stray kinds e strays has =
+    elim (subst (λ (k : Kinds). HasKind k e) strays has) [
+      | inl memory ↦ inl memory
+      | inr among ↦ elim among [ inl here ↦ inr (inl here) | inr later ↦ elim later [ inl here ↦ inr (inr here) | inr never ↦ elim never [ ] ] ]
+    ]

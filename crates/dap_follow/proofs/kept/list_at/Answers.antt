@@ -1,5 +1,5 @@
 use Rattle.std.proofs.Common.{◌++◌, ◌∷◌, List, refl, sym, subst, ◌∙◌}
-use Rattle.dap_follow.specs.Inner.Kept.{KeepsPieces}
+use Rattle.dap_follow.specs.Keeping.Kept.{KeepsPieces}
 use Rattle.dap_follow.specs.declared.kept.Kept.{Kept}
 use Rattle.dap_follow.proofs.JoinLemmas.{lists_run}
 use Rattle.dap_follow.proofs.kept.list_at.Goals as goal

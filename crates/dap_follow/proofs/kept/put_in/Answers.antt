@@ -1,5 +1,5 @@
 use Rattle.std.proofs.Common.{List, None, sym, subst, ◌∙◌}
-use Rattle.dap_follow.specs.Inner.Kept.{Settles}
+use Rattle.dap_follow.specs.Keeping.Kept.{Settles}
 use Rattle.dap_follow.specs.declared.kept.Kept.{Kept}
 use Rattle.dap_follow.proofs.JoinLemmas.{settles_message, settles_open}
 use Rattle.dap_follow.proofs.kept.put_in.Goals as goal

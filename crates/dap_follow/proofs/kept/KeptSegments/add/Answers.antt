@@ -1,6 +1,6 @@
 use Rattle.std.proofs.Common.{◌≡◌, ◌<◌, ◌≤◌, List, true, false, take, drop, refl, sym, ap, subst, ◌∙◌}
 use Rattle.std.specs.List.{AllByRecursion}
-use Rattle.dap_follow.specs.Inner.Kept.{Ascends, is_taken}
+use Rattle.dap_follow.specs.Keeping.Kept.{Ascends, is_taken}
 use Rattle.dap_follow.specs.declared.kept.Kept.{Kept}
 use Rattle.dap_follow.proofs.JoinLemmas.{if_ok_weaker}
 use Rattle.dap_follow.proofs.SegmentLemmas.{finds_put, finds_taken, kept_ascends}

@@ -1,0 +1,5 @@
+mod FormLemmas
+mod LawLemmas
+mod RunLemmas
+mod WordLemmas
+pub mod WriteLemmas
