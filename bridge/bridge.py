@@ -117,7 +117,7 @@ def start(words, closed):
         except (WireFault, PcapFault, EndFault, InputFault, HostFault, LogFault) as fault:
             log.say(str(fault))
             return FAULT
-        except Stopped as fault:
+        except (Stopped, program.Fault) as fault:
             log.say(str(fault))
             return fault.status
 

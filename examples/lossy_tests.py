@@ -2,10 +2,11 @@
 """Compares both live ends over a lossy line with `dapnsp run` over a clean one, and what is listed of both.
 
 usage: lossy_tests.py [--first SEED] [--seeds N] [--requests N] [--daplive PROGRAM] [--dapnsp PROGRAM]
+                      [--dapcap PROGRAM]
 
 For each seed: a number of mixed requests over a line that loses, repeats and reorders, with settings by the seed. The
-reports and the files have to be those of a schedule of the same requests in which each packet arrives once and in order;
-the exit statuses 0; and the transcript a capture in which `dapnsp show` finds nothing that is bad. `daplive follow` has to
+reports and the files have to be those of a schedule of the same requests in which each packet arrives once and in order,
+but for RMS's codes of refusals, which live ends alone have; the exit statuses 0; and the transcript a capture in which `dapnsp show` finds nothing that is bad. `dapcap` has to
 list the same DAP messages each way, and no part and no gap, of what went in and out of each end as of the clean packets.
 """
 import argparse
@@ -25,11 +26,14 @@ from decnet.lossy import Both, Line
 # the programs, as `./daplive` and `./dapnsp` build them
 BUILT = pathlib.Path(__file__).resolve().parent.parent / "crates"
 DAPLIVE = BUILT / "daplive/out/daplive"
+DAPCAP = BUILT / "dapcap/out/dapcap"
 DAPNSP = BUILT / "dapnsp/out/dapnsp"
 # what the ends of a schedule say of themselves
 IDENTITY = ["--ostype", "7", "--filesys", "3", "--syscap", "0"]
 # more events of a kind than a request takes
 MANY = 2048
+# a refusal with a reason, in a report or a listing: its code is RMS's at a live end, and 4000 or 5000 in a schedule
+CODED = re.compile(r"\b(refused|status) ([45])[0-9a-f]{3}(?= [1-9]| .* stv=[0-9a-f]{2}\b)")
 
 
 class Clean:
@@ -129,21 +133,26 @@ class Requests:
             self.phase = "stopped" if answer.split()[3:4] == ["stopped"] else "connected"
 
 
-def messages_of(daplive, lines, other_way=False):
+def messages_of(dapcap, lines, other_way=False):
     """The DAP messages that went each way in a capture, in the order in which they were sent."""
     capture = "".join(f"{line}\n" for line in lines if line[:1] in ("<", ">"))
-    run = subprocess.run([str(daplive), "follow"], input=capture, capture_output=True, text=True, check=False)
-    listing = run.stdout.splitlines()
+    run = subprocess.run([str(dapcap), "--bare"], input=capture, capture_output=True, text=True, check=False)
+    listing = without_codes(run.stdout).splitlines()
     for line in listing:
         if line.startswith(("part", "gap", "  bad")):
-            raise program.Fault(f"daplive follow: {line}")
+            raise program.Fault(f"dapcap: {line}")
     if run.returncode:
-        raise program.Fault(f"daplive follow: {run.stderr}")
+        raise program.Fault(f"dapcap: {run.stderr}")
     messages = messages_by_way(listing)
     return {"<": messages[">"], ">": messages["<"]} if other_way else messages
 
 
-def differs(seed, count, daplive, dapnsp):
+def without_codes(text):
+    """A text whose refusals have no other code than their kind, beside the reason."""
+    return CODED.sub(r"\1 \g<2>000", text)
+
+
+def differs(seed, count, programs):
     """What isn't as it has to be in the run of a seed."""
     chance = random.Random(seed)
     choice = chance.choice
@@ -151,19 +160,19 @@ def differs(seed, count, daplive, dapnsp):
     buffers = choice([64, 100, 1024, 4096]), choice([64, 100, 1024, 4096])
     common = [*IDENTITY, "--segment", str(segment), "--window", str(min(window, 127) if segment == 1 else window), "--buffer"]
     line = Line(chance.random(), choice([5, 20, 40]), choice([0, 10, 40]), choice([1, 4, 40]))
-    clean = Clean(dapnsp, *buffers)
+    clean = Clean(programs.dapnsp, *buffers)
     requests = Requests(chance, 60 if segment < 64 else choice([60, 400, 3000]))
-    with contextlib.closing(Both(line, [*common, str(buffers[0])], [*common, str(buffers[1])], daplive)) as both:
-        return compare(both, clean, requests, count, daplive, dapnsp)
+    with contextlib.closing(Both(line, [*common, str(buffers[0])], [*common, str(buffers[1])], programs.daplive)) as both:
+        return compare(both, clean, requests, count, programs)
 
 
-def compare(both, clean, requests, count, daplive, dapnsp):
+def compare(both, clean, requests, count, programs):
     """What differs between both ends over a lossy line, and a schedule over a clean one."""
     for _ in range(count):
         request = requests.next()
         answer = both.ask(request)
         wanted = clean.ask(request)
-        if answer != wanted:
+        if without_codes(answer) != without_codes(wanted):
             return f"{request[:60]}: {answer[:60]}, and over a clean line {wanted[:60]}"
         requests.told(request, answer)
     files = both.files()
@@ -173,13 +182,13 @@ def compare(both, clean, requests, count, daplive, dapnsp):
     if statuses != [0, 0]:
         return f"the exit statuses are {statuses}"
     capture = "".join(f"{line}\n" for line in both.transcript() if line[:1] in ("<", ">"))
-    shown = subprocess.run([str(dapnsp), "show"], input=capture, capture_output=True, text=True, check=False)
+    shown = subprocess.run([str(programs.dapnsp), "show"], input=capture, capture_output=True, text=True, check=False)
     if shown.returncode or re.search(r"^(\d+ [<>]| ) bad ", shown.stdout, re.M):
         return f"dapnsp show finds something bad in the transcript, or fails: {shown.stderr}"
-    wanted = messages_of(daplive, clean.packets)
+    wanted = messages_of(programs.dapcap, clean.packets)
     for name, end in both.ends.items():
-        if messages_of(daplive, end.transcript, other_way=name == "asking") != wanted:
-            return f"daplive follow, at the end that is {name}"
+        if messages_of(programs.dapcap, end.transcript, other_way=name == "asking") != wanted:
+            return f"dapcap, at the end that is {name}"
     return None
 
 
@@ -190,11 +199,12 @@ def main():
     parser.add_argument("--requests", type=int, default=25)
     parser.add_argument("--daplive", default=DAPLIVE)
     parser.add_argument("--dapnsp", default=DAPNSP)
+    parser.add_argument("--dapcap", default=DAPCAP)
     options = parser.parse_args()
     wrong = 0
     seeds = range(options.first, options.first + options.seeds)
     with ThreadPoolExecutor(os.cpu_count()) as pool:
-        run = lambda seed: differs(seed, options.requests, options.daplive, options.dapnsp)
+        run = lambda seed: differs(seed, options.requests, options)
         for seed, what in zip(seeds, pool.map(run, seeds)):
             if what:
                 wrong += 1

@@ -1,1 +1,1 @@
-./daplive --try frames <examples/wire.pcap | ./daplive --try follow --words | grep '^  .* ; ' | tail -n 3
+./dapcap --try examples/wire.pcap | grep '^  .* ; ' | tail -n 3

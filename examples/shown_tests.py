@@ -2,7 +2,7 @@
 """Compares the commands that the pages show with what they print: a block marked `sh` or `shell`, and directly after it a
 block of text. All pages are looked at.
 
-usage: shown_tests.py [--dapnsp PROGRAM] [--daplive PROGRAM]
+usage: shown_tests.py [--dapnsp PROGRAM] [--daplive PROGRAM] [--dapcap PROGRAM]
                                    runs the commands, by the programs at the top of the repository, which are built where
                                    they aren't, or by these in their place; those over two nodes, and those with tshark,
                                    are skipped where these can't be run
@@ -29,13 +29,14 @@ SHOWING = [str(page.relative_to(ROOT)) for pattern in ("README.md", "CONTRIBUTIN
 BLOCK = r"((?:(?!```).*\n)+)```\n"
 START = re.compile(r"^```(?:sh|shell)$", re.M)
 SHOWN = re.compile(rf"^```(?:sh|shell)\n{BLOCK}\n```\n{BLOCK}", re.M)
-NAMES = ["dapnsp", "daplive"]
+NAMES = ["dapnsp", "daplive", "dapcap"]
 # a program at the top of the repository, also without its proof; and where a compiled one is
-TOP = re.compile(r"(?<![\w/.])\./(dapnsp|daplive)\b(?: --try\b)?")
-TRIED = re.compile(r"(?<![\w/.])crates/(dapnsp|daplive)/out/(?:try/)?\1\b")
-BUILT = re.compile(r"\b(?:dapnsp|daplive|bridge\.py|ladder|lossy\.py|probe)\b")  # what needs a program that is built
+TOP = re.compile(r"(?<![\w/.])\./(dapnsp|daplive|dapcap)\b(?: --try\b)?")
+TRIED = re.compile(r"(?<![\w/.])crates/(dapnsp|daplive|dapcap)/out/(?:try/)?\1\b")
+BUILT = re.compile(r"\b(?:dapnsp|daplive|dapcap|bridge\.py|ladder|lossy\.py|probe)\b")  # what needs a program that is built
 TWO_NODES = "examples/two_nodes"
-PRINTED = ["texts", "dap_text", "dap_listing", "dap_follow", "dap_capture", "dap_live", "linewise"]  # their definitions have texts
+# their definitions have texts
+PRINTED = ["texts", "dap_text", "dap_listing", "dap_follow", "decnet_frames", "dap_capture", "dap_live", "linewise"]
 ALSO = ["dap_meanings/specs/Faults.antt"]  # and these, but not the words behind lines
 LITERAL = re.compile(r'codes "((?:[^"\\]|\\.)*)"')
 CODE = re.compile(r"^```.*?^```|^    .*?$|`[^`\n]*`", re.M | re.S)
@@ -49,7 +50,7 @@ def run(commands, programs=None):
     given = {name: program for name, program in (programs or {}).items() if program}
     for pattern in (TOP, TRIED):
         commands = pattern.sub(lambda found: given.get(found[1], found[0]), commands)
-    env = {**os.environ, **({"DAPLIVE": given["daplive"]} if "daplive" in given else {})}
+    env = {**os.environ, **{name.upper(): given[name] for name in ("daplive", "dapcap") if name in given}}
     seconds = SECONDS if len(given) == len(NAMES) else COMPILING
     return subprocess.run(["bash", "-c", commands], cwd=ROOT, env=env, capture_output=True, text=True, timeout=seconds)
 

@@ -1,14 +1,16 @@
 #!/usr/bin/env python3
-"""Looks at what both programs report where something is wrong: of files of captured frames, of other lines, of words; and
-that they end silently where nobody reads what they write.
+"""Looks at what the programs report where something is wrong: of files of captured frames, of other lines, of words, of files
+that can't be opened; and that they end silently where nobody reads what they write.
 
-usage: told_tests.py [--dapnsp PROGRAM] [--daplive PROGRAM]
+usage: told_tests.py [--dapnsp PROGRAM] [--daplive PROGRAM] [--dapcap PROGRAM]
 """
 import argparse
+import ctypes
 import os
 import pathlib
 import subprocess
 import sys
+import tempfile
 
 from decnet import program
 
@@ -17,6 +19,8 @@ TOP = HERE.parent
 SECONDS = 60
 # what a shell shows of a program that SIGPIPE ended
 CLOSED_PIPE = 141
+# with these root reads files that nobody may read
+PR_CAPBSET_DROP, CAP_DAC_OVERRIDE, CAP_DAC_READ_SEARCH = 24, 1, 2
 
 # how files of captured frames begin, as pcap and pcapng say
 MICROSECONDS, NANOSECONDS, SECTION = "a1b2c3d4", "a1b23c4d", "0a0d0d0a"
@@ -26,9 +30,8 @@ FILES = [(start + bytes(20), kind) for start, kind in STARTS]
 FILES += [((HERE / f"wire.{kind}").read_bytes(), kind) for kind in ("pcap", "pcapng")]
 # lines that are none of a capture nor of a schedule, with the number of the first: some begin as a file of frames might
 OTHERS = [(bytes.fromhex(MICROSECONDS)[:3], 1), (bytes.fromhex("a1b2c3d5"), 1), (b"foo\n", 1), (b"#\n\xa1\xb2\xc3\xd4", 2)]
-COMMANDS = {("dapnsp", "show"): "a capture", ("dapnsp", "msg"): "a capture", ("dapnsp", "run"): "a schedule",
-            ("daplive", "follow"): "a capture"}
-TURNS = "daplive frames turns it into lines for dapnsp show and daplive follow"
+COMMANDS = {("dapnsp", "show"): "a capture", ("dapnsp", "msg"): "a capture", ("dapnsp", "run"): "a schedule"}
+TURNS = "dapcap lists it, and dapcap --lines turns it into lines for dapnsp show"
 
 ADDRESS, NUMBER = "an address is four hex digits", "a number is decimal digits, ten at most"
 WORDS = [
@@ -39,14 +42,29 @@ WORDS = [
     ("serve --segment +512", f"--segment +512: {NUMBER}"),
     ("serve --links 2 --local 0303", "--local 0303: with several links the addresses are those of 'new'"),
 ]
+NODES = "--between: two nodes, as 1.1 1.2"
+CAPTURE_WORDS = [
+    ("--word", "--word: no such word"), ("-x", "-x: no such word"), ("--bare --bare", "--bare: given twice"),
+    ("--segments --strict --segments", "--segments: given twice"), ("--lines --bare", "--bare: not with --lines"),
+    ("--segments --lines", "--segments: not with --lines"), ("--between 1.1", NODES), ("--between 1.1 1.1", NODES),
+    ("--between 0.1 1.1", NODES), ("--between 64.1 1.1", NODES), ("--between 1.1 1.1024", NODES), ("--between 1 2", NODES),
+    ("--help --bare", "--help: no such word"), ("one two", "two: given twice"), ("\udcff", "a word is no text"),
+]
+# what each FILE that can't be opened is, by its name in a folder, and what is told of it
+UNOPENED = [("none", "not found"), ("", "is a folder"), ("wire.pcap/x", "a part of its path is no folder"), ("locked", "not permitted")]
 # what has a listing or answers of more than a pipe holds
 PACKETS = b"".join(b"> 60020201010%d80010001020a00040703050600000000\n" % (number % 8) for number in range(2_000))
 HEADER = 24  # bytes before the records of a pcap file
 WIRE = (HERE / "wire.pcap").read_bytes()
-MUCH = {("dapnsp", "show"): PACKETS, ("dapnsp", "msg"): b"> 0600\n" * 20_000, ("daplive", "follow"): PACKETS,
-        ("daplive", "watch"): PACKETS,
+MUCH = {("dapnsp", "show"): PACKETS, ("dapnsp", "msg"): b"> 0600\n" * 20_000,
         ("daplive", "ask"): b"ack\n" * 20_000, ("daplive", "serve"): b"ack\n" * 20_000,
-        ("daplive", "frames"): WIRE + WIRE[HEADER:] * 2_000}
+        ("dapcap", "-"): PACKETS, ("dapcap", "--strict"): PACKETS, ("dapcap", "--lines"): WIRE + WIRE[HEADER:] * 2_000}
+
+
+def obey_rights():
+    """The next program of this process may read what the rights of a file say, also where it is root's."""
+    for capability in (CAP_DAC_OVERRIDE, CAP_DAC_READ_SEARCH):
+        ctypes.CDLL(None).prctl(PR_CAPBSET_DROP, capability, 0, 0, 0)
 
 
 class Suite:
@@ -59,9 +77,9 @@ class Suite:
             written = (done.stdout or b"")[:80]
             self.wrong.append(f"{what}: status {done.returncode}, {written!r} and {done.stderr[:300]!r}")
 
-    def tells(self, name, words, given, status, told):
+    def tells(self, name, words, given, status, told, **more):
         """The program ends with that status, and writes nothing but this to standard error."""
-        how = {"input": given, "capture_output": True, "timeout": SECONDS, "check": False}
+        how = {"input": given, "capture_output": True, "timeout": SECONDS, "check": False, **more}
         done = subprocess.run([self.programs[name], *words], **how)
         is_right = (done.returncode, done.stdout, done.stderr.decode()) == (status, b"", told)
         self.look(f"{name} {' '.join(words)} of {given[:20]!r}", is_right, done)
@@ -79,6 +97,25 @@ class Suite:
     def words(self):
         for words, told in WORDS:
             self.tells("daplive", words.split(), b"ack\n", 2, f"daplive: {told}\n")
+
+    def captures(self):
+        """What dapcap reports of words, and of files that it can't open."""
+        for words, told in CAPTURE_WORDS:
+            self.tells("dapcap", words.split(), b"> 60\n", 2, f"dapcap: {told}\n")
+        with tempfile.TemporaryDirectory() as folder:
+            for name in ("wire.pcap", "locked"):
+                pathlib.Path(folder, name).write_bytes(WIRE)
+            os.chmod(f"{folder}/locked", 0)
+            for name, told in UNOPENED:
+                path = f"{folder}/{name}"
+                self.tells("dapcap", [path], b"", 3, f"dapcap: {path}: {told}\n", preexec_fn=obey_rights)
+            self.tells("dapcap", ["/proc/self/mem"], b"", 3, "read failed\n")
+            fifo = f"{folder}/fifo"
+            os.mkfifo(fifo)
+            with subprocess.Popen(["cp", HERE / "wire.pcap", fifo]):
+                done = subprocess.run([self.programs["dapcap"], fifo], capture_output=True, timeout=SECONDS, check=False)
+            is_right = (done.returncode, done.stderr, done.stdout.count(b"\n  message ")) == (0, b"taken 5 passed 2\n", 4)
+            self.look("dapcap of a FIFO", is_right, done)
 
     def pipe(self, name, words, given, reader):
         """A plain shell's pipe to a program that reads little or nothing, where SIGPIPE is looked at and where it isn't."""
@@ -101,9 +138,9 @@ class Suite:
 
     def no_input(self):
         """A standard input that isn't there."""
-        done = subprocess.run(["bash", "-c", 'exec "$@" <&-', "bash", self.programs["daplive"], "frames"], capture_output=True,
+        done = subprocess.run(["bash", "-c", 'exec "$@" <&-', "bash", self.programs["dapcap"]], capture_output=True,
                               timeout=SECONDS, check=False)
-        self.look("daplive frames <&-", (done.returncode, done.stdout, done.stderr) == (3, b"", b"read failed\n"), done)
+        self.look("dapcap <&-", (done.returncode, done.stdout, done.stderr) == (3, b"", b"read failed\n"), done)
 
     def unread(self, name, word, given):
         """A pipe that nobody reads from the start."""
@@ -125,12 +162,13 @@ class Suite:
 
 
 def main():
-    parser = argparse.ArgumentParser(description="Looks at what both programs report where something is wrong.")
-    for name in ("dapnsp", "daplive"):
+    parser = argparse.ArgumentParser(description="Looks at what the programs report where something is wrong.")
+    for name in ("dapnsp", "daplive", "dapcap"):
         parser.add_argument(f"--{name}", default=TOP / name)
     suite = Suite({name: str(path) for name, path in vars(parser.parse_args()).items()})
     suite.files()
     suite.words()
+    suite.captures()
     suite.pipes()
     for line in suite.wrong:
         print(f"examples: {line}", file=sys.stderr)

@@ -1,5 +1,5 @@
-"""Lists capture files with `daplive frames` where they are cut and altered, where they name any length, where growths are
-refused, and where standard input and output fail: a part of hostile/check.
+"""Writes the packets of capture files with `dapcap --lines` where they are cut and altered, where they name any length, where
+growths are refused, and where standard input and output fail: a part of hostile/check.
 
 What is written and reported is compared with what another program reads of the file (framed.py): the lines of all frames before
 a fault, the fault with its offset, and the counts.
@@ -10,7 +10,10 @@ import subprocess
 from concurrent.futures import ThreadPoolExecutor
 from os import cpu_count
 
-from framed import listing
+from framed import is_lines, listing
+
+# what dapcap tells where memory is refused; the second where that is to open its input
+NO_MEMORY = (b"no memory\n", b"dapcap: -: no memory\n")
 
 SECONDS = 60
 ALTERED = 20_000
@@ -18,6 +21,24 @@ SEED = 1
 # Lines of 64 KiB of input, of a frame of 262,144 bytes, and what the C library takes; no length that a file names.
 MAX_MEMORY = 12_000  # KiB of addresses
 ENDLESS = 64 << 20  # bytes of a file that goes on
+MAX_PAIRS = 65_536  # whose first sender is kept: the others' sign is from the lower node
+MANY, MANY_MEMORY, MANY_SECONDS = 1_000_000, 200_000, 600  # links and pairs of nodes, and KiB of addresses and time for them
+# Segments, one run after the other: marks, the receiver, the number of the first, how many, and how many bytes each has; and what
+# stands before the line of the last one of each. There is room for 4,096 segments of 4,032 bytes, with 64 for each.
+RUNS = [
+    ((0x00, 1, 1, 2048, 4032), None),
+    ((0x00, 2, 1, 2048, 4032), None),  # both just fit
+    ((0x00, 1, 2049, 1, 0), b"part > dst=0002 src=0101 seg=1..2048 len=8257536"),  # its own stream ends last, though it came earlier
+    ((0x00, 2, 1, 2047, 4032), None),
+    ((0x00, 1, 7, 1, 4032), None),  # a repeat needs no room, and is a last segment
+    ((0x00, 3, 1, 1, 3968), None),  # the last byte
+    ((0x60, 4, 1, 1, 0), b"part > dst=0002 src=0101 seg=1..2047 len=8253504"),  # a whole message takes its room before it is one
+    ((0x60, 4, 2, 2100, 4032), None),  # then a run of messages takes 64 bytes
+    ((0x00, 1, 2050, 2047, 4032), b"part > dst=0003 src=0101 seg=1..1 len=3968"),
+    ((0x00, 1, 4097, 1, 4032), b"part > dst=0001 src=0101 seg=1..0 len=16511040"),  # no other is left: its own ends, and begins anew
+    ((0x00, 1, 4097, 1, 4032), None),
+]
+LEFT = b"part > dst=0001 src=0101 seg=1..1 len=4032"  # at the end
 LENGTHS = sorted({max(0, (1 << bits) + more) for bits in range(33) for more in (-4, -1, 0, 1, 4)} - {1 << 32})
 LENGTHS = [length for length in LENGTHS if length < 1 << 32]
 PACKET = bytes.fromhex("0402010103ff8f")
@@ -30,8 +51,9 @@ def ethernet(message, tags=b""):
     return (bytes(12) + tags + b"\x60\x03" + len(message).to_bytes(2, "little") + message).ljust(60, b"\0")
 
 
-def short(sender, receiver, packet=PACKET, tags=b""):
-    ends = [(1 << 10 | node).to_bytes(2, "little") for node in (receiver, sender)]
+def short(sender, receiver, packet=PACKET, tags=b"", areas=(1, 1)):
+    """The areas are those of the sender and the receiver."""
+    ends = [(area << 10 | node).to_bytes(2, "little") for area, node in ((areas[1], receiver), (areas[0], sender))]
     return ethernet(b"\x02" + ends[0] + ends[1] + b"\0" + packet, tags)
 
 
@@ -42,6 +64,11 @@ def long(sender, receiver, packet=PACKET, padding=b""):
 
 FRAMES = [short(1, 2), long(2, 1, padding=b"\x83\0\0"), short(2, 1, tags=b"\x81\0\0\5"), short(3, 1), bytes(60),
           long(1, 2, PACKET + bytes(90)), short(1, 2, tags=b"\x88\xa8\0\5\x91\0\0\5")[:-20], short(1, 2)]
+
+
+def segment(marks, receiver, number, length):
+    """A line with a segment of this many bytes."""
+    return b"> %02x%02x000101%s%s\n" % (marks, receiver, number.to_bytes(2, "little").hex().encode(), b"00" * length)
 
 
 def pcap(frames, order="<", magic=0xA1B2C3D4):
@@ -139,7 +166,8 @@ def altered(count):
         file = choose.choice(files)
         for _ in range(choose.choice((1, 1, 1, 2))):
             file = choose.choice(ways)(choose, file) if len(file) > 4 else file
-        yield file
+        if not is_lines(file):
+            yield file
 
 
 # ---- the runs
@@ -147,37 +175,43 @@ def altered(count):
 
 def without_help(told):
     """What is reported, without what may help besides."""
-    return b"".join(line for line in told.splitlines(keepends=True) if not line.startswith(b"daplive: "))
+    return b"".join(line for line in told.splitlines(keepends=True) if not line.startswith(b"dapcap: "))
 
 
 class Captures:
-    """Runs of `daplive frames`; the suite counts and reports them."""
+    """Runs of `dapcap --lines`; the suite counts and reports them."""
 
     def __init__(self, suite, program):
-        self.suite, self.words = suite, [program, "frames"]
+        self.suite, self.words = suite, [program, "--lines"]
 
     def all(self):
         for name, file in FILES.items():
             self.cut(name, file)
         for name, numbers in NUMBERS.items():
             self.lengths(name, FILES[name], numbers)
-        self.compare("daplive frames, up to 1,025 interfaces", map(interfaces, (1, 1023, 1024, 1025)))
-        self.compare(f"daplive frames, {ALTERED} altered files", altered(ALTERED))
+        self.compare("dapcap --lines, up to 1,025 interfaces", map(interfaces, (1, 1023, 1024, 1025)))
+        self.compare(f"dapcap --lines, {ALTERED} altered files", altered(ALTERED))
         for name, file in {**FILES, "many lines": many(200)}.items():
             self.refuse(name, file)
         for name in ("pcap", "pcapng, two sections"):
             self.fail(name, FILES[name])
         self.fail("many lines", many(200), small=False)
         self.go_on()
+        self.many()
+        self.full()
 
     # -- files
 
     def run(self, file):
         return subprocess.run(self.words, input=file, capture_output=True, timeout=SECONDS, check=False)
 
+    @staticmethod
+    def run_within(memory, words, file, seconds=SECONDS):
+        shell = ["bash", "-c", f'ulimit -v {memory}; exec "$@"', "bash"]
+        return subprocess.run([*shell, *words], input=file, capture_output=True, timeout=seconds, check=False)
+
     def run_bounded(self, file):
-        shell = ["bash", "-c", f'ulimit -v {MAX_MEMORY}; exec "$@"', "bash"]
-        return subprocess.run([*shell, *self.words], input=file, capture_output=True, timeout=SECONDS, check=False)
+        return self.run_within(MAX_MEMORY, self.words, file)
 
     def compare(self, name, files, run=None):
         """Each file is listed as the other program reads it."""
@@ -195,19 +229,54 @@ class Captures:
             print(f"  status {ran.returncode}, wrote {len(ran.stdout)} bytes, told {ran.stderr[-200:]!r} in place of {told!r}: {file.hex()}")
 
     def cut(self, name, file):
-        self.compare(f"daplive frames, {name}, cut at every byte", (file[:end] for end in range(len(file) + 1)))
+        self.compare(f"dapcap --lines, {name}, cut at every byte",
+                     (file[:end] for end in range(len(file) + 1) if not is_lines(file[:end])))
 
     def lengths(self, name, file, numbers):
         """A number is each length, where the program has little memory."""
         files = [file[:at] + struct.pack(form, length) + file[at + 4:] for at, form in numbers for length in LENGTHS]
-        self.compare(f"daplive frames, {name}, lengths up to 2^32", files, self.run_bounded)
+        self.compare(f"dapcap --lines, {name}, lengths up to 2^32", files, self.run_bounded)
 
     def go_on(self):
         """Files that go on, where the program has little memory: records, and another block than those that are read."""
         for name, head, piece in [("records", FILES["pcap"], pcap(FRAMES * 100)[24:]),
                                   ("a block", FILES["pcapng"] + struct.pack("<II", 5, (1 << 32) - 4), bytes(1 << 16))]:
             file = head + piece * (ENDLESS // len(piece))
-            self.compare(f"daplive frames, {name} of {ENDLESS >> 20} MiB", [file], self.run_bounded)
+            self.compare(f"dapcap --lines, {name} of {ENDLESS >> 20} MiB", [file], self.run_bounded)
+
+    def many(self):
+        """Links, and pairs of nodes, without number, where the program has little memory: each packet is listed."""
+        links = b"".join(b"> 20%04x%04x010000\n" % (at & 0xFFFF, at >> 16) for at in range(MANY))
+        done = self.run_within(MANY_MEMORY, [self.words[0], "--bare"], links, MANY_SECONDS)
+        listed = done.stdout.count(b"\npart > ") + done.stdout.count(b" > segment first ")
+        self.tell(f"dapcap, {MANY:,} links", (done.returncode, done.stderr, listed) == (0, b"", 2 * MANY), done)
+        pairs = (short(1 + at % 1000, 1 + at // 1000, areas=(3, 2)) for at in range(MANY))
+        file = pcap([])[:24] + b"".join(struct.pack("<IIII", 0, 0, 60, 60) + one for one in pairs)
+        done = self.run_within(MANY_MEMORY, self.words, file, MANY_SECONDS)
+        ways = [line[:1] for line in done.stdout.splitlines()[1::2]]
+        is_right = (done.returncode, done.stderr) == (0, b"taken %d passed 0\n" % MANY)
+        is_right = is_right and ways == [b">"] * MAX_PAIRS + [b"<"] * (MANY - MAX_PAIRS)
+        self.tell(f"dapcap --lines, {MANY:,} pairs of nodes", is_right, done)
+
+    def full(self):
+        """Streams end where the room is full, those first whose last segment, or repeat, is the earliest, and no others."""
+        packets, ends = [], {}
+        for (marks, receiver, first, count, length), ended in RUNS:
+            numbers = ((first + at) % 4096 for at in range(count))
+            packets += [segment(marks, receiver, number, length) for number in numbers]
+            ends |= {len(packets): [ended]} if ended else {}
+        done = subprocess.run([self.words[0], "--bare"], input=b"".join(packets), capture_output=True, timeout=MANY_SECONDS, check=False)
+        listed, found = 0, {}
+        for line in done.stdout.splitlines():
+            if line.startswith((b"part", b"gap")):
+                found.setdefault(listed + 1, []).append(line)
+            listed += b" > segment " in line
+        is_right = (done.returncode, done.stderr, listed) == (0, b"", len(packets))
+        self.tell("dapcap, 16 MiB that wait", is_right and found == {**ends, len(packets) + 1: [LEFT]}, done)
+
+    def tell(self, name, is_right, done):
+        self.suite.passed, self.suite.failed = self.suite.passed + is_right, self.suite.failed + (not is_right)
+        print(f"{name}: {'right' if is_right else f'WRONG, status {done.returncode}, told {done.stderr[-200:]!r}'}", flush=True)
 
     # -- memory and devices
 
@@ -219,11 +288,11 @@ class Captures:
         def is_right(ran, _at):
             if (ran.status, ran.written, ran.told) == (status, b"".join(lines), told):
                 return True
-            return ran.was_met and ran.written in fronts and (ran.status, ran.told) == (3, b"no memory\n")
+            return ran.was_met and ran.written in fronts and ran.status == 3 and ran.told in NO_MEMORY
 
         for manner, what in [("", "one growth refused"), ("..", "all growths refused from one on")]:
             run = lambda at: self.suite.ran(self.words, file, REFUSE_GROWTH=f"{at}{manner}")
-            self.suite.until_none(f"daplive frames, {name}, {what}", run, is_right)
+            self.suite.until_none(f"dapcap --lines, {name}, {what}", run, is_right)
 
     def fail(self, name, file, small=True):
         """Each read fails, and each write fails or takes nothing."""
@@ -233,11 +302,11 @@ class Captures:
             run = lambda at: self.suite.ran(self.words, file, FAIL_READ=at, SHORT_READ=size)
             unread = lambda at: (3, b"".join(listing(file[:size * (at - 1)])[0]), b"read failed\n")
             is_right = lambda ran, at: (ran.status, ran.written, ran.told) == (unread(at) if ran.was_met else whole)
-            self.suite.until_none(f"daplive frames, {name}, a read of {size} fails", run, is_right)
+            self.suite.until_none(f"dapcap --lines, {name}, a read of {size} fails", run, is_right)
         for size in (1, 5, 65_536) if small else (1 << 12,):
             for fault, what in [("FAIL_WRITE", "fails"), ("EMPTY_WRITE", "takes nothing")]:
                 run = lambda at: self.suite.ran(self.words, file, SHORT_WRITE=size, **{fault: at})
                 is_right = lambda ran, _at: text.startswith(ran.written) and (
                     (ran.status, ran.told) == (3, b"write failed\n") if ran.was_met else
                     (ran.status, ran.written, ran.told) == whole)
-                self.suite.until_none(f"daplive frames, {name}, a write of {size} {what}", run, is_right)
+                self.suite.until_none(f"dapcap --lines, {name}, a write of {size} {what}", run, is_right)

@@ -1,4 +1,4 @@
-"""What `daplive frames` says of a capture file, read by another program: docs/CAPTURES.md, the two formats, and the routing
+"""What `dapcap --lines` says of a capture file, read by another program: docs/CAPTURES.md, the two formats, and the routing
 headers of DECnet Phase IV."""
 
 SECTION = 0x0A0D0D0A
@@ -14,6 +14,7 @@ RESOLUTION, OFFSET = 9, 14  # options of an interface
 TAGS = (b"\x81\x00", b"\x88\xa8", b"\x91\x00")
 STATION = b"\xaa\x00\x04\x00"
 MAX_PACKET = 4096
+LINES = b"><#\n\r"  # with one of these lines begin
 
 
 class Fault(Exception):
@@ -173,20 +174,33 @@ def node_text(node):
     return f"{node >> 10}.{node & 0x3FF}"
 
 
+def is_file(data):
+    """Whether the first bytes are those of a capture file."""
+    return int.from_bytes(data[:4], "big") in (*MAGICS, *(int.from_bytes(one.to_bytes(4, "little"), "big") for one in MAGICS), SECTION)
+
+
+def is_lines(data):
+    """Whether the first bytes are those of lines."""
+    return not is_file(data) and data[:1] in [LINES[at:at + 1] for at in range(len(LINES))]
+
+
 def listing(data):
-    """The lines of each frame that has some; what is reported on standard error; and the exit status."""
-    lines, count, ends, fault = [], 0, None, None
+    """The lines of each frame that has some; what is reported on standard error; and the exit status. Of lines, which aren't
+    read here, there have to be none."""
+    if not data:
+        return [], b"taken 0 passed 0\n", 0
+    if not is_file(data):
+        return [], b"bad unknown at=0\n", 1
+    lines, count, first_of, fault = [], 0, {}, None
     try:
         for count, (time, is_ethernet, frame) in enumerate(frames(data), 1):
             found = packet(frame) if is_ethernet else None
             if not found:
                 continue
             sent_by, to, body = found
-            ends = ends or (sent_by, to)
-            if {sent_by, to} == set(ends):
-                way = ">" if sent_by == ends[0] else "<"
-                heading = f"# frame {count} {time_text(time)} {node_text(sent_by)} -> {node_text(to)}"
-                lines.append(f"{heading}\n{way} {body.hex()}\n".encode())
+            way = ">" if first_of.setdefault(frozenset((sent_by, to)), sent_by) == sent_by else "<"
+            heading = f"# frame {count} {time_text(time)} {node_text(sent_by)} -> {node_text(to)}"
+            lines.append(f"{heading}\n{way} {body.hex()}\n".encode())
     except Fault as found:
         fault = found
     told = f"taken {len(lines)} passed {count - len(lines)}\n"

@@ -1,7 +1,7 @@
-"""Lists captures with `daplive watch` where growths are refused, where standard input and output fail, and where packets are
-lost, repeated and reordered: a part of hostile/check.
+"""Lists captures with `dapcap` where growths are refused, where standard input and output fail, and where packets are lost,
+repeated and reordered: a part of hostile/check.
 
-- Of a whole capture it writes what `daplive follow` writes; a line that is none is reported, and changes nothing else.
+- Of a whole capture it writes what `dapcap --strict` writes; a line that is none is reported, and changes nothing else.
 - Where memory is refused, or a read fails, what is written is the lines of the packets so far; where a write fails, a prefix of
   the whole text. The status is 3.
 """
@@ -10,6 +10,8 @@ import re
 import subprocess
 from concurrent.futures import ThreadPoolExecutor
 from os import cpu_count
+
+from captured import NO_MEMORY
 
 SECONDS = 60
 CAPTURES = 300
@@ -62,9 +64,9 @@ class Watched:
     """The listing as lines come, by the program; also in words."""
 
     def __init__(self, suite, program, example, *words):
-        self.suite, self.watch, self.follow = suite, [program, "watch", *words], [program, "follow", *words]
-        self.given, self.name = example, " ".join(["daplive watch", *words])
-        self.text = self.run(self.follow, example).stdout
+        self.suite, self.listed, self.strict = suite, [program, *words], [program, "--strict", *words]
+        self.given, self.name = example, " ".join(["dapcap", *words])
+        self.text = self.run(self.strict, example).stdout
 
     def all(self):
         self.alike()
@@ -77,14 +79,14 @@ class Watched:
         return subprocess.run(words, input=given, capture_output=True, timeout=SECONDS, check=False)
 
     def alike(self):
-        """What `watch` and `follow` list of captures is the same."""
+        """What is listed as lines come, and after all are checked, is the same."""
         choose = random.Random(SEED)
-        captures = [self.given, b"", *(capture(choose) for _ in range(CAPTURES))]
-        run = lambda given: (self.run(self.watch, given), self.run(self.follow, given))
+        captures = [self.given, *(capture(choose) for _ in range(CAPTURES))]
+        run = lambda given: (self.run(self.listed, given), self.run(self.strict, given))
         with ThreadPoolExecutor(cpu_count()) as pool:
             came = list(pool.map(run, captures))
         wrong = [at for at, (one, other) in enumerate(came) if (one.returncode, one.stdout, one.stderr) != (0, other.stdout, b"")]
-        self.tell(f"{self.name}, {len(captures)} captures as follow lists them", len(captures), wrong)
+        self.tell(f"{self.name}, {len(captures)} captures as --strict lists them", len(captures), wrong)
 
     def bad_lines(self):
         """Lines that are none are reported by their numbers, and the others are listed as if those were comments."""
@@ -92,7 +94,7 @@ class Watched:
         wrong = []
         for at in range(len(lines) + 1):
             given = lambda line: b"".join([*lines[:at], line, *lines[at:]])
-            ran, wanted = self.run(self.watch, given(b"> 6\n")), self.run(self.follow, given(b"# none\n")).stdout
+            ran, wanted = self.run(self.listed, given(b"> 6\n")), self.run(self.strict, given(b"# none\n")).stdout
             if (ran.returncode, ran.stdout, ran.stderr.splitlines()[:1]) != (1, wanted, [b"bad line %d" % (at + 1)]):
                 wrong.append(at)
         self.tell(f"{self.name}, a line that is none", len(lines) + 1, wrong)
@@ -114,10 +116,10 @@ class Watched:
         def is_right(ran, _at):
             if not ran.was_met:
                 return self.is_whole(ran)
-            return self.is_whole(ran) or (ran.status, ran.told) == (3, b"no memory\n") and self.is_of_packets(ran.written)
+            return self.is_whole(ran) or ran.status == 3 and ran.told in NO_MEMORY and self.is_of_packets(ran.written)
 
         for manner, what in [("", "one growth refused"), ("..", "all growths refused from one on")]:
-            run = lambda at: self.suite.ran(self.watch, self.given, REFUSE_GROWTH=f"{at}{manner}")
+            run = lambda at: self.suite.ran(self.listed, self.given, REFUSE_GROWTH=f"{at}{manner}")
             self.suite.until_none(f"{self.name}, {what}", run, is_right)
 
     def fail(self):
@@ -132,9 +134,9 @@ class Watched:
             return (ran.status, ran.told) == (3, b"write failed\n") and self.text.startswith(ran.written)
 
         for size in (1, 65536):
-            run = lambda at: self.suite.ran(self.watch, self.given, FAIL_READ=at, SHORT_READ=size)
+            run = lambda at: self.suite.ran(self.listed, self.given, FAIL_READ=at, SHORT_READ=size)
             self.suite.until_none(f"{self.name}, a read of {size} fails", run, unread)
         for size in (1, 5, 65536):
             for fault, what in [("FAIL_WRITE", "fails"), ("EMPTY_WRITE", "takes nothing")]:
-                run = lambda at: self.suite.ran(self.watch, self.given, SHORT_WRITE=size, **{fault: at})
+                run = lambda at: self.suite.ran(self.listed, self.given, SHORT_WRITE=size, **{fault: at})
                 self.suite.until_none(f"{self.name}, a write of {size} {what}", run, unwritten)

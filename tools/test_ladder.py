@@ -1,4 +1,4 @@
-"""Tests ladder: the messages, arrows, gaps and tables of its pages are those of `daplive follow`; in Chromium no text is
+"""Tests ladder: the messages, arrows, gaps and tables of its pages are those of `dapcap`; in Chromium no text is
 wider than its lane, and all can be seen.
 
 TOOLS_SEED is the seed; with TOOLS_ALL=1 all wrong bodies are tried, by default some.
@@ -17,7 +17,7 @@ import tempfile
 import unittest
 
 import made_captures
-from support import ALL, DAPLIVE, ROOT, SEED, need_daplive
+from support import ALL, DAPCAP, DAPLIVE, ROOT, SEED, need_programs
 
 TOOLS = pathlib.Path(__file__).resolve().parent
 PYTHON = [sys.executable, "-X", "dev", "-W", "error"]
@@ -74,7 +74,7 @@ document.getElementById("found").textContent = JSON.stringify({texts, arrows, to
 
 
 def run_ladder(*words, text=None, ladder=TOOLS / "ladder", **more):
-    command = [*PYTHON, ladder, "--daplive", DAPLIVE, *words]
+    command = [*PYTHON, ladder, "--dapcap", DAPCAP, *words]
     return subprocess.run(command, input=text, capture_output=True, text=True, check=False, **more)
 
 
@@ -128,11 +128,11 @@ class Page(html.parser.HTMLParser):
 
 
 class Listing:
-    """What `daplive follow` prints of lines."""
+    """What `dapcap --bare` prints of lines."""
 
     def __init__(self, lines):
         text = "".join(f"{line}\n" for line in lines)
-        done = subprocess.run([DAPLIVE, "follow"], input=text, capture_output=True, text=True, check=True)
+        done = subprocess.run([DAPCAP, "--bare"], input=text, capture_output=True, text=True, check=True)
         self.packets, self.messages, self.gaps, self.parts, number = {}, collections.defaultdict(list), [], 0, 0
         for line in done.stdout.splitlines():
             words = line.split()
@@ -230,7 +230,7 @@ def other_link(lines):
 class Case(unittest.TestCase):
     @classmethod
     def setUpClass(cls):
-        need_daplive()
+        need_programs()
         folder = tempfile.TemporaryDirectory()
         cls.addClassCleanup(folder.cleanup)
         cls.folder = pathlib.Path(folder.name)
@@ -324,9 +324,9 @@ class InputTest(Case):
         files = {"empty": (b"", "no DECnet data packets"), "head": (whole[:24], "no DECnet data packets"),
                  "other": (made_captures.pcap([bytes(60)] * 7), "no DECnet data packets: 7 frames of another kind"),
                  "any": (made_captures.pcap(frames, 113), "not those of Ethernet"),
-                 "short": (whole[:10], "neither pcap nor pcapng"),
-                 "text": (b"hello\n", "line 1 is no packet"), "odd": (b"> 6\n", "line 1 is no packet"),
-                 "bytes": (b"\xff\x00" * 9000, "line 1 is no packet")}
+                 "short": (whole[:10], "no DECnet data packets: the end of the file, which is cut short"),
+                 "text": (b"hello\n", "neither pcap nor pcapng"), "odd": (b"> 6\n", "line 1 is no packet"),
+                 "bytes": (b"\xff\x00" * 9000, "neither pcap nor pcapng")}
         for name, (data, said) in files.items():
             path = self.folder / name
             path.write_bytes(data)
@@ -339,13 +339,13 @@ class InputTest(Case):
         path = self.folder / "cut.pcap"
         path.write_bytes(made_captures.pcap(made_captures.frames_of(self.lossless))[:-5])
         done = run_ladder(path)
-        self.assertEqual(done.stderr, "ladder: 1 frame at the end, which the file cuts short\n")
+        self.assertEqual(done.stderr, "ladder: the end of the file, which is cut short\n")
         self.assertEqual(list(wrong_page(Page(done.stdout), Listing(self.lossless[:-1]))), [])
-        self.assertIn('<p class="notice">1 frame at the end, which the file cuts short</p>', done.stdout)
+        self.assertIn('<p class="notice">the end of the file, which is cut short</p>', done.stdout)
 
     def test_programs_that_list_nothing(self):
         for program, status in (("/nowhere", 3), ("/bin/false", 3), ("/bin/echo", 3), ("/bin/true", 3)):
-            done = run_ladder("--daplive", program, text=PACKET)
+            done = run_ladder("--dapcap", program, text=PACKET)
             self.assertEqual((done.returncode, done.stdout), (status, ""), program)
             self.assertTrue(done.stderr.startswith("ladder: "), done.stderr)
 

@@ -14,6 +14,7 @@ NOT_ASKED = {
 # STSCODE of a Status: four bits that say what kind of refusal it is, and twelve that say which
 MICCODE_BITS = 12
 THERE = "a file of that name is there"
+MAY_NOT = "this user, or this file, doesn't allow that"
 OF_FILES = {4, 5, 6, 7}  # kinds whose other bits are RMS's
 KINDS = {0x2: "it isn't supported there", 0x8: "a message that the other end can't read",
          0x9: "a value that the other end doesn't take", 0xA: "a message out of sequence"}
@@ -21,11 +22,11 @@ KINDS = {0x2: "it isn't supported there", 0x8: "a message that the other end can
 RMS = {0o31: "there is no current record", 0o40: "no such directory", 0o47: "no more records",
        0o54: "the file isn't open for that", 0o55: THERE, 0o60: "the file is in use",
        0o62: "no such file", 0o63: "no name of a file", 0o65: "the disk is full", 0o72: "the file can't do that",
-       0o76: "no such key", 0o111: "the record's number is out of range", 0o125: "the user may not do that",
+       0o76: "no such key", 0o111: "the record's number is out of range", 0o125: MAY_NOT,
        0o127: "records aren't had in that way", 0o133: "a record is there", 0o135: "no file has these attributes",
        0o136: "the record is in use", 0o140: "there is no such record",
        0o146: "the record's length isn't one of the file's", 0o147: "the record is too long for the buffer"}
-# reasons of the proved end, besides the codes 4000 and 5000
+# reasons of an end without RMS's codes, beside 4000 and 5000
 REASONS = {
     "1": THERE,
     "2": "the file isn't open for that",  # of a record; an Access is refused by it where a right is missing
@@ -51,7 +52,7 @@ DUE = {
     "store": "Access Complete",
     **dict.fromkeys(("close", "purge"), "Access Complete"),
 }
-NO_RIGHT = ("4000", "2")  # what the proved end says to an Access
+NO_RIGHT = ("4000", "2")  # what such an end says to an Access
 MAX_SHOWN = 40  # characters of a user's line that are shown
 
 
@@ -91,7 +92,7 @@ def refusal(report):
 
 def meaning(code, reason):
     if (code, reason) == NO_RIGHT:
-        return "this user, or this file, doesn't allow that"
+        return MAY_NOT
     if code in ("4000", "5000"):
         return REASONS.get(reason, "for a reason of the other end")
     kind, micro = divmod(int(code, 16), 1 << MICCODE_BITS)

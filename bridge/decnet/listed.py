@@ -1,4 +1,4 @@
-"""What a listing of `daplive follow` has."""
+"""What a listing of `dapcap` has."""
 import re
 
 NUMBERS, HALF = 4096, 2048  # segment numbers, and how many of them are ahead of one

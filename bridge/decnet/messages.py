@@ -1,4 +1,4 @@
-"""DAP messages, written. They are read by `daplive follow`, which is proved."""
+"""DAP messages, written. They are read by `dapcap`, which is proved."""
 import enum
 import struct
 

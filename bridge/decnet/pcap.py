@@ -7,8 +7,8 @@ import struct
 import time
 
 from decnet import log
-from decnet.captures import ETHERNET
 
+ETHERNET = 1  # the link type of a capture file
 MAGIC, VERSION, MAX_FRAME = 0xA1B2C3D4, (2, 4), 65535
 HEAD = struct.pack("<IHHiIII", MAGIC, *VERSION, 0, 0, MAX_FRAME, ETHERNET)
 RECORD = struct.Struct("<IIII")  # seconds, microseconds, bytes that are kept, bytes of the frame

@@ -10,7 +10,10 @@ CTLFUNC = {1: "get", 2: "connect", 3: "update", 4: "put", 5: "delete", 6: "rewin
 RAC = {0: "sequential", 1: "by number", 2: "by RFA", 3: "whole file", 4: "by VBN", 5: "blocks"}
 CONFUNC = {1: "try again", 2: "skip", 3: "abort", 4: "resume"}
 CMPFUNC = {1: "close", 2: "response", 3: "purge", 4: "end of stream", 5: "skip"}
-STSCODE = {0x5027: "end of file", 0x4032: "file not found", 0x4030: "file locked"}
+STSCODE = {0x5027: "end of file", 0x4032: "file not found", 0x4030: "file locked", 0x402d: "file exists",
+           0x4055: "not permitted", 0x405d: "bad attributes", 0x502c: "not permitted", 0x5019: "no current record",
+           0x5060: "record not found", 0x505b: "record exists", 0x5049: "number out of range", 0x5066: "bad length",
+           0x5057: "bad access mode", 0x503a: "delete not allowed", 0x5067: "too large for buffer", 0x503e: "bad key"}
 MACCODE = {0: "pending", 1: "success", 2: "unsupported", 4: "error on opening", 5: "transfer error",
            6: "transfer warning", 7: "termination error", 8: "format", 9: "invalid", 10: "out of synchronization"}
 REASON = {1: "file exists", 2: "not permitted", 3: "no current record", 4: "record not found", 5: "record exists",

@@ -1,7 +1,7 @@
 """A probe of another node's file access listener, by the words of the command line."""
 import sys
 
-from decnet import nsp, probe, verdicts
+from decnet import dapcap, nsp, probe, verdicts
 from decnet.address import node_text
 from decnet.client import InputFault
 from decnet.parts import end_beside, open_node, open_signals, settings_of
@@ -15,7 +15,7 @@ def test(words, opened, closed):
     signals = open_signals(words, opened)
     if 1 in closed:
         raise InputFault("standard output: closed")
-    before = None
+    before, lister = None, dapcap.find(words.dapcap)
     node = open_node(words, opened)
     across = probe.Across(node, settings_of(words), words.to, nsp.session(*words.images), words.quiet, signals)
     found = probe.Probe(across, words.only)
@@ -27,7 +27,7 @@ def test(words, opened, closed):
     found.run(tell_progress)
     if words.keep is not None:
         probe.keep(words.keep, found.talks, found.other)
-    return print_verdicts(found, before, found.erase(), words)
+    return print_verdicts(found, before, found.erase(), words, lister)
 
 
 def tell_progress(name):
@@ -35,11 +35,11 @@ def tell_progress(name):
         print(name.ljust(WIDTH), end="\r", file=sys.stderr, flush=True)
 
 
-def print_verdicts(found, before, erased, words):
+def print_verdicts(found, before, erased, words, lister):
     """Prints what both ends say; the exit status."""
     own, beside = (found.own, "proved") if before is None else (before, "before")
     answers_of = [inbox for side in (own, found.other) for steps in side.values() for inbox in steps]
-    listing = verdicts.Listing(words.daplive, [body for inbox in [*answers_of, *erased.values()] for body in inbox])
+    listing = verdicts.Listing(lister, [body for inbox in [*answers_of, *erased.values()] for body in inbox])
     table = list(verdicts.rows(found.talks, own, found.other, listing))
     for row in table[:1]:
         for line in row.other[:1] if row.other and row.other[0].startswith("config ") else ():

@@ -1,4 +1,4 @@
-"""What two ends say to the same conversations, side by side. Their answers are read by `daplive follow`, which is proved."""
+"""What two ends say to the same conversations, side by side. Their answers are read by `dapcap`, which is proved."""
 import enum
 import subprocess
 from dataclasses import dataclass
@@ -45,10 +45,10 @@ class Listing:
         packets = [nsp.words(Kind.ONLY, REMOTE, LOCAL, field, number) + body for number, body in enumerate(bodies, 1)]
         text = "".join(f"> {packet.hex()}\n" for packet in packets)
         try:
-            run = subprocess.run([self.program, "follow"], input=text, capture_output=True, text=True, timeout=FOLLOW_SECONDS,
+            run = subprocess.run([self.program, "--bare"], input=text, capture_output=True, text=True, timeout=FOLLOW_SECONDS,
                                  check=False)
         except (OSError, subprocess.TimeoutExpired) as fault:
-            raise EndFault(f"{self.program} follow: {fault}") from fault
+            raise EndFault(f"{self.program}: {fault}") from fault
         found = -1
         for line in run.stdout.splitlines():
             if not line.startswith(" "):
@@ -58,7 +58,7 @@ class Listing:
             elif not line.startswith("  message ") and found < len(bodies):
                 self.lines[bodies[found]].append(line.strip())
         if any(body not in self.lines for body in bodies):
-            raise EndFault(f"{self.program} follow: it doesn't list {len(bodies)} messages: {run.stderr[:200]}")
+            raise EndFault(f"{self.program}: it doesn't list {len(bodies)} messages: {run.stderr[:200]}")
 
     def of(self, inbox):
         """The lines of the messages that answer a step."""

@@ -7,7 +7,7 @@ import re
 import sys
 from dataclasses import dataclass
 
-from decnet import completion, nsp, options, privileges, program, udp
+from decnet import completion, dapcap, nsp, options, privileges, program, udp
 from decnet.address import node_text
 from decnet.answers import shown
 from decnet.end import DAPLIVE
@@ -268,6 +268,7 @@ def add_probing(parser):
     parser.add_argument("--keep", metavar="FILE", help="write the answers to a new file")
     parser.add_argument("--against", metavar="FILE",
                         help="compare with answers that --keep wrote, in place of those of the proved end")
+    parser.add_argument("--dapcap", metavar="PROGRAM", help=dapcap.HELP)
 
 
 # ---- what isn't an option

@@ -6,10 +6,10 @@ import socket
 import subprocess
 import time
 
-from decnet import captures
 from decnet.address import ethernet_address, ethernet_text, read_node
 from decnet.frames import ETHERTYPE
 from decnet.nsp import Kind
+from tests import captures
 from tests.station import ASKING, SERVING, Station
 from tests.support import PATIENCE, POLL, Child, expect_equal, until
 

@@ -3,9 +3,10 @@ import os
 import re
 import subprocess
 
-from decnet import captures, frames, nsp, routing
+from decnet import frames, nsp, routing
 from decnet.address import ethernet_address, node_text, read_node
 from decnet.nsp import Kind
+from tests import captures
 from tests.station import ASKING, SERVING
 from tests.support import PATIENCE, expect, expect_equal
 

@@ -12,6 +12,7 @@ import time
 import unittest
 
 from decnet import log
+from decnet.dapcap import ROOT as TOP
 from decnet.end import DAPLIVE, End
 
 PATIENCE = 60  # seconds for anything that has to happen, on a machine that has much other work
@@ -24,6 +25,7 @@ EXAMPLES = BRIDGE.parent.parent / "examples"
 PYTHON = [sys.executable, "-X", "dev", "-W", "error"]
 BUILT = BRIDGE.parent.parent / "crates/daplive/out/daplive"  # as ./daplive builds it
 PROGRAM = os.environ.get("DAPLIVE") or str(BUILT)
+LISTER = os.environ.get("DAPCAP") or str(TOP / "crates/dapcap/out/dapcap")
 SEED = int(os.environ.get("BRIDGE_SEED") or 1)
 KEEP = os.environ.get("BRIDGE_KEEP")
 os.environ["XDG_CONFIG_HOME"] = "/nowhere"  # no file of options of who runs the tests holds
@@ -197,10 +199,10 @@ def pair():
 
 
 def build():
-    """A first start, which builds ./daplive where it isn't built and no other live end is named. What that says is seen."""
-    program = os.environ.get("DAPLIVE") or str(DAPLIVE)
-    run = subprocess.run([program, "--help"], stdout=subprocess.DEVNULL, check=False, timeout=BUILD_SECONDS)
-    expect(run.returncode == 0, f"{program} --help: status {run.returncode}")
+    """A first start, which builds ./daplive and ./dapcap where they aren't built and no others are named. What it says is seen."""
+    for program in (os.environ.get("DAPLIVE") or str(DAPLIVE), os.environ.get("DAPCAP") or str(TOP / "dapcap")):
+        run = subprocess.run([program, "--help"], stdout=subprocess.DEVNULL, check=False, timeout=BUILD_SECONDS)
+        expect(run.returncode == 0, f"{program} --help: status {run.returncode}")
 
 
 def default_signals():

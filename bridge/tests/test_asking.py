@@ -55,8 +55,8 @@ class RefusalTest(AskCase):
 
     def test_a_store_in_part(self):
         status, reports, told = self.asks(b"hello\ncreate 47 0 1 2 0 15\nconnect\nstore 4141 42 4343\nclose\n")
-        self.assertEqual((status, reports[-1]), (1, "report stored refused 5000 7 2"))
-        why = "refused: the record's length isn't one of the file's (5000, 7)"
+        self.assertEqual((status, reports[-1]), (1, "report stored refused 5066 7 2"))
+        why = "refused: the record's length isn't one of the file's (5066, 7)"
         self.assertIn(f"line 4: 'store 4141 42 4343': {why}", told)
 
     def test_a_fetch_that_stops_and_is_not_gone_on_with(self):
@@ -71,6 +71,9 @@ class RefusalTest(AskCase):
         batch, name = "report batch 2 refused 0127 0 1:0102 2:-", "report refused 4000 1"
         self.assertEqual(answers.refusal(batch), "refused: by the other end (0127, 0)")
         self.assertEqual(answers.refusal(name), "refused: a file of that name is there (4000, 1)")
+        self.assertEqual(answers.refusal("report refused 402d 1"), "refused: a file of that name is there (402d, 1)")
+        self.assertEqual(answers.refusal("report refused 4055 2"), "refused: this user, or this file, doesn't allow that (4055, 2)")
+        self.assertEqual(answers.refusal("report refused 502c 2"), "refused: the file isn't open for that (502c, 2)")
         self.assertEqual(answers.refusal("report refused 4000 2"), "refused: this user, or this file, doesn't allow that (4000, 2)")
         self.assertEqual(answers.refusal("report refused 5000 2"), "refused: the file isn't open for that (5000, 2)")
         for report in ("report stored", "report batch 1 stopped 1:41", "report done 1", "report end-of-file"):

@@ -18,9 +18,9 @@ case " $GATE_SKIPS " in *" NAME "*) echo "3 passed, 0 failed; skipped: it is mis
 echo "3 passed, 0 failed"
 """
 SCRIPTS = ["examples/check", "docs/check", "wrong_bodies", "wrong_bodies_tests.py", "hostile/check", "bridge/check", "tools/check",
-           "dapnsp", "daplive", "tool/rt", "tool/python3"]
+           "dapnsp", "daplive", "dapcap", "tool/rt", "tool/python3"]
 PARTS = ["look", "proofs", "wrong", "trying", "hostile", "lossy", "lines", "examples", "bridge", "tools"]
-CRATES = "lower:\nmiddle: lower\nmiddle_tests: middle\nupper: middle\nbeside:\ndapnsp: upper\ndaplive: beside\n"
+CRATES = "lower:\nmiddle: lower\nmiddle_tests: middle\nupper: middle\nbeside:\ndapnsp: upper\ndaplive: beside\ndapcap: beside\n"
 
 
 class GateCase(Case):
@@ -76,8 +76,8 @@ class PartsTest(GateCase):
             "hostile/check ", "tool/python3 examples/lossy_tests.py --seeds 200", "tool/python3 examples/links_tests.py --seeds 200",
             "tool/python3 bench/links --links 100 --puts 5000 --each --rounds 1", "tool/python3 examples/live_tests.py",
             "tool/python3 examples/bounded_tests.py", "examples/check --run crates/dapnsp/out/dapnsp",
-            "bridge/check --daplive crates/daplive/out/daplive --keep KEPT",
-            "tools/check --daplive crates/daplive/out/daplive --captures KEPT"])
+            "bridge/check --daplive crates/daplive/out/daplive --dapcap crates/dapcap/out/dapcap --keep KEPT",
+            "tools/check --daplive crates/daplive/out/daplive --dapcap crates/dapcap/out/dapcap --captures KEPT"])
         for part in PARTS:
             self.assertRegex(self.told, rf"(?m)^check: {part}: [0-9.]+ minutes, [0-9.]+ of processor$")
 
@@ -146,9 +146,10 @@ class ChangedTest(GateCase):
     def test_a_body_is_proved_in_its_crate_alone(self):
         self.write("crates/middle/src/lib.rt")
         status, last, ran = self.check("--changed")
-        self.assertEqual((status, last), (0, "23 passed, 0 failed"), self.told)
+        self.assertEqual((status, last), (0, "24 passed, 0 failed"), self.told)
         self.assertEqual(ran, [*self.LOOK, "tool/rt check in middle", "tool/rt try --test --seconds 1800 in middle_tests", "wrong_bodies middle",
-                               "dapnsp --try --help", "daplive --try --help", "examples/check --play KEPT"])
+                               "dapnsp --try --help", "daplive --try --help", "dapcap --try --help",
+                               "examples/check --play KEPT"])
         self.assertIn("check: left to ./check: the parts after look, and the crates middle_tests, upper, dapnsp\n", self.told)
 
     def test_a_definition_is_proved_in_those_above_too(self):
@@ -160,7 +161,7 @@ class ChangedTest(GateCase):
     def test_a_line_of_crates_txt(self):
         self.write("crates.txt", CRATES.replace("beside:", "beside: lower"))
         self.assertEqual(self.check("--changed")[2][3:], ["tool/rt check in beside", "dapnsp --try --help", "daplive --try --help",
-                                                          "examples/check --play KEPT"])
+                                                          "dapcap --try --help", "examples/check --play KEPT"])
 
     def test_a_python_program(self):
         self.write("tools/new.py", "# new\n")

@@ -24,7 +24,7 @@ from tests.network import LIBC, Capture, Network, ip
 from tests.patterns import altered, good_frame, packets
 from tests.station import ASKING, CONFIGURATION, OWN_CONFIGURATION, SERVING, SILENCE, Station, segment
 from tests.support import (
-    BRIDGE, PATIENCE, POLL, PROGRAM, PYTHON, SEED, Case, child_of, expect, expect_equal, file_lines, need_live_end,
+    BRIDGE, LISTER, PATIENCE, POLL, PROGRAM, PYTHON, SEED, Case, child_of, expect, expect_equal, file_lines, need_live_end,
     until)
 
 SETTINGS = ["--resend", "0.2", "--tries", "10"]
@@ -33,7 +33,7 @@ STATION = "1.3"
 PR_CAPBSET_DROP, CAP_NET_RAW = 24, 13
 # how many of 100 frames are lost, repeated and swapped, with the segment sizes of the serving and the asking side
 TRANSFERS = ((0, 512, 512), (5, 230, 1400), (15, 1400, 100))
-FOLLOW = shlex.split(os.environ.get("BRIDGE_FOLLOW") or "") or [PROGRAM, "follow"]
+FOLLOW = shlex.split(os.environ.get("BRIDGE_FOLLOW") or "") or [LISTER, "--bare"]
 NETWORK = Network()
 
 
@@ -71,7 +71,7 @@ class Transfer:
         turns += [("store " + " ".join(self.bodies), "stored"), ("close", "closed")]
         turns += [("create 47 16 1 5 9 15", "opened 16 1 5 9"), ("connect", "connected")]
         turns += [(f"put key {number} {body}", f"done {number}") for number, body in self.fixed.items()]
-        turns += [("get key 4", "refused 5000 4"), ("close", "closed")]
+        turns += [("get key 4", "refused 5060 4"), ("close", "closed")]
         turns += [("open 505245 2", "opened 16 2 0 9"), ("connect", "connected")]
         turns += [("fetch", "batch 2 complete 2:70726573656e74 5:-"), ("close", "closed")]
         self.storing = turns
@@ -189,9 +189,8 @@ class TransferTest(CapturedCase):
 
     def list_capture(self, transfers):
         """The listing of the capture has each record that was stored, once and in order."""
-        with open(self.capture.path, "rb") as file:
-            command = [PROGRAM, "frames", ASKING, SERVING]
-            lines = subprocess.run(command, stdin=file, capture_output=True, check=True, timeout=PATIENCE).stdout
+        command = [LISTER, "--lines", "--between", ASKING, SERVING, self.capture.path]
+        lines = subprocess.run(command, capture_output=True, check=True, timeout=PATIENCE).stdout
         run = subprocess.run(FOLLOW, input=lines, capture_output=True, check=False, timeout=2 * PATIENCE)
         expect_equal(run.returncode, 0, f"the exit status of {FOLLOW} ({run.stderr.decode()})")
         listing = run.stdout.decode().splitlines()

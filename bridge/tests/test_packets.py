@@ -5,10 +5,11 @@ import random
 import struct
 import unittest
 
-from decnet import address, captures, dap, frames, nsp, routing
+from decnet import address, dap, frames, nsp, routing
 from decnet.address import ethernet_address, read_node
 from decnet.nsp import FlowControl, Kind, Modifier
 from decnet.link import Flow
+from tests import captures
 from tests.patterns import NODE, OTHER_NODE, altered, good_frame, packets
 from tests.support import SEED
 

@@ -417,7 +417,7 @@ class ScriptTest(unittest.TestCase):
 
     def test_words_for_codes(self):
         for code, text in (("4032", "no such file"), ("5060", "there is no such record"), ("402d", "a file of that name is there"),
-                           ("4055", "the user may not do that"), ("2100", "it isn't supported there"), ("4fff", "by the other end"),
+                           ("4055", "this user, or this file, doesn't allow that"), ("2100", "it isn't supported there"), ("4fff", "by the other end"),
                            ("a001", "a message out of sequence"), ("0127", "by the other end")):
             self.assertEqual(answers.meaning(code, "0"), text)
 

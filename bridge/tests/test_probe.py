@@ -124,7 +124,7 @@ class BridgeTest(UdpCase):
         self.assertTrue(lines[0].startswith("system 7 (VAX/VMS), files 3 (RMS-32), DAP 7.2.0.115.0, buffer 4156; "), lines[0])
         text = "\n".join(lines)
         for row in ("find                     yes                              status 2", "names with a version     yes",
-                    "no such record           status 5060                      status 5000:04", "where a file is opened the other end says more:"):
+                    "no such record           status 5060                      status 5060:04", "where a file is opened the other end says more:"):
             self.assertIn(row, text)
         self.assertNotIn("left on node", text, "it erases files")
         self.stop(server)

@@ -7,11 +7,11 @@ from decnet.rights import ALL, FAC, NONE, are_rights, each_once, fac_of
 from decnet.users import make_hash
 from tests.datagrams import UdpCase
 from tests.station import CONFIGURATION, segment
-from tests.support import BRIDGE, PROGRAM, Case, file_lines, need_live_end
+from tests.support import BRIDGE, LISTER, Case, file_lines, need_live_end
 
 ROOT = BRIDGE.parent.parent
-OPENED, NO_RIGHT = "report opened 16 2 0 0", "report refused 4000 2"
-NOT_OPEN_FOR_IT, NO_CURRENT = "report refused 5000 2", "report refused 5000 3"
+OPENED, NO_RIGHT = "report opened 16 2 0 0", "report refused 4055 2"
+NOT_OPEN_FOR_IT, NO_CURRENT = "report refused 502c 2", "report refused 5019 3"
 # what each right lets a user do, on a record that is current where that is needed, and what is reported then
 DEEDS = {"get": ("get key 1", "report found 1 41"), "put": ("put key 4 44", "report done 4"),
          "upd": ("update 5a", "report done 2"), "del": ("delete", "report done 3")}
@@ -110,7 +110,7 @@ class TableTest(Case):
             access = messages.access(messages.Access.OPEN, b"F", bit)
             packets = [segment(0x0202, 0x0101, 1, CONFIGURATION), segment(0x0202, 0x0101, 2, messages.attributes() + access)]
             text = "".join(f"> {packet.hex()}\n" for packet in packets)
-            done = subprocess.run([PROGRAM, "follow", "--words"], input=text, capture_output=True, text=True, check=True)
+            done = subprocess.run([LISTER], input=text, capture_output=True, text=True, check=True)
             self.assertRegex(done.stdout, rf'open, "F", for {word}')
 
     def test_the_words_of_wireshark(self):

@@ -1,8 +1,12 @@
 """The other Python programs: odd words and Ctrl-C have no traceback."""
+import os
 import pathlib
 import signal
 import subprocess
+from unittest import mock
 
+from decnet import dapcap, program
+from tests.datagrams import bound, free_port
 from tests.support import PYTHON, Case, sleeps, until
 
 ROOT = pathlib.Path(__file__).resolve().parent.parent.parent
@@ -26,7 +30,7 @@ ODD = {
     "tools/check": ["--no-such", "--seed x"],
     "tools/man": ["--no-such", "", "/nowhere bridge/bridge.py"],
     "tools/screenshots": ["--no-such"],
-    "tools/ladder": ["--no-such", "nowhere", "/", "README.md", "--range x", "--link 0", "--daplive /nowhere examples/wire.pcap"],
+    "tools/ladder": ["--no-such", "nowhere", "/", "README.md", "--range x", "--link 0", "--dapcap /nowhere examples/wire.pcap"],
     "bench/capture.py": ["", "x", "10 x", "x typical", "10 typical x"],
     "bench/schedules.py": ["", "x 1", "window x"],
     "bench/ratios": ["x"],
@@ -78,7 +82,7 @@ class CheckTest(ToolCase):
 
     def check(self, *tests):
         program = self.script("program", "import sys\nprint('it is being built', file=sys.stderr)\n")
-        return self.run_it("bridge/check", ["--daplive", program, *tests])
+        return self.run_it("bridge/check", ["--daplive", program, "--dapcap", program, *tests])
 
     def test_names_are_looked_at_before_anything_is_built(self):
         for name in ("tests.nope", "nope", "tests.test_guard.Nope", "tests.test_guard.GuessesTest.nope"):
@@ -89,8 +93,53 @@ class CheckTest(ToolCase):
 
     def test_a_build_is_heard(self):
         done = self.check("tests.test_guard.GuessesTest")
-        self.assertEqual((done.returncode, done.stderr), (0, "it is being built\n"))
+        self.assertEqual((done.returncode, done.stderr), (0, "it is being built\n" * 2))
         self.assertTrue(done.stdout.endswith("5 passed, 0 failed\n"), done.stdout)
+
+
+class ListerTest(ToolCase):
+    """Which program lists captures: the one that is named, else $DAPCAP, else one that is built. None is built by the way."""
+
+    def test_which_one(self):
+        one, other = (self.script(name, "") for name in ("one", "other"))
+        built = mock.patch.object(dapcap, "BUILT", (pathlib.Path("/nowhere"), pathlib.Path(other)))
+        with built, mock.patch.dict(os.environ):
+            os.environ.pop("DAPCAP", None)
+            self.assertEqual(dapcap.find(), str(other))
+            os.environ["DAPCAP"] = str(one)
+            self.assertEqual(dapcap.find(), str(one))
+            self.assertEqual(dapcap.find(other), str(other))
+            for named in ("/nowhere", str(self.folder)):
+                with self.assertRaises(program.Fault, msg=named):
+                    dapcap.find(named)
+            os.environ["DAPCAP"] = "/nowhere"
+            with self.assertRaises(program.Fault):
+                dapcap.find()
+
+    def test_none_is_built(self):
+        nowhere = mock.patch.object(dapcap, "BUILT", (pathlib.Path("/nowhere"),))
+        with nowhere, mock.patch.dict(os.environ), mock.patch.object(subprocess, "Popen", side_effect=AssertionError):
+            os.environ.pop("DAPCAP", None)
+            with self.assertRaises(program.Fault) as raised:
+                dapcap.find()
+        self.assertEqual(str(raised.exception), "dapcap isn't built, which lists captures: ./dapcap --try --version compiles it")
+
+    def test_a_probe_without_one_sends_nothing(self):
+        with bound() as peer:
+            ports = f"{free_port()}:127.0.0.1:{peer.getsockname()[1]}"
+            words = ["probe", "--udp", ports, "--node", "1.1", "--to", "1.2", "--daplive", "/bin/true", "--dapcap", "/nowhere"]
+            done = self.run_it("bridge/bridge.py", words)
+            self.assertEqual((done.returncode, done.stdout), (3, ""))
+            self.assertEqual(done.stderr, "bridge: /nowhere: no program that lists captures\n")
+            peer.settimeout(0.2)
+            with self.assertRaises(OSError):  # none has come in that time
+                peer.recv(2000)
+
+    def test_a_page_without_one_is_none(self):
+        for words in (["--dapcap", "/nowhere"], []):
+            done = self.run_it("tools/ladder", [*words, str(ROOT / "examples/wire.pcap")], env={**os.environ, "DAPCAP": "/nowhere"})
+            self.assertEqual((done.returncode, done.stdout), (3, ""))
+            self.assertEqual(done.stderr, "ladder: /nowhere: no program that lists captures\n")
 
 
 class HelpTest(ToolCase):

@@ -9,10 +9,11 @@ import struct
 import unittest
 from unittest import mock
 
-from decnet import captures, nsp, pcap, udp
+from decnet import nsp, pcap, udp
 from decnet.nsp import Kind
 from decnet.pcap import Pcap, PcapFault
 from decnet.wire import WireFault
+from tests import captures
 from tests.datagrams import LOOPBACK, UdpCase, bound, free_port, log_of
 from tests.patterns import good_frame
 from tests.station import SERVING, Station

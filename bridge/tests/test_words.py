@@ -48,7 +48,7 @@ class CopyTest(WordsCase):
         self.type_in("copy", "-", "1.2::EMPTY.TXT")
         self.assertEqual(self.type_in("type", "1.2::EMPTY.TXT")[0], b"")
         told = self.type_in("copy", text, "1.2::DATA.TXT", status=1)[1]
-        self.assertEqual(told, changes + "bridge: 1.2::DATA.TXT: refused: a file of that name is there (4000, 1); --append stores after "
+        self.assertEqual(told, changes + "bridge: 1.2::DATA.TXT: refused: a file of that name is there (402d, 1); --append stores after "
                          "what it has, and it can't be replaced from here\n")
         self.type_in("copy", text, "1.2::DATA.TXT", "--append")
         self.assertEqual(self.type_in("type", "1.2::DATA.TXT")[0], 2 * COME_BACK)
@@ -76,14 +76,14 @@ class CopyTest(WordsCase):
         self.type_in("put", "1.2::REL.DAT", "three", "--number", "3")
         self.assertEqual(self.type_in("get", "1.2::REL.DAT", "--number", "3"), (b"three\n", ""))
         told = self.type_in("get", "1.2::REL.DAT", "--number", "4", status=1)
-        self.assertEqual(told, (b"", "bridge: 1.2::REL.DAT: refused: there is no such record (5000, 4)\n"))
+        self.assertEqual(told, (b"", "bridge: 1.2::REL.DAT: refused: there is no such record (5060, 4)\n"))
         self.type_in("copy", "-", "1.2::SEQ.TXT", stdin=b"one\n")
         self.assertEqual(self.type_in("put", "1.2::SEQ.TXT", "two\nlines")[1],
                          "bridge: 1.2::SEQ.TXT: the record has an LF, and is more than one line\n")
         self.assertEqual(self.type_in("type", "1.2::SEQ.TXT"), (
             b"one\ntwo\nlines\n", "bridge: 1.2::SEQ.TXT: 1 record with an LF, each of which is more than one line\n"))
         for words in (["get", "1.2::SEQ.TXT"], ["put", "1.2::SEQ.TXT", "x"]):
-            self.assertIn("(5000, 8); the file is sequential, and --number is for relative files",
+            self.assertIn("(5057, 8); the file is sequential, and --number is for relative files",
                           self.type_in(*words, "--number", "2", status=1)[1])
         self.stop(server)
 

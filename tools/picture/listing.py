@@ -1,12 +1,14 @@
-"""Packets as `daplive follow` lists them, with what is worked out of their sequence numbers: retransmissions and gaps."""
+"""Packets as `dapcap` lists them, with what is worked out of their sequence numbers: retransmissions and gaps."""
 import subprocess
 from dataclasses import dataclass, field
 
-from decnet.nsp import AHEAD, NUMBERS
+from decnet.nsp import AHEAD, CONNECTS, NUMBERS
 from decnet.program import FAULT, Fault
 from picture.messages import BadLine, Message
 
 BEGINS, ENDS = {"first", "only"}, {"last", "only"}
+INITIATES = {bytes([kind]) for kind in CONNECTS}
+CONNECT_SIZE = 5  # bytes of a connect initiate before which it has no sender
 
 
 class Disagreement(Exception):
@@ -29,8 +31,9 @@ class NspMessage:
 
 @dataclass(frozen=True)
 class Run:
-    """A `part` or `gap` of the listing: a stream, and a run of its sequence numbers."""
+    """A `part` or `gap` of the listing: its word, a stream, and a run of its sequence numbers."""
 
+    word: str
     stream: tuple
     first: int
     last: int
@@ -43,7 +46,8 @@ class Run:
 class Packet:
     """A packet, its line, and what is drawn of it."""
 
-    def __init__(self, captured, words):
+    def __init__(self, captured, words, runs):
+        self.runs = runs  # the parts and gaps of the streams that it ends
         self.number, self.direction, self.data = captured.number, captured.direction, captured.data
         self.frame, self.time, self.nodes = captured.frame, captured.time, captured.nodes
         self.kind, self.words = words[0], words
@@ -70,30 +74,45 @@ class Packet:
 
     @property
     def stream(self):
-        """Direction, receiver and sender of a segment."""
-        return self.direction, self.fields["dst"], self.fields["src"]
+        """Direction, nodes, receiver and sender of a segment."""
+        return self.direction, self.nodes, self.fields["dst"], self.fields["src"]
+
+    def ends(self, stream):
+        """Whether it is a connect initiate which says that a stream is over: its link is opened again."""
+        if len(self.data) < CONNECT_SIZE or self.data[:1] not in INITIATES:
+            return False
+        direction, nodes, receiver, sender = stream
+        own = f"{int.from_bytes(self.data[3:5], 'little'):04x}"
+        return nodes == self.nodes and own == (sender if direction == self.direction else receiver)
 
 
-def list_packets(captured, daplive):
-    """The packets of captured ones between two nodes, and the gaps, as `daplive follow` lists them."""
-    lines = "".join(f"{one.direction} {one.data.hex()}\n" for one in captured)
+def list_packets(captured, dapcap):
+    """The packets of captured ones, and the gaps, as `dapcap` lists them."""
+    lines = "".join(f"{one.comment}\n" * bool(one.comment) + f"{one.direction} {one.data.hex()}\n" for one in captured)
     try:
-        done = subprocess.run([daplive, "follow"], input=lines.encode(), stdout=subprocess.PIPE, check=False)
+        done = subprocess.run([dapcap, "--bare"], input=lines.encode(), stdout=subprocess.PIPE, check=False)
     except OSError as fault:
-        raise Fault(f"{daplive}: {fault.strerror}", FAULT) from fault
+        raise Fault(f"{dapcap}: {fault.strerror}", FAULT) from fault
     if done.returncode:
-        raise Fault(f"{daplive} follow: ended with status {done.returncode}", FAULT)
+        raise Fault(f"{dapcap}: ended with status {done.returncode}", FAULT)
     try:
         return read_listing(done.stdout.decode("ascii"), captured)
     except (BadLine, ValueError, IndexError, KeyError, AttributeError) as fault:
-        raise Fault(f"{daplive} follow: no listing: {str(fault)[:100]}", FAULT) from fault
+        raise Fault(f"{dapcap}: no listing: {str(fault)[:100]}", FAULT) from fault
     except Disagreement as fault:
-        raise Fault(f"{daplive} follow: not as its sequence numbers say: {fault}", FAULT) from fault
+        raise Fault(f"{dapcap}: not as its sequence numbers say: {fault}", FAULT) from fault
+
+
+def nodes_in(direction, words):
+    """The nodes at the beginning of words, `>` end first, and the words behind them."""
+    if words[1:2] != ["->"]:
+        return None, words
+    return (words[0], words[2]) if direction == ">" else (words[2], words[0]), words[3:]
 
 
 def read_listing(text, captured):
     """The packets of a listing, and the gaps."""
-    packets, runs = [], {"part": [], "gap": []}
+    packets, runs, gaps = [], [], []
     for line in text.splitlines():
         words = line.split()
         if line.startswith("  message "):
@@ -101,23 +120,29 @@ def read_listing(text, captured):
             packets[-1].whole = NspMessage(int(first), int(last), int(words[2].removeprefix("len=")))
         elif line.startswith("  "):
             packets[-1].whole.messages.append(Message(line[2:]))
-        elif words[0] in runs:
-            fields = dict(word.split("=", 1) for word in words[2:])
+        elif words[0] in ("part", "gap"):
+            nodes, rest = nodes_in(words[1], words[2:])
+            fields = dict(word.split("=", 1) for word in rest)
             first, last = fields["seg"].split("..")
-            runs[words[0]].append(Run((words[1], fields["dst"], fields["src"]), int(first), int(last)))
+            runs.append(Run(words[0], (words[1], nodes, fields["dst"], fields["src"]), int(first), int(last)))
+            gaps += runs[-1:] if words[0] == "gap" else []
         else:
-            packets.append(Packet(captured[len(packets)], words[2:]))
+            packets.append(Packet(captured[len(packets)], nodes_in(words[1], words[2:])[1], runs))
+            runs = []
     if len(packets) != len(captured):
         raise Disagreement(f"{len(packets)} packets of {len(captured)}")
-    number_segments(packets, runs["part"], runs["gap"])
-    return packets, runs["gap"]
+    number_segments(packets, runs)
+    return packets, gaps
 
 
-def number_segments(packets, parts, gaps):
+def number_segments(packets, last_runs):
     """Marks retransmissions, gaps, and segments of messages that are never whole, by sequence numbers without modulus, which
     are worked out as docs/LISTING.md says; a Disagreement where parts and gaps aren't those of the listing."""
     streams, highest = {}, {}
     for packet in packets:
+        for stream in ended_streams(packet, streams):
+            mark_stream(stream, streams.pop(stream), packet.runs)
+            del highest[stream]
         if not packet.is_segment:
             continue
         stream = packet.stream
@@ -128,11 +153,24 @@ def number_segments(packets, parts, gaps):
         held.setdefault(sequence, packet)
         highest[stream] = max(highest.get(stream, sequence), sequence)
     for stream, held in streams.items():
-        mark_gaps(held, [gap for gap in gaps if gap.stream == stream])
-        unfinished = mark_unfinished(held)
-        listed = [(part.first, part.last) for part in parts if part.stream == stream]
-        if unfinished != listed:
-            raise Disagreement(f"stream {' '.join(stream)}: parts {unfinished[:3]}, and {listed[:3]} in the listing")
+        mark_stream(stream, held, last_runs)
+
+
+def ended_streams(packet, streams):
+    """The streams that end before a packet: by what it says, or by the listing."""
+    if not packet.runs and packet.data[:1] not in INITIATES:
+        return []
+    of_runs = {run.stream for run in packet.runs}
+    return [stream for stream in streams if stream in of_runs or packet.ends(stream)]
+
+
+def mark_stream(stream, held, runs):
+    """Marks the gaps and the segments without a whole message of a stream that has ended."""
+    mark_gaps(held, [run for run in runs if (run.word, run.stream) == ("gap", stream)])
+    unfinished = mark_unfinished(held)
+    listed = [(run.first, run.last) for run in runs if (run.word, run.stream) == ("part", stream)]
+    if unfinished != listed:
+        raise Disagreement(f"stream {stream}: parts {unfinished[:3]}, and {listed[:3]} in the listing")
 
 
 def sequence_near(number, highest):

@@ -1,47 +1,31 @@
-"""NSP packets from a file: pcap, pcapng, or the lines of a capture."""
-import collections
+"""NSP packets of a capture, as `dapcap --lines` writes them: of pcap, pcapng, or the lines of a capture."""
 import re
-import struct
+import subprocess
+import tempfile
 from dataclasses import dataclass
 
-from decnet import captures, frames
-from decnet.program import Fault
+from decnet.program import FAULT, Fault
 
 MAX_PACKETS = 10_000  # of a page
-LINE = re.compile(rb"([<>]) ((?:[0-9a-fA-F]{2})*)\r?\n?")
-FRAME = re.compile(rb"#\s*frame\s+([0-9]{1,18})\s*")
-MAX_LINE = 10_000  # more than any line with a packet
+LINE = re.compile(r"([<>]) ((?:[0-9a-f]{2})*)")
+COMMENT = re.compile(r"# frame ([0-9]+) (-|[0-9]+\.[0-9]+) ([0-9]+\.[0-9]+) -> ([0-9]+\.[0-9]+)")
+COUNTS = re.compile(r"taken [0-9]+ passed ([0-9]+)")
+BAD_LINE = re.compile(r"bad line ([0-9]+)")
+FAULTY = re.compile(r"bad ([a-z-]+) at=([0-9]+)")
+WHY = {"cut-short": "the end of the file, which is cut short", "link-type": "frames that are not those of Ethernet"}
 
 
 @dataclass(frozen=True)
 class Captured:
-    """An NSP packet. `nodes` are the two nodes of the first packet between them, sender first, where they are known."""
+    """An NSP packet. `nodes` are the addresses of the node that sends what has `>` and of the other, where they are known."""
 
     number: int  # among the packets of the file, from 1
-    direction: str  # `>` where it has the same sender, else `<`
+    direction: str
     data: bytes
+    comment: str | None  # the line before it, where that says where it came from
     frame: int | None
     time: float | None
     nodes: tuple | None
-
-
-class Ahead:
-    """A file of which the first bytes were read already."""
-
-    def __init__(self, head, file):
-        self.head, self.file = head, file
-
-    def read(self, size):
-        head, self.head = self.head[:size], self.head[size:]
-        return head + self.file.read(size - len(head)) if len(head) < size else head
-
-    def readline(self, size):
-        head, self.head = self.head, b""
-        at = head.find(b"\n") + 1
-        if at:
-            head, self.head = head[:at], head[at:]
-            return head
-        return head + self.file.readline(size - len(head))
 
 
 class Chosen:
@@ -53,11 +37,11 @@ class Chosen:
         if chosen and chosen[1] - chosen[0] >= MAX_PACKETS:
             raise Fault(f"--range {chosen[0]}-{chosen[1]}: more than {MAX_PACKETS:,} packets")
 
-    def add(self, *what):
+    def add(self, comment, direction, digits):
         self.total += 1
         first, last = self.range or (1, MAX_PACKETS)
         if first <= self.total <= last:
-            self.packets.append(Captured(self.total, *what))
+            self.packets.append(Captured(self.total, direction, bytes.fromhex(digits), *origin(comment, direction)))
 
     def all(self):
         if not self.range and self.total > MAX_PACKETS:
@@ -68,51 +52,61 @@ class Chosen:
         return self.packets
 
 
-def read_capture(name, file, chosen):
+def origin(comment, direction):
+    """The comment, the frame, its time and both nodes."""
+    if comment is None:
+        return None, None, None, None
+    frame, time, sender, receiver = COMMENT.fullmatch(comment).groups()
+    nodes = (sender, receiver) if direction == ">" else (receiver, sender)
+    return comment, int(frame), None if time == "-" else float(time), nodes
+
+
+def read_capture(name, file, chosen, dapcap):
     """The packets of a file that is open for bytes, and what is to be known of what was left out."""
     packets = Chosen(name, chosen)
-    head = file.read(4)
-    if head in captures.PCAP or head == captures.PCAPNG:
-        notes = read_frames(name, Ahead(head, file), packets)
-    else:
-        notes = read_lines(name, Ahead(head, file), packets)
+    with tempfile.TemporaryFile("w+") as told:
+        try:
+            child = subprocess.Popen([dapcap, "--lines"], stdin=file, stdout=subprocess.PIPE, stderr=told, text=True)
+        except OSError as fault:
+            raise Fault(f"{dapcap}: {fault.strerror}", FAULT) from fault
+        with child:
+            take_lines(dapcap, child.stdout, packets)
+        told.seek(0)
+        told = told.read()
+    notes = notes_of(name, dapcap, child.returncode, told)
+    if not packets.total and not told:
+        raise Fault(f"{dapcap} --lines: it lists nothing", FAULT)
     if not packets.total:
         raise Fault(f"{name}: no DECnet data packets{': ' + '; '.join(notes) if notes else ''}")
     return packets.all(), notes
 
 
-def read_frames(name, file, packets):
-    """Takes the packets of a pcap or pcapng file; notes on the frames that were left out."""
-    passed, first_of = collections.Counter(), {}
-    try:
-        for number, (frame, time) in enumerate(captures.timed_frames(file), 1):
-            if frame is None:
-                passed["frame at the end, which the file cuts short"] += 1
-                continue
-            found = frames.read_frame(frame)
-            if isinstance(found, frames.Passed):
-                passed[found.value] += 1
-                continue
-            nodes = first_of.setdefault(frozenset((found.sender, found.receiver)), (found.sender, found.receiver))
-            direction = ">" if nodes[0] == found.sender else "<"
-            packets.add(direction, frame[found.start:found.end], number, time, nodes)
-    except (captures.BadFile, struct.error) as fault:
-        raise Fault(f"{name}: no capture of Ethernet frames: {fault}") from fault
-    return [f"{count:,} {why}" for why, count in sorted(passed.items())]
+def take_lines(dapcap, lines, packets):
+    comment = None
+    for line in lines:
+        line = line.removesuffix("\n")
+        if COMMENT.fullmatch(line):
+            comment = line
+        elif found := LINE.fullmatch(line):
+            packets.add(comment, *found.groups())
+            comment = None
+        else:
+            raise Fault(f"{dapcap} --lines: no packet: {line[:100]}", FAULT)
 
 
-def read_lines(name, file, packets):
-    """Takes the packets of a capture's lines."""
-    number, frame = 0, None
-    while line := file.readline(MAX_LINE):
-        number += 1
-        if found := LINE.fullmatch(line):
-            packets.add(found[1].decode(), bytes.fromhex(found[2].decode()), frame, None, None)
-            frame = None
-        elif line.startswith(b"#"):
-            comment = FRAME.fullmatch(line)
-            frame = int(comment[1]) if comment else frame
-        elif line.strip(b"\r\n"):
-            raise Fault(f"{name}: line {number} is no packet (> or <, a space, and bytes in hex), and the file is neither "
-                        "pcap nor pcapng")
-    return []
+def notes_of(name, dapcap, status, told):
+    """Notes on what was left out, by what was reported."""
+    notes = []
+    for line in told.splitlines():
+        if found := BAD_LINE.fullmatch(line):
+            raise Fault(f"{name}: line {found[1]} is no packet (> or <, a space, and bytes in hex), and the file is neither pcap "
+                        "nor pcapng")
+        if found := FAULTY.fullmatch(line):
+            if found[1] == "unknown":
+                raise Fault(f"{name}: it is neither pcap nor pcapng, and has no lines of a capture")
+            notes.append(WHY.get(found[1]) or f"what is behind offset {found[2]}, where the file is at fault: {found[1]}")
+        if (found := COUNTS.fullmatch(line)) and found[1] != "0":
+            notes.append(f"{int(found[1]):,} frames of another kind")
+    if status not in (0, 1) or status == 1 and not told:
+        raise Fault(f"{dapcap} --lines: ended with status {status}{': ' + told.strip() if told else ''}", FAULT)
+    return notes

@@ -316,7 +316,11 @@ local WORDS = {
   rac = { [0] = "sequential", [1] = "by number", [2] = "by RFA", [3] = "whole file", [4] = "by VBN", [5] = "blocks" },
   confunc = { [1] = "try again", [2] = "skip", [3] = "abort", [4] = "resume" },
   cmpfunc = { [1] = "close", [2] = "response", [3] = "purge", [4] = "end of stream", [5] = "skip" },
-  stscode = { [0x5027] = "end of file", [0x4032] = "file not found", [0x4030] = "file locked" },
+  stscode = { [0x5027] = "end of file", [0x4032] = "file not found", [0x4030] = "file locked", [0x402d] = "file exists",
+    [0x4055] = "not permitted", [0x405d] = "bad attributes", [0x502c] = "not permitted", [0x5019] = "no current record",
+    [0x5060] = "record not found", [0x505b] = "record exists", [0x5049] = "number out of range",
+    [0x5066] = "bad length", [0x5057] = "bad access mode", [0x503a] = "delete not allowed",
+    [0x5067] = "too large for buffer", [0x503e] = "bad key" },
   maccode = { [0] = "pending", [1] = "success", [2] = "unsupported", [4] = "error on opening", [5] = "transfer error",
     [6] = "transfer warning", [7] = "termination error", [8] = "format", [9] = "invalid",
     [10] = "out of synchronization" },
@@ -462,10 +466,15 @@ local function read_connect(bytes)
   return format == 0 and object or -1, read_word(bytes, 3)
 end
 
+-- The sender's link address of a Connect Initiate, which opens its link anew; nil for another packet.
+local function opened_by(bytes)
+  return CONNECT_INITIATE[bytes:byte(1) or -1] and read_word(bytes, 3)
+end
+
 -- A stream: the segments of one direction of a link, by their sequence numbers without modulus; where the fragment of a
 -- message begins (`left`, by its last) and ends (`right`, by its first).
-local function new_stream()
-  return { segments = {}, left = {}, right = {} }
+local function new_stream(from, to, segment)
+  return { from = from, to = to, receiver = segment.receiver, sender = segment.sender, segments = {}, left = {}, right = {} }
 end
 
 -- The sequence number without modulus: nearest to the highest so far, and ahead where both are as near.
@@ -786,7 +795,18 @@ local function is_wanted(from, to, segment)
   return object == nil or object == FAL
 end
 
+-- The streams of a link that is opened again are over: those of the address that asks for it, both ways.
+local function end_streams(from, to, address)
+  for key, one in pairs(streams) do
+    local sent = one.from == from and one.to == to and one.sender == address
+    local received = one.from == to and one.to == from and one.receiver == address
+    if sent or received then streams[key] = nil end
+  end
+end
+
 local function keep(pinfo, from, to, bytes)
+  local opener = opened_by(bytes)
+  if opener then end_streams(from, to, opener) end
   local object, address = read_connect(bytes)
   if object then
     objects[from .. " " .. address] = object
@@ -797,7 +817,7 @@ local function keep(pinfo, from, to, bytes)
   if not is_wanted(from, to, segment) then return nil end
   segment.frame = pinfo.number
   local key = string.format("%d %d %d %d", from, to, segment.receiver, segment.sender)
-  streams[key] = streams[key] or new_stream()
+  streams[key] = streams[key] or new_stream(from, to, segment)
   local stream = streams[key]
   local counts, message = take_segment(stream, segment)
   return { stream = stream, segment = segment, counts = counts, whole = message }

@@ -1,4 +1,4 @@
-"""Tests dap.lua: each message of tshark's tree is that of `daplive follow`, by frame and order.
+"""Tests dap.lua: each message of tshark's tree is that of `dapcap`, by frame and order.
 
 By default 2,000 altered segments and two streams are compared, and three wrong bodies are tried; with TOOLS_ALL=1 10,000, six
 and all. TOOLS_SEED is the seed; TOOLS_CAPTURES a folder of more captures, as `bridge/check --keep` leaves them.
@@ -15,7 +15,7 @@ import unittest
 import xml.etree.ElementTree as ElementTree
 
 import made_captures
-from support import ALL, DAPLIVE, ROOT, SEED, need_daplive
+from support import ALL, DAPCAP, DAPLIVE, ROOT, SEED, need_programs
 
 LUA = pathlib.Path(__file__).with_name("dap.lua")
 EXAMPLES = ROOT / "examples"
@@ -24,6 +24,7 @@ CONTROLS = "rac key krf rop hsh display".split()
 IMAGES = {"alq", "mrn", "runsys", "hbk", "ebk", "sbn", "key", "hsh"}
 AT_ONCE = 5_000 if ALL else 750  # packets of a stream
 LISTED = re.compile(r"  (?!message )(.*)")
+FRAME = re.compile(r" ; frame ([0-9]+) ")
 
 # Wrong bodies: a name, the text of dap.lua, and what it is replaced by.
 WRONG_BODIES = [
@@ -59,20 +60,26 @@ TRIED = WRONG_BODIES if ALL else WRONG_BODIES[:3]
 def need_tshark():
     if not shutil.which("tshark"):
         raise unittest.SkipTest("no tshark")
-    need_daplive()
+    need_programs()
+
+
+def listed_by(*words, text=None):
+    """What `dapcap` lists: by the number that stands before a packet's line, or behind its frame, the lines of its messages."""
+    done = subprocess.run([DAPCAP, *words], input=text, capture_output=True, text=True, check=True)
+    result, number, frames = {}, 0, {}
+    for line in done.stdout.splitlines():
+        if found := LISTED.fullmatch(line):
+            result.setdefault(number, []).append(found[1].partition(" ; ")[0])
+        elif line[0].isdigit():
+            number = int(line.split()[0])
+            if found := FRAME.search(line):
+                frames[number] = int(found[1])
+    return result, frames
 
 
 def follow(lines):
-    """By packet the DAP lines of `daplive follow`."""
-    text = "".join(f"{line}\n" for line in lines)
-    done = subprocess.run([DAPLIVE, "follow"], input=text, capture_output=True, text=True, check=True)
-    result, number = {}, 0
-    for line in done.stdout.splitlines():
-        if found := LISTED.fullmatch(line):
-            result.setdefault(number, []).append(found[1])
-        elif line[0].isdigit():
-            number = int(line.split()[0])
-    return result
+    """By packet the DAP lines of a capture's lines."""
+    return listed_by("--bare", text="".join(f"{line}\n" for line in lines))[0]
 
 
 # ---- tshark
@@ -185,12 +192,9 @@ class Case(unittest.TestCase):
 
     @staticmethod
     def listed_of(path):
-        """The DAP lines of each frame between the first two nodes of a capture file, as `daplive frames` finds them, or None."""
-        with path.open("rb") as file:
-            text = subprocess.run([DAPLIVE, "frames"], stdin=file, capture_output=True, text=True, check=True).stdout
-        frames = [int(line.split()[2]) for line in text.splitlines() if line.startswith("# frame ")]
-        listed = follow([line for line in text.splitlines() if not line.startswith("#")])
-        return {frame: listed.get(number) for number, frame in enumerate(frames, 1)}
+        """The DAP lines of each frame of a capture file with a packet, or None."""
+        listed, frames = listed_by(str(path))
+        return {frame: listed.get(number) for number, frame in frames.items()}
 
 
 class ListingTest(Case):
@@ -214,6 +218,14 @@ class ListingTest(Case):
             with self.subTest(seed=seed):
                 lines = list(made_captures.streams(seed, AT_ONCE))
                 self.compare(self.pcap(lines), follow(lines))
+
+    def test_a_link_that_is_opened_again(self):
+        first = ["> 600202010101000600", "> 600202010102000600"]
+        for again in ("> 1800000101012500", "> 6800000101012500"):
+            lines = [*first, again, *first]
+            listed = follow(lines)
+            self.assertEqual(sorted(listed), [1, 2, 4, 5])
+            self.compare(self.pcap(lines), listed)
 
     def test_a_transfer_over_a_lossy_line(self):
         lines = made_captures.transfer(SEED, DAPLIVE)

@@ -5,4 +5,5 @@ mod WrittenLemmas
 mod BlockLemmas
 mod WrittenOptions
 mod SectionLemmas
+mod KindLemmas
 pub mod ForCallers

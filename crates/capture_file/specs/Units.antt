@@ -1,8 +1,12 @@
 -- The units of a file: the header and the records of pcap, the blocks of pcapng. The head of each tells how long it is.
-use Rattle.std.specs.Prelude.{◌≡◌, ℕ, ◌+◌, ◌-◌, ◌%◌, ◌≤◌, ◌==◌, ◌||◌, not, nat_lt, Bool, true, List, ◌++◌, take, drop, length, if◌then◌else◌, Option, Some, None, Result, Ok, Err}
+use Rattle.std.specs.Prelude.{◌≡◌, ℕ, ◌+◌, ◌-◌, ◌%◌, ◌≤◌, ◌==◌, ◌||◌, not, nat_lt, Bool, true, List, ◌++◌, take, drop, length, if◌then◌else◌, Option, Some, None, Result, Ok, Err, bytes_eq, [], ◌∷◌}
+use Rattle.std.specs.Int.{to_be_bytes, w32}
+use Rattle.std.specs.List.{list_any}
 use Rattle.capture_file.specs.Numbers.{u32_at}
 use Rattle.capture_file.specs.declared.fault.FaultKind.{FaultKind}
 use Rattle.capture_file.specs.declared.fault.FaultKind.TheVariants.{UnknownMagic, UnknownOrder, BadLength, TooLong}
+use Rattle.capture_file.specs.declared.kinds.FileKind.{FileKind}
+use Rattle.capture_file.specs.declared.kinds.FileKind.TheVariants as file
 use Rattle.capture_file.specs.declared.units.Order.{Order}
 use Rattle.capture_file.specs.declared.units.Order.TheVariants.{Big, Little}
 use Rattle.capture_file.specs.declared.units.Format.{Format}
@@ -21,13 +25,29 @@ max_unit = 262144
 
 -- ---- pcap: a magic number, which tells the byte order and the digits of a second
 
+-- the magic number of a file whose times have microseconds
+abbrev pub micro_magic : ℕ
+micro_magic = 0xA1B2C3D4
+
+-- and of one whose times have nanoseconds
+abbrev pub nano_magic : ℕ
+nano_magic = 0xA1B23C4D
+
+-- that of microseconds with its bytes turned
+abbrev pub turned_micro_magic : ℕ
+turned_micro_magic = 0xD4C3B2A1
+
+-- and that of nanoseconds
+abbrev pub turned_nano_magic : ℕ
+turned_nano_magic = 0x4D3CB2A1
+
 -- what the magic number tells
 abbrev pub pcap_by : ℕ → Option Format
 pcap_by magic =
-    if magic == 0xA1B2C3D4 then Some (Pcap Big 6)
-    else if magic == 0xA1B23C4D then Some (Pcap Big 9)
-    else if magic == 0xD4C3B2A1 then Some (Pcap Little 6)
-    else if magic == 0x4D3CB2A1 then Some (Pcap Little 9)
+    if magic == micro_magic then Some (Pcap Big 6)
+    else if magic == nano_magic then Some (Pcap Big 9)
+    else if magic == turned_micro_magic then Some (Pcap Little 6)
+    else if magic == turned_nano_magic then Some (Pcap Little 9)
     else None
 
 -- the format of a file by its first bytes, the magic number of pcap; none where they aren't one
@@ -46,8 +66,29 @@ record_extent count = if nat_lt max_unit count then Err TooLong else Ok (record 
 -- ---- pcapng: a type, a length, what the block says, and the length again
 
 -- the type of a section header reads alike from both ends
+abbrev pub section_type : ℕ
+section_type = 0x0A0D0D0A
+
+-- whether a head is that of a section
 abbrev pub is_section : List ℕ → Bool
-is_section head = u32_at Big 0 head == 0x0A0D0D0A
+is_section head = u32_at Big 0 head == section_type
+
+-- ---- what a file begins with
+
+-- the magic numbers of pcap
+abbrev pub pcap_magics : List ℕ
+pcap_magics = micro_magic ∷ nano_magic ∷ turned_micro_magic ∷ turned_nano_magic ∷ []
+
+-- whether bytes begin with this number, its high byte first
+abbrev pub begins_with_number : List ℕ → ℕ → Bool
+begins_with_number bytes number = bytes_eq (take 4 bytes) (to_be_bytes w32 number)
+
+-- which file of captured frames begins with these bytes: the first four tell it
+abbrev pub file_kind_of : List ℕ → Option FileKind
+file_kind_of front =
+    if begins_with_number front section_type then Some file.Pcapng
+    else if list_any (begins_with_number front) pcap_magics then Some file.Pcap
+    else None
 
 -- its third number tells the byte order
 abbrev pub byte_order_of : List ℕ → Option Order
@@ -71,7 +112,7 @@ block_extent least kind long =
 -- the header of a section of this byte order
 abbrev pub ordered_extent : Option Order → List ℕ → Result Extent FaultKind
 ordered_extent None head = Err UnknownOrder
-ordered_extent (Some order) head = block_extent 28 0x0A0D0D0A (u32_at order 4 head)
+ordered_extent (Some order) head = block_extent 28 section_type (u32_at order 4 head)
 
 -- how long the header of a section is
 abbrev pub section_extent : List ℕ → Result Extent FaultKind

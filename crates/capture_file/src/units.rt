@@ -48,7 +48,7 @@ pub(crate) const RECORD: usize = 16;
 /// The header of a file (pcap, 4).
 pub(crate) const FILE_HEADER: usize = 24;
 
-const SECTION: u32 = 0x0A0D_0D0A;
+pub(crate) const SECTION: u32 = 0x0A0D_0D0A;
 
 const ORDER: u32 = 0x1A2B_3C4D;
 
@@ -58,13 +58,13 @@ pub(crate) const SIMPLE: u32 = 3;
 
 pub(crate) const ENHANCED: u32 = 6;
 
-const MICROSECONDS: u32 = 0xA1B2_C3D4;
+pub(crate) const MICROSECONDS: u32 = 0xA1B2_C3D4;
 
-const NANOSECONDS: u32 = 0xA1B2_3C4D;
+pub(crate) const NANOSECONDS: u32 = 0xA1B2_3C4D;
 
-const MICROSECONDS_TURNED: u32 = 0xD4C3_B2A1;
+pub(crate) const MICROSECONDS_TURNED: u32 = 0xD4C3_B2A1;
 
-const NANOSECONDS_TURNED: u32 = 0x4D3C_B2A1;
+pub(crate) const NANOSECONDS_TURNED: u32 = 0x4D3C_B2A1;
 
 /// Returns how many bytes tell how long a unit is.
 pub(crate) fn head_len(format: Format) -> usize
@@ -80,7 +80,7 @@ pub(crate) fn head_len(format: Format) -> usize
 
 /// Returns whether the head is that of a section.
 pub(crate) fn is_section(head: &[u8]) -> bool
-    requires { 12 ≤ length head.now }
+    requires { 4 ≤ length head.now }
     ensures { result ≡ the_section head.now }
 {
     u32_at(Order::Big, head, 0) == SECTION
@@ -102,7 +102,7 @@ pub(crate) fn order_of(head: &[u8]) -> Option<Order>
 
 /// Returns what a pcap file's first four bytes say.
 pub(crate) fn pcap_of(head: &[u8]) -> Option<Format>
-    requires { 12 ≤ length head.now }
+    requires { 4 ≤ length head.now }
     ensures { result ≡ the_pcap head.now }
 {
     let magic = u32_at(Order::Big, head, 0);

@@ -44,12 +44,13 @@ use Rattle.dap_msg.specs.BothEnds.{message_limit}
 use Rattle.dap_accessed.specs.Standing.{Files, enters}
 use Rattle.dap_accessed.specs.Standing.{index_by, file_at, the_file, ServerState, Fresh, Ready, Opened, Connected, Store, Stopped, Group, Standing, Scene, Effect}
 use Rattle.dap_accessed.specs.Past.{asked_shape, kept_attributes, is_dropping, ordinal_so_far, next_ordinal}
-use Rattle.dap_accessed.specs.Replies.{bare_status, reason_status, sync_status, reason_of, refusal_status, done_status, record_status, too_large, complete_response, org_number, format_number, opened_with}
+use Rattle.dap_accessed.specs.Replies.{bare_status, reason_status, sync_status, reason_of, refusal_status, done_status, record_status, too_large, coded, complete_response, org_number, format_number, opened_with}
 use Rattle.dap_accessed.specs.Accesses.{effect_if_permitted, rights_to_create, rights_to_open, make_file, open_file, create_file, access_file, end_stream, complete}
 use Rattle.dap_accessed.specs.Records.{at_number, stream_without_current, verb_of, get_pick, got, record_got, Change, Putting, Updating, effect_of_change, fits_limit, filedata_of}
 use Rattle.dap_accessed.specs.Transfers.{fetch, fetch_ends, continue_refused, continue_fetch, store_one, stored_answers, continue_store}
 use Rattle.dap_msg.specs.BothEnds.{is_too_small}
-use Rattle.dap_accessed.specs.Effects.{Begun, Turn, control_status, control_opened, control_connected, turn_in, turn_of, effect_with}
+use Rattle.dap_accessed.proofs.Coding.{coded-records, coded-small}
+use Rattle.dap_accessed.specs.Effects.{Begun, Turn, told, control_status, control_opened, control_connected, turn_in, turn_of, effect_with}
 use Rattle.dap_accessed.specs.Groups.{Answers, stands_after, answers_added}
 use Rattle.dap_accessed.specs.Sound.{AreFiles, IsOpenAt, IsSound}
 use Rattle.dap_accessed.proofs.Kept.{both}
@@ -87,26 +88,27 @@ module _ (limit : ℕ) (least : min_buffer ≤ limit) where
   bare : (code : ℕ) → code < 2 ^ 16 → IsSendable limit (bare_status code)
   bare code h = short (bare_status code) (answers_fit.status _ h (lit≤ tt) (lit≤ tt) (lit≤ tt))
 
-  reasoned : (code reason : ℕ) (recnum : List ℕ) → code < 2 ^ 16 → length recnum ≤ 4 → IsSendable limit (reason_status code reason recnum)
-  reasoned code reason recnum h k = short (reason_status code reason recnum) (answers_fit.status _ h (lit≤ tt) k (lit≤ tt))
+  reasoned : (full : Bool) (code reason : ℕ) (recnum : List ℕ) → code < 2 ^ 16 → length recnum ≤ 4 → IsSendable limit (coded full (reason_status code reason recnum))
+  reasoned full code reason recnum h k =
+      short (coded full (reason_status code reason recnum)) (answers_fit.status _ (coded-small full code reason h) (lit≤ tt) k (lit≤ tt))
 
   done : (n : ℕ) → IsSendable limit (done_status n)
   done n = short (done_status n) (answers_fit.status _ (lit< tt) (lit≤ tt) (lit≤ tt) (lit≤ tt))
 
-  refusing : (r : Refusal) (recnum : List ℕ) → length recnum ≤ 4 → IsSendable limit (refusal_status r recnum)
-  refusing EndOfFile recnum k = bare 0x5027 (lit< tt)
-  refusing r recnum k = reasoned 0x5000 (reason_of r) recnum (lit< tt) k
+  refusing : (full : Bool) (r : Refusal) (recnum : List ℕ) → length recnum ≤ 4 → IsSendable limit (coded full (refusal_status r recnum))
+  refusing full EndOfFile recnum k = bare 0x5027 (lit< tt)
+  refusing full r recnum k = reasoned full 0x5000 (reason_of r) recnum (lit< tt) k
 
-  replying : (reply : Result ℕ Refusal) → IsSendable limit (record_status reply)
-  replying (Ok n) = done n
-  replying (Err r) = refusing r [] (lit≤ tt)
+  replying : (full : Bool) (reply : Result ℕ Refusal) → IsSendable limit (coded full (record_status reply))
+  replying full (Ok n) = done n
+  replying full (Err r) = refusing full r [] (lit≤ tt)
 
   out : (m : Message) → type_of m < 256 → IsSendable limit (sync_status m)
   out m h = bare (codes.out_of_sequence (type_of m)) (omega (arith, h))
 
-  out_of_order_sends : (verb : Verb) → IsSendable limit (control_status verb)
-  out_of_order_sends verbs.Unknown = bare 0x2100 (lit< tt)
-  out_of_order_sends verb = bare (codes.out_of_sequence codes.types.control) (lit< tt)
+  out_of_order_sends : (full : Bool) (verb : Verb) → IsSendable limit (coded full (control_status verb))
+  out_of_order_sends full verbs.Unknown = bare 0x2100 (lit< tt)
+  out_of_order_sends full verb = bare (codes.out_of_sequence codes.types.control) (lit< tt)
 
   malformed : (n : ℕ) → IsSendable limit (bare_status (codes.status_code_for n))
   malformed n = bare (codes.status_code_for n) (code_small n)
@@ -142,10 +144,10 @@ module _ (limit : ℕ) (least : min_buffer ≤ limit) where
 
 module _ (own : ServerSetup) (small_own : FieldsFit (Config own.identity)) (scene : Scene) (files : AllFiles scene.files) (least : min_buffer ≤ scene.limit) where
   abbrev Sends : Effect → Type 0
-  Sends e = AreSendable scene.limit e.answers
+  Sends e = AreSendable scene.limit (told own e).answers
 
   abbrev SendsIn : Turn → Type 0
-  SendsIn t = AreSendable scene.limit (next_answers t)
+  SendsIn t = AreSendable scene.limit (next_answers own t)
 
   -- ---- Accesses.
 
@@ -154,7 +156,7 @@ module _ (own : ServerSetup) (small_own : FieldsFit (Config own.identity)) (scen
   either false one two h k = k
 
   permitting : (asked : Rights) (e : Effect) → Sends e → Sends (effect_if_permitted own asked scene e)
-  permitting asked e h = either (lacks own.most asked) _ _ (reasoned scene.limit least 0x4000 2 [] (lit< tt) (lit≤ tt), tt) h
+  permitting asked e h = either (lacks own.most asked) _ _ (reasoned scene.limit least own.full 0x4000 2 [] (lit< tt) (lit≤ tt), tt) h
 
   opening : (fac : ℕ) (at : Option ℕ) → IfSome at (λ n. n < length scene.files) → Sends (open_file own scene fac at)
   opening fac None h = (bare scene.limit least 0x4032 (lit< tt), tt)
@@ -162,11 +164,11 @@ module _ (own : ServerSetup) (small_own : FieldsFit (Config own.identity)) (scen
       permitting (rights_to_open fac) _ (opened scene.limit least (file_at at scene.files).shape (file-there scene.files at files h).shape)
 
   making : (name : List ℕ) (fac : ℕ) (shape : Option Shape) → Good shape → Sends (make_file scene name fac shape)
-  making name fac None g = (reasoned scene.limit least 0x4000 11 [] (lit< tt) (lit≤ tt), tt)
+  making name fac None g = (reasoned scene.limit least own.full 0x4000 11 [] (lit< tt) (lit≤ tt), tt)
   making name fac (Some shape) g = opened scene.limit least shape g
 
   creating : (name : List ℕ) (fac : ℕ) (at : Option ℕ) (shape : Option Shape) → Good shape → Sends (create_file own scene name fac at shape)
-  creating name fac (Some at) shape g = (reasoned scene.limit least 0x4000 1 [] (lit< tt) (lit≤ tt), tt)
+  creating name fac (Some at) shape g = (reasoned scene.limit least own.full 0x4000 1 [] (lit< tt) (lit≤ tt), tt)
   creating name fac None shape g = permitting (rights_to_create fac) _ (making name fac shape g)
 
   accessing : (a : AccessFields) (shape : Option Shape) → Good shape → Sends (access_file own scene a shape)
@@ -202,26 +204,30 @@ module _ (own : ServerSetup) (small_own : FieldsFit (Config own.identity)) (scen
 
     finding : (fits : Bool) (before after : StreamVal) (r : ℕ × List ℕ) → length r.1 ≤ max_record → fits_limit scene.limit r ≡ fits → Sends (if fits then enters scene (Connected o after) (filedata_of r ∷ []) else enters scene (Connected o (stream_without_current before)) (too_large ∷ []))
     finding true before after r h e = (recorded scene.limit least r h e, tt)
-    finding false before after r h e = (reasoned scene.limit least 0x5000 10 [] (lit< tt) (lit≤ tt), tt)
+    finding false before after r h e = (reasoned scene.limit least own.full 0x5000 10 [] (lit< tt) (lit≤ tt), tt)
 
     getting : (reply : Result ℕ Refusal) (before after : StreamVal) → Sends (got reply scene o before after)
-    getting (Err refusal) before after = (refusing scene.limit least refusal [] (lit≤ tt), tt)
+    getting (Err refusal) before after = (refusing scene.limit least own.full refusal [] (lit≤ tt), tt)
     getting (Ok n) before after = finding _ before after _ (body-short n _ refl) refl
 
     picked : (pick : Result Pick Refusal) (s : StreamVal) → Sends (record_got pick scene o s)
-    picked (Err refusal) s = (refusing scene.limit least refusal [] (lit≤ tt), tt)
+    picked (Err refusal) s = (refusing scene.limit least own.full refusal [] (lit≤ tt), tt)
     picked (Ok pick) s = getting (act (get_record pick) (the_file scene.files o) s).reply s (act (get_record pick) (the_file scene.files o) s).stream
 
     second : (change : Change) (s : StreamVal) (body : List ℕ) → Sends (effect_of_change change scene o s body)
-    second (Putting (Err refusal)) s body = (refusing scene.limit least refusal [] (lit≤ tt), tt)
-    second (Putting (Ok key)) s body = (replying scene.limit least (act (put_record key body) (the_file scene.files o) s).reply, tt)
-    second Updating s body = (replying scene.limit least (act (update_record body) (the_file scene.files o) s).reply, tt)
+    second (Putting (Err refusal)) s body = (refusing scene.limit least own.full refusal [] (lit≤ tt), tt)
+    second (Putting (Ok key)) s body = (replying scene.limit least own.full (act (put_record key body) (the_file scene.files o) s).reply, tt)
+    second Updating s body = (replying scene.limit least own.full (act (update_record body) (the_file scene.files o) s).reply, tt)
 
     -- ---- Transfers.
 
     fetch-ends : (s : StreamVal) (given rest : List (ℕ × List ℕ)) → AreSendable scene.limit (map filedata_of given) → Sends (fetch_ends scene o s given rest)
-    fetch-ends s given [] h = sendable_more scene.limit least (map filedata_of given) (bare_status codes.stscode.end_of_file ∷ []) h (bare scene.limit least 0x5027 (lit< tt), tt)
-    fetch-ends s given (large ∷ more) h = sendable_more scene.limit least (map filedata_of given) (too_large ∷ []) h (reasoned scene.limit least 0x5000 10 [] (lit< tt) (lit≤ tt), tt)
+    fetch-ends s given [] h =
+        subst (AreSendable scene.limit) (sym (coded-records own.full given (bare_status codes.stscode.end_of_file)))
+        (sendable_more scene.limit least (map filedata_of given) (bare_status codes.stscode.end_of_file ∷ []) h (bare scene.limit least 0x5027 (lit< tt), tt))
+    fetch-ends s given (large ∷ more) h =
+        subst (AreSendable scene.limit) (sym (coded-records own.full given too_large))
+        (sendable_more scene.limit least (map filedata_of given) (coded own.full too_large ∷ []) h (reasoned scene.limit least own.full 0x5000 10 [] (lit< tt) (lit≤ tt), tt))
 
     fetching : (s : StreamVal) → Sends (fetch scene o s)
     fetching s =
@@ -238,14 +244,14 @@ module _ (own : ServerSetup) (small_own : FieldsFit (Config own.identity)) (scen
         (either (func == codes.confunc.skip) _ _ (fetching (at_number (s.next + 1) s))
         (either (func == codes.confunc.abort) _ _ (bare scene.limit least 0x5027 (lit< tt), tt) (not-continued (func == codes.confunc.resume), tt)))
 
-    stored : (ordinal : ℕ) (reply : Result ℕ Refusal) → AreSendable scene.limit (stored_answers ordinal reply)
+    stored : (ordinal : ℕ) (reply : Result ℕ Refusal) → AreSendable scene.limit (map (coded own.full) (stored_answers ordinal reply))
     stored ordinal (Ok n) = tt
-    stored ordinal (Err refusal) = (refusing scene.limit least refusal (four_bytes ordinal) (lit≤ tt), tt)
+    stored ordinal (Err refusal) = (refusing scene.limit least own.full refusal (four_bytes ordinal) (lit≤ tt), tt)
 
     storing : (ordinal : ℕ) (s : StreamVal) (body : List ℕ) → Sends (store_one ordinal scene o s body)
     storing ordinal s body = stored (next_ordinal ordinal) (act (put_record None body) (the_file scene.files o) s).reply
 
-    resumed : (skip : Bool) (func : ℕ) → AreSendable scene.limit (if skip then [] else continue_refused func ∷ [])
+    resumed : (skip : Bool) (func : ℕ) → AreSendable scene.limit (map (coded own.full) (if skip then [] else continue_refused func ∷ []))
     resumed true func = tt
     resumed false func = (not-continued (func == codes.confunc.resume), tt)
 
@@ -256,24 +262,24 @@ module _ (own : ServerSetup) (small_own : FieldsFit (Config own.identity)) (scen
 
     opened-control : (verb : Verb) → Sends (control_opened verb scene o)
     opened-control verbs.Connect = (short scene.limit least Ack answers_fit.ack, tt)
-    opened-control verb = (out_of_order_sends scene.limit least verb, tt)
+    opened-control verb = (out_of_order_sends scene.limit least own.full verb, tt)
 
     connected-control : (verb : Verb) (s : StreamVal) (c : ControlFields) → SendsIn (control_connected verb scene o s c)
     connected-control verbs.Get s c = picked (get_pick (the_file scene.files o) s c) s
-    connected-control verbs.Fetch s c = either s.rights.get _ _ (fetching s) (refusing scene.limit least NotPermitted [] (lit≤ tt), tt)
+    connected-control verbs.Fetch s c = either s.rights.get _ _ (fetching s) (refusing scene.limit least own.full NotPermitted [] (lit≤ tt), tt)
     connected-control verbs.Put s c = tt
     connected-control verbs.Update s c = tt
     connected-control verbs.Store s c = tt
-    connected-control verbs.Delete s c = (replying scene.limit least (act delete_record (the_file scene.files o) s).reply, tt)
+    connected-control verbs.Delete s c = (replying scene.limit least own.full (act delete_record (the_file scene.files o) s).reply, tt)
     connected-control verbs.Rewind s c = (bare scene.limit least 0x1000 (lit< tt), tt)
-    connected-control verb s c = (out_of_order_sends scene.limit least verb, tt)
+    connected-control verb s c = (out_of_order_sends scene.limit least own.full verb, tt)
 
     with-second : (change : Change) (s : StreamVal) (item : Item) → HasShortType item → Sends (effect_with change scene o s item)
     with-second change s (Malformed fault) h = (malformed scene.limit least fault.message_type, tt)
     with-second change s (Whole (Filedata r body)) h = second change s body
     with-second change s (Whole message) h = (out scene.limit least message h, tt)
 
-  configuring : (small : Bool) (bufsiz : ℕ) → AreSendable scene.limit (if small then enters scene Fresh (bare_status (codes.invalid codes.types.config) ∷ []) else enters (record scene { limit = message_limit bufsiz }) Ready (Config own.identity ∷ [])).answers
+  configuring : (small : Bool) (bufsiz : ℕ) → Sends (if small then enters scene Fresh (bare_status (codes.invalid codes.types.config) ∷ []) else enters (record scene { limit = message_limit bufsiz }) Ready (Config own.identity ∷ []))
   configuring true bufsiz = (bare scene.limit least 0x9040 (lit< tt), tt)
   configuring false bufsiz = (short scene.limit least _ (answers_fit.identity own.identity small_own), tt)
 
@@ -291,12 +297,12 @@ module _ (own : ServerSetup) (small_own : FieldsFit (Config own.identity)) (scen
   of-message past (Connected o s) h (Control c) t = connected-control o h (verb_of c) s c
   of-message past (Connected o s) h (Accomp c) t = completing-sends c.func o (Connected o s)
   of-message past (Connected o s) h m t = (out scene.limit least m t, tt)
-  of-message past (Store o s) h (Control c) t = (out_of_order_sends scene.limit least (verb_of c), tt)
+  of-message past (Store o s) h (Control c) t = (out_of_order_sends scene.limit least own.full (verb_of c), tt)
   of-message past (Store o s) h (Filedata r body) t = either (is_dropping past) _ _ tt (storing o h (ordinal_so_far past) s body)
   of-message past (Store o s) h (Contran func) t = either (is_dropping past) _ _ (resuming o h func s) (bare scene.limit least (codes.out_of_sequence codes.types.contran) (lit< tt), tt)
   of-message past (Store o s) h (Accomp c) t = completing-sends c.func o (Store o s)
   of-message past (Store o s) h m t = (out scene.limit least m t, tt)
-  of-message past (Stopped o s) h (Control c) t = (out_of_order_sends scene.limit least (verb_of c), tt)
+  of-message past (Stopped o s) h (Control c) t = (out_of_order_sends scene.limit least own.full (verb_of c), tt)
   of-message past (Stopped o s) h (Contran func) t = continuing o h func s
   of-message past (Stopped o s) h (Accomp c) t = completing-sends c.func o (Stopped o s)
   of-message past (Stopped o s) h m t = (out scene.limit least m t, tt)

@@ -23,7 +23,7 @@ use Rattle.dap_accessed.specs.declared.verbs.Verb.TheVariants as verbs
 use Rattle.dap_accessed.specs.Setup.{lacks, same_name}
 use Rattle.dap_accessed.specs.Replies.{bare_status}
 use Rattle.dap_accessed.specs.Standing.{Files, new_file, index_by, with_file, the_file, ServerState, Fresh, Ready, Opened, Connected, Store, Stopped, Group, Standing, Scene, Effect, start, enters}
-use Rattle.dap_accessed.specs.Past.{asked_shape, kept_attributes, is_dropping, ordinal_so_far}
+use Rattle.dap_accessed.specs.Past.{asked_shape, kept_attributes, is_dropping}
 use Rattle.dap_accessed.specs.Accesses.{rights_to_create, rights_to_open, make_file, open_file, create_file, access_file, end_stream, complete}
 use Rattle.dap_accessed.specs.Records.{at_number, verb_of, get_pick, got, record_got, Change, Putting, Updating, effect_of_change, fits_limit}
 use Rattle.dap_accessed.specs.Transfers.{fetch, fetch_ends, continue_fetch}
@@ -179,7 +179,7 @@ module _ (own : ServerSetup) where
   one-leaves s (Malformed fault) = stays s.scene
   one-leaves s (Whole m) = of-message s.scene s.past s.state m
 
-  next-leaves : (s : Standing) (item : Item) (t : Turn) → LeavesBy s.scene t → Keeps s.scene.files (next_group s item t).standing.scene.files
+  next-leaves : (s : Standing) (item : Item) (t : Turn) → LeavesBy s.scene t → Keeps s.scene.files (next_group own s item t).standing.scene.files
   next-leaves s item (Does e) h = h
   next-leaves s item (BeginsGroup b) h = stays s.scene
 

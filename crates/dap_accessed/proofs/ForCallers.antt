@@ -4,6 +4,7 @@
 pub use Rattle.dap_accessed.specs.Groups.{after_item, more_after, next_group}
 pub use Rattle.dap_accessed.proofs.Cuts.{cut-more}
 -- the answers to a list and one item more are those to the list, and those that the item adds
+pub use Rattle.dap_accessed.proofs.Coding.{access-fails, coded-records, record-fails}
 pub use Rattle.dap_accessed.proofs.Cuts.{Answers-more, answers_after-more}
 -- after any items the files are files, and the open one is there
 pub use Rattle.dap_accessed.proofs.SoundLists.{all-sound}

@@ -50,7 +50,7 @@ does : (own : ServerSetup) (s : Standing) (item : Item) (begun : Begun) → turn
 does own s (Malformed fault) begun e = cc
 does own s (Whole message) begun e = cc
 
-whole-by : (own : ServerSetup) (s : Standing) (item : Item) (t : Turn) → turn_of own s item ≡ t → IsWhole (next_group s item t)
+whole-by : (own : ServerSetup) (s : Standing) (item : Item) (t : Turn) → turn_of own s item ≡ t → IsWhole (next_group own s item t)
 whole-by own s item (Does effect) e = λ at. refl
 whole-by own s item (BeginsGroup begun) e = λ at.
     absurd (does own s item begun (ap (λ (p : ServerState). turn_of own (record s { state = p }) item) (sym at) ∙ e))

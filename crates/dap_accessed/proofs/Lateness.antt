@@ -24,9 +24,9 @@ use Rattle.dap_accessed.specs.declared.phase.OpenFile.{OpenFile}
 use Rattle.dap_accessed.specs.declared.verbs.Verb.{Verb}
 use Rattle.dap_accessed.specs.declared.verbs.Verb.TheVariants as verbs
 use Rattle.dap_accessed.specs.Standing.{Files, index_by, the_file, ServerState, Fresh, Ready, Opened, Connected, Store, Stopped, Group, Standing, Scene, Effect, start, enters}
-use Rattle.dap_accessed.specs.Past.{asked_shape, kept_attributes, is_dropping, ordinal_so_far}
+use Rattle.dap_accessed.specs.Past.{asked_shape, kept_attributes, is_dropping}
 use Rattle.dap_accessed.specs.Replies.{bare_status, too_large}
-use Rattle.dap_accessed.specs.Accesses.{effect_if_permitted, rights_to_create, rights_to_open, make_file, open_file, create_file, access_file, end_stream, complete}
+use Rattle.dap_accessed.specs.Accesses.{rights_to_create, rights_to_open, make_file, open_file, create_file, access_file, end_stream, complete}
 use Rattle.dap_accessed.specs.Records.{verb_of, get_pick, got, record_got, at_number, filedata_of, fits_limit, stream_without_current, Change, Putting, Updating, effect_of_change}
 use Rattle.dap_accessed.specs.Transfers.{fetch, fetch_ends, continue_fetch}
 use Rattle.dap_accessed.specs.Effects.{Begun, Turn, Does, BeginsGroup, control_opened, control_connected, turn_in, turn_of, effect_with}
@@ -159,12 +159,12 @@ module _ (scene : Scene) where
 abbrev LateThen : GroupedItems → Type 0
 LateThen c = is_late c.standing.state ≡ true
 
-next-late : (s : Standing) (item : Item) (t : Turn) → is_late s.state ≡ true → LateTurn t → LateThen (next_group s item t)
-next-late s item (Does e) h late = late
-next-late s item (BeginsGroup b) h late = h
+next-late : (own : ServerSetup) (s : Standing) (item : Item) (t : Turn) → is_late s.state ≡ true → LateTurn t → LateThen (next_group own s item t)
+next-late own s item (Does e) h late = late
+next-late own s item (BeginsGroup b) h late = h
 
 more-late : (own : ServerSetup) (s : Standing) (b : Option Begun) (item : Item) → is_late s.state ≡ true → LateThen (more_after own s b item)
-more-late own s None item h = next-late s item (turn_of own s item) h (of-item s.scene own s.past s.state h item)
+more-late own s None item h = next-late own s item (turn_of own s item) h (of-item s.scene own s.past s.state h item)
 more-late own s (Some b) item h = with-second s.scene b.opened b.change b.stream item
 
 -- ---- Before the Config.
@@ -192,7 +192,7 @@ abbrev given_files : Files → Standing → Standing
 given_files other s = record s { scene = record s.scene { files = other } }
 
 abbrev after_one : ServerSetup → Standing → Item → GroupedItems
-after_one own s item = next_group s item (turn_of own s item)
+after_one own s item = next_group own s item (turn_of own s item)
 
 -- an item moves no file, and does the same whatever files there are
 record DoesAnyway (own : ServerSetup) (s : Standing) (item : Item) : Type 0 where
@@ -202,8 +202,8 @@ record DoesAnyway (own : ServerSetup) (s : Standing) (item : Item) : Type 0 wher
 
 configuring : (own : ServerSetup) (s : Standing) (c : Message) (small : Bool) (limit : ℕ) (refusal answers : List Message)
     → let effect : Scene → Effect = λ scene. if small then enters scene Fresh refusal else enters (record scene { limit = limit }) Ready answers in
-    ((next_group s (Whole c) (Does (effect s.scene))).standing.scene.files ≡ s.scene.files)
-    × ((other : Files) → next_group (given_files other s) (Whole c) (Does (effect (record s.scene { files = other }))) ≡ with_files other (next_group s (Whole c) (Does (effect s.scene))))
+    ((next_group own s (Whole c) (Does (effect s.scene))).standing.scene.files ≡ s.scene.files)
+    × ((other : Files) → next_group own (given_files other s) (Whole c) (Does (effect (record s.scene { files = other }))) ≡ with_files other (next_group own s (Whole c) (Does (effect s.scene))))
 configuring own s c true limit refusal answers = (refl, λ other. refl)
 configuring own s c false limit refusal answers = (refl, λ other. refl)
 

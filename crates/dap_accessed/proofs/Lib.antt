@@ -4,6 +4,8 @@ pub mod Entries
 pub mod Opens
 pub mod Writing
 pub mod Fetching
+pub mod Coding
+pub mod Getting
 pub mod Cuts
 pub mod StepIs
 pub mod Silent

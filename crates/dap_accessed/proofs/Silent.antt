@@ -26,7 +26,7 @@ use Rattle.dap_accessed.specs.declared.verbs.Verb.TheVariants as verbs
 use Rattle.dap_accessed.specs.Standing.{Files, the_file, index_by, ServerState, Group, Standing, Scene, Effect, Fresh, Ready, Opened, Connected, Store, Stopped, enters}
 use Rattle.dap_accessed.specs.Replies.{bare_status}
 use Rattle.dap_accessed.specs.Past.{is_filedata, is_dropping, ordinal_so_far}
-use Rattle.dap_accessed.specs.Accesses.{effect_if_permitted, rights_to_create, rights_to_open, make_file, open_file, create_file, access_file, end_stream, complete}
+use Rattle.dap_accessed.specs.Accesses.{rights_to_create, rights_to_open, make_file, open_file, create_file, access_file, end_stream, complete}
 use Rattle.dap_accessed.specs.Records.{Change, Putting, Updating, got, record_got, at_number, verb_of, fits_limit, filedata_of}
 use Rattle.dap_accessed.specs.Transfers.{fetch, fetch_ends, continue_fetch, continue_refused}
 use Rattle.dap_accessed.specs.Effects.{Begun, effect_with, control_opened, control_connected}
@@ -35,6 +35,7 @@ use Rattle.dap_accessed.specs.Present.{Present, Memory, looked_back, StandsAfter
 use Rattle.dap_accessed.specs.Inner.Moves.{move_in, scene_in, begins_only, is_silent, plain_memory, turns}
 use Rattle.dap_accessed.specs.Served.{IsSilent}
 use Rattle.dap_accessed.specs.Sessions.{IsIn, IsSilentIn}
+use Rattle.dap_accessed.proofs.Coding.{coded-none}
 use Rattle.dap_accessed.proofs.StepIs.{answers-are, answers-in}
 
 -- ---- What has an answer.
@@ -117,8 +118,8 @@ module _ (scene : Scene) where
 -- a Control where a stream is connected
 commanded : (verb : Verb) (p : Present) (memory : Memory) (o : OpenFile) (s : StreamVal) (c : ControlFields) (item : Item)
     → (turns (control_connected verb (scene_in p) o s c) p memory (Connected o s) item).answers ≡ [] → begins_only verb ≡ true
-commanded verbs.Get p memory o s c item e = absurd (picking (scene_in p) _ o s e)
-commanded verbs.Fetch p memory o s c item e = absurd (either s.rights.get _ _ (fetching (scene_in p) o s) (λ f. cc) e)
+commanded verbs.Get p memory o s c item e = absurd (picking (scene_in p) _ o s (coded-none p.setup.full _ e))
+commanded verbs.Fetch p memory o s c item e = absurd (either s.rights.get _ _ (fetching (scene_in p) o s) (λ f. cc) (coded-none p.setup.full _ e))
 commanded verbs.Put p memory o s c item e = refl
 commanded verbs.Update p memory o s c item e = refl
 commanded verbs.Store p memory o s c item e = refl
@@ -137,39 +138,39 @@ is_storing _ = false
 
 silent : (phase : Phase) (p : Present) (item : Item) → (move_in phase p item).answers ≡ [] → (is_filedata item ≡ true → is_storing phase ≡ false) → is_silent phase item ≡ true
 silent phases.Fresh p (Malformed fault) e h = cc
-silent phases.Fresh p (Whole (Config c)) e h = absurd (either (is_too_small c.bufsiz) (enters (scene_in p) Fresh (bare_status (codes.invalid codes.types.config) ∷ [])) (enters (record (scene_in p) { limit = message_limit c.bufsiz }) Ready (Config p.setup.identity ∷ [])) (λ f. cc) (λ f. cc) e)
+silent phases.Fresh p (Whole (Config c)) e h = absurd (either (is_too_small c.bufsiz) (enters (scene_in p) Fresh (bare_status (codes.invalid codes.types.config) ∷ [])) (enters (record (scene_in p) { limit = message_limit c.bufsiz }) Ready (Config p.setup.identity ∷ [])) (λ f. cc) (λ f. cc) (coded-none p.setup.full _ e))
 silent phases.Fresh p (Whole (Other _ _)) e h = refl
 silent phases.Fresh p (Whole message) e h = cc
 silent phases.Ready p (Malformed fault) e h = cc
 silent phases.Ready p (Whole (Other _ _)) e h = refl
 silent phases.Ready p (Whole (Attrib _)) e h = refl
-silent phases.Ready p (Whole (Access a)) e h = absurd (accessing (scene_in p) p.setup a p.kept e)
+silent phases.Ready p (Whole (Access a)) e h = absurd (accessing (scene_in p) p.setup a p.kept (coded-none p.setup.full _ e))
 silent phases.Ready p (Whole message) e h = cc
 silent (phases.Opened o) p (Malformed fault) e h = cc
-silent (phases.Opened o) p (Whole (Control c)) e h = absurd (connecting (scene_in p) (verb_of c) o e)
-silent (phases.Opened o) p (Whole (Accomp c)) e h = absurd (completing (scene_in p) c.func o (Opened o) e)
+silent (phases.Opened o) p (Whole (Control c)) e h = absurd (connecting (scene_in p) (verb_of c) o (coded-none p.setup.full _ e))
+silent (phases.Opened o) p (Whole (Accomp c)) e h = absurd (completing (scene_in p) c.func o (Opened o) (coded-none p.setup.full _ e))
 silent (phases.Opened o) p (Whole message) e h = cc
 silent (phases.Connected o s) p (Malformed fault) e h = cc
 silent (phases.Connected o s) p (Whole (Control c)) e h = commanded (verb_of c) p (plain_memory p.kept) o s c (Whole (Control c)) e
-silent (phases.Connected o s) p (Whole (Accomp c)) e h = absurd (completing (scene_in p) c.func o (Connected o s) e)
+silent (phases.Connected o s) p (Whole (Accomp c)) e h = absurd (completing (scene_in p) c.func o (Connected o s) (coded-none p.setup.full _ e))
 silent (phases.Connected o s) p (Whole message) e h = cc
-silent (phases.PutDue o s key) p item e h = absurd (changing (scene_in p) (Putting key) o s item e)
-silent (phases.UpdateDue o s) p item e h = absurd (changing (scene_in p) Updating o s item e)
+silent (phases.PutDue o s key) p item e h = absurd (changing (scene_in p) (Putting key) o s item (coded-none p.setup.full _ e))
+silent (phases.UpdateDue o s) p item e h = absurd (changing (scene_in p) Updating o s item (coded-none p.setup.full _ e))
 silent (phases.Storing o s n) p (Malformed fault) e h = cc
 silent (phases.Storing o s n) p (Whole (Control c)) e h = cc
 silent (phases.Storing o s n) p (Whole (Filedata _ _)) e h = (let f = h refl in cc)
-silent (phases.Storing o s n) p (Whole (Accomp c)) e h = absurd (completing (scene_in p) c.func o (Store o s) e)
+silent (phases.Storing o s n) p (Whole (Accomp c)) e h = absurd (completing (scene_in p) c.func o (Store o s) (coded-none p.setup.full _ e))
 silent (phases.Storing o s n) p (Whole message) e h = cc
 silent (phases.Dropping o s n) p (Malformed fault) e h = cc
 silent (phases.Dropping o s n) p (Whole (Control c)) e h = cc
 silent (phases.Dropping o s n) p (Whole (Filedata _ _)) e h = refl
-silent (phases.Dropping o s n) p (Whole (Contran func)) e h = took_up (func == codes.confunc.skip) func e
-silent (phases.Dropping o s n) p (Whole (Accomp c)) e h = absurd (completing (scene_in p) c.func o (Store o s) e)
+silent (phases.Dropping o s n) p (Whole (Contran func)) e h = took_up (func == codes.confunc.skip) func (coded-none p.setup.full _ e)
+silent (phases.Dropping o s n) p (Whole (Accomp c)) e h = absurd (completing (scene_in p) c.func o (Store o s) (coded-none p.setup.full _ e))
 silent (phases.Dropping o s n) p (Whole message) e h = cc
 silent (phases.Stopped o s) p (Malformed fault) e h = cc
 silent (phases.Stopped o s) p (Whole (Control c)) e h = cc
-silent (phases.Stopped o s) p (Whole (Contran func)) e h = absurd (continuing (scene_in p) func o s e)
-silent (phases.Stopped o s) p (Whole (Accomp c)) e h = absurd (completing (scene_in p) c.func o (Stopped o s) e)
+silent (phases.Stopped o s) p (Whole (Contran func)) e h = absurd (continuing (scene_in p) func o s (coded-none p.setup.full _ e))
+silent (phases.Stopped o s) p (Whole (Accomp c)) e h = absurd (completing (scene_in p) c.func o (Stopped o s) (coded-none p.setup.full _ e))
 silent (phases.Stopped o s) p (Whole message) e h = cc
 
 -- ---- By the history.

@@ -38,7 +38,7 @@ use Rattle.dap_msg.specs.Codes as codes
 use Rattle.dap_accessed.specs.Replies.{bare_status}
 use Rattle.dap_accessed.specs.Standing.{Files, index_of, index_by, with_file, the_file, ServerState, Fresh, Ready, Opened, Connected, Store, Stopped, Group, Standing, Scene, Effect, start, enters}
 use Rattle.dap_accessed.specs.Past.{asked_shape, kept_attributes, is_dropping, ordinal_so_far}
-use Rattle.dap_accessed.specs.Accesses.{effect_if_permitted, rights_to_create, rights_to_open, make_file, open_file, create_file, access_file, end_stream, complete}
+use Rattle.dap_accessed.specs.Accesses.{rights_to_create, rights_to_open, make_file, open_file, create_file, access_file, end_stream, complete}
 use Rattle.dap_accessed.specs.Records.{at_number, verb_of, get_pick, got, record_got, effect_of_outcome, Change, Putting, Updating, effect_of_change, fits_limit}
 use Rattle.dap_accessed.specs.Transfers.{fetch, fetch_ends, continue_fetch, store_one}
 use Rattle.dap_msg.specs.BothEnds.{is_too_small}
@@ -278,13 +278,13 @@ one-sound : (own : ServerSetup) (s : Standing) (item : Item) → IsSoundAt s.sce
 one-sound own s item h =
     of-item s.scene h.files h.least h.most own s.past s.state h.opened item
 
-two-sound : (s : Standing) (b : Begun) (item : Item) → IsSoundAt s.scene s.state → b.opened.at < length s.scene.files → let t = after_two s b item in IsSoundAt t.scene t.state
-two-sound s b item h there = of-second s.scene h.files h.least h.most b.change b.opened b.stream item there
+two-sound : (own : ServerSetup) (s : Standing) (b : Begun) (item : Item) → IsSoundAt s.scene s.state → b.opened.at < length s.scene.files → let t = after_two own s b item in IsSoundAt t.scene t.state
+two-sound own s b item h there = of-second s.scene h.files h.least h.most b.change b.opened b.stream item there
 
-next-sound : (s : Standing) (item : Item) (t : Turn) → IsSoundAt s.scene s.state → IsSoundTurn s.scene t → IsSound (next_group s item t)
-next-sound s item (Does e) h sound = record { standing = sound; begun = tt }
-next-sound s item (BeginsGroup b) h there = record { standing = h; begun = there }
+next-sound : (own : ServerSetup) (s : Standing) (item : Item) (t : Turn) → IsSoundAt s.scene s.state → IsSoundTurn s.scene t → IsSound (next_group own s item t)
+next-sound own s item (Does e) h sound = record { standing = sound; begun = tt }
+next-sound own s item (BeginsGroup b) h there = record { standing = h; begun = there }
 
 pub more-sound : (own : ServerSetup) (s : Standing) (b : Option Begun) (item : Item) → IsSound (record { standing = s; begun = b }) → IsSound (more_after own s b item)
-more-sound own s None item h = next-sound s item (turn_of own s item) h.standing (one-sound own s item h.standing)
-more-sound own s (Some b) item h = record { standing = two-sound s b item h.standing h.begun; begun = tt }
+more-sound own s None item h = next-sound own s item (turn_of own s item) h.standing (one-sound own s item h.standing)
+more-sound own s (Some b) item h = record { standing = two-sound own s b item h.standing h.begun; begun = tt }

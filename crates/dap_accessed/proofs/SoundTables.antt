@@ -1,5 +1,5 @@
 -- What a change of the table keeps.
-use Rattle.std.proofs.Common.{◌≡◌, ℕ, zero, suc, ◌+◌, ◌<◌, ◌≤◌, ◌∙◌, Bool, not, cond, List, [], ◌∷◌, ◌++◌, length, Some, None, refl, ap, inl, inr, arith}
+use Rattle.std.proofs.Common.{◌≡◌, ℕ, zero, suc, ◌+◌, ◌<◌, ◌≤◌, Bool, not, cond, List, [], ◌∷◌, ◌++◌, length, Some, None, refl, ap, inl, inr, arith}
 use Rattle.std.specs.Prelude.{bytes_eq, true, false, IsTrue}
 use Rattle.std.specs.List.{position, prefix_len, AllByRecursion, IsDistinct, remove}
 use Rattle.std.proofs.lemmas.Bool.{cases_Bool, cases_lt, lt-ltb, le-ltb}

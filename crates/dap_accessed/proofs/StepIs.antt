@@ -18,7 +18,7 @@ use Rattle.dap_accessed.specs.declared.phase.Phase.TheVariants as phases
 use Rattle.dap_accessed.specs.Standing.{Files, Scene, ServerState, Group, Standing, Effect, Fresh, Ready, Opened, Connected, Store, Stopped}
 use Rattle.dap_accessed.specs.Past.{asked_shape, kept_attributes, is_dropping, ordinal_so_far, this_store, is_skip, is_ready, is_store, is_access, is_filedata, attributes_in, since_access, was_refused, max_ordinal, next_ordinal}
 use Rattle.dap_accessed.specs.Records.{Change, Putting, Updating}
-use Rattle.dap_accessed.specs.Effects.{Begun, Turn, Does, BeginsGroup, turn_of, effect_with}
+use Rattle.dap_accessed.specs.Effects.{Begun, Turn, Does, BeginsGroup, told, turn_of, effect_with}
 use Rattle.dap_accessed.specs.Groups.{GroupedItems, over, answers_added, stands_after, next_group, next_answers, after_item, answers_of}
 use Rattle.dap_accessed.specs.Present.{Present, Memory, looked_back, present_of, phase_at, StandsAfter}
 use Rattle.dap_accessed.specs.Sessions.{IsIn}
@@ -155,13 +155,13 @@ module _ (own : ServerSetup) (scene : Scene) (past : List Group) where
     pub same_answers : answers ≡ step.answers
 
   turned : (state : ServerState) (item : Item) (t : Turn) →
-      Agrees (turns t (kept_at state) (looked_back state past) state item) (present_of own (next_group (at state) item t)) (next_answers t)
-  turned state item (Does effect) = record { same_present = after-group (kept_at state) (at state) state item effect refl refl refl; same_answers = refl }
+      Agrees (turns t (kept_at state) (looked_back state past) state item) (present_of own (next_group own (at state) item t)) (next_answers own t)
+  turned state item (Does effect) = record { same_present = after-group (kept_at state) (at state) state item (told own effect) refl refl refl; same_answers = refl }
   turned state item (BeginsGroup begun) = record { same_present = refl; same_answers = refl }
 
   abbrev Follows : ServerState → Item → Move → Type 0
   Follows state item step =
-      Agrees step (present_of own (next_group (at state) item (turn_of own (at state) item))) (next_answers (turn_of own (at state) item))
+      Agrees step (present_of own (next_group own (at state) item (turn_of own (at state) item))) (next_answers own (turn_of own (at state) item))
 
   -- all that counts of the past was looked back for
   turn-is : (state : ServerState) (item : Item) → turn_by own scene (looked_back state past) state item ≡ turn_of own (at state) item
@@ -193,12 +193,12 @@ module _ (own : ServerSetup) (scene : Scene) (past : List Group) where
       Agrees (move (present_of own c) item) (present_of own (after_item own c item)) (answers_of own c item)
   two-follows state o s (Putting key) first item =
       record {
-        same_present = after-group (record { own = own.identity.bufsiz; setup = own; limit = scene.limit; files = scene.files; kept = asked_shape (kept_attributes past); phase = phases.PutDue o s key }) (at state) (Connected o s) first (effect_with (Putting key) scene o s item) refl refl refl;
+        same_present = after-group (record { own = own.identity.bufsiz; setup = own; limit = scene.limit; files = scene.files; kept = asked_shape (kept_attributes past); phase = phases.PutDue o s key }) (at state) (Connected o s) first (told own (effect_with (Putting key) scene o s item)) refl refl refl;
         same_answers = refl;
       }
   two-follows state o s Updating first item =
       record {
-        same_present = after-group (record { own = own.identity.bufsiz; setup = own; limit = scene.limit; files = scene.files; kept = asked_shape (kept_attributes past); phase = phases.UpdateDue o s }) (at state) (Connected o s) first (effect_with Updating scene o s item) refl refl refl;
+        same_present = after-group (record { own = own.identity.bufsiz; setup = own; limit = scene.limit; files = scene.files; kept = asked_shape (kept_attributes past); phase = phases.UpdateDue o s }) (at state) (Connected o s) first (told own (effect_with Updating scene o s item)) refl refl refl;
         same_answers = refl;
       }
 

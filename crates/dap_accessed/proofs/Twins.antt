@@ -1,5 +1,5 @@
 -- Servers that differ in what they say of themselves alone do the same.
-use Rattle.std.proofs.Common.{◌≡◌, ℕ, Bool, true, false, List, [], ◌∷◌, ◌++◌, Option, Some, None, refl, sym, ap, subst, ◌∙◌, append_assoc, inl, inr}
+use Rattle.std.proofs.Common.{◌≡◌, ℕ, Bool, true, false, List, [], ◌∷◌, ◌++◌, Option, refl, sym, ap, subst, ◌∙◌, append_assoc, inl, inr}
 use Rattle.std.specs.Prelude.{if◌then◌else◌}
 use Rattle.std.proofs.lemmas.List.{append-nil}
 use Rattle.dap_msg.specs.Codes as codes
@@ -20,11 +20,11 @@ use Rattle.dap_accessed.specs.declared.phase.Phase.TheVariants as phases
 use Rattle.dap_accessed.specs.Replies.{bare_status}
 use Rattle.dap_accessed.specs.Standing.{Files, ServerState, Fresh, Ready, Opened, Connected, Store, Stopped, Scene, Effect, enters}
 use Rattle.dap_accessed.specs.Records.{Putting, Updating}
-use Rattle.dap_accessed.specs.Effects.{Turn, Does, BeginsGroup, effect_fresh, effect_ready, effect_with}
+use Rattle.dap_accessed.specs.Effects.{Turn, Does, BeginsGroup, told, effect_fresh, effect_ready, effect_with}
 use Rattle.dap_accessed.specs.Groups.{After, Answers, answers_added, limit_for, stands_after}
 use Rattle.dap_accessed.specs.Present.{Present, Memory, present_of}
 use Rattle.dap_accessed.specs.Twins.{AreTwins, SameMessages}
-use Rattle.dap_accessed.specs.Inner.Moves.{Move, between, move, move_in, plain_memory, store_memory, scene_in, settles, turn_by, turns}
+use Rattle.dap_accessed.specs.Inner.Moves.{Move, between, move, move_in, plain_memory, store_memory, scene_in, turn_by, turns}
 use Rattle.dap_accessed.proofs.Cuts.{Answers-more}
 use Rattle.dap_accessed.proofs.StepIs.{present-moves, answers-move}
 
@@ -55,7 +55,7 @@ module _ (identity : Configuration) where
     answers : SameMessages p.setup.identity identity one.answers other.answers
 
   follows-turn : (t : Turn) (p : Present) (memory : Memory) (state : ServerState) (item : Item) → Follows p (turns t p memory state item) (turns t (twin p) memory state item)
-  follows-turn (Does e) p memory state item = record { present = refl; answers = same_all p.setup.identity identity e.answers }
+  follows-turn (Does e) p memory state item = record { present = refl; answers = same_all p.setup.identity identity (told p.setup e).answers }
   follows-turn (BeginsGroup b) p memory state item = record { present = refl; answers = tt }
 
   -- where nothing is said of the server, its identity doesn't count
@@ -109,8 +109,8 @@ module _ (identity : Configuration) where
   follows-in phases.Ready p item = ready-follows p (plain_memory p.kept) item
   follows-in (phases.Opened o) p item = opened-follows o p (plain_memory p.kept) item
   follows-in (phases.Connected o s) p item = connected-follows o s p (plain_memory p.kept) item
-  follows-in (phases.PutDue o s key) p item = record { present = refl; answers = same_all p.setup.identity identity (effect_with (Putting key) (scene_in p) o s item).answers }
-  follows-in (phases.UpdateDue o s) p item = record { present = refl; answers = same_all p.setup.identity identity (effect_with Updating (scene_in p) o s item).answers }
+  follows-in (phases.PutDue o s key) p item = record { present = refl; answers = same_all p.setup.identity identity (told p.setup (effect_with (Putting key) (scene_in p) o s item)).answers }
+  follows-in (phases.UpdateDue o s) p item = record { present = refl; answers = same_all p.setup.identity identity (told p.setup (effect_with Updating (scene_in p) o s item)).answers }
   follows-in (phases.Storing o s n) p item = store-follows o s p (store_memory p.kept false n) item
   follows-in (phases.Dropping o s n) p item = store-follows o s p (store_memory p.kept true n) item
   follows-in (phases.Stopped o s) p item = stopped-follows o s p (plain_memory p.kept) item
@@ -160,8 +160,9 @@ module _ (one : ServerSetup) (identity : Configuration) (first : Files) where
 -- the other server is the first one that says something else
 is-twin : (one other : ServerSetup) → AreTwins one other → saying other.identity one ≡ other
 is-twin one other twins =
-    ap (λ (n : Names). let own : ServerSetup = record { identity = other.identity; names = n; most = one.most } in own) twins.names
-    ∙ ap (λ (r : Rights). let own : ServerSetup = record { identity = other.identity; names = other.names; most = r } in own) twins.most
+    ap (λ (n : Names). let own : ServerSetup = record { identity = other.identity; names = n; most = one.most; full = one.full } in own) twins.names
+    ∙ ap (λ (r : Rights). let own : ServerSetup = record { identity = other.identity; names = other.names; most = r; full = one.full } in own) twins.most
+    ∙ ap (λ (f : Bool). let own : ServerSetup = record { identity = other.identity; names = other.names; most = other.most; full = f } in own) twins.full
 
 module _ (one other : ServerSetup) (twins : AreTwins one other) (first : Files) (items : List Item) where
   pub same-files : After one first items ≡ After other first items

@@ -78,6 +78,6 @@ short_most answer.Ack s = lit≤ tt
 short_most answer.Complete s = lit≤ tt
 short_most (answer.Status code) s = lit≤ tt
 short_most (answer.Reason code reason) s = lit≤ tt
-short_most (answer.StoreRefusal reason ordinal) s = lit≤ tt
+short_most (answer.StoreRefusal code reason ordinal) s = lit≤ tt
 short_most (answer.Done number) s = lit≤ tt
 short_most (answer.Record number body) s = absurd s

@@ -1,6 +1,6 @@
 -- What each message does in each phase, and its answers (DAP 5.6.0, message sequences). The answers to a message that
 -- is out of sequence are a choice of this implementation.
-use Rattle.std.specs.Prelude.{ℕ, Bool, if◌then◌else◌, List, [], ◌∷◌, Option}
+use Rattle.std.specs.Prelude.{ℕ, Bool, if◌then◌else◌, List, [], ◌∷◌, map, Option}
 use Rattle.dap_msg.specs.Codes as codes
 use Rattle.dap_msg.specs.declared.message.Message.{Message}
 use Rattle.dap_msg.specs.declared.message.ControlFields.{ControlFields}
@@ -16,7 +16,7 @@ use Rattle.dap_accessed.specs.declared.phase.OpenFile.{OpenFile}
 use Rattle.dap_accessed.specs.declared.verbs.Verb.{Verb}
 use Rattle.dap_accessed.specs.declared.verbs.Verb.TheVariants as verbs
 use Rattle.dap_accessed.specs.Standing.{the_file, ServerState, Fresh, Ready, Opened, Connected, Store, Stopped, Group, Standing, Scene, Effect, enters}
-use Rattle.dap_accessed.specs.Replies.{bare_status, sync_status}
+use Rattle.dap_accessed.specs.Replies.{bare_status, coded, sync_status}
 use Rattle.dap_accessed.specs.Past.{asked_shape, kept_attributes, is_dropping, ordinal_so_far}
 use Rattle.dap_accessed.specs.Accesses.{access_file, complete}
 use Rattle.dap_accessed.specs.Records.{at_number, new_stream, verb_of, get_pick, record_got, put_key, refused_effect, effect_of_outcome, Change, Putting, Updating, effect_of_change}
@@ -34,6 +34,10 @@ pub record Begun : Type 0 where
 pub data Turn : Type 0 where
   Does : Effect → Turn
   BeginsGroup : Begun → Turn
+
+-- an effect with its answers as a server of this setup has them
+abbrev pub told : (own : ServerSetup) → Effect → Effect
+told own effect = record effect { answers = map (coded own.full) effect.answers }
 
 -- A message that is out of sequence changes nothing.
 abbrev pub sync : Scene → ServerState → Message → Effect

@@ -6,7 +6,7 @@ use Rattle.dap_msg.specs.declared.message.Message.{Message}
 use Rattle.dap_msg.specs.declared.items.Item.{Item}
 use Rattle.dap_accessed.specs.declared.setup.ServerSetup.{ServerSetup}
 use Rattle.dap_accessed.specs.Standing.{Files, ServerState, Connected, Group, Standing, Effect, start}
-use Rattle.dap_accessed.specs.Effects.{Begun, Turn, Does, BeginsGroup, turn_of, effect_with}
+use Rattle.dap_accessed.specs.Effects.{Begun, Turn, Does, BeginsGroup, told, turn_of, effect_with}
 
 -- the state after a group
 abbrev pub over : Standing → ServerState → Item → Effect → Standing
@@ -18,10 +18,10 @@ over s state first effect =
     }
 
 -- the state after a group of two
-abbrev pub after_two : Standing → Begun → Item → Standing
-after_two s begun second =
+abbrev pub after_two : (own : ServerSetup) → Standing → Begun → Item → Standing
+after_two own s begun second =
     over s (Connected begun.opened begun.stream) begun.first
-    (effect_with begun.change s.scene begun.opened begun.stream second)
+    (told own (effect_with begun.change s.scene begun.opened begun.stream second))
 
 -- the state after the whole groups, and what is begun of one that isn't whole
 pub record GroupedItems : Type 0 where
@@ -33,13 +33,13 @@ abbrev pub grouped_items : (own : ServerSetup) → Standing → List Item → Gr
 grouped_items own s [] = record { standing = s; begun = None }
 grouped_items own s (item ∷ []) =
     elim (turn_of own s item) [
-      | Does effect ↦ record { standing = over s s.state item effect; begun = None }
+      | Does effect ↦ record { standing = over s s.state item (told own effect); begun = None }
       | BeginsGroup begun ↦ record { standing = s; begun = Some begun }
     ]
 grouped_items own s (item ∷ second ∷ items) =
     elim (turn_of own s item) [
-      | Does effect ↦ grouped_items own (over s s.state item effect) (second ∷ items)
-      | BeginsGroup begun ↦ grouped_items own (after_two s begun second) items
+      | Does effect ↦ grouped_items own (over s s.state item (told own effect)) (second ∷ items)
+      | BeginsGroup begun ↦ grouped_items own (after_two own s begun second) items
     ]
 
 -- the answers of the groups, in order
@@ -70,29 +70,29 @@ answers_added own first items item = drop (length (Answers own first items)) (An
 -- ---- One more item finishes the group that was begun, or is a group, or begins one.
 
 -- the state after a group, or with one begun
-abbrev pub next_group : Standing → Item → Turn → GroupedItems
-next_group s item (Does effect) = record { standing = over s s.state item effect; begun = None }
-next_group s item (BeginsGroup begun) = record { standing = s; begun = Some begun }
+abbrev pub next_group : (own : ServerSetup) → Standing → Item → Turn → GroupedItems
+next_group own s item (Does effect) = record { standing = over s s.state item (told own effect); begun = None }
+next_group own s item (BeginsGroup begun) = record { standing = s; begun = Some begun }
 
 -- the state after an item, where this group was begun
 abbrev pub more_after : (own : ServerSetup) → Standing → Option Begun → Item → GroupedItems
-more_after own s None item = next_group s item (turn_of own s item)
-more_after own s (Some begun) item = record { standing = after_two s begun item; begun = None }
+more_after own s None item = next_group own s item (turn_of own s item)
+more_after own s (Some begun) item = record { standing = after_two own s begun item; begun = None }
 
 -- the state after one more item
 abbrev pub after_item : (own : ServerSetup) → GroupedItems → Item → GroupedItems
 after_item own c item = more_after own c.standing c.begun item
 
 -- the answers of a group; one that is begun has none yet
-abbrev pub next_answers : Turn → List Message
-next_answers (Does effect) = effect.answers
-next_answers (BeginsGroup begun) = []
+abbrev pub next_answers : (own : ServerSetup) → Turn → List Message
+next_answers own (Does effect) = (told own effect).answers
+next_answers own (BeginsGroup begun) = []
 
 -- the answers to an item, where this group was begun
 abbrev pub answers_after : (own : ServerSetup) → Standing → Option Begun → Item → List Message
-answers_after own s None item = next_answers (turn_of own s item)
+answers_after own s None item = next_answers own (turn_of own s item)
 answers_after own s (Some begun) item =
-    (effect_with begun.change s.scene begun.opened begun.stream item).answers
+    (told own (effect_with begun.change s.scene begun.opened begun.stream item)).answers
 
 -- the answers to an item in this state
 abbrev pub answers_of : (own : ServerSetup) → GroupedItems → Item → List Message

@@ -1,9 +1,10 @@
 -- The answers of a server (DAP 5.6.0, Status message). Which code and reason is used is a choice of this
 -- implementation.
-use Rattle.std.specs.Prelude.{ℕ, List, [], ◌∷◌, Result, Ok, Err}
+use Rattle.std.specs.Prelude.{ℕ, Bool, if◌then◌else◌, List, [], ◌∷◌, Result, Ok, Err}
 use Rattle.dap_msg.specs.Codes as codes
 use Rattle.dap_msg.specs.declared.message.Message.{Message}
 use Rattle.dap_msg.specs.declared.message.Message.TheVariants.{Status, Ack}
+use Rattle.dap_msg.specs.declared.message.StatusFields.{StatusFields}
 use Rattle.dap_msg.specs.Formats.{type_number as type_of}
 use Rattle.dap_msg.specs.BothEnds.{four_bytes, complete_with, attributes_of}
 use Rattle.rec_file.specs.declared.shapes.Org.{Org}
@@ -36,15 +37,15 @@ sync_status message = bare_status (codes.out_of_sequence (type_of message))
 
 -- the byte of the reason in STV, 0 if a refusal has none
 abbrev pub reason_of : Refusal → ℕ
-reason_of NotPermitted = 2
-reason_of NoCurrent = 3
-reason_of RecordNotFound = 4
-reason_of RecordExists = 5
-reason_of NumberOutOfRange = 6
-reason_of BadLength = 7
-reason_of BadAccessMode = 8
-reason_of DeleteNotAllowed = 9
-reason_of BadKey = 12
+reason_of NotPermitted = codes.reasons.not_permitted
+reason_of NoCurrent = codes.reasons.no_current
+reason_of RecordNotFound = codes.reasons.record_not_found
+reason_of RecordExists = codes.reasons.record_exists
+reason_of NumberOutOfRange = codes.reasons.number_out_of_range
+reason_of BadLength = codes.reasons.bad_length
+reason_of BadAccessMode = codes.reasons.bad_access_mode
+reason_of DeleteNotAllowed = codes.reasons.delete_not_allowed
+reason_of BadKey = codes.reasons.bad_key
 reason_of _ = 0
 
 -- The Status of a refused operation on a record. The end of the file has a code without a reason. In a Store RECNUM
@@ -65,6 +66,19 @@ record_status (Err refusal) = refusal_status refusal []
 -- a record's Data message is longer than the peer takes
 abbrev pub too_large : Message
 too_large = reason_status codes.stscode.record_refused codes.reasons.too_large_for_buffer []
+
+-- a Status as a full server has it: the code of a refusal with a reason is RMS's
+abbrev pub coded_status : (full : Bool) → StatusFields → StatusFields
+coded_status full s =
+    elim s.stv [
+      | [] ↦ s
+      | reason ∷ _ ↦ record s { code = if full then codes.rms_code s.code reason else s.code }
+    ]
+
+-- an answer as a full server has it
+abbrev pub coded : (full : Bool) → Message → Message
+coded full (Status s) = Status (coded_status full s)
+coded full message = message
 
 -- the Access Complete that answers the end of an access or a stream
 abbrev pub complete_response : Message

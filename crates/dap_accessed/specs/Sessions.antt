@@ -1,5 +1,5 @@
 -- What a server keeps of one link, but for the files: several links may have one table of files.
-use Rattle.std.specs.Prelude.{ℕ, ◌≡◌, ◌<◌, ◌≤◌, ◌==◌, ◌-◌, nat_lt, if◌then◌else◌, true, false, List, [], length, Option, Some, None, option_map}
+use Rattle.std.specs.Prelude.{ℕ, ◌≡◌, ◌<◌, ◌≤◌, ◌==◌, ◌-◌, nat_lt, if◌then◌else◌, true, false, [], length, Option, Some, None, option_map}
 use Rattle.std.specs.Global.{Vec}
 use Rattle.dap_msg.specs.BothEnds.{max_nsp_message, min_buffer}
 use Rattle.dap_msg.specs.Blocked.{bodies}

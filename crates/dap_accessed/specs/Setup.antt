@@ -1,6 +1,6 @@
--- What a server is set up with: what it says of itself, how it compares names, and the rights that an Access may ask
--- for.
-use Rattle.std.specs.Prelude.{ℕ, ◌≤◌, Bool, true, not, ◌&&◌, ◌||◌, List, bytes_eq}
+-- What a server is set up with: what it says of itself, how it compares names, the rights that an Access may ask for,
+-- and whether it is full: then it does more than a plain one.
+use Rattle.std.specs.Prelude.{ℕ, ◌≤◌, Bool, true, false, not, ◌&&◌, ◌||◌, List, bytes_eq}
 use Rattle.file_names.specs.Folds.{fold}
 use Rattle.dap_msg.specs.BothEnds.{min_buffer, plain_identity}
 use Rattle.dap_msg.specs.Fitting.{FieldsFit}
@@ -26,7 +26,7 @@ lacks most asked =
 
 -- a server with this BUFSIZ of which nothing else is asked
 abbrev pub plain_setup : ℕ → ServerSetup
-plain_setup bufsiz = record { identity = plain_identity bufsiz; names = Exact; most = all_rights }
+plain_setup bufsiz = record { identity = plain_identity bufsiz; names = Exact; most = all_rights; full = false }
 
 -- its Configuration has a spelling, and its BUFSIZ is at least the minimum
 pub record IsServerSetup (own : ServerSetup) : Type 0 where

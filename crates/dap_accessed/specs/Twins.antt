@@ -5,10 +5,11 @@ use Rattle.dap_msg.specs.declared.message.Message.{Message}
 use Rattle.dap_msg.specs.declared.message.Message.TheVariants.{Config}
 use Rattle.dap_accessed.specs.declared.setup.ServerSetup.{ServerSetup}
 
--- they compare names in one way, and give the same rights
+-- they compare names in one way, give the same rights, and both are full or none is
 pub record AreTwins (one other : ServerSetup) : Type 0 where
   pub names : one.names ≡ other.names
   pub most : one.most ≡ other.most
+  pub full : one.full ≡ other.full
 
 -- two messages are the same, or each is the Configuration of its server
 abbrev pub SameMessage : (one other : Configuration) → Message → Message → Type 0

@@ -6,14 +6,14 @@ ghost use Rattle.dap_msg.specs.Canon.{Fits};
 ghost use Rattle.dap_msg.specs.Sizes.{file_data_size};
 ghost use Rattle.dap_msg.specs.BothEnds.{four_bytes, min_buffer};
 ghost use Rattle.rec_file.specs.Limits.{max_record};
-ghost use Rattle.dap_accessed.specs.Replies.{attributes_for, complete_response, format_number, opened_with, org_number, status, too_large};
+ghost use Rattle.dap_accessed.specs.Replies.{attributes_for, coded, complete_response, format_number, opened_with, org_number, status, too_large};
 ghost use Rattle.dap_accessed.specs.Inner.Written.{AddsAnswer, FitsIn, IsAtMost, IsShortReply, IsWritableReply, reply_message, most_bytes};
 ghost use Rattle.dap_accessed.specs.Served.{AreAnswers};
 
 use crate::fault::NoMemory;
 use dap_msg::codes::{
     CMPFUNC_RESPONSE, ORG_RELATIVE, ORG_SEQUENTIAL, REASON_TOO_LARGE_FOR_BUFFER, RECORD_REFUSED,
-    RFM_FIXED, RFM_VARIABLE, SUCCESS,
+    RFM_FIXED, RFM_VARIABLE, SUCCESS, rms_code,
 };
 use dap_msg::{
     Attributes, Bytes, Configuration, MIN_BUFFER, MessageValue, StatusFields, append_message,
@@ -34,12 +34,22 @@ pub(crate) enum Answer<'a> {
     Complete,
     /// A Status with a code alone.
     Status(u16),
-    Reason { code: u16, reason: [u8; 1] },
+    Reason {
+        code: u16,
+        reason: [u8; 1],
+    },
     /// The refusal of a Filedata of a Store.
-    StoreRefusal { reason: [u8; 1], ordinal: [u8; 4] },
+    StoreRefusal {
+        code: u16,
+        reason: [u8; 1],
+        ordinal: [u8; 4],
+    },
     /// The operation on the record of this number is done.
     Done([u8; 4]),
-    Record { number: [u8; 4], body: &'a [u8] },
+    Record {
+        number: [u8; 4],
+        body: &'a [u8],
+    },
 }
 
 /// Returns the refusal of a record that is longer than the peer takes.
@@ -136,6 +146,33 @@ pub(crate) fn filedata_len(body: &[u8]) -> usize
 }
 
 impl<'a> Answer<'a> {
+    /// Returns the answer as a full server gives it, or a plain one: in a full one's the code of a refusal with a reason
+    /// is RMS's.
+    pub(crate) fn coded(self, full: bool) -> Answer<'a>
+        ensures message { reply_message result ≡ coded full (reply_message self.entry) }
+        ensures short { IsShortReply self.entry → IsShortReply result }
+    {
+        if !full {
+            return self;
+        }
+        match self {
+            Answer::Reason { code, reason } => Answer::Reason {
+                code: rms_code(code, reason[0]),
+                reason,
+            },
+            Answer::StoreRefusal {
+                code,
+                reason,
+                ordinal,
+            } => Answer::StoreRefusal {
+                code: rms_code(code, reason[0]),
+                reason,
+                ordinal,
+            },
+            answer => answer,
+        }
+    }
+
     /// Returns the message that the answer is.
     #[tactic(auto, using(dap_msg::proofs::ForCallers::answers_fit))]
     fn message(&self) -> MessageValue<'_>
@@ -151,9 +188,11 @@ impl<'a> Answer<'a> {
             Answer::Complete => MessageValue::complete_with(CMPFUNC_RESPONSE),
             Answer::Status(code) => status(*code, &[], &[], &[]),
             Answer::Reason { code, reason } => status(*code, &[], &[], reason),
-            Answer::StoreRefusal { reason, ordinal } => {
-                status(RECORD_REFUSED, &[], ordinal, reason)
-            }
+            Answer::StoreRefusal {
+                code,
+                reason,
+                ordinal,
+            } => status(*code, &[], ordinal, reason),
             Answer::Done(number) => status(SUCCESS, number, number, &[]),
             Answer::Record { number, body } => record(number, body),
         }
@@ -227,12 +266,13 @@ impl Room {
         Ok(Room { answers, bytes })
     }
 
-    /// Writes the answer into the room, as one NSP message.
-    pub(crate) fn fill(self, limit: u16, answer: Answer<'_>) -> Vec<Vec<u8>>
+    /// Writes the answer into the room, as one NSP message, as a full server gives it or a plain one.
+    pub(crate) fn fill(self, limit: u16, full: bool, answer: Answer<'_>) -> Vec<Vec<u8>>
         requires short { IsShortReply answer }
         requires room { min_buffer ≤ limit }
-        ensures { AreAnswers limit (reply_message answer.entry ∷ []) result }
+        ensures { AreAnswers limit (coded full (reply_message answer.entry) ∷ []) result }
     {
+        let answer = answer.coded(full);
         let Room {
             mut answers,
             mut bytes,

@@ -160,7 +160,7 @@ impl Session {
         let mut after = stream;
         let reply = files.delete(opened.at, &mut after);
         self.phase = Phase::Connected(opened, after);
-        Ok(room.fill(self.limit, settled(reply)))
+        Ok(room.fill(self.limit, self.setup.full, settled(reply)))
     }
 
     /// Stores the record of a Filedata, under a key where there is one, unless the key was refused.
@@ -187,7 +187,7 @@ impl Session {
         let mut after = stream;
         let reply = files.put(opened.at, &mut after, key, body)?;
         self.phase = Phase::Connected(opened, after);
-        Ok(room.fill(self.limit, settled(reply)))
+        Ok(room.fill(self.limit, self.setup.full, settled(reply)))
     }
 
     /// Stores the record of a Filedata in place of the stream's current one.
@@ -209,6 +209,6 @@ impl Session {
         let mut after = stream;
         let reply = files.update(opened.at, &mut after, body)?;
         self.phase = Phase::Connected(opened, after);
-        Ok(room.fill(self.limit, settled(reply)))
+        Ok(room.fill(self.limit, self.setup.full, settled(reply)))
     }
 }

@@ -53,6 +53,7 @@ pub(crate) fn store_refused<'a>(refusal: Refusal, ordinal: u32) -> Answer<'a>
     match refusal {
         Refusal::EndOfFile => Answer::Status(END_OF_FILE),
         _ => Answer::StoreRefusal {
+            code: RECORD_REFUSED,
             reason: [reason_number(refusal)],
             ordinal: ordinal.to_le_bytes(),
         },

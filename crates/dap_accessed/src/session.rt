@@ -9,7 +9,7 @@ ghost use Rattle.dap_msg.specs.Decoding.{IsSpelled};
 ghost use Rattle.dap_msg.specs.Items.{ItemFits};
 ghost use Rattle.dap_accessed.specs.Accesses.{fac_or, rights_of, rights_to_create};
 ghost use Rattle.dap_accessed.specs.Groups.{GroupedItems};
-ghost use Rattle.dap_accessed.specs.Replies.{bare_status, refused_access};
+ghost use Rattle.dap_accessed.specs.Replies.{bare_status, coded, refused_access};
 ghost use Rattle.dap_accessed.specs.Served.{AreAnswers};
 ghost use Rattle.dap_accessed.specs.Sessions.{IsIn, IsOpenIn, IsSilentIn, ServesItem, asked_in, with_files, new_session, open_at, phase_moved_up, refused_session, session_with, there_at, would_open};
 ghost use Rattle.dap_accessed.specs.Setup.{IsServerSetup};
@@ -271,11 +271,11 @@ impl Session {
         phase: Phase,
     ) -> Result<Vec<Vec<u8>>, NoMemory>
         requires short { IsShortReply answer }
-        ensures ok { IfOk result (λ answers. Enters self.old phase (reply_message answer.entry ∷ [])
-            self.new answers) }
+        ensures ok { IfOk result (λ answers. Enters self.old phase
+            (coded self.old.setup.full (reply_message answer.entry) ∷ []) self.new answers) }
         ensures err { OnErr result (self.new ≡ self.old) }
     {
-        let answers = one(self.alloc, self.limit, answer)?;
+        let answers = one(self.alloc, self.limit, answer.coded(self.setup.full))?;
         self.phase = phase;
         Ok(answers)
     }

@@ -38,6 +38,9 @@ pub struct ServerSetup {
     pub names: Names,
     /// The rights that an Access may ask for.
     pub most: Rights,
+    /// Whether it does what programs at a prompt need, which a plain server doesn't: the Status of a refusal with a
+    /// reason has RMS's code ([`dap_msg::codes::rms_code`]).
+    pub full: bool,
 }
 
 /// Every right.
@@ -70,7 +73,7 @@ pub fn rights_of_fac(fac: u32) -> Rights
 
 impl ServerSetup {
     /// Returns a server with a buffer of this many bytes of which nothing else is asked: names are compared byte by
-    /// byte, and an Access may ask for every right.
+    /// byte, an Access may ask for every right, and it isn't full.
     pub fn plain(bufsiz: u16) -> ServerSetup
         ensures { result ≡ plain_setup bufsiz }
     {
@@ -78,6 +81,7 @@ impl ServerSetup {
             identity: Configuration::plain(bufsiz),
             names: Names::Exact,
             most: ALL_RIGHTS,
+            full: false,
         }
     }
 

@@ -56,7 +56,8 @@ impl Session {
             }
             Err(refusal) => {
                 self.phase = Phase::Dropping(opened, after, ordinal);
-                Ok(room.fill(self.limit, store_refused(refusal, ordinal)))
+                let answer = store_refused(refusal, ordinal);
+                Ok(room.fill(self.limit, self.setup.full, answer))
             }
         }
     }
@@ -98,7 +99,8 @@ impl Session {
         let mut next = stream.next();
         while let Some((number, body)) = first_record(file, next) {
             if filedata_len(body) > usize::from(self.limit) {
-                append(self.alloc, self.limit, too_large(), &mut answers)?;
+                let answer = too_large().coded(self.setup.full);
+                append(self.alloc, self.limit, answer, &mut answers)?;
                 return Ok((answers, Phase::Stopped(opened, at_number(stream, number))));
             }
             append(

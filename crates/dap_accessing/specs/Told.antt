@@ -1,6 +1,6 @@
 -- What answers to requests report (DAP 5.6.0, message sequences): each request takes the first of the answers that are
 -- left. Which answers a request takes is a choice of this implementation.
-use Rattle.std.specs.Prelude.{ℕ, Bool, true, false, ◌&&◌, nat_le, ◌==◌, if◌then◌else◌, List, [], ◌∷◌, ◌++◌, drop, slice_get, take_while, filter_map, Option, Some, None, is_some, option_map}
+use Rattle.std.specs.Prelude.{ℕ, Bool, true, false, ◌&&◌, ◌||◌, nat_le, ◌==◌, if◌then◌else◌, List, [], ◌∷◌, ◌++◌, drop, slice_get, take_while, filter_map, Option, Some, None, is_some, option_map}
 use Rattle.std.specs.List.{prefix_len, list_any}
 use Rattle.dap_msg.specs.Codes as codes
 use Rattle.dap_msg.specs.declared.message.StatusFields.{StatusFields}
@@ -93,11 +93,11 @@ hear_completed done (Whole (Accomp c) ∷ rest) = if c.func == codes.cmpfunc.res
 hear_completed done answers = hear_refusal answers
 
 -- How a fetch ended, by the code and the reason of its Status: at the end of the file, at a record too large for the
--- buffer, or refused.
+-- buffer, also by RMS's code, or refused.
 abbrev pub ending_by : ℕ → ℕ → Ending
 ending_by code reason =
     if code == codes.stscode.end_of_file then ending.Complete
-    else if code == codes.stscode.record_refused && reason == codes.reasons.too_large_for_buffer then ending.Stopped
+    else if (code == codes.stscode.record_refused || code == codes.rms_record.too_large_for_buffer) && reason == codes.reasons.too_large_for_buffer then ending.Stopped
     else ending.Refused code reason
 
 -- what is read of the first answers, as long as something is read of each

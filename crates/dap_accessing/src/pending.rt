@@ -12,7 +12,7 @@ use crate::report::{Ending, Report};
 use crate::request::Request;
 use dap_msg::codes::{
     CMPFUNC_RESPONSE, END_OF_FILE, ORG_SEQUENTIAL, REASON_TOO_LARGE_FOR_BUFFER, RECORD_REFUSED,
-    RFM_VARIABLE,
+    RFM_VARIABLE, RMS_TOO_LARGE_FOR_BUFFER,
 };
 use dap_msg::{MessageValue, StatusCode, is_too_small, number_of};
 use rec_file::MAX_NUMBER;
@@ -65,7 +65,9 @@ fn ending(code: u16, stv: &[u8]) -> Ending
     let reason = reason(stv);
     match code {
         END_OF_FILE => Ending::Complete,
-        RECORD_REFUSED if reason == REASON_TOO_LARGE_FOR_BUFFER => Ending::Stopped,
+        RECORD_REFUSED | RMS_TOO_LARGE_FOR_BUFFER if reason == REASON_TOO_LARGE_FOR_BUFFER => {
+            Ending::Stopped
+        }
         _ => Ending::Refused(code, reason),
     }
 }

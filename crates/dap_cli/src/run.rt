@@ -9,26 +9,14 @@ ghost use Rattle.dap_words.specs.Choosing.{Chooses, dapnsp, word_of};
 ghost use Rattle.dap_words.specs.declared.choice.Choice.{Choice};
 ghost use Rattle.dap_cli.specs.Run.{CommandGives, RunGives};
 
+use crate::front::Fronted;
+use crate::telling::finish_reading;
 use clap::error::ErrorKind;
 use dap_capture::{CaptureFault, Outcome, messages, schedule, show};
 use dap_words::{Choice, read_words};
-use linewise::{Fronted, LineCommand, finish, finish_reading, refuse};
+use linewise::{finish, refuse};
 use std::alloc::Global;
 use std::io::{Read, Write};
-
-/// Returns what errors in the lines of a command name.
-fn line_command(choice: Choice) -> LineCommand {
-    let (command, lines) = match choice {
-        Choice::Show => ("show", "a capture"),
-        Choice::Msg => ("msg", "a capture"),
-        Choice::Run => ("run", "a schedule"),
-    };
-    LineCommand {
-        program: "dapnsp",
-        command,
-        lines,
-    }
-}
 
 /// Runs a command.
 fn run_lines<R: Read, W: Write>(
@@ -66,7 +54,7 @@ fn run_choice<R: Read, W: Write, E: Write>(
     let mut lines = Fronted::new(reader);
     let outcome = run_lines(alloc, choice, &mut lines, writer);
     if helps {
-        finish_reading(line_command(choice), lines.front(), outcome, error_writer)
+        finish_reading(choice, lines.front(), outcome, error_writer)
     } else {
         finish(outcome, error_writer)
     }
@@ -99,6 +87,8 @@ fn run_named<R: Read, W: Write, E: Write>(
         × Keeps (W.contents writer.old) (W.contents writer.new) }
     ensures unread { fault_of dapnsp (map string_bytes words.now) ≢ []
         → R.remaining reader.new ≡ R.remaining reader.old }
+    ensures alone { (program : List ℕ) → map string_bytes words.now ≡ program ∷ []
+        → (result ≡ 2) × Keeps (W.contents writer.old) (W.contents writer.new) }
     ensures help { fault_of dapnsp (map string_bytes words.now) ≡ ErrorKind.DisplayHelp ∷ []
         → (result ≡ 0) ⊎ (result ≡ 3) }
     ensures quiet { result ≡ 0
@@ -106,7 +96,10 @@ fn run_named<R: Read, W: Write, E: Write>(
 {
     match read_words(alloc, words) {
         Ok(choice) => run_choice(alloc, choice, helps, reader, writer, error_writer),
-        Err(error) => refuse(alloc, error, writer, error_writer),
+        Err(error) => {
+            let status = refuse(alloc, error, writer, error_writer);
+            if words.len() == 1 { 2 } else { status }
+        }
     }
 }
 
@@ -114,8 +107,9 @@ fn run_named<R: Read, W: Write, E: Write>(
 ///
 /// 0: all was done, or help was asked for and written. 1: a bad line, an input or a line over its limit, or a schedule
 /// that met an event without a step. 2: the words name no command; the writer gets nothing. 3: the reader or the writer
-/// failed, or memory ran out. Nothing is read where the words name no command or ask for help. A fault is reported in
-/// one line to the error writer, and so is what is wrong with the words; a failure of the error writer changes nothing.
+/// failed, or memory ran out; but the program's name alone ends with 2, whatever fails. Nothing is read where the words
+/// name no command or ask for help. A fault is reported in one line to the error writer, and so is what is wrong with the
+/// words; a failure of the error writer changes nothing.
 pub fn run_words<R: Read, W: Write, E: Write>(
     alloc: Global,
     words: &[String],
@@ -142,6 +136,8 @@ pub fn run_words<R: Read, W: Write, E: Write>(
         × Keeps (W.contents writer.old) (W.contents writer.new) }
     ensures unread { fault_of dapnsp (map string_bytes words.now) ≢ []
         → R.remaining reader.new ≡ R.remaining reader.old }
+    ensures alone { (program : List ℕ) → map string_bytes words.now ≡ program ∷ []
+        → (result ≡ 2) × Keeps (W.contents writer.old) (W.contents writer.new) }
     ensures help { fault_of dapnsp (map string_bytes words.now) ≡ ErrorKind.DisplayHelp ∷ []
         → (result ≡ 0) ⊎ (result ≡ 3) }
     ensures quiet { result ≡ 0
@@ -176,6 +172,8 @@ pub fn run_program<R: Read, W: Write, E: Write>(
         × Keeps (W.contents writer.old) (W.contents writer.new) }
     ensures unread { fault_of dapnsp (map string_bytes words.now) ≢ []
         → R.remaining reader.new ≡ R.remaining reader.old }
+    ensures alone { (program : List ℕ) → map string_bytes words.now ≡ program ∷ []
+        → (result ≡ 2) × Keeps (W.contents writer.old) (W.contents writer.new) }
     ensures help { fault_of dapnsp (map string_bytes words.now) ≡ ErrorKind.DisplayHelp ∷ []
         → (result ≡ 0) ⊎ (result ≡ 3) }
     ensures quiet { result ≡ 0

@@ -17,8 +17,8 @@ use Rattle.dap_msg.specs.Codes as codes
 use Rattle.dap_accessed.specs.declared.phase.OpenFile.{OpenFile}
 use Rattle.dap_accessed.specs.declared.setup.ServerSetup.{ServerSetup}
 use Rattle.dap_accessed.specs.Accesses.{access_file, create_file, open_file, refuse_access}
-use Rattle.dap_accessed.specs.Effects.{Begun, Does}
-use Rattle.dap_accessed.specs.Groups.{GroupedItems, answers_in, over}
+use Rattle.dap_accessed.specs.Effects.{Begun, Does, told}
+use Rattle.dap_accessed.specs.Groups.{GroupedItems, answers_in}
 use Rattle.dap_accessed.specs.Past.{asked_shape, is_dropping, kept_attributes, ordinal_so_far}
 use Rattle.dap_accessed.specs.Replies.{bare_status}
 use Rattle.dap_accessed.specs.Standing.{Effect, Files, Group, Scene, ServerState, Standing, enters, index_by}
@@ -37,7 +37,7 @@ use Rattle.dap_accessing.specs.declared.phase.Phase.TheVariants.{Fresh, Ready, O
 use Rattle.dap_accessing.specs.Asked.{messages_of}
 use Rattle.dap_accessing.specs.Phase.{phase_next, limit_next}
 use Rattle.dap_accessing.specs.Phases.{phase_fits}
-use Rattle.dap_accessing.specs.Told.{Hearing, Reports, Unexpected, Waits, after_those, first_told, has_success, hear, hear_attributes, hear_done, hear_stored}
+use Rattle.dap_accessing.specs.Told.{Reports, Unexpected, Waits, after_those, first_told, has_success, hear, hear_attributes, hear_done, hear_stored}
 use Rattle.dap_accessing.specs.Parts.{hear_store_end, is_status, statuses_in_front}
 use Rattle.dap_end.specs.Agreement.{AgreeAt, AreLimits, IsBufsiz}
 use Rattle.dap_end.proofs.Goes.{Comes, Goes, changes, creates, more_items, opens, shape-there, standing_at}
@@ -162,7 +162,7 @@ not-asked own files at.Ready m h = refl
 not-asked own files state m h = refl
 
 abbrev by_lock : ServerSetup → GroupedItems → Item → Bool → GroupedItems
-by_lock own c item locked = if locked then next_group c.standing item (Does (refuse_access c.standing.scene (bare_status file_locked))) else after_item own c item
+by_lock own c item locked = if locked then next_group own c.standing item (Does (refuse_access c.standing.scene (bare_status file_locked))) else after_item own c item
 
 unlocked : (own : ServerSetup) (others : List (Option OpenFile)) (c : GroupedItems) (m : Message) → IsNoAccess m → more_beside own others c (Whole m) ≡ after_item own c (Whole m)
 unlocked own others c m h = ap (λ (o : Option OpenFile). by_lock own c (Whole m) (is_locked others o)) (not-asked own c.standing.scene.files c.standing.state m h)
@@ -314,7 +314,7 @@ module _ (own_a : Configuration) (own_b : ServerSetup) (a : IsBufsiz own_a.bufsi
   access_second r access hears h false =
       let scene : Scene = record { limit = limit; files = files } in
       let shape = asked_shape (kept_attributes past) in
-      let e = access_file own_b scene access shape in
+      let e = told own_b (access_file own_b scene access shape) in
       let c = accesses own_a own_b scene limit_a h access shape all (good-shape (kept_attributes past)) in
       record { added = e.answers; adds = refl; leads = inl (record { last = refl; whole = refl; done = c.0; heard = hears (map Whole e.answers) ∙ c.1; agree = c.2 }) }
 
@@ -339,8 +339,8 @@ module _ (own_a : Configuration) (own_b : ServerSetup) (a : IsBufsiz own_a.bufsi
       record { added = complete_with 2 ∷ []; adds = refl; leads = inl (record { last = refl; whole = refl; done = report.Stored (first_told (statuses_in_front (map Whole answers))); heard = hears (map Whole answers) ∙ heard; agree = h }) })
   store_next r o s so_far (body ∷ bodies) hears h refused = at_head Connected (at.Store o s) None r so_far (Filedata [] body) (map (Filedata []) bodies ++ complete_with 4 ∷ [])
       (let scene : Scene = record { limit = limit; files = files } in
-      let e : Effect = if is_dropping past then enters scene (at.Store o s) [] else store_one (ordinal_so_far past) scene o s body in
-      let one : OneStored limit o e = one_stored scene o s body (ordinal_so_far past) (is_dropping past) in
+      let e : Effect = told own_b (if is_dropping past then enters scene (at.Store o s) [] else store_one (ordinal_so_far past) scene o s body) in
+      let one : OneStored limit o e = one_stored own_b scene o s body (ordinal_so_far past) (is_dropping past) in
       record {
         added = e.answers;
         adds = refl;

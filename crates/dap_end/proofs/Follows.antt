@@ -32,7 +32,7 @@ use Rattle.dap_accessing.proofs.ForCallers.{Stays, due-due_by, due_by, each_told
 use Rattle.dap_end.specs.Agreement.{AgreeAt, IsBufsiz}
 use Rattle.dap_end.proofs.Agreeing.{AllHeard, asked-more, expected, hear-all, heard-more, same-rest, told-heard, unexpected-is, wrong-is}
 use Rattle.dap_end.proofs.AllRead.{is_unexpected-then}
-use Rattle.dap_end.proofs.Awaits.{Awaits, Ended, Steps, access_due, at_start, data_due, steps, store_due, waits-so-far}
+use Rattle.dap_end.proofs.Awaits.{Awaits, Ended, access_due, at_start, data_due, steps, store_due, waits-so-far}
 
 module _ (own_a : Configuration) (own_b : ServerSetup) where
   -- Every message of the requests was served: there is a report for each, and the two ends agree.

@@ -24,7 +24,9 @@ use Rattle.std.specs.List.{prefix_len}
 use Rattle.dap_msg.specs.Codes as codes
 use Rattle.dap_accessed.specs.Standing.{Files, ServerState, Group, Standing, Scene, Effect, enters, the_file, index_by, file_at}
 use Rattle.dap_accessed.specs.Standing as at
-use Rattle.dap_accessed.specs.Replies.{reason_of, refused_access, bare_status, record_status, reason_of, too_large}
+use Rattle.dap_accessed.specs.Replies.{reason_of, refused_access, bare_status, coded, record_status, refusal_status, too_large}
+use Rattle.dap_accessed.specs.Effects.{told}
+use Rattle.dap_accessed.proofs.ForCallers.{access-fails, coded-records, record-fails}
 use Rattle.dap_accessed.specs.Records.{stream_without_current, at_number, filedata_of, fits_limit, get_pick, put_key, record_got, got, refused_effect, effect_of_outcome, effect_of_change, Change, Putting, Updating}
 use Rattle.dap_accessed.specs.Transfers.{fetch, fetch_ends}
 use Rattle.dap_accessed.specs.Groups.{GroupedItems, over, answers_in}
@@ -36,12 +38,13 @@ use Rattle.dap_accessing.specs.Request.{Request}
 use Rattle.dap_accessing.specs.declared.request.Request.TheVariants as request
 use Rattle.dap_accessing.specs.declared.report.Report.{Report}
 use Rattle.dap_accessing.specs.declared.report.Report.TheVariants as report
+use Rattle.dap_accessing.specs.declared.report.Ending.{Ending}
 use Rattle.dap_accessing.specs.declared.report.Ending.TheVariants as ending
 use Rattle.dap_accessing.specs.declared.phase.Phase.{Phase}
 use Rattle.dap_accessing.specs.declared.phase.Phase.TheVariants.{Fresh, Ready, Opened, Connected, Stopped}
 use Rattle.dap_accessing.specs.Asked.{messages_of}
 use Rattle.dap_msg.specs.Codes.{is_success}
-use Rattle.dap_accessing.specs.Told.{Hearing, Reports, Unexpected, hear, hear_done, after_those, hear_batch, hear_record}
+use Rattle.dap_accessing.specs.Told.{Hearing, Reports, Unexpected, refusal, hear, hear_done, after_those, hear_batch, hear_record}
 use Rattle.dap_accessing.specs.Parts.{is_record, records_in_front, hear_batch_end, batch_ending}
 use Rattle.dap_accessing.specs.Phase.{phase_next, limit_next}
 use Rattle.std.specs.Prelude.{not, ◌||◌, nat_eq}
@@ -84,27 +87,81 @@ standing_at state files limit past = record { scene = record { limit = limit; fi
 -- ---- Operations on records.
 
 -- what a refused operation reports
-abbrev refusal_report : Refusal → Report
-refusal_report EndOfFile = report.Refused 0x5027 0
-refusal_report refusal = report.Refused 0x5000 (reason_of refusal)
+abbrev refusal_report : (full : Bool) → Refusal → Report
+refusal_report full EndOfFile = report.Refused 0x5027 0
+refusal_report full refusal =
+    report.Refused (if full then codes.rms_code 0x5000 (reason_of refusal) else 0x5000) (reason_of refusal)
 
-abbrev record_report : Result ℕ Refusal → Report
-record_report (Ok n) = report.Done (number_of (four_bytes n))
-record_report (Err refusal) = refusal_report refusal
+abbrev record_report : (full : Bool) → Result ℕ Refusal → Report
+record_report full (Ok n) = report.Done (number_of (four_bytes n))
+record_report full (Err refusal) = refusal_report full refusal
 
-hear_status : (r : Result ℕ Refusal) → hear_done (Whole (record_status r) ∷ []) ≡ Reports (record_report r) []
-hear_status (Ok n) = refl
-hear_status (Err NotPermitted) = refl
-hear_status (Err NoCurrent) = refl
-hear_status (Err RecordNotFound) = refl
-hear_status (Err RecordExists) = refl
-hear_status (Err NumberOutOfRange) = refl
-hear_status (Err BadLength) = refl
-hear_status (Err BadAccessMode) = refl
-hear_status (Err DeleteNotAllowed) = refl
-hear_status (Err BadKey) = refl
-hear_status (Err EndOfFile) = refl
-hear_status (Err NoMemory) = refl
+-- the Status of an operation on a record that is refused for this reason
+abbrev refused_fields : (full : Bool) → (reason : ℕ) → StatusFields
+refused_fields full reason = record { code = if full then codes.rms_code 0x5000 reason else 0x5000; rfa = []; recnum = []; stv = reason ∷ [] }
+
+-- a Status that is no success is a refusal
+done_refused : (status : StatusFields) → is_success status.code ≡ false → hear_done (Whole (Status status) ∷ []) ≡ Reports (refusal status) []
+done_refused status e = ap (λ b. Reports (if b then report.Done (number_of status.recnum) else refusal status) []) e
+
+hear_status : (full : Bool) (r : Result ℕ Refusal) → hear_done (Whole (coded full (record_status r)) ∷ []) ≡ Reports (record_report full r) []
+hear_status full (Ok n) = refl
+hear_status full (Err NotPermitted) = done_refused (refused_fields full (reason_of NotPermitted)) (record-fails full (reason_of NotPermitted))
+hear_status full (Err NoCurrent) = done_refused (refused_fields full (reason_of NoCurrent)) (record-fails full (reason_of NoCurrent))
+hear_status full (Err RecordNotFound) = done_refused (refused_fields full (reason_of RecordNotFound)) (record-fails full (reason_of RecordNotFound))
+hear_status full (Err RecordExists) = done_refused (refused_fields full (reason_of RecordExists)) (record-fails full (reason_of RecordExists))
+hear_status full (Err NumberOutOfRange) = done_refused (refused_fields full (reason_of NumberOutOfRange)) (record-fails full (reason_of NumberOutOfRange))
+hear_status full (Err BadLength) = done_refused (refused_fields full (reason_of BadLength)) (record-fails full (reason_of BadLength))
+hear_status full (Err BadAccessMode) = done_refused (refused_fields full (reason_of BadAccessMode)) (record-fails full (reason_of BadAccessMode))
+hear_status full (Err DeleteNotAllowed) = done_refused (refused_fields full (reason_of DeleteNotAllowed)) (record-fails full (reason_of DeleteNotAllowed))
+hear_status full (Err BadKey) = done_refused (refused_fields full (reason_of BadKey)) (record-fails full (reason_of BadKey))
+hear_status full (Err EndOfFile) = refl
+hear_status full (Err NoMemory) = done_refused (refused_fields full (reason_of NoMemory)) (record-fails full (reason_of NoMemory))
+
+-- what a refused GET reports
+abbrev get_report : (full : Bool) → Refusal → Report
+get_report full EndOfFile = report.EndOfFile
+get_report full refusal = refusal_report full refusal
+
+hear_get : (full : Bool) (r : Refusal) → hear_record (Whole (coded full (refusal_status r [])) ∷ []) ≡ Reports (get_report full r) []
+hear_get true NotPermitted = refl
+hear_get true NoCurrent = refl
+hear_get true RecordNotFound = refl
+hear_get true RecordExists = refl
+hear_get true NumberOutOfRange = refl
+hear_get true BadLength = refl
+hear_get true BadAccessMode = refl
+hear_get true DeleteNotAllowed = refl
+hear_get true BadKey = refl
+hear_get true EndOfFile = refl
+hear_get true NoMemory = refl
+hear_get false NotPermitted = refl
+hear_get false NoCurrent = refl
+hear_get false RecordNotFound = refl
+hear_get false RecordExists = refl
+hear_get false NumberOutOfRange = refl
+hear_get false BadLength = refl
+hear_get false BadAccessMode = refl
+hear_get false DeleteNotAllowed = refl
+hear_get false BadKey = refl
+hear_get false EndOfFile = refl
+hear_get false NoMemory = refl
+
+-- a record that is longer than the peer takes
+abbrev large_code : (full : Bool) → ℕ
+large_code full = if full then codes.rms_code 0x5000 10 else 0x5000
+
+hear_large : (full : Bool) → hear_record (Whole (coded full too_large) ∷ []) ≡ Reports (report.Refused (large_code full) 10) []
+hear_large true = refl
+hear_large false = refl
+
+-- a refused Access
+abbrev access_code : (full : Bool) → (reason : ℕ) → ℕ
+access_code full reason = if full then codes.rms_code 0x4000 reason else 0x4000
+
+hear_refused_access : (full : Bool) (reason : ℕ) → hear_attributes (Whole (coded full (refused_access reason)) ∷ []) ≡ Reports (report.Refused (access_code full reason) reason) []
+hear_refused_access full reason =
+    ap (λ b. if b then Unexpected else Reports (report.Refused (access_code full reason) reason) []) (access-fails full reason)
 
 -- ---- A batch.
 
@@ -134,8 +191,16 @@ hear_fetched records status e =
 abbrev end_status : StatusFields
 end_status = record { code = 0x5027; rfa = []; recnum = []; stv = [] }
 
-abbrev large_status : StatusFields
-large_status = record { code = 0x5000; rfa = []; recnum = []; stv = 10 ∷ [] }
+abbrev large_status : (full : Bool) → StatusFields
+large_status full = record { code = large_code full; rfa = []; recnum = []; stv = 10 ∷ [] }
+
+large_ends : (full : Bool) → batch_ending (large_status full) ≡ ending.Stopped
+large_ends true = refl
+large_ends false = refl
+
+hear_barred : (full : Bool) → hear_batch (Whole (coded full (refusal_status NotPermitted [])) ∷ []) ≡ Reports (report.Batch [] (ending.Refused (if full then codes.rms_code 0x5000 2 else 0x5000) 2)) []
+hear_barred true = refl
+hear_barred false = refl
 
 -- ---- The Attributes of a file.
 
@@ -181,10 +246,10 @@ module _ (own_a : Configuration) (own_b : ServerSetup) (scene : Scene) (limit_a 
   -- the answers of an effect come to a report by this hearing, and the ends agree after it
   abbrev pub Comes : Phase → (List Item → Hearing) → Effect → Type 0
   Comes phase hearing e =
-      (done : Report) × (hearing (map Whole e.answers) ≡ Reports done []) × AgreeAt own_a own_b (phase_next phase done) e.state e.scene.limit (limit_next limit_a done)
+      (done : Report) × (hearing (map Whole (told own_b e).answers) ≡ Reports done []) × AgreeAt own_a own_b (phase_next phase done) e.state e.scene.limit (limit_next limit_a done)
 
   -- such a report leaves the phase and the limit
-  stays_connected : (r : Result ℕ Refusal) (o : OpenFile) (s : StreamVal) → AgreeAt own_a own_b (phase_next Connected (record_report r)) (at.Connected o s) scene.limit (limit_next limit_a (record_report r))
+  stays_connected : (r : Result ℕ Refusal) (o : OpenFile) (s : StreamVal) → AgreeAt own_a own_b (phase_next Connected (record_report own_b.full r)) (at.Connected o s) scene.limit (limit_next limit_a (record_report own_b.full r))
   stays_connected (Ok n) o s = h
   stays_connected (Err NotPermitted) o s = h
   stays_connected (Err NoCurrent) o s = h
@@ -198,16 +263,29 @@ module _ (own_a : Configuration) (own_b : ServerSetup) (scene : Scene) (limit_a 
   stays_connected (Err EndOfFile) o s = h
   stays_connected (Err NoMemory) o s = h
 
+  stays_got : (r : Refusal) (o : OpenFile) (s : StreamVal) → AgreeAt own_a own_b (phase_next Connected (get_report own_b.full r)) (at.Connected o s) scene.limit (limit_next limit_a (get_report own_b.full r))
+  stays_got NotPermitted o s = h
+  stays_got NoCurrent o s = h
+  stays_got RecordNotFound o s = h
+  stays_got RecordExists o s = h
+  stays_got NumberOutOfRange o s = h
+  stays_got BadLength o s = h
+  stays_got BadAccessMode o s = h
+  stays_got DeleteNotAllowed o s = h
+  stays_got BadKey o s = h
+  stays_got EndOfFile o s = h
+  stays_got NoMemory o s = h
+
   module _ (o : OpenFile) where
     -- ---- PUT, UPDATE and DELETE.
 
     pub operates : (op : Operation) (s : StreamVal) → Comes Connected hear_done (effect_of_outcome scene o (act op (the_file scene.files o) s))
     operates op s =
         let outcome = act op (the_file scene.files o) s in
-        (record_report outcome.reply, hear_status outcome.reply, stays_connected outcome.reply o outcome.stream)
+        (record_report own_b.full outcome.reply, hear_status own_b.full outcome.reply, stays_connected outcome.reply o outcome.stream)
 
     pub changes : (change : Change) (s : StreamVal) (body : List ℕ) → Comes Connected hear_done (effect_of_change change scene o s body)
-    changes (Putting (Err refusal)) s body = (record_report (Err refusal), hear_status (Err refusal), stays_connected (Err refusal) o (stream_without_current s))
+    changes (Putting (Err refusal)) s body = (record_report own_b.full (Err refusal), hear_status own_b.full (Err refusal), stays_connected (Err refusal) o (stream_without_current s))
     changes (Putting (Ok key)) s body = operates (put_record key body) s
     changes Updating s body = operates (update_record body) s
 
@@ -215,20 +293,10 @@ module _ (own_a : Configuration) (own_b : ServerSetup) (scene : Scene) (limit_a 
 
     hear_found : (fits : Bool) (before after : StreamVal) (r : ℕ × List ℕ) → Comes Connected hear_record (if fits then enters scene (at.Connected o after) (filedata_of r ∷ []) else enters scene (at.Connected o (stream_without_current before)) (too_large ∷ []))
     hear_found true before after r = (report.Found (number_of (four_bytes r.0)) r.1, refl, h)
-    hear_found false before after r = (report.Refused 0x5000 10, refl, h)
+    hear_found false before after r = (report.Refused (large_code own_b.full) 10, hear_large own_b.full, h)
 
     hear_refused : (refusal : Refusal) (before after : StreamVal) → Comes Connected hear_record (got (Err refusal) scene o before after)
-    hear_refused NotPermitted before after = (_, refl, h)
-    hear_refused NoCurrent before after = (_, refl, h)
-    hear_refused RecordNotFound before after = (_, refl, h)
-    hear_refused RecordExists before after = (_, refl, h)
-    hear_refused NumberOutOfRange before after = (_, refl, h)
-    hear_refused BadLength before after = (_, refl, h)
-    hear_refused BadAccessMode before after = (_, refl, h)
-    hear_refused DeleteNotAllowed before after = (_, refl, h)
-    hear_refused BadKey before after = (_, refl, h)
-    hear_refused EndOfFile before after = (_, refl, h)
-    hear_refused NoMemory before after = (_, refl, h)
+    hear_refused refusal before after = (get_report own_b.full refusal, hear_get own_b.full refusal, stays_got refusal o (stream_without_current before))
 
     hear_got : (r : Result ℕ Refusal) (before after : StreamVal) → Comes Connected hear_record (got r scene o before after)
     hear_got (Err refusal) before after = hear_refused refusal before after
@@ -244,8 +312,18 @@ module _ (own_a : Configuration) (own_b : ServerSetup) (scene : Scene) (limit_a 
     -- ---- FETCH.
 
     ends_batches : (phase : Phase) (s : StreamVal) (given rest : List (ℕ × List ℕ)) → Comes phase hear_batch (fetch_ends scene o s given rest)
-    ends_batches phase s given [] = (report.Batch (numbered given) ending.Complete, hear_fetched given end_status refl, h)
-    ends_batches phase s given (large ∷ more) = (report.Batch (numbered given) ending.Stopped, hear_fetched given large_status refl, h)
+    ends_batches phase s given [] = (
+      report.Batch (numbered given) ending.Complete,
+      ap (λ (l : List Message). hear_batch (map Whole l)) (coded-records own_b.full given (Status end_status)) ∙ hear_fetched given end_status refl,
+      h,
+    )
+    ends_batches phase s given (large ∷ more) = (
+      report.Batch (numbered given) ending.Stopped,
+      ap (λ (l : List Message). hear_batch (map Whole l)) (coded-records own_b.full given too_large)
+          ∙ hear_fetched given (large_status own_b.full) (record-fails own_b.full 10)
+          ∙ ap (λ (e : Ending). Reports (report.Batch (numbered given) e) []) (large_ends own_b.full),
+      h,
+    )
 
     pub fetches : (phase : Phase) (s : StreamVal) → Comes phase hear_batch (fetch scene o s)
     fetches phase s =
@@ -254,13 +332,13 @@ module _ (own_a : Configuration) (own_b : ServerSetup) (scene : Scene) (limit_a 
 
     pub fetches_if : (permitted : Bool) (s : StreamVal) → Comes Connected hear_batch (if permitted then fetch scene o s else refused_effect scene o s NotPermitted)
     fetches_if true s = fetches Connected s
-    fetches_if false s = (report.Batch [] (ending.Refused 0x5000 2), refl, h)
+    fetches_if false s = (_, hear_barred own_b.full, h)
 
   -- ---- Accesses.
 
   -- a refusal, or what comes otherwise
   comes_if : (lack : Bool) (e : Effect) → Comes Ready hear_attributes e → Comes Ready hear_attributes (if lack then refuse_access scene (refused_access (reason_of NotPermitted)) else e)
-  comes_if true e c = (report.Refused 0x4000 2, refl, h)
+  comes_if true e c = (_, hear_refused_access own_b.full 2, h)
   comes_if false e c = c
 
   pub opens : (fac : ℕ) (found : Option ℕ) → IfSome found (λ n. IsTrue (is_shape (file_at n scene.files).shape)) → Comes Ready hear_attributes (open_file own_b scene fac found)
@@ -268,11 +346,11 @@ module _ (own_a : Configuration) (own_b : ServerSetup) (scene : Scene) (limit_a 
   opens fac (Some n) g = comes_if (lacks own_b.most (rights_to_open fac)) _ (_, hear_shape (file_at n scene.files).shape g, h)
 
   makes : (name : List ℕ) (fac : ℕ) (shape : Option Shape) → IfSome shape (λ s. IsTrue (is_shape s)) → Comes Ready hear_attributes (make_file scene name fac shape)
-  makes name fac None g = (report.Refused 0x4000 11, refl, h)
+  makes name fac None g = (_, hear_refused_access own_b.full 11, h)
   makes name fac (Some shape) g = (_, hear_shape shape g, h)
 
   pub creates : (name : List ℕ) (fac : ℕ) (found : Option ℕ) (shape : Option Shape) → IfSome shape (λ s. IsTrue (is_shape s)) → Comes Ready hear_attributes (create_file own_b scene name fac found shape)
-  creates name fac (Some n) shape g = (report.Refused 0x4000 1, refl, h)
+  creates name fac (Some n) shape g = (_, hear_refused_access own_b.full 1, h)
   creates name fac None shape g = comes_if (lacks own_b.most (rights_to_create fac)) _ (makes name fac shape g)
 
 -- ---- The requests of a file that is open.
@@ -370,7 +448,7 @@ module _ (own_a : Configuration) (own_b : ServerSetup) (files : Files) (limit : 
         answers = Config own_b.identity ∷ [];
         done = report.Ready own_b.identity.bufsiz;
         new = over s at.Fresh (Whole (Config own_a)) (configured s.scene own_a.bufsiz);
-        cut_is = ap (λ b. let c : GroupedItems = record { standing = over s at.Fresh (Whole (Config own_a)) (if b then enters s.scene at.Fresh (bare_status (codes.invalid codes.types.config) ∷ []) else configured s.scene own_a.bufsiz); begun = None } in c) large_a;
+        cut_is = ap (λ b. let c : GroupedItems = record { standing = over s at.Fresh (Whole (Config own_a)) (told own_b (if b then enters s.scene at.Fresh (bare_status (codes.invalid codes.types.config) ∷ []) else configured s.scene own_a.bufsiz)); begun = None } in c) large_a;
         adds = refl;
         heard = rw large_b refl;
         agree = (limit-own own_a.bufsiz a, limit-own own_b.identity.bufsiz b);

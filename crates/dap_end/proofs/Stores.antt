@@ -18,7 +18,10 @@ use Rattle.dap_accessed.specs.declared.phase.OpenFile.{OpenFile}
 use Rattle.dap_accessed.specs.Standing.{Files, ServerState, Group, Standing, Scene, Effect, enters, the_file}
 use Rattle.dap_accessed.specs.Standing as at
 use Rattle.dap_accessed.specs.Past.{is_dropping, ordinal_so_far, next_ordinal}
+use Rattle.dap_accessed.specs.Effects.{told}
+use Rattle.dap_accessed.specs.Replies.{coded, reason_of}
 use Rattle.dap_accessed.specs.Transfers.{store_one, stored_answers}
+use Rattle.dap_accessed.proofs.ForCallers.{record-fails}
 use Rattle.dap_accessed.specs.Groups.{over, answers_in}
 use Rattle.dap_accessing.specs.declared.request.Request.TheVariants as request
 use Rattle.dap_accessing.specs.declared.report.Report.TheVariants as report
@@ -42,19 +45,19 @@ one_refusal status e = λ rest. (
 )
 
 -- the answer to a record of a Store is none, or such a Status
-are_refusals : (r : Result ℕ Refusal) (ordinal : ℕ) → AreRefusals (stored_answers ordinal r)
-are_refusals (Ok n) ordinal = λ rest. (refl, refl)
-are_refusals (Err NotPermitted) ordinal = one_refusal _ refl
-are_refusals (Err NoCurrent) ordinal = one_refusal _ refl
-are_refusals (Err RecordNotFound) ordinal = one_refusal _ refl
-are_refusals (Err RecordExists) ordinal = one_refusal _ refl
-are_refusals (Err NumberOutOfRange) ordinal = one_refusal _ refl
-are_refusals (Err BadLength) ordinal = one_refusal _ refl
-are_refusals (Err BadAccessMode) ordinal = one_refusal _ refl
-are_refusals (Err DeleteNotAllowed) ordinal = one_refusal _ refl
-are_refusals (Err BadKey) ordinal = one_refusal _ refl
-are_refusals (Err EndOfFile) ordinal = one_refusal _ refl
-are_refusals (Err NoMemory) ordinal = one_refusal _ refl
+are_refusals : (full : Bool) (r : Result ℕ Refusal) (ordinal : ℕ) → AreRefusals (map (coded full) (stored_answers ordinal r))
+are_refusals full (Ok n) ordinal = λ rest. (refl, refl)
+are_refusals full (Err NotPermitted) ordinal = one_refusal _ (record-fails full (reason_of NotPermitted))
+are_refusals full (Err NoCurrent) ordinal = one_refusal _ (record-fails full (reason_of NoCurrent))
+are_refusals full (Err RecordNotFound) ordinal = one_refusal _ (record-fails full (reason_of RecordNotFound))
+are_refusals full (Err RecordExists) ordinal = one_refusal _ (record-fails full (reason_of RecordExists))
+are_refusals full (Err NumberOutOfRange) ordinal = one_refusal _ (record-fails full (reason_of NumberOutOfRange))
+are_refusals full (Err BadLength) ordinal = one_refusal _ (record-fails full (reason_of BadLength))
+are_refusals full (Err BadAccessMode) ordinal = one_refusal _ (record-fails full (reason_of BadAccessMode))
+are_refusals full (Err DeleteNotAllowed) ordinal = one_refusal _ (record-fails full (reason_of DeleteNotAllowed))
+are_refusals full (Err BadKey) ordinal = one_refusal _ (record-fails full (reason_of BadKey))
+are_refusals full (Err NoMemory) ordinal = one_refusal _ (record-fails full (reason_of NoMemory))
+are_refusals full (Err EndOfFile) ordinal = one_refusal _ refl
 
 -- the effect of one record leaves a Store, and its answers are refusals
 pub record OneStored (limit : ℕ) (o : OpenFile) (e : Effect) : Type 0 where
@@ -63,11 +66,11 @@ pub record OneStored (limit : ℕ) (o : OpenFile) (e : Effect) : Type 0 where
   pub same : e.scene.limit ≡ limit
   pub refusals : AreRefusals e.answers
 
-pub one_stored : (scene : Scene) (o : OpenFile) (s : StreamVal) (body : List ℕ) (ordinal : ℕ) (dropping : Bool) → OneStored scene.limit o (if dropping then enters scene (at.Store o s) [] else store_one ordinal scene o s body)
-one_stored scene o s body ordinal true = record { stream = s; state = refl; same = refl; refusals = λ rest. (refl, refl) }
-one_stored scene o s body ordinal false =
+pub one_stored : (own : ServerSetup) (scene : Scene) (o : OpenFile) (s : StreamVal) (body : List ℕ) (ordinal : ℕ) (dropping : Bool) → OneStored scene.limit o (told own (if dropping then enters scene (at.Store o s) [] else store_one ordinal scene o s body))
+one_stored own scene o s body ordinal true = record { stream = s; state = refl; same = refl; refusals = λ rest. (refl, refl) }
+one_stored own scene o s body ordinal false =
     let outcome = act (put_record None body) (the_file scene.files o) s in
-    record { stream = outcome.stream; state = refl; same = refl; refusals = are_refusals outcome.reply (next_ordinal ordinal) }
+    record { stream = outcome.stream; state = refl; same = refl; refusals = are_refusals own.full outcome.reply (next_ordinal ordinal) }
 
 -- the records that are left, and the end of the stream
 abbrev to_come : List (List ℕ) → List Item
@@ -90,8 +93,8 @@ stores own [] files limit past o s =
     record { answers = complete_with 2 ∷ []; new = _; cut_is = refl; adds = refl; refused = refl; completed = refl; state = refl; same = refl }
 stores own (body ∷ bodies) files limit past o s =
     let scene : Scene = record { limit = limit; files = files } in
-    let e = if is_dropping past then enters scene (at.Store o s) [] else store_one (ordinal_so_far past) scene o s body in
-    let one : OneStored limit o e = one_stored scene o s body (ordinal_so_far past) (is_dropping past) in
+    let e = told own (if is_dropping past then enters scene (at.Store o s) [] else store_one (ordinal_so_far past) scene o s body) in
+    let one : OneStored limit o e = one_stored own scene o s body (ordinal_so_far past) (is_dropping past) in
     let t = over (standing_at (at.Store o s) files limit past) (at.Store o s) (Whole (Filedata [] body)) e in
     let rest = subst (λ (p : ServerState). Stores own bodies (standing_at p e.scene.files e.scene.limit t.past) o) (sym one.state) (stores own bodies e.scene.files e.scene.limit t.past o one.stream) in
     let all = map-append Whole e.answers rest.answers in

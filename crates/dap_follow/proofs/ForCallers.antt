@@ -2,5 +2,5 @@
 
 -- what stands at a sequence number
 pub use Rattle.dap_follow.proofs.OrderLemmas.{at-here, at-other}
--- where memory is refused before the first line, nothing is listed
-pub use Rattle.dap_follow.proofs.TalkLemmas.{nothing_listed}
+-- what a lister makes of packets from its beginning is their listing
+pub use Rattle.dap_follow.proofs.ListLemmas.{is_listed}

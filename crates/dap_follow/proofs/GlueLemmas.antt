@@ -5,7 +5,7 @@ use Rattle.std.proofs.lemmas.Bool.Decides.{nat_tests}
 use Rattle.std.proofs.lemmas.Grind.{flat_map-append}
 use Rattle.dap_follow.specs.Streams.{Sequenced}
 use Rattle.dap_follow.specs.Joined.{Fragment, joins, latest, payload, fragments_of, tail, with_segment}
-use Rattle.dap_follow.specs.Inner.Pieces.{all_segments, glue, merged}
+use Rattle.dap_follow.specs.Keeping.Pieces.{all_segments, glue, merged}
 use Rattle.dap_follow.proofs.StayLemmas.{alone, and_one, apart, by_bool, joined, longer}
 
 -- ---- glue

@@ -1,26 +1,18 @@
 -- One between others joins those that it is in a row with.
-use Rattle.std.proofs.Common.{◌≡◌, ◌&&◌, ◌⊎◌, inl, inr, ℕ, ◌+◌, ◌<◌, ◌≤◌, Bool, true, false, List, [], ◌∷◌, ◌++◌, length, take, drop, insert, arith, refl, ap, sym, subst, ◌∙◌, append-nil, append_assoc, length-append, length-take, Some, None, zero, suc, ◌-◌, get_or, add-one, Result, Ok, Err, IfOk}
+use Rattle.std.proofs.Common.{◌≡◌, ◌&&◌, ◌⊎◌, inl, inr, ℕ, ◌+◌, ◌<◌, ◌≤◌, Bool, true, false, List, [], ◌∷◌, ◌++◌, length, take, drop, insert, arith, refl, ap, sym, subst, ◌∙◌, append-nil, append_assoc, length-append, length-take, Some, None, zero, suc, ◌-◌, get_or, add-one, Result, Ok, Err, IfOk, OnOk}
 use Rattle.std.specs.List.{AllByRecursion, filter}
 use Rattle.std.proofs.lemmas.Bool.{false≢true}
 use Rattle.std.proofs.lemmas.List.Elements.{filter-append}
 use Rattle.dap_follow.specs.Joined.{Fragment, is_message, latest, tail}
-use Rattle.dap_follow.specs.Inner.Pieces.{all_segments, glue}
-use Rattle.dap_follow.specs.Inner.Kept.{AbsorbsAfter, AbsorbsBefore, HoldsPieces, IsAbsorbed, IsApart, IsLastApart, IsOpen, Joins, KeepsPieces, Lists, Regroups, Settles, Stays, do_join}
+use Rattle.dap_follow.specs.Keeping.Pieces.{all_segments, glue}
+use Rattle.dap_follow.specs.Keeping.Kept.{AbsorbsAfter, AbsorbsBefore, HoldsPieces, IsAbsorbed, AreEntries, IsApart, IsEntry, IsLastApart, IsOpen, Joins, KeepsPieces, Lists, Puts, Regroups, Settles, Stays, do_join, rooms}
+use Rattle.dap_follow.specs.Room.{entry_room}
 use Rattle.dap_follow.specs.declared.kept.Kept.{Kept}
 use Rattle.dap_follow.specs.declared.kept.Whole.{Whole}
 use Rattle.dap_follow.proofs.GlueLemmas.{glue_back, glue_front, glue_nil, latest_back, latest_front, segments_glue}
-use Rattle.dap_follow.proofs.KeptLemmas.{apart_held, holds_some, joined_held, keeps_append, keeps_cons, keeps_only, keeps_split, listed_too, message_apart, no_messages, open_too}
-use Rattle.dap_follow.proofs.StayLemmas.{by_bool}
-
--- ---- front and back
-
-take-append_seam : (xs ys : List Kept) → take (length xs) (xs ++ ys) ≡ xs
-take-append_seam [] ys = refl
-take-append_seam (x ∷ xs) ys = ap (λ (l : List Kept). x ∷ l) (take-append_seam xs ys)
-
-drop-append_seam : (xs ys : List Kept) → drop (length xs) (xs ++ ys) ≡ ys
-drop-append_seam [] ys = refl
-drop-append_seam (x ∷ xs) ys = drop-append_seam xs ys
+use Rattle.dap_follow.proofs.KeptLemmas.{apart_held, both_kinds, holds_some, joined_held, keeps_append, keeps_cons, keeps_only, keeps_split, message_apart, no_messages, open_too}
+use Rattle.dap_follow.proofs.KeptRoomLemmas.{entries_between, rooms_insert}
+use Rattle.dap_follow.proofs.JoinRoomLemmas.{after_entries, after_grows, after_kind, after_room, before_entries, before_grows, before_room, drop-append_seam, take-append_seam, take_exact}
 
 -- ---- the one after
 
@@ -43,14 +35,6 @@ record After (index : ℕ) (old : List Kept) (piece : Kept) (mid : List Kept) (m
   pub kind : middle.listed ≡ piece.listed
   pub messages : piece.listed ≡ false → filter is_message those_after ≡ filter is_message zs
   pub later : latest (all_segments ys) ≤ latest (all_segments these)
-
-take_exact : (index : ℕ) (old others : List Kept) → index ≤ length old → (take index (take index old ++ others) ≡ take index old) × (drop index (take index old ++ others) ≡ others) × (index ≤ length (take index old ++ others))
-take_exact index old others within =
-    let size : length (take index old) ≡ index = omega (arith, length-take index old, within) in (
-      subst (λ n. take n (take index old ++ others) ≡ take index old) size (take-append_seam (take index old) others),
-      subst (λ n. drop n (take index old ++ others) ≡ others) size (drop-append_seam (take index old) others),
-      omega (arith, size, length-append (take index old) others),
-    )
 
 fewer : (held rest zs : List Fragment) → zs ≡ held ++ rest → filter is_message held ≡ [] → filter is_message rest ≡ filter is_message zs
 fewer held rest zs is none = sym (ap (λ (l : List Fragment). filter is_message l) is ∙ filter-append is_message held rest ∙ ap (λ (l : List Fragment). l ++ filter is_message rest) none)
@@ -146,10 +130,6 @@ last_apart front piece xs these those_after keeps holds apart (inr (others, k, i
     ∙ ap (λ (l : List Fragment). start ++ l) (append_assoc held these those_after) ∙ sym (append_assoc start held (these ++ those_after))
     ∙ ap (λ (l : List Fragment). l ++ (these ++ those_after)) (sym parts.2)
 
--- neighbours that are joined are of one kind
-both_kinds : (a b : Kept) → do_join a b ≡ true → a.listed ≡ b.listed
-both_kinds a b h = by_bool a.listed (λ t. t ∙ sym (listed_too a b h t)) (λ f. f ∙ sym (open_too a b h f))
-
 before_step : (index : ℕ) (mid : List Kept) (middle : Kept) (now : ℕ) (new : List Kept) (joined : Kept) (xs these those_after : List Fragment) → index ≤ length mid
     → AbsorbsBefore index mid middle now new joined → KeepsPieces xs (take index mid) → HoldsPieces middle these → Before index mid middle now new joined xs these those_after
 before_step index mid middle now new joined xs these those_after within (inl (same, at, is, apart)) keeps holds = record {
@@ -216,6 +196,17 @@ joins_both index old piece mid middle now new joined within after before = recor
         messages = λ is_open. (b.messages (a.kind ∙ is_open), a.messages is_open);
         later = omega (arith, low, high);
       };
+  room =
+      let a : rooms mid + middle.room ≤ rooms old + piece.room = after_room index old piece mid middle after in
+      let b : rooms new + joined.room ≤ rooms mid + middle.room = before_room index mid middle now new joined before in
+      omega (arith, a, b);
+  grows = λ kind.
+      let a : piece.room ≤ middle.room = after_grows index old piece mid middle after kind in
+      let b : middle.room ≤ joined.room = before_grows index mid middle now new joined before (after_kind index old piece mid middle after ∙ kind) in
+      omega (arith, a, b);
+  entries = λ entry front back.
+      let a = after_entries index old piece mid middle within after entry front back in
+      before_entries index mid middle now new joined before a.0 a.1 a.2 a.3;
 }
 
 -- one put between others
@@ -232,6 +223,18 @@ lists_run index old run now new joined joins listed xs zs m is from to front bac
     subst (λ (l : List Fragment). KeepsPieces l (insert new now joined)) (sym r.all ∙ message_apart xs zs m is)
     (inserted r.before r.these r.those_after new now joined r.front_keeps (r.holds, λ is_open. absurd (false≢true (sym is_open ∙ (r.kind ∙ listed)))) r.back_keeps)
 
+pub lists_room : (index : ℕ) (old : List Kept) (run : Kept) (now : ℕ) (mid : List Kept) (joined : Kept) (new : List Kept) → Joins index old run now mid joined → run.room ≡ entry_room → new ≡ insert mid now joined
+    → rooms new ≤ rooms old + entry_room
+lists_room index old run now mid joined new joins one items =
+    let all : rooms new ≡ rooms mid + joined.room = ap (λ (l : List Kept). rooms l) items ∙ rooms_insert now joined mid in
+    let most : rooms mid + joined.room ≤ rooms old + run.room = joins.room in
+    omega (arith, all, most, one)
+
+pub inserted_entries : (index : ℕ) (old : List Kept) (piece : Kept) (now : ℕ) (mid : List Kept) (joined : Kept) (new : List Kept) → Joins index old piece now mid joined → IsEntry piece → new ≡ insert mid now joined
+    → AreEntries (take index old) → AreEntries (drop index old) → AreEntries new
+inserted_entries index old piece now mid joined new joins entry items front back =
+    subst (λ (l : List Kept). AreEntries l) (sym items) (entries_between (take now mid) joined (drop now mid) (joins.entries entry front back))
+
 -- ---- a segment between others
 
 open_piece : (k : Kept) (ps : List Fragment) → HoldsPieces k ps → k.listed ≡ false → (p : Fragment) × (ps ≡ p ∷ []) × IsOpen k p
@@ -244,7 +247,7 @@ marks_of k p one = ap (λ (b : Bool). b && (tail p).last) (sym one.first) ∙ ap
 alone_later : (n : ℕ) (p : Fragment) (ps : List Fragment) → ps ≡ p ∷ [] → n ≤ latest (all_segments ps) → n ≤ latest (p.head ∷ p.others)
 alone_later n p ps is low = subst (λ l. n ≤ latest l) (ap (λ (l : List Fragment). all_segments l) is ∙ append-nil (p.head ∷ p.others)) low
 
-pub settles_message : (xs ys zs : List Fragment) (piece : Kept) (mid : List Kept) (now : ℕ) (joined : Kept) (new : List Kept) (bytes : List ℕ) (whole : Whole)
+settles_message : (xs ys zs : List Fragment) (piece : Kept) (mid : List Kept) (now : ℕ) (joined : Kept) (new : List Kept) (bytes : List ℕ) (whole : Whole)
     → Regroups xs ys zs piece (take now mid) joined (drop now mid) → piece.listed ≡ false → (joined.first && joined.last) ≡ true → Lists now mid joined new bytes whole
     → Settles xs ys zs new bytes (Some whole)
 settles_message xs ys zs piece mid now joined new bytes whole r kind marks lists =
@@ -268,7 +271,7 @@ settles_message xs ys zs piece mid now joined new bytes whole r kind marks lists
       later = alone_later (latest (all_segments ys)) p r.these one.1 r.later;
     }
 
-pub settles_open : (xs ys zs : List Fragment) (piece : Kept) (mid : List Kept) (now : ℕ) (joined : Kept) (bytes : List ℕ)
+settles_open : (xs ys zs : List Fragment) (piece : Kept) (mid : List Kept) (now : ℕ) (joined : Kept) (bytes : List ℕ)
     → Regroups xs ys zs piece (take now mid) joined (drop now mid) → piece.listed ≡ false → (joined.first && joined.last) ≡ false
     → Settles xs ys zs (insert mid now joined) bytes None
 settles_open xs ys zs piece mid now joined bytes r kind marks =
@@ -287,11 +290,49 @@ settles_open xs ys zs piece mid now joined bytes r kind marks =
       later = alone_later (latest (all_segments ys)) p r.these one.1 r.later;
     }
 
+-- what isn't listed is an entry
+open_entry : (k : Kept) → k.listed ≡ false → IsEntry k
+open_entry k kind = λ listed. absurd (false≢true (sym kind ∙ listed))
+
+pub puts_message : (index : ℕ) (old : List Kept) (segment : Kept) (now : ℕ) (mid : List Kept) (piece : Kept) (new : List Kept) (bytes : List ℕ) (whole : Whole) → Joins index old segment now mid piece
+    → (piece.first && piece.last) ≡ true → Lists now mid piece new bytes whole → Puts index old segment new bytes (Some whole)
+puts_message index old segment now mid piece new bytes whole joins marks lists = record {
+  settles = λ xs ys zs kind front holds back. settles_message xs ys zs segment mid now piece new bytes whole (joins.regroups xs ys zs front holds back) kind marks lists;
+  room = λ kind least.
+      let a : rooms mid + piece.room ≤ rooms old + segment.room = joins.room in
+      let b : segment.room ≤ piece.room = joins.grows kind in
+      let d : rooms new ≤ rooms mid + entry_room = lists.room in
+      omega (arith, a, b, d, least);
+  entries = λ kind front back.
+      let s = joins.entries (open_entry segment kind) front back in
+      lists.entries s.front_entries s.back_entries;
+}
+
+pub puts_open : (index : ℕ) (old : List Kept) (segment : Kept) (now : ℕ) (mid : List Kept) (piece : Kept) (new : List Kept) (bytes : List ℕ) → Joins index old segment now mid piece
+    → (piece.first && piece.last) ≡ false → new ≡ insert mid now piece → Puts index old segment new bytes None
+puts_open index old segment now mid piece new bytes joins marks items = record {
+  settles = λ xs ys zs kind front holds back.
+      subst (λ (l : List Kept). Settles xs ys zs l bytes None) (sym items) (settles_open xs ys zs segment mid now piece bytes (joins.regroups xs ys zs front holds back) kind marks);
+  room = λ kind least.
+      let a : rooms mid + piece.room ≤ rooms old + segment.room = joins.room in
+      let b : rooms new ≡ rooms mid + piece.room = ap (λ (l : List Kept). rooms l) items ∙ rooms_insert now piece mid in
+      omega (arith, a, b);
+  entries = λ kind front back. inserted_entries index old segment now mid piece new joins (open_entry segment kind) items front back;
+}
+
 -- ---- what the program does
 
 pub if_ok_weaker : {A E : Type 0} {P Q : A → Type 0} (r : Result A E) → ((a : A) → P a → Q a) → IfOk r P → IfOk r Q
 if_ok_weaker (Ok a) weaker holds = weaker a holds
 if_ok_weaker (Err e) weaker holds = tt
+
+pub if_ok_with : {A E : Type 0} {P Q : A → Type 0} (H : Type 0) (r : Result A E) → ((a : A) → P a → H → Q a) → IfOk r P → OnOk r H → IfOk r Q
+if_ok_with H (Ok a) both holds more = both a holds more
+if_ok_with H (Err e) both holds more = tt
+
+pub if_ok_on : {A E : Type 0} {P : A → Type 0} {Q : Type 0} (r : Result A E) → ((a : A) → P a → Q) → IfOk r P → OnOk r Q
+if_ok_on (Ok a) gives holds = gives a holds
+if_ok_on (Err e) gives holds = tt
 
 -- one at an index, whatever stands for none
 same_at : (i : ℕ) (ks : List Kept) (d e : Kept) → i < length ks → get_or ks i d ≡ get_or ks i e

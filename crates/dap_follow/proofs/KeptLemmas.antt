@@ -5,10 +5,12 @@ use Rattle.std.specs.List.{AllByRecursion, filter, flat_map}
 use Rattle.std.proofs.lemmas.Bool.{false≢true}
 use Rattle.std.proofs.lemmas.Bool.Decides.{nat_tests}
 use Rattle.dap_follow.specs.Joined.{Fragment, is_message, joins, payload, tail}
-use Rattle.dap_follow.specs.Inner.Pieces.{all_segments, glue, merged}
-use Rattle.dap_follow.specs.Inner.Kept.{AreListed, HoldsPieces, IsAbsorbed, IsOpen, KeepsPieces, Stays, do_join, kept_bytes}
+use Rattle.dap_follow.specs.Room.{piece_room}
+use Rattle.dap_follow.specs.Keeping.Pieces.{all_segments, glue, merged}
+use Rattle.dap_follow.specs.Keeping.Kept.{AreListed, HoldsPieces, IsAbsorbed, IsOpen, KeepsPieces, Stays, do_join, kept_bytes}
 use Rattle.dap_follow.specs.declared.kept.Kept.{Kept}
 use Rattle.dap_follow.proofs.StayLemmas.{and_false_one, and_false_two, and_one, and_two, by_bool, not_true}
+use Rattle.dap_follow.proofs.KeptRoomLemmas.{room_both, room_merged}
 use Rattle.dap_follow.proofs.GlueLemmas.{Has, IsWithin, Proper, all_append, all_weaker, full, glued_two, has_back, has_front, payload_merged, tail_merged, unglued, within}
 
 -- ---- lists of them
@@ -154,6 +156,10 @@ open_too a b h is =
     let both : (not b.listed && not a.last && not b.first) ≡ true = subst (λ x. (if x then b.listed else (not b.listed && not a.last && not b.first)) ≡ true) is (kinds a b h) in
     not_true b.listed (and_one (not b.listed) (not a.last) (and_one (not b.listed && not a.last) (not b.first) both))
 
+-- neighbours that are joined are of one kind
+pub both_kinds : (a b : Kept) → do_join a b ≡ true → a.listed ≡ b.listed
+both_kinds a b h = by_bool a.listed (λ t. t ∙ sym (listed_too a b h t)) (λ f. f ∙ sym (open_too a b h f))
+
 merged_open : (a b joined : Kept) (p q : Fragment) → IsOpen a p → IsOpen b q → IsAbsorbed a b joined → IsOpen joined (merged p q)
 merged_open a b joined p q one two is = record {
   from = is.from ∙ one.from;
@@ -161,6 +167,7 @@ merged_open a b joined p q one two is = record {
   first = is.first ∙ one.first;
   last = is.last ∙ two.last ∙ sym (ap (λ s. s.last) (tail_merged p q));
   listed = is.listed ∙ one.listed;
+  room = room_both a b joined is one.listed ∙ ap (λ n. n + b.room) one.room ∙ ap (λ n. piece_room p + n) two.room ∙ sym (room_merged p q);
   bytes = is.bytes ∙ ap (λ l. l ++ kept_bytes b) one.bytes ∙ ap (λ l. payload p ++ l) two.bytes ∙ sym (payload_merged p q);
 }
 

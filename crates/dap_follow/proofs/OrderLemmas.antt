@@ -7,9 +7,9 @@ use Rattle.std.specs.declared.cmp.Ordering.TheVariants.{Less}
 use Rattle.std.proofs.lemmas.Bool.{cases_eq}
 use Rattle.std.proofs.lemmas.Bool.Decides.{nat_tests}
 use Rattle.std.proofs.lemmas.Map.Keys.{IsStrictlyIncreasing-from_sorted}
-use Rattle.dap_follow.specs.Streams.{AreSequenced, Sequenced, at, no_more, one_more}
-use Rattle.dap_follow.specs.Inner.Pieces.{IsPut, Rises}
-use Rattle.dap_follow.specs.Segments.{NumberedSegment, sequenced_at, highest_in}
+use Rattle.dap_follow.specs.Streams.{AreSequenced, NumberedSegment, Sequenced, at, no_more, one_more}
+use Rattle.dap_follow.specs.Keeping.Pieces.{IsPut, Rises}
+use Rattle.dap_follow.specs.Segments.{sequenced_at, highest_in}
 use Rattle.dap_follow.proofs.GlueLemmas.{all_append, all_back, all_front}
 
 -- ---- sequence numbers
@@ -62,6 +62,14 @@ each_below s p (x ∷ xs) same below = ((λ e. let low : x.sequence < s.sequence
 each_above : (s : Sequenced) (p : ℕ) (xs : List Sequenced) → p ≡ s.sequence → AllByRecursion (λ t. s.sequence < t.sequence) xs → AllByRecursion (λ t. t.sequence ≡ p → ⊥) xs
 each_above s p [] same above = tt
 each_above s p (x ∷ xs) same above = ((λ e. let high : s.sequence < x.sequence = above.0 in omega (arith, high, e, same)), each_above s p xs same above.1)
+
+pub at-below : (sequence : ℕ) (xs : List Sequenced) → AllByRecursion (λ t. t.sequence < sequence) xs → at sequence xs ≡ None
+at-below sequence [] below = refl
+at-below sequence (x ∷ xs) below = at-other sequence x xs (λ e. let low : x.sequence < sequence = below.0 in omega (arith, low, e)) ∙ at-below sequence xs below.1
+
+pub at-above : (sequence : ℕ) (xs : List Sequenced) → AllByRecursion (λ t. sequence < t.sequence) xs → at sequence xs ≡ None
+at-above sequence [] above = refl
+at-above sequence (x ∷ xs) above = at-other sequence x xs (λ e. let high : sequence < x.sequence = above.0 in omega (arith, high, e)) ∙ at-above sequence xs above.1
 
 none_else : (o : Option Sequenced) → or_else o None ≡ o
 none_else None = refl

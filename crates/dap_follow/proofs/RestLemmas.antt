@@ -1,18 +1,20 @@
 -- What is left of the streams.
-use Rattle.std.proofs.Common.{◌≡◌, ◌⊎◌, inl, inr, ℕ, ◌+◌, ◌-◌, ◌<◌, ◌≤◌, nat_lt, true, false, List, [], ◌∷◌, ◌++◌, length, drop, codes, if◌then◌else◌, Some, None, arith, refl, ap, sym, subst, ◌∙◌, append-nil, append_assoc, zero, suc, get_or, add-one}
+use Rattle.std.proofs.Common.{filter, Bool, ◌≡◌, ◌⊎◌, inl, inr, ℕ, ◌+◌, ◌-◌, ◌<◌, ◌≤◌, nat_lt, true, false, List, [], ◌∷◌, ◌++◌, length, drop, codes, if◌then◌else◌, Some, None, arith, refl, ap, sym, subst, ◌∙◌, append-nil, append_assoc, zero, suc, add-one}
 use Rattle.std.specs.Prelude.{slice_get}
-use Rattle.std.specs.List.{AllByRecursion, flat_map, zip}
+use Rattle.std.specs.List.{AllByRecursion, AllZip, flat_map}
 use Rattle.std.proofs.lemmas.Bool.Decides.{nat_tests}
 use Rattle.texts.specs.Text.{line_feed}
-use Rattle.dap_follow.specs.Streams.{CapturedItem, Sequenced}
+use Rattle.dap_follow.specs.Streams.{OpenStream}
 use Rattle.dap_follow.specs.Joined.{Fragment, is_message, payload, fragments_of, tail}
-use Rattle.dap_follow.specs.Following.{gap_line, length_text, part_line, range_text, rest_lines, stream_text}
+use Rattle.dap_follow.specs.Lines.{gap_line, length_text, part_line, range_text, rest_lines, stream_text}
 use Rattle.dap_follow.specs.declared.streams.Stream.{Stream}
-use Rattle.dap_follow.specs.Inner.Kept.{AreListed, HoldsPieces, IsOpen, KeepsPieces, kept_bytes}
-use Rattle.dap_follow.specs.Inner.Streams.{KeepsEachOrdered}
-use Rattle.dap_follow.specs.Inner.Rest.{all_kept_rest, kept_gap, kept_part, kept_rest}
+use Rattle.dap_follow.specs.Keeping.Kept.{AreListed, HoldsPieces, IsOpen, KeepsPieces, kept_bytes}
+use Rattle.dap_follow.specs.Listed.{AreRestTexts}
+use Rattle.dap_follow.specs.Keeping.Streams.{Entries, KeepsOpen}
+use Rattle.dap_follow.specs.Keeping.Rest.{kept_gap, kept_part, kept_rest, rest_if, rest_of_each}
 use Rattle.dap_follow.specs.declared.kept.Kept.{Kept}
 use Rattle.dap_follow.specs.declared.kept.KeptSegments.{KeptSegments}
+use Rattle.dap_follow.proofs.GrowLemmas.{is_ordered}
 
 -- ---- text that is appended piece by piece
 
@@ -91,64 +93,92 @@ rest_same stream ps (k ∷ ks) (held, rest, is, (inr (p, one, is_open), left), k
 
 -- ---- all streams
 
-pub all_same : (packets : List CapturedItem) (keys : List Stream) (orders : List (List Sequenced)) (by_stream : List KeptSegments) → KeepsEachOrdered packets keys orders by_stream
-    → flat_map (λ (stream, segments). rest_lines stream (fragments_of segments)) (zip keys orders) ≡ all_kept_rest keys by_stream
-all_same packets [] [] [] each = refl
-all_same packets [] [] (p ∷ by_stream) each = absurd each
-all_same packets [] (o ∷ orders) by_stream each = absurd each
-all_same packets (s ∷ keys) [] by_stream each = absurd each
-all_same packets (s ∷ keys) (o ∷ orders) [] each = absurd each
-all_same packets (s ∷ keys) (o ∷ orders) (p ∷ by_stream) each =
-    ap (λ l. l ++ flat_map (λ (stream, segments). rest_lines stream (fragments_of segments)) (zip keys orders)) (rest_same s (fragments_of o) p.kept.items each.0.keeps.keeps)
-    ∙ ap (λ l. kept_rest s p.kept.items ++ l) (all_same packets keys orders by_stream each.1)
+pub rest_is : (n : ℕ) (opens : List OpenStream) (entries : Entries) → AllZip (KeepsOpen n) opens entries → AreRestTexts opens (flat_map (λ e. kept_rest e.0 e.1.kept.items) entries)
+rest_is n [] [] all = record { ordered = []; are_ordered = tt; joined = refl }
+rest_is n [] (e ∷ entries) all = absurd all
+rest_is n (o ∷ opens) [] all = absurd all
+rest_is n (o ∷ opens) (e ∷ entries) all =
+    let rest = rest_is n opens entries all.1 in
+    let ordered = all.0.1 in
+    let k = all.0.2 in
+    record {
+      ordered = ordered ∷ rest.ordered;
+      are_ordered = (is_ordered n o.came ordered e.1 k, rest.are_ordered);
+      joined = ap (λ (l : List ℕ). l ++ flat_map (λ e. kept_rest e.0 e.1.kept.items) entries) (sym (rest_same e.0 (fragments_of ordered) e.1.kept.items k.keeps.keeps) ∙ ap (λ (s : Stream). rest_lines s (fragments_of ordered)) (sym all.0.0))
+          ∙ ap (λ (l : List ℕ). rest_lines o.name (fragments_of ordered) ++ l) rest.joined;
+    }
 
--- ---- the program's loops
+-- ---- some of them
 
-none_some : (s : Stream) → None ≡ Some s → ⊥
-none_some s e = cc
+keeps_if : (n : ℕ) (o : OpenStream) (opens : List OpenStream) (e : Stream × KeptSegments) (entries : Entries) (a b : Bool) → a ≡ b → KeepsOpen n o e → AllZip (KeepsOpen n) opens entries
+    → AllZip (KeepsOpen n) (if a then o ∷ opens else opens) (if b then e ∷ entries else entries)
+keeps_if n o opens e entries true true same one rest = (one, rest)
+keeps_if n o opens e entries false false same one rest = rest
+keeps_if n o opens e entries true false same one rest = absurd cc
+keeps_if n o opens e entries false true same one rest = absurd cc
 
-some_none : (s : Stream) → Some s ≡ None → ⊥
-some_none s e = cc
+pub keeps_some : (n : ℕ) (test : Stream → Bool) (opens : List OpenStream) (entries : Entries) → AllZip (KeepsOpen n) opens entries
+    → AllZip (KeepsOpen n) (filter (λ o. test o.name) opens) (filter (λ e. test e.0) entries)
+keeps_some n test [] [] all = tt
+keeps_some n test [] (e ∷ entries) all = absurd all
+keeps_some n test (o ∷ opens) [] all = absurd all
+keeps_some n test (o ∷ opens) (e ∷ entries) all =
+    keeps_if n o (filter (λ o. test o.name) opens) e (filter (λ e. test e.0) entries) (test o.name) (test e.0) (ap test all.0.0) all.0 (keeps_some n test opens entries all.1)
 
-drop_key : (keys : List Stream) (i : ℕ) (s : Stream) → slice_get keys i ≡ Some s → drop i keys ≡ s ∷ drop (i + 1) keys
-drop_key [] i s is = absurd (none_some s is)
-drop_key (k ∷ keys) zero s is = let same : k ≡ s = cc in ap (λ (t : Stream). t ∷ keys) same
-drop_key (k ∷ keys) (suc i) s is = rw add-one (rw add-one at (drop_key keys i s is))
+pub some_rest : (n : ℕ) (test : Stream → Bool) (opens : List OpenStream) (entries : Entries) → AllZip (KeepsOpen n) opens entries
+    → AreRestTexts (filter (λ o. test o.name) opens) (rest_of_each (λ e. test e.0) entries)
+some_rest n test opens entries all = rest_is n (filter (λ o. test o.name) opens) (filter (λ e. test e.0) entries) (keeps_some n test opens entries all)
 
-drop_sequence : (by_stream : List KeptSegments) (i : ℕ) (d : KeptSegments) → i < length by_stream → drop i by_stream ≡ get_or by_stream i d ∷ drop (i + 1) by_stream
-drop_sequence [] i d below = absurd (omega arith)
-drop_sequence (p ∷ by_stream) zero d below = refl
-drop_sequence (p ∷ by_stream) (suc i) d below = rw add-one (rw add-one at (drop_sequence by_stream i d (omega arith)))
+-- ---- the program's loop
 
-pub rest_more : (keys : List Stream) (by_stream : List KeptSegments) (i : ℕ) (d : KeptSegments) (s : Stream) (old new whole : List ℕ) → i < length by_stream → slice_get keys i ≡ Some s
-    → new ≡ old ++ kept_rest s (get_or by_stream i d).kept.items → old ++ all_kept_rest (drop i keys) (drop i by_stream) ≡ whole
-    → new ++ all_kept_rest (drop (i + 1) keys) (drop (i + 1) by_stream) ≡ whole
-rest_more keys by_stream i d s old new whole below is added before =
-    let line = kept_rest s (get_or by_stream i d).kept.items in
-    let others = all_kept_rest (drop (i + 1) keys) (drop (i + 1) by_stream) in
-    let both : all_kept_rest (drop i keys) (drop i by_stream) ≡ line ++ others =
-    ap (λ (l : List Stream). all_kept_rest l (drop i by_stream)) (drop_key keys i s is) ∙ ap (λ (l : List KeptSegments). all_kept_rest (s ∷ drop (i + 1) keys) l) (drop_sequence by_stream i d below) in
-    ap (λ (l : List ℕ). l ++ others) added ∙ append_assoc old line others ∙ ap (λ (l : List ℕ). old ++ l) (sym both) ∙ before
+none_some : (e : Stream × KeptSegments) → None ≡ Some e → ⊥
+none_some e is = cc
 
-no_keys : (keys : List Stream) (i : ℕ) → slice_get keys i ≡ None → drop i keys ≡ []
-no_keys [] zero none = refl
-no_keys [] (suc i) none = refl
-no_keys (k ∷ keys) zero none = absurd (some_none k none)
-no_keys (k ∷ keys) (suc i) none = no_keys keys i none
+drop_entry : (entries : Entries) (i : ℕ) (e : Stream × KeptSegments) → slice_get entries i ≡ Some e → drop i entries ≡ e ∷ drop (i + 1) entries
+drop_entry [] i e is = absurd (none_some e is)
+drop_entry (k ∷ entries) zero e is = let same : k ≡ e = cc in ap (λ (t : Stream × KeptSegments). t ∷ entries) same
+drop_entry (k ∷ entries) (suc i) e is = rw add-one (rw add-one at (drop_entry entries i e is))
 
-no_more_streams : (by_stream : List KeptSegments) (i : ℕ) → length by_stream ≤ i → drop i by_stream ≡ []
-no_more_streams [] zero end = refl
-no_more_streams [] (suc i) end = refl
-no_more_streams (p ∷ by_stream) zero end = absurd (omega arith)
-no_more_streams (p ∷ by_stream) (suc i) end = no_more_streams by_stream i (omega arith)
+pub entry_within : (entries : Entries) (i : ℕ) (e : Stream × KeptSegments) → slice_get entries i ≡ Some e → i < length entries
+entry_within [] i e is = absurd (none_some e is)
+entry_within (k ∷ entries) zero e is = omega arith
+entry_within (k ∷ entries) (suc i) e is = let rest = entry_within entries i e is in omega (arith, rest)
 
-no_zip : (keys : List Stream) → all_kept_rest keys [] ≡ []
-no_zip [] = refl
-no_zip (k ∷ keys) = refl
+past_all : (entries : Entries) (i : ℕ) → length entries ≤ i → drop i entries ≡ []
+past_all [] zero end = refl
+past_all [] (suc i) end = refl
+past_all (k ∷ entries) zero end = absurd (omega (arith, end))
+past_all (k ∷ entries) (suc i) end = past_all entries i (omega (arith, end))
 
-pub rest_ends : (keys : List Stream) (by_stream : List KeptSegments) (i : ℕ) (text whole : List ℕ) → (slice_get keys i ≡ None) ⊎ (length by_stream ≤ i)
-    → text ++ all_kept_rest (drop i keys) (drop i by_stream) ≡ whole → text ≡ whole
-rest_ends keys by_stream i text whole (inl none) is =
-    sym (append-nil text) ∙ ap (λ l. text ++ l) (sym (ap (λ (l : List Stream). all_kept_rest l (drop i by_stream)) (no_keys keys i none))) ∙ is
-rest_ends keys by_stream i text whole (inr end) is =
-    sym (append-nil text) ∙ ap (λ l. text ++ l) (sym (ap (λ (l : List KeptSegments). all_kept_rest (drop i keys) l) (no_more_streams by_stream i end) ∙ no_zip (drop i keys))) ∙ is
+-- one more stream was passed by, or what is left of it was appended
+pub each_more : (test : Stream × KeptSegments → Bool) (entries : Entries) (i : ℕ) (e : Stream × KeptSegments) (old new whole : List ℕ) → slice_get entries i ≡ Some e
+    → new ≡ old ++ rest_if (test e) e.0 e.1.kept.items → old ++ rest_of_each test (drop i entries) ≡ whole → new ++ rest_of_each test (drop (i + 1) entries) ≡ whole
+each_more test entries i e old new whole is added before =
+    ap (λ (l : List ℕ). l ++ others) added ∙ append_assoc old (line (test e)) others ∙ ap (λ (l : List ℕ). old ++ l) (sym both) ∙ before
+  where
+    others : List ℕ
+    others = rest_of_each test (drop (i + 1) entries)
+
+    line : Bool → List ℕ
+    line b = if b then kept_rest e.0 e.1.kept.items else []
+
+    one : (b : Bool) → flat_map (λ e. kept_rest e.0 e.1.kept.items) (if b then e ∷ filter test (drop (i + 1) entries) else filter test (drop (i + 1) entries)) ≡ line b ++ others
+    one true = refl
+    one false = refl
+
+    both : rest_of_each test (drop i entries) ≡ line (test e) ++ others
+    both = ap (λ (l : Entries). rest_of_each test l) (drop_entry entries i e is) ∙ one (test e)
+
+no_some : (e : Stream × KeptSegments) → Some e ≡ None → ⊥
+no_some e is = cc
+
+none_left : (entries : Entries) (i : ℕ) → slice_get entries i ≡ None → drop i entries ≡ []
+none_left [] zero none = refl
+none_left [] (suc i) none = refl
+none_left (k ∷ entries) zero none = absurd (no_some k none)
+none_left (k ∷ entries) (suc i) none = none_left entries i none
+
+pub each_ends : (test : Stream × KeptSegments → Bool) (entries : Entries) (i : ℕ) (text whole : List ℕ) → (slice_get entries i ≡ None) ⊎ (length entries ≤ i)
+    → text ++ rest_of_each test (drop i entries) ≡ whole → text ≡ whole
+each_ends test entries i text whole (inl none) is = sym (append-nil text) ∙ ap (λ (l : Entries). text ++ rest_of_each test l) (sym (none_left entries i none)) ∙ is
+each_ends test entries i text whole (inr end) is = sym (append-nil text) ∙ ap (λ (l : Entries). text ++ rest_of_each test l) (sym (past_all entries i end)) ∙ is

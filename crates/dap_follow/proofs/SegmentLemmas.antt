@@ -1,21 +1,24 @@
 -- A segment under its sequence number.
-use Rattle.std.proofs.Common.{◌≡◌, inl, inr, ℕ, zero, suc, ◌<◌, ◌≤◌, true, false, List, [], ◌∷◌, ◌++◌, length, take, drop, get_or, max, arith, refl, ap, sym, subst, ◌∙◌, append-nil, append_assoc, take-append-drop, Option, Some, None, nat_le, nat_lt, if◌then◌else◌}
+use Rattle.std.proofs.Common.{◌≡◌, inl, inr, ℕ, zero, suc, ◌+◌, ◌<◌, ◌≤◌, true, false, List, [], ◌∷◌, ◌++◌, length, take, drop, get_or, max, arith, refl, ap, sym, subst, ◌∙◌, append-nil, append_assoc, take-append-drop, zero-add, Bool, Option, Some, None, is_some, nat_le, nat_lt, if◌then◌else◌}
 use Rattle.std.specs.List.{AllByRecursion, filter}
 use Rattle.std.specs.List.Sorted.{IsPartitionPoint, IsPartitionedBy}
 use Rattle.std.proofs.lemmas.List.Elements.{filter-append}
 use Rattle.std.proofs.lemmas.Bool.Decides.{nat_tests}
 use Rattle.nsp_seg.specs.declared.packet.SegmentFields.{SegmentFields}
-use Rattle.dap_follow.specs.Streams.{IsNear, Sequenced}
+use Rattle.dap_follow.specs.Streams.{IsNear, Sequenced, at}
 use Rattle.dap_follow.specs.Joined.{Fragment, is_message, latest, fragments_of}
+use Rattle.dap_follow.specs.Room.{segment_room, stream_room}
 use Rattle.dap_follow.specs.Segments.{sequenced_at}
-use Rattle.dap_follow.specs.Inner.Pieces.{Rises, all_segments, glue}
-use Rattle.dap_follow.specs.Inner.Kept.{AreTold, Ascends, Found, IsOpen, IsSegment, IsListedPiece, KeepsPieces, KeepsSequenced, Puts, is_taken}
+use Rattle.dap_follow.specs.Keeping.Pieces.{Rises, all_segments, glue}
+use Rattle.dap_follow.specs.Keeping.Kept.{AreEntries, AreTold, Ascends, Found, IsOpen, IsRoomOf, IsSegment, IsListedPiece, KeepsPieces, KeepsSequenced, Puts, is_taken, rooms}
 use Rattle.dap_follow.specs.declared.kept.Kept.{Kept}
 use Rattle.dap_follow.specs.declared.kept.KeptSegments.{KeptSegments}
 use Rattle.dap_follow.specs.declared.kept.Whole.{Whole}
 use Rattle.dap_follow.proofs.StayLemmas.{alone}
 use Rattle.dap_follow.proofs.GlueLemmas.{Has, IsWithin, Proper, all_append, all_back, all_front, all_has, all_weaker, has_back, has_front, latest_below, pieces_flat, pieces_glue, proper_back, proper_front, proper_pieces, segments_append, segments_pieces}
 use Rattle.dap_follow.proofs.KeptLemmas.{holds_full, holds_within, keeps_split}
+use Rattle.dap_follow.proofs.KeptRoomLemmas.{entries_cut, entries_room}
+use Rattle.dap_follow.proofs.OrderLemmas.{at-above, at-append, at-below, at-here, or_else}
 
 -- ---- sequence numbers that rise
 
@@ -156,6 +159,7 @@ open_alone sequence packet c k is = record {
   first = is.first;
   last = is.last;
   listed = is.listed;
+  room = is.room ∙ sym (zero-add (segment_room c.payload));
   bytes = is.bytes ∙ sym (append-nil c.payload);
 }
 
@@ -222,18 +226,29 @@ told packet bytes (Some w) p whole is = (
   (p, refl, is, whole),
 )
 
+-- what takes the room of what is kept takes that of the segments
+held_is : (held : ℕ) (later : List Sequenced) (ks : List Kept) → IsRoomOf held ks → KeepsPieces (fragments_of later) ks → AreEntries ks → held ≡ stream_room later
+held_is held later ks measured keeps entries = measured ∙ entries_room (fragments_of later) ks keeps entries
+
+-- the messages of pieces with others between them
+messages_are : (all before those_after ms : List Fragment) (p : Fragment) → all ≡ before ++ p ∷ those_after
+    → filter is_message (before ++ p ∷ those_after) ≡ filter is_message before ++ (ms ++ filter is_message those_after)
+    → filter is_message all ≡ filter is_message before ++ (ms ++ filter is_message those_after)
+messages_are all before those_after ms p is split = ap (λ (l : List Fragment). filter is_message l) is ∙ split
+
 pub finds_put : (c : SegmentFields) (old new : KeptSegments) (bytes : List ℕ) (found : Option Whole) (sequence index : ℕ) (one : Kept) (ordered : List Sequenced) (packet : ℕ)
     → KeepsSequenced packet ordered old → IsNear old.highest c.number sequence → new.highest ≡ max old.highest sequence
     → AllByRecursion (λ k. k.to < sequence) (take index old.kept.items) → AllByRecursion (λ k. sequence ≤ k.to) (drop index old.kept.items) → is_taken sequence (drop index old.kept.items) ≡ false
-    → IsSegment sequence c one → Puts index old.kept.items one new.kept.items bytes found → Found packet c ordered old new bytes found
-finds_put c old new bytes found sequence index one ordered packet k near highest below above free is puts =
+    → IsSegment sequence c one → Puts index old.kept.items one new.kept.items bytes found → (IsRoomOf old.held old.kept.items → IsRoomOf new.held new.kept.items)
+    → Found packet c ordered old new bytes found
+finds_put c old new bytes found sequence index one ordered packet k near highest below above free is puts held =
     let s = sequenced_at sequence (packet, c) in
     let parts_of = cut_at sequence index ordered old.kept.items k.keeps k.rises below above free in
     let xs = parts_of.0 in
     let ys = parts_of.1 in
     let cut = parts_of.4 in
     let is_open = open_alone sequence packet c one is in
-    let r = puts xs (alone s ∷ []) ys is.listed parts_of.2 (inr (alone s, refl, is_open)) parts_of.3 in
+    let r = puts.settles xs (alone s ∷ []) ys is.listed parts_of.2 (inr (alone s, refl, is_open)) parts_of.3 in
     let later = all_segments xs ++ s ∷ all_segments ys in
     let all : fragments_of later ≡ r.before ++ r.piece ∷ r.those_after = pieces_with sequence ordered xs ys s cut ∙ r.all in
     let flat : all_segments (r.before ++ r.piece ∷ r.those_after) ≡ later = ap (λ (l : List Fragment). all_segments l) (sym all) ∙ segments_pieces later in
@@ -247,29 +262,44 @@ finds_put c old new bytes found sequence index one ordered packet k near highest
     let old_messages : filter is_message (fragments_of ordered) ≡ filter is_message r.before ++ filter is_message r.those_after =
     ap (λ (l : List Fragment). filter is_message l) cut.all ∙ filter-append is_message xs ys ∙ ap (λ (l : List Fragment). l ++ filter is_message ys) (sym r.messages.0)
     ∙ ap (λ (l : List Fragment). filter is_message r.before ++ l) (sym r.messages.1) in
+    let keeps = subst (λ (l : List Fragment). KeepsPieces l new.kept.items) (sym all) r.keeps in
+    let parted = entries_cut index old.kept.items k.entries in
+    let entries : AreEntries new.kept.items = puts.entries is.listed parted.0 parted.1 in
+    let measured : IsRoomOf new.held new.kept.items = held k.measured in
+    let own : one.room ≡ segment_room c.payload = is.room in
+    let most : rooms new.kept.items ≤ rooms old.kept.items + one.room = puts.room is.listed (omega (arith, own)) in
     record {
       sequence = sequence;
       near = near;
       highest = highest;
       later = later;
       put = inr (all_segments xs, all_segments ys, cut.whole, refl, cut.below, cut.above);
-      keeps = subst (λ (l : List Fragment). KeepsPieces l new.kept.items) (sym all) r.keeps;
+      keeps = keeps;
+      held = held_is new.held later new.kept.items measured keeps entries;
+      measured = measured;
+      entries = entries;
+      more = let was : old.held ≡ rooms old.kept.items = k.measured in let now : new.held ≡ rooms new.kept.items = measured in omega (arith, was, now, own, most);
       ms = ms.0;
-      added = (filter is_message r.before, filter is_message r.those_after, old_messages, ap (λ (l : List Fragment). filter is_message l) all ∙ ms.1 r.before r.those_after);
+      added = (filter is_message r.before, filter is_message r.those_after, old_messages, messages_are (fragments_of later) r.before r.those_after ms.0 r.piece all (ms.1 r.before r.those_after));
       told = ms.2;
     }
 
-pub finds_taken : (c : SegmentFields) (old new : KeptSegments) (bytes : List ℕ) (sequence index : ℕ) (ordered : List Sequenced) (packet : ℕ)
-    → KeepsSequenced packet ordered old → IsNear old.highest c.number sequence → new.highest ≡ max old.highest sequence → new.kept.items ≡ old.kept.items
-    → AllByRecursion (λ k. sequence ≤ k.to) (drop index old.kept.items) → is_taken sequence (drop index old.kept.items) ≡ true → Found packet c ordered old new bytes None
-finds_taken c old new bytes sequence index ordered packet k near highest same above taken =
-    let ks = old.kept.items in
-    let halves = keeps_split (fragments_of ordered) (take index ks) (drop index ks) (subst (λ (l : List Kept). KeepsPieces (fragments_of ordered) l) (sym (take-append-drop index ks)) k.keeps) in
+-- it has the sequence number
+has_taken : (sequence index : ℕ) (ordered : List Sequenced) (ks : List Kept) → KeepsPieces (fragments_of ordered) ks → AllByRecursion (λ k. sequence ≤ k.to) (drop index ks)
+    → is_taken sequence (drop index ks) ≡ true → Has sequence ordered
+has_taken sequence index ordered ks keeps above taken =
+    let halves = keeps_split (fragments_of ordered) (take index ks) (drop index ks) (subst (λ (l : List Kept). KeepsPieces (fragments_of ordered) l) (sym (take-append-drop index ks)) keeps) in
     let xs = halves.0 in
     let ys = halves.1 in
     let proper : Proper (xs ++ ys) = subst (λ (l : List Fragment). Proper l) halves.2 (proper_pieces ordered) in
     let whole : ordered ≡ all_segments xs ++ all_segments ys = sym (segments_pieces ordered) ∙ ap (λ (l : List Fragment). all_segments l) halves.2 ∙ segments_append xs ys in
-    let has = subst (λ l. Has sequence l) (sym whole) (has_back sequence (all_segments xs) (all_segments ys) (keeps_taken sequence ys (drop index ks) (proper_back xs ys proper) halves.4 taken above)) in
+    subst (λ l. Has sequence l) (sym whole) (has_back sequence (all_segments xs) (all_segments ys) (keeps_taken sequence ys (drop index ks) (proper_back xs ys proper) halves.4 taken above))
+
+pub finds_taken : (c : SegmentFields) (old new : KeptSegments) (bytes : List ℕ) (sequence index : ℕ) (ordered : List Sequenced) (packet : ℕ)
+    → KeepsSequenced packet ordered old → IsNear old.highest c.number sequence → new.highest ≡ max old.highest sequence → new.kept.items ≡ old.kept.items → new.held ≡ old.held
+    → AllByRecursion (λ k. sequence ≤ k.to) (drop index old.kept.items) → is_taken sequence (drop index old.kept.items) ≡ true → Found packet c ordered old new bytes None
+finds_taken c old new bytes sequence index ordered packet k near highest same held above taken =
+    let has = has_taken sequence index ordered old.kept.items k.keeps above taken in
     record {
       sequence = sequence;
       near = near;
@@ -277,6 +307,10 @@ finds_taken c old new bytes sequence index ordered packet k near highest same ab
       later = ordered;
       put = inl (refl, has.0, has.1, has.2, has.3, has.4);
       keeps = subst (λ (l : List Kept). KeepsPieces (fragments_of ordered) l) (sym same) k.keeps;
+      held = held ∙ k.held;
+      measured = held ∙ k.measured ∙ ap (λ (l : List Kept). rooms l) (sym same);
+      entries = subst (λ (l : List Kept). AreEntries l) (sym same) k.entries;
+      more = omega (arith, held);
       ms = [];
       added = (filter is_message (fragments_of ordered), [], sym (append-nil (filter is_message (fragments_of ordered))), sym (append-nil (filter is_message (fragments_of ordered))));
       told = refl;
@@ -284,3 +318,27 @@ finds_taken c old new bytes sequence index ordered packet k near highest same ab
 
 pub kept_ascends : (packet : ℕ) (ordered : List Sequenced) (p : KeptSegments) → KeepsSequenced packet ordered p → Ascends p.kept.items
 kept_ascends packet ordered p k = keeps_ascends (fragments_of ordered) p.kept.items (proper_pieces ordered) k.keeps (subst (λ l. Rises l) (sym (segments_pieces ordered)) k.rises)
+
+-- ---- whether a sequence number is taken
+
+either_some : (o : Option Sequenced) (s : Sequenced) → is_some (or_else o (Some s)) ≡ true
+either_some None s = refl
+either_some (Some t) s = refl
+
+at_has : (sequence : ℕ) (xs : List Sequenced) → Has sequence xs → is_some (at sequence xs) ≡ true
+at_has sequence xs (front, back, s, is, there) =
+    ap (λ l. is_some (at sequence l)) is ∙ ap (λ (o : Option Sequenced). is_some o) (at-append sequence front (s ∷ back))
+    ∙ ap (λ (o : Option Sequenced). is_some (or_else (at sequence front) o)) (at-here sequence s back there) ∙ either_some (at sequence front) s
+
+-- whether a segment with the sequence number came
+pub number_taken : (sequence index : ℕ) (packet : ℕ) (ordered : List Sequenced) (p : KeptSegments) (taken : Bool) → KeepsSequenced packet ordered p
+    → AllByRecursion (λ k. k.to < sequence) (take index p.kept.items) → AllByRecursion (λ k. sequence ≤ k.to) (drop index p.kept.items) → is_taken sequence (drop index p.kept.items) ≡ taken
+    → taken ≡ is_some (at sequence ordered)
+number_taken sequence index packet ordered p true k below above is = sym (at_has sequence ordered (has_taken sequence index ordered p.kept.items k.keeps above is))
+number_taken sequence index packet ordered p false k below above is =
+    let parts_of = cut_at sequence index ordered p.kept.items k.keeps k.rises below above is in
+    let cut = parts_of.4 in
+    let none : at sequence ordered ≡ None =
+    ap (λ l. at sequence l) cut.whole ∙ at-append sequence (all_segments parts_of.0) (all_segments parts_of.1)
+    ∙ ap (λ (o : Option Sequenced). or_else o (at sequence (all_segments parts_of.1))) (at-below sequence (all_segments parts_of.0) cut.below) ∙ at-above sequence (all_segments parts_of.1) cut.above in
+    sym (ap (λ (o : Option Sequenced). is_some o) none)

@@ -3,7 +3,7 @@ use Rattle.std.proofs.Common.{◌≡◌, ℕ, ◌+◌, ◌<◌, ◌≤◌, ◌==
 use Rattle.std.specs.List.{AllByRecursion, filter}
 use Rattle.dap_follow.specs.Streams.{Sequenced}
 use Rattle.dap_follow.specs.Joined.{Fragment, is_message, joins, fragments_of, tail, with_segment}
-use Rattle.dap_follow.specs.Watched.{is_whole_with, whole_at, whole_with}
+use Rattle.dap_follow.specs.Listed.{is_whole_with, whole_at, whole_with}
 
 pub by_bool : {X : Type 0} (b : Bool) → (b ≡ true → X) → (b ≡ false → X) → X
 by_bool true f g = f refl
@@ -197,10 +197,10 @@ seam_hole sequence (x ∷ []) [] below above = tt
 seam_hole sequence (x ∷ []) (b ∷ back) below above = let one : x.sequence < sequence = below.0 in let other : sequence < b.sequence = above.0 in far x b (omega arith)
 seam_hole sequence (x ∷ y ∷ xs) back below above = seam_hole sequence (y ∷ xs) back below.1 above
 
-pub goes : (m : Fragment) (front back : List Sequenced) → is_message m ≡ true → fragments_of (m.head ∷ m.others) ≡ m ∷ [] → AllByRecursion (λ a. a.sequence < m.head.sequence) front
+pub goes_between : (m : Fragment) (front back : List Sequenced) → is_message m ≡ true → fragments_of (m.head ∷ m.others) ≡ m ∷ [] → AllByRecursion (λ a. a.sequence < m.head.sequence) front
     → AllByRecursion (λ b. m.head.sequence < b.sequence) back
     → (fragments_of (front ++ ((m.head ∷ m.others) ++ back)) ≡ fragments_of front ++ m ∷ fragments_of back) × (fragments_of (front ++ back) ≡ fragments_of front ++ fragments_of back)
-goes m front back is one below above = (
+goes_between m front back is one below above = (
   seam front ((m.head ∷ m.others) ++ back) (seam_first front m.head (m.others ++ back) (and_one m.head.first (tail m).last is))
       ∙ ap (λ ps. fragments_of front ++ ps) (seam (m.head ∷ m.others) back (seam_last m.head m.others back (and_two m.head.first (tail m).last is)) ∙ ap (λ ps. ps ++ fragments_of back) one),
   seam front back (seam_hole m.head.sequence front back below above),

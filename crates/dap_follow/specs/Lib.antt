@@ -1,6 +1,8 @@
-pub mod Inner
+pub mod Keeping
 pub mod Streams
 pub mod Segments
 pub mod Joined
-pub mod Following
-pub mod Watched
+pub mod Ends
+pub mod Room
+pub mod Lines
+pub mod Listed

@@ -1,10 +1,12 @@
 //! What is kept of a stream: the segments of messages that aren't whole, and the sequence numbers of those that are
 //! listed.
 
-ghost use Rattle.std.specs.Prelude.{◌≡◌, ◌&&◌, true, ◌≤◌, ◌<◌, ◌+◌, [], IfOk, OnOk, drop, length, take};
+ghost use Rattle.std.specs.Prelude.{◌≡◌, ◌&&◌, ◌++◌, true, ◌≤◌, ◌<◌, ◌+◌, [], IfOk, OnOk, drop, insert, length, slice_index_or, take};
 ghost use Rattle.std.specs.List.{AllByRecursion};
-ghost use Rattle.dap_follow.specs.Inner.Kept.{AbsorbsAfter, AbsorbsBefore, Ascends, Finds, IsAbsorbed, IsSegment, Joins, Lists, Puts, do_join, is_taken as takes, kept_bytes};
+ghost use Rattle.dap_follow.specs.Room.{entry_room};
+ghost use Rattle.dap_follow.specs.Keeping.Kept.{AbsorbsAfter, AbsorbsBefore, Ascends, Finds, KnowsNumber, IsAbsorbed, IsRoomOf, IsSegment, Joins, Lists, Puts, do_join, is_taken as takes, kept_bytes};
 
+use crate::room::{ENTRY_ROOM, segment_room};
 use crate::segments::{ROUND, sequence_near};
 use nsp_seg::{SegmentFields, Seq12};
 use std::alloc::{AllocError, Global};
@@ -18,6 +20,8 @@ pub(crate) struct Kept {
     pub(crate) first: bool,
     pub(crate) last: bool,
     pub(crate) listed: bool,
+    /// The bytes of room that it takes.
+    pub(crate) room: usize,
     pub(crate) payloads: Vec<Vec<u8>>,
 }
 
@@ -30,6 +34,7 @@ impl Kept {
     ) -> Result<Self, AllocError>
         ensures { IfOk result (IsSegment sequence segment.now) }
     {
+        let room = segment_room(segment)?;
         let payload = Vec::from_slice(alloc, segment.payload.0)?;
         let mut payloads = Vec::new(alloc);
         payloads.push(payload)?;
@@ -39,6 +44,7 @@ impl Kept {
             first: segment.first,
             last: segment.last,
             listed: false,
+            room,
             payloads,
         })
     }
@@ -48,6 +54,7 @@ impl Kept {
         ensures from { result.from ≡ from }
         ensures to { result.to ≡ to }
         ensures listed { result.listed ≡ true }
+        ensures room { result.room ≡ entry_room }
     {
         Kept {
             from,
@@ -55,6 +62,7 @@ impl Kept {
             first: true,
             last: true,
             listed: true,
+            room: ENTRY_ROOM,
             payloads: Vec::new(alloc),
         }
     }
@@ -77,6 +85,9 @@ impl Kept {
     fn absorb(&mut self, mut other: Kept) -> Result<(), AllocError>
         ensures { OnOk result (IsAbsorbed self.old other self.new) }
     {
+        if !self.listed {
+            self.room = self.room.checked_add(other.room).ok_or(AllocError)?;
+        }
         self.payloads.append(&mut other.payloads)?;
         self.to = other.to;
         self.last = other.last;
@@ -123,41 +134,86 @@ fn is_taken(kept: &[Kept], below: usize, sequence: u64) -> bool
     }
 }
 
-/// Joins the one after an index, if they are in a row.
-fn join_after(kept: &mut Vec<Kept>, index: usize, piece: &mut Kept) -> Result<(), AllocError>
+/// Takes out the one at an index, with the room that it takes.
+fn take_out(kept: &mut Vec<Kept>, held: &mut usize, index: usize) -> Kept
+    requires { index < length kept.old.items }
+    ensures one { result ≡ slice_index_or kept.old.items index result }
+    ensures others { kept.new.items ≡ take index kept.old.items ++ drop (index + 1) kept.old.items }
+    ensures held { IsRoomOf held.old kept.old.items → IsRoomOf held.new kept.new.items }
+{
+    let one = kept.remove(index);
+    *held = held.saturating_sub(one.room);
+    one
+}
+
+/// Puts one in at an index, with the room that it takes.
+fn put_at(kept: &mut Vec<Kept>, held: &mut usize, index: usize, one: Kept) -> Result<(), AllocError>
     requires { index ≤ length kept.old.items }
-    ensures { OnOk result
+    ensures items { OnOk result (kept.new.items ≡ insert kept.old.items index one) }
+    ensures held { OnOk result
+        (IsRoomOf held.old kept.old.items → IsRoomOf held.new kept.new.items) }
+{
+    *held = held.checked_add(one.room).ok_or(AllocError)?;
+    kept.insert(index, one)?;
+    Ok(())
+}
+
+/// Joins the one after an index, if they are in a row.
+fn join_after(
+    kept: &mut Vec<Kept>,
+    held: &mut usize,
+    index: usize,
+    piece: &mut Kept,
+) -> Result<(), AllocError>
+    requires { index ≤ length kept.old.items }
+    ensures absorbs { OnOk result
         (AbsorbsAfter index kept.old.items piece.old kept.new.items piece.new) }
+    ensures held { OnOk result
+        (IsRoomOf held.old kept.old.items → IsRoomOf held.new kept.new.items) }
 {
     if index == kept.len() || !piece.joins(&kept[index]) {
         return Ok(());
     }
-    let after = kept.remove(index);
+    let after = take_out(kept, held, index);
     piece.absorb(after)
 }
 
 /// Joins the one before an index, if they are in a row; returns the index then.
-fn join_before(kept: &mut Vec<Kept>, index: usize, piece: Kept) -> Result<(usize, Kept), AllocError>
+fn join_before(
+    kept: &mut Vec<Kept>,
+    held: &mut usize,
+    index: usize,
+    piece: Kept,
+) -> Result<(usize, Kept), AllocError>
     requires { index ≤ length kept.old.items }
-    ensures { IfOk result (λ joined.
+    ensures absorbs { IfOk result (λ joined.
         AbsorbsBefore index kept.old.items piece joined.0 kept.new.items joined.1) }
+    ensures held { OnOk result
+        (IsRoomOf held.old kept.old.items → IsRoomOf held.new kept.new.items) }
 {
     if index == 0 || !kept[index - 1].joins(&piece) {
         return Ok((index, piece));
     }
-    let mut before = kept.remove(index - 1);
+    let mut before = take_out(kept, held, index - 1);
     before.absorb(piece)?;
     Ok((index - 1, before))
 }
 
 /// Joins those on both sides of an index that are in a row with it; returns the index then.
-fn join(kept: &mut Vec<Kept>, index: usize, mut piece: Kept) -> Result<(usize, Kept), AllocError>
+fn join(
+    kept: &mut Vec<Kept>,
+    held: &mut usize,
+    index: usize,
+    mut piece: Kept,
+) -> Result<(usize, Kept), AllocError>
     requires { index ≤ length kept.old.items }
-    ensures { IfOk result (λ joined.
+    ensures joins { IfOk result (λ joined.
         Joins index kept.old.items piece joined.0 kept.new.items joined.1) }
+    ensures held { OnOk result
+        (IsRoomOf held.old kept.old.items → IsRoomOf held.new kept.new.items) }
 {
-    join_after(kept, index, &mut piece)?;
-    join_before(kept, index, piece)
+    join_after(kept, held, index, &mut piece)?;
+    join_before(kept, held, index, piece)
 }
 
 /// A message that is whole: its first and last sequence number.
@@ -171,17 +227,21 @@ pub(crate) struct Whole {
 fn list_at(
     alloc: Global,
     kept: &mut Vec<Kept>,
+    held: &mut usize,
     index: usize,
     message: Kept,
     bytes: &mut Vec<u8>,
 ) -> Result<Whole, AllocError>
     requires { index ≤ length kept.old.items }
-    ensures { IfOk result (Lists index kept.old.items message kept.new.items bytes.new.items) }
+    ensures lists { IfOk result
+        (Lists index kept.old.items message kept.new.items bytes.new.items) }
+    ensures held { OnOk result
+        (IsRoomOf held.old kept.old.items → IsRoomOf held.new kept.new.items) }
 {
     message.gather(bytes)?;
     let (from, to) = (message.from, message.to);
-    let (index, run) = join(kept, index, Kept::listed(alloc, from, to))?;
-    kept.insert(index, run)?;
+    let (index, run) = join(kept, held, index, Kept::listed(alloc, from, to))?;
+    put_at(kept, held, index, run)?;
     Ok(Whole { from, to })
 }
 
@@ -190,18 +250,21 @@ fn list_at(
 fn put_in(
     alloc: Global,
     kept: &mut Vec<Kept>,
+    held: &mut usize,
     index: usize,
     segment: Kept,
     bytes: &mut Vec<u8>,
 ) -> Result<Option<Whole>, AllocError>
     requires { index ≤ length kept.old.items }
-    ensures { IfOk result (Puts index kept.old.items segment kept.new.items bytes.new.items) }
+    ensures puts { IfOk result (Puts index kept.old.items segment kept.new.items bytes.new.items) }
+    ensures held { OnOk result
+        (IsRoomOf held.old kept.old.items → IsRoomOf held.new kept.new.items) }
 {
-    let (index, piece) = join(kept, index, segment)?;
+    let (index, piece) = join(kept, held, index, segment)?;
     if piece.is_message() {
-        return Ok(Some(list_at(alloc, kept, index, piece, bytes)?));
+        return Ok(Some(list_at(alloc, kept, held, index, piece, bytes)?));
     }
-    kept.insert(index, piece)?;
+    put_at(kept, held, index, piece)?;
     Ok(None)
 }
 
@@ -210,6 +273,10 @@ fn put_in(
 pub(crate) struct KeptSegments {
     pub(crate) alloc: Global,
     pub(crate) highest: u64,
+    /// The bytes that it takes of the room of all streams.
+    pub(crate) held: usize,
+    /// The number of the packet with which its last segment came.
+    pub(crate) last_packet: usize,
     pub(crate) kept: Vec<Kept>,
 }
 
@@ -218,23 +285,37 @@ impl KeptSegments {
     pub(crate) fn new(alloc: Global, number: Seq12) -> Self
         ensures highest { result.highest ≡ number + 4096 }
         ensures kept { result.kept.items ≡ [] }
+        ensures held { result.held ≡ 0 }
     {
         KeptSegments {
             alloc,
             highest: u64::from(number.get()) + ROUND,
+            held: 0,
+            last_packet: 0,
             kept: Vec::new(alloc),
         }
     }
 
-    /// Takes a segment, unless another has its sequence number; returns the message that is whole with it, and its
-    /// bytes in the vector.
+    /// Returns whether a segment that came has the sequence number that one with this number would have.
+    pub(crate) fn has(&self, number: Seq12) -> bool
+        ensures { KnowsNumber number self.now result }
+    {
+        let sequence = sequence_near(self.highest, number);
+        is_taken(&self.kept, count_below(&self.kept, sequence), sequence)
+    }
+
+    /// Takes the segment of a packet, unless another has its sequence number; returns the message that is whole with
+    /// it, and its bytes in the vector.
     pub(crate) fn add(
         &mut self,
+        packet: usize,
         segment: &SegmentFields<'_>,
         bytes: &mut Vec<u8>,
     ) -> Result<Option<Whole>, AllocError>
-        ensures { IfOk result (Finds segment.now self.old self.new bytes.new.items) }
+        ensures finds { IfOk result (Finds segment.now self.old self.new bytes.new.items) }
+        ensures last { self.new.last_packet ≡ packet }
     {
+        self.last_packet = packet;
         let sequence = sequence_near(self.highest, segment.number);
         self.highest = self.highest.max(sequence);
         let index = count_below(&self.kept, sequence);
@@ -242,6 +323,13 @@ impl KeptSegments {
             return Ok(None);
         }
         let one = Kept::segment(self.alloc, sequence, segment)?;
-        put_in(self.alloc, &mut self.kept, index, one, bytes)
+        put_in(
+            self.alloc,
+            &mut self.kept,
+            &mut self.held,
+            index,
+            one,
+            bytes,
+        )
     }
 }

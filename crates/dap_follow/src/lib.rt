@@ -1,15 +1,20 @@
-//! The listing of a capture in which the segments of each NSP message are reassembled, whole or as its lines come.
+//! The one lister of captures: of packets that come one after the other it appends the listing, in which the segments
+//! of each NSP message are reassembled.
 #![tactic(auto)]
 
-mod following;
+mod ending;
+mod initiate;
 mod kept;
 mod laws;
+mod lister;
 mod rest;
+mod room;
 mod segments;
 mod streams;
 mod text;
-mod watching;
 
-pub use following::follow;
-pub use laws::{listed_messages_can_go, listed_messages_stay, watched_captures_are_followed};
-pub use watching::watch;
+pub use laws::{
+    bare_segments_are_shown, kept_streams_are_bounded, listed_messages_can_go,
+    listed_messages_stay, packets_have_one_listing, taken_packets_are_listed, whole_messages_stay,
+};
+pub use lister::{Chosen, Lister, write_rest};

@@ -1,10 +1,12 @@
-//! What is left of the streams at the end of a capture: parts, and gaps.
+//! What is left of the streams where they end: parts, and gaps.
 
 ghost use Rattle.std.specs.Prelude.{◌≡◌, OnOk};
 ghost use Rattle.texts.specs.Adding.{Adds};
-ghost use Rattle.dap_follow.specs.Inner.Rest.{all_kept_rest, kept_gap, kept_part, kept_rest};
+ghost use Rattle.dap_follow.specs.Keeping.Rest.{kept_gap, kept_part, kept_rest, rest_if, rest_of_each};
+ghost use Rattle.dap_follow.specs.Keeping.Endings.{is_chosen};
 
-use crate::kept::Kept;
+use crate::ending::Ending;
+use crate::kept::{Kept, KeptSegments};
 use crate::streams::{Stream, Streams};
 use crate::text::{push_piece, push_range, push_stream};
 use std::alloc::{AllocError, Global};
@@ -67,22 +69,40 @@ fn push_rest(
     Ok(())
 }
 
-/// Appends what is left of each stream.
-pub(crate) fn push_all(
+/// Appends what is left of a stream, if it ends.
+fn push_if_ending(
+    text: &mut Vec<u8>,
+    ending: Ending,
+    stream: &Stream,
+    segments: &KeptSegments,
+    bytes: &mut Vec<u8>,
+) -> Result<(), AllocError>
+    ensures { OnOk result (Adds text.old text.new
+        (rest_if (is_chosen ending (stream.now, segments.now)) stream.now segments.now.kept.items)) }
+{
+    if ending.has(stream, segments) {
+        return push_rest(text, stream, &segments.kept, bytes);
+    }
+    Ok(())
+}
+
+/// Appends what is left of each stream that ends.
+pub(crate) fn push_ending(
     alloc: Global,
     text: &mut Vec<u8>,
     streams: &Streams,
+    ending: Ending,
 ) -> Result<(), AllocError>
     ensures { OnOk result (Adds text.old text.new
-        (all_kept_rest streams.now.names.keys streams.now.by_stream.items)) }
+        (rest_of_each (is_chosen ending) streams.now.live.entries)) }
 {
     let mut bytes = Vec::new(alloc);
     let mut at = 0;
-    while at < streams.by_stream.len() {
-        let Some(stream) = streams.names.get_index(at) else {
+    while at < streams.live.len() {
+        let Some((stream, segments)) = streams.live.get_index(at) else {
             return Ok(());
         };
-        push_rest(text, stream, &streams.by_stream[at].kept, &mut bytes)?;
+        push_if_ending(text, ending, stream, segments, &mut bytes)?;
         at += 1;
     }
     Ok(())

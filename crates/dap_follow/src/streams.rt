@@ -1,75 +1,95 @@
-//! What is kept of the streams of a capture.
+//! What is kept of the streams that haven't ended.
 
-ghost use Rattle.std.specs.Prelude.{◌≡◌, ◌<◌, ◌^◌, [], List, IfOk, length};
-ghost use Rattle.dap_follow.specs.Segments.{captured_segment};
-ghost use Rattle.dap_follow.specs.Streams.{CapturedItem, Sequenced};
-ghost use Rattle.dap_follow.specs.Inner.Streams.{Grows, IsIndexedStream, KeepsAllOrdered};
+ghost use Rattle.std.specs.Prelude.{◌≡◌, ◌<◌, ◌≤◌, ◌^◌, ℕ, [], not, IfOk, OnOk, List, filter, length};
+ghost use Rattle.std.specs.List.{AllZip};
+ghost use Rattle.nsp_seg.specs.declared.packet.SegmentFields.{SegmentFields as Segment};
+ghost use Rattle.dap_follow.specs.Streams.{OpenStream};
+ghost use Rattle.dap_follow.specs.Keeping.Streams.{Continues, IsIndexed, KeepsOpen};
+ghost use Rattle.dap_follow.specs.Keeping.Endings.{is_chosen};
+ghost use Rattle.dap_follow.specs.Keeping.Room.{Grows};
 
+use crate::ending::Ending;
 use crate::kept::{KeptSegments, Whole};
 use dap_listing::Direction;
-use indexmap::IndexSet;
+use decnet_frames::Nodes;
+use indexmap::IndexMap;
 use nsp_seg::{SegmentFields, Seq12};
 use std::alloc::{AllocError, Global};
 
-/// The segments that go one way between two ends.
+/// The segments that go one way between two ends of two nodes, or of nodes that aren't known.
 #[derive(Clone, Copy, PartialEq, Eq, Hash)]
 pub(crate) struct Stream {
     pub(crate) way: Direction,
+    pub(crate) nodes: Option<Nodes>,
     pub(crate) dst: u16,
     pub(crate) src: u16,
 }
 
-/// The streams in the order in which they appear, and what is kept of each.
+/// The streams that haven't ended, in the order in which they appeared, and what is kept of each.
 #[derive(Drop)]
 pub(crate) struct Streams {
     pub(crate) alloc: Global,
-    pub(crate) names: IndexSet<Stream>,
-    pub(crate) by_stream: Vec<KeptSegments>,
+    pub(crate) live: IndexMap<Stream, KeptSegments>,
 }
 
 impl Streams {
     /// Returns no streams. It takes no memory.
     pub(crate) fn new(alloc: Global) -> Self
-        ensures { KeepsAllOrdered [] [] result }
+        ensures { result.live.entries ≡ [] }
     {
         Streams {
             alloc,
-            names: IndexSet::new(alloc),
-            by_stream: Vec::new(alloc),
+            live: IndexMap::new(alloc),
         }
     }
 
     /// Returns the index at which a stream is kept. Where the stream is new, it begins with the number.
     fn stream_index(&mut self, stream: Stream, number: Seq12) -> Result<usize, AllocError>
-        ensures within { IfOk result (λ index. index < length self.new.by_stream.items) }
-        ensures indexed { length self.old.names.keys ≡ length self.old.by_stream.items
-            → IfOk result (IsIndexedStream stream number self.old self.new) }
+        ensures within { IfOk result (λ index. index < length self.new.live.entries) }
+        ensures indexed { IfOk result
+            (IsIndexed stream number self.old.live.entries self.new.live.entries) }
     {
-        let (index, is_new) = self.names.insert_full(stream)?;
-        if !is_new && index < self.by_stream.len() {
-            return Ok(index);
+        match self.live.get_index_of(&stream) {
+            Some(index) => Ok(index),
+            None => {
+                let first = KeptSegments::new(self.alloc, number);
+                self.live.insert(stream, first)?;
+                Ok(self.live.len() - 1)
+            }
         }
-        self.by_stream.push(KeptSegments::new(self.alloc, number))?;
-        Ok(self.by_stream.len() - 1)
     }
 
-    /// Takes a segment; returns the message that is whole with it, and its bytes in the vector.
+    /// Takes the segment of a packet and of a stream; returns the message that is whole with it, and its bytes in the vector.
     pub(crate) fn add(
         &mut self,
-        way: Direction,
+        stream: Stream,
+        packet: usize,
         segment: &SegmentFields<'_>,
         bytes: &mut Vec<u8>,
     ) -> Result<Option<Whole>, AllocError>
-        ensures { IfOk result (λ found. (packets : List CapturedItem) (ordered : List (List Sequenced))
-            → length packets < 2 ^ 50 → KeepsAllOrdered packets ordered self.old
-            → Grows packets (captured_segment way segment.now) ordered self.new bytes.new.items found) }
+        ensures continues { IfOk result (λ found. (number : ℕ) (opens : List OpenStream)
+            → number ≤ 2 ^ 50 → AllZip (KeepsOpen number) opens self.old.live.entries
+            → packet ≡ number → Continues number stream segment.now opens self.new.live.entries
+            bytes.new.items found) }
+        ensures grows { OnOk result ((number : ℕ) (opens : List OpenStream)
+            → number ≤ 2 ^ 50 → AllZip (KeepsOpen number) opens self.old.live.entries
+            → packet ≡ number
+            → Grows stream segment.now self.old.live.entries self.new.live.entries) }
     {
-        let stream = Stream {
-            way,
-            dst: segment.dst,
-            src: segment.src,
-        };
         let index = self.stream_index(stream, segment.number)?;
-        self.by_stream[index].add(segment, bytes)
+        self.live[index].add(packet, segment, bytes)
+    }
+
+    /// Drops the streams that end.
+    pub(crate) fn end(&mut self, ending: Ending)
+        ensures { self.new.live.entries
+            ≡ filter (λ e. not (is_chosen ending e)) self.old.live.entries }
+    {
+        self.live.retain(
+            |stream: &Stream, kept: &mut KeptSegments| -> bool
+                ensures { (result ≡ not (is_chosen ending (stream.now, kept.old)))
+                    × (kept.new ≡ kept.old) }
+            { !ending.has(stream, kept) },
+        );
     }
 }

@@ -1,15 +1,16 @@
 //! The parts of lines: a packet with its words, a stream, and what a piece of it has.
 
-ghost use Rattle.std.specs.Prelude.{◌≡◌, ◌++◌, [], OnOk};
+ghost use Rattle.std.specs.Prelude.{◌≡◌, ◌++◌, OnOk};
 ghost use Rattle.texts.specs.Adding.{Adds};
-ghost use Rattle.dap_meanings.specs.Frames.{frame_words};
 ghost use Rattle.dap_meanings.specs.Meanings.{fault_words, if_there, packet_words};
-ghost use Rattle.dap_follow.specs.Following.{length_text, packet_line, range_text, stream_text};
+ghost use Rattle.decnet_frames.specs.Found.{found_seen};
+ghost use Rattle.dap_follow.specs.Lines.{length_text, packet_line, plain_line, range_text, stream_text};
 
 use crate::segments::ROUND;
 use crate::streams::Stream;
-use dap_listing::{Direction, arrow, push_heading, push_seen};
+use dap_listing::{arrow, push_heading, push_seen};
 use dap_meanings::add_packet_words;
+use decnet_frames::{Found, push_nodes};
 use nsp_seg::{PacketValue, SegFault};
 use std::alloc::AllocError;
 use texts::{push_number, push_str, push_word};
@@ -24,24 +25,36 @@ fn fault_of(seen: &Result<PacketValue<'_>, SegFault>) -> Option<SegFault>
     }
 }
 
-/// Appends the line of the packet that has the number, to a text that is empty; with its words, if these are wanted:
-/// those of the line directly before it, and of what is no segment. Fails only if memory is refused.
+/// Appends the line of the packet that has the number, without words.
+fn push_plain_line(
+    text: &mut Vec<u8>,
+    number: usize,
+    found: &Found<'_>,
+    seen: &Result<PacketValue<'_>, SegFault>,
+) -> Result<(), AllocError>
+    ensures { OnOk result (Adds text.old text.new
+        (plain_line number (found_seen found.now) seen.now)) }
+{
+    push_heading(text, number, found.way)?;
+    push_nodes(text, found.nodes)?;
+    push_seen(text, seen)
+}
+
+/// Appends the line of the packet that has the number; with its words, if these are wanted: what its frame is called,
+/// and those of what is no segment. Fails only if memory is refused.
 pub(crate) fn push_packet_line(
     text: &mut Vec<u8>,
     number: usize,
-    way: Direction,
-    before: &[u8],
+    found: &Found<'_>,
     seen: &Result<PacketValue<'_>, SegFault>,
     in_words: bool,
 ) -> Result<(), AllocError>
-    requires { text.old.items ≡ [] }
-    ensures { OnOk result (text.new.items
-        ≡ packet_line in_words (frame_words before.now) number (way, seen.now)) }
+    ensures { OnOk result (Adds text.old text.new
+        (packet_line in_words number (found_seen found.now) seen.now)) }
 {
-    push_heading(text, number, way)?;
-    push_seen(text, seen)?;
+    push_plain_line(text, number, found, seen)?;
     if in_words {
-        return add_packet_words(text, before, fault_of(seen));
+        return add_packet_words(text, found.frame, fault_of(seen));
     }
     Ok(())
 }
@@ -68,12 +81,14 @@ pub(crate) fn push_piece(
     push_str(text, "\n")
 }
 
-/// Appends a stream: its way, its receiver and its sender.
+/// Appends a stream: its way, its nodes where they are known, its receiver and its sender.
 pub(crate) fn push_stream(text: &mut Vec<u8>, stream: &Stream) -> Result<(), AllocError>
     ensures { OnOk result (Adds text.old text.new (stream_text stream.now)) }
 {
     push_str(text, " ")?;
     push_str(text, arrow(stream.way))?;
-    push_word(text, " dst=", stream.dst)?;
+    push_str(text, " ")?;
+    push_nodes(text, stream.nodes)?;
+    push_word(text, "dst=", stream.dst)?;
     push_word(text, " src=", stream.src)
 }

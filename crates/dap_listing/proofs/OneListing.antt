@@ -22,13 +22,14 @@ use Rattle.texts.specs.Text.{line_feed}
 abbrev AreBytes : List ℕ → Type 0
 AreBytes bytes = (i : ℕ) → get_or bytes i 0 < 256
 
-one_text : (bytes a b : List ℕ) → AreBytes bytes → IsMessagesText false bytes a → IsMessagesText false bytes b → a ≡ b
-one_text bytes a b are lines others =
+-- bytes have one text of messages at most
+pub one_text : (in_words : Bool) (bytes a b : List ℕ) → AreBytes bytes → IsMessagesText in_words bytes a → IsMessagesText in_words bytes b → a ≡ b
+one_text in_words bytes a b are lines others =
     let all = have_items bytes are in
-    lines.2 ∙ ap (flat_map (item_line_in false)) (all.only lines.0 lines.1 ∙ sym (all.only others.0 others.1)) ∙ sym others.2
+    lines.2 ∙ ap (flat_map (item_line_in in_words)) (all.only lines.0 lines.1 ∙ sym (all.only others.0 others.1)) ∙ sym others.2
 
 one_of_segment : (first last : Bool) (payload a b : List ℕ) → AreBytes payload → SegmentMessages first last payload a → SegmentMessages first last payload b → a ≡ b
-one_of_segment true true payload a b are lines lines' = one_text payload a b are lines lines'
+one_of_segment true true payload a b are lines lines' = one_text false payload a b are lines lines'
 one_of_segment true false payload a b are none none' = none ∙ sym none'
 one_of_segment false last payload a b are none none' = none ∙ sym none'
 
@@ -36,12 +37,14 @@ behind : (front payload : List ℕ) → AreBytes (front ++ payload) → AreBytes
 behind [] payload are i = are i
 behind (b ∷ front) payload are i = behind front payload (λ k. are (suc k)) i
 
-payload_of : (s : SegmentFields) (bytes : List ℕ) → AreBytes bytes → Spells (Segment s) bytes → AreBytes s.payload
+-- a segment's payload is of bytes where it is
+pub payload_of : (s : SegmentFields) (bytes : List ℕ) → AreBytes bytes → Spells (Segment s) bytes → AreBytes s.payload
 payload_of s bytes are spelled =
     behind (marks s.first s.last ∷ [] ++ to_le_bytes w16 s.dst ++ to_le_bytes w16 s.src ++ optional_ack s.ack1 ++ optional_ack s.ack2
     ++ to_le_bytes w16 (0x1000 * spelled.free + s.number)) s.payload (subst AreBytes spelled.spelled are)
 
-one_seen : (bytes : List ℕ) (a b : DecodedPacket) → AreBytes bytes → IsSeen a bytes → IsSeen b bytes → a ≡ b
+-- bytes are one packet, or have one fault
+pub one_seen : (bytes : List ℕ) (a b : DecodedPacket) → AreBytes bytes → IsSeen a bytes → IsSeen b bytes → a ≡ b
 one_seen bytes (Ok p) (Ok q) are is other = ap Ok (spells-one p q bytes is other)
 one_seen bytes (Ok p) (Err fault) are is other = absurd (spells-apart p fault bytes are is other)
 one_seen bytes (Err fault) (Ok p) are is other = absurd (spells-apart p fault bytes are other is)
@@ -61,7 +64,7 @@ one_packet bytes a b are text text' =
 
 one_message : (bytes a b : List ℕ) → AreBytes bytes → IsCapturedText Messages bytes a → IsCapturedText Messages bytes b → a ≡ b
 one_message bytes a b are text text' =
-    let same : text.0 ≡ text'.0 = one_text bytes text.0 text'.0 are text.1 text'.1 in
+    let same : text.0 ≡ text'.0 = one_text false bytes text.0 text'.0 are text.1 text'.1 in
     text.2 ∙ ap (λ t. concat (codes "message len=" ∷ decimal (length bytes) ∷ line_feed ∷ []) ++ t) same ∙ sym text'.2
 
 one_captured : (listed : Listed) (bytes a b : List ℕ) → AreBytes bytes → IsCapturedText listed bytes a → IsCapturedText listed bytes b → a ≡ b

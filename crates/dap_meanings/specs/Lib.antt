@@ -2,5 +2,4 @@ pub mod Faults
 pub mod Inner
 pub mod Tables
 pub mod Quoted
-pub mod Frames
 pub mod Meanings

@@ -1,5 +1,5 @@
 -- What the lines of a listing say in words.
-use Rattle.std.specs.Prelude.{◌≡◌, ℕ, ◌==◌, ◌||◌, ◌/◌, ◌-◌, nat_le, Bool, List, [], ◌∷◌, ◌++◌, codes, length, take, if◌then◌else◌, Option, Some, None, Ok, Err}
+use Rattle.std.specs.Prelude.{◌≡◌, ℕ, ◌==◌, ◌||◌, ◌/◌, ◌-◌, nat_le, nat_lt, Bool, List, [], ◌∷◌, ◌++◌, codes, length, take, if◌then◌else◌, Option, Some, None, Ok, Err}
 use Rattle.std.specs.Option.{option_map_or}
 use Rattle.std.specs.List.{flat_map}
 use Rattle.std.specs.Fmt.{decimal}
@@ -83,6 +83,10 @@ item_words (Malformed fault) = []
 abbrev pub fault_words : SegFault → List (List ℕ)
 fault_words (NotHere flag) = word_in control_packets flag
 fault_words _ = []
+
+-- what a frame is called, where that is known: else it is empty
+abbrev pub frame_words : List ℕ → List (List ℕ)
+frame_words frame = if nat_lt 0 (length frame) then frame ∷ [] else []
 
 -- of a packet or a fault
 abbrev pub packet_words : Result Packet SegFault → List (List ℕ)

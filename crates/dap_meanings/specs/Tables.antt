@@ -1,6 +1,6 @@
 -- What the numbers of a listing mean, in words. Where a number isn't in a table it has no word.
 use Rattle.std.specs.Prelude.{ℕ, ◌==◌, List, [], ◌∷◌, codes, if◌then◌else◌}
-use Rattle.dap_msg.specs.Codes.{accfunc, ctlfunc, rac, confunc, cmpfunc, org, rfm, stscode, maccode_success}
+use Rattle.dap_msg.specs.Codes.{accfunc, ctlfunc, rac, confunc, cmpfunc, org, rfm, stscode, reasons, rms_access, rms_record, maccode_success}
 
 -- numbers with their words
 abbrev pub Table : Type 0
@@ -64,17 +64,27 @@ other_types =
     (10, codes "key definition") ∷ (11, codes "allocation") ∷ (12, codes "summary") ∷ (13, codes "date and time")
     ∷ (14, codes "protection") ∷ (15, codes "name") ∷ (16, codes "access control list") ∷ []
 
--- STSCODE, of a Status, where MACCODE and MICCODE together have a word. 0x4030 is from memory.
+-- STSCODE, of a Status, where MACCODE and MICCODE together have a word. All but 0x5027 and 0x4032 are from memory.
 abbrev pub status_codes : Table
 status_codes =
-    (stscode.end_of_file, codes "end of file") ∷ (stscode.file_not_found, codes "file not found") ∷ (0x4030, codes "file locked") ∷ []
+    (stscode.end_of_file, codes "end of file") ∷ (stscode.file_not_found, codes "file not found") ∷ (0x4030, codes "file locked")
+    ∷ (rms_access.file_exists, codes "file exists") ∷ (rms_access.not_permitted, codes "not permitted")
+    ∷ (rms_access.bad_attributes, codes "bad attributes") ∷ (rms_record.not_permitted, codes "not permitted")
+    ∷ (rms_record.no_current, codes "no current record") ∷ (rms_record.record_not_found, codes "record not found")
+    ∷ (rms_record.record_exists, codes "record exists") ∷ (rms_record.number_out_of_range, codes "number out of range")
+    ∷ (rms_record.bad_length, codes "bad length") ∷ (rms_record.bad_access_mode, codes "bad access mode")
+    ∷ (rms_record.delete_not_allowed, codes "delete not allowed") ∷ (rms_record.too_large_for_buffer, codes "too large for buffer")
+    ∷ (rms_record.bad_key, codes "bad key") ∷ []
 
 -- the reason in STV, where an Access or an operation on a record is refused
 abbrev pub reason_table : Table
 reason_table =
-    (1, codes "file exists") ∷ (2, codes "not permitted") ∷ (3, codes "no current record") ∷ (4, codes "record not found")
-    ∷ (5, codes "record exists") ∷ (6, codes "number out of range") ∷ (7, codes "bad length") ∷ (8, codes "bad access mode")
-    ∷ (9, codes "delete not allowed") ∷ (10, codes "too large for buffer") ∷ (11, codes "bad attributes") ∷ (12, codes "bad key") ∷ []
+    (reasons.file_exists, codes "file exists") ∷ (reasons.not_permitted, codes "not permitted")
+    ∷ (reasons.no_current, codes "no current record") ∷ (reasons.record_not_found, codes "record not found")
+    ∷ (reasons.record_exists, codes "record exists") ∷ (reasons.number_out_of_range, codes "number out of range")
+    ∷ (reasons.bad_length, codes "bad length") ∷ (reasons.bad_access_mode, codes "bad access mode")
+    ∷ (reasons.delete_not_allowed, codes "delete not allowed") ∷ (reasons.too_large_for_buffer, codes "too large for buffer")
+    ∷ (reasons.bad_attributes, codes "bad attributes") ∷ (reasons.bad_key, codes "bad key") ∷ []
 
 -- MACCODE, of a Status
 abbrev pub status_kinds : Table

@@ -2,12 +2,10 @@
 #![tactic(auto)]
 
 mod faults;
-mod frames;
 mod meanings;
 mod quoted;
 mod tables;
 mod words;
 
 pub use faults::push_packet_fault;
-pub use frames::frame_text;
 pub use meanings::{add_item_words, add_packet_words};

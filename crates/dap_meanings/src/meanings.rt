@@ -4,12 +4,10 @@ ghost use Rattle.std.specs.Prelude.{◌≡◌, ◌<◌, ◌++◌, [], ◌∷◌,
 ghost use Rattle.std.specs.List.{flat_map};
 ghost use Rattle.std.specs.Option.{option_map_or};
 ghost use Rattle.dap_msg.specs.declared.message.Message.TheVariants.{Access, Attrib, Control, Filedata, Status};
-ghost use Rattle.dap_meanings.specs.Frames.{frame_words};
-ghost use Rattle.dap_meanings.specs.Meanings.{fault_words, if_there, item_words, message_words, first_words, reason_words, refusal_words, record_words, status_words, with_words, KeepsButEnd};
+ghost use Rattle.dap_meanings.specs.Meanings.{fault_words, frame_words, if_there, item_words, message_words, first_words, reason_words, refusal_words, record_words, status_words, with_words, KeepsButEnd};
 ghost use Rattle.dap_meanings.specs.Tables.{word_in, formats, organizations, record_accesses};
 ghost use Rattle.dap_meanings.specs.Inner.Words.{word_list};
 
-use crate::frames::frame_text;
 use crate::quoted::quoted;
 use crate::tables;
 use crate::words::{Word, add_words, rights_word};
@@ -211,30 +209,30 @@ fn fault_word(fault: Option<SegFault>) -> Word<'static>
     }
 }
 
-/// Returns what a line that may be a comment says.
-fn comment_word(line: &[u8]) -> Word<'_>
-    ensures { word_list result ≡ frame_words line.now }
+/// Returns what a frame is called, where that is known.
+fn frame_word(frame: &[u8]) -> Word<'_>
+    ensures { word_list result ≡ frame_words frame.now }
 {
-    match frame_text(line) {
-        Some(text) => Word::Frame(text),
-        None => Word::Nothing,
+    if frame.is_empty() {
+        return Word::Nothing;
     }
+    Word::Frame(frame)
 }
 
-/// Puts the words of a packet's line before its end, which is that of the text: those of the line directly before the
-/// packet in its capture, and those of what it is where it can't be read. Fails only if memory is refused: then all
-/// but that end still stands.
+/// Puts the words of a packet's line before its end, which is that of the text: what its frame is called, or nothing
+/// where that is empty, and what it is where it can't be read. Fails only if memory is refused: then all but that end
+/// still stands.
 pub fn add_packet_words(
     text: &mut Vec<u8>,
-    before: &[u8],
+    frame: &[u8],
     fault: Option<SegFault>,
 ) -> Result<(), AllocError>
     requires { 0 < length text.old.items }
     ensures words { OnOk result (text.new.items
-        ≡ with_words (frame_words before.now ++ if_there fault_words fault) text.old.items) }
+        ≡ with_words (frame_words frame.now ++ if_there fault_words fault) text.old.items) }
     ensures kept { KeepsButEnd text.old text.new }
 {
-    let comment = comment_word(before);
+    let frame = frame_word(frame);
     let fault = fault_word(fault);
-    add_words(text, &[comment, fault])
+    add_words(text, &[frame, fault])
 }

@@ -265,8 +265,9 @@ const OTHER_TYPES: [Entry; 7] = [
     },
 ];
 
-/// STSCODE (DAP 5.6.0, Status message), where MACCODE and MICCODE together have a word. `4030` is from memory.
-const STATUS_CODES: [Entry; 3] = [
+/// STSCODE (DAP 5.6.0, Status message), where MACCODE and MICCODE together have a word. All but `5027` and `4032` are from
+/// memory.
+const STATUS_CODES: [Entry; 16] = [
     Entry {
         number: codes::END_OF_FILE,
         word: "end of file",
@@ -278,6 +279,58 @@ const STATUS_CODES: [Entry; 3] = [
     Entry {
         number: 0x4030,
         word: "file locked",
+    },
+    Entry {
+        number: codes::RMS_FILE_EXISTS,
+        word: "file exists",
+    },
+    Entry {
+        number: codes::RMS_ACCESS_NOT_PERMITTED,
+        word: "not permitted",
+    },
+    Entry {
+        number: codes::RMS_BAD_ATTRIBUTES,
+        word: "bad attributes",
+    },
+    Entry {
+        number: codes::RMS_NOT_PERMITTED,
+        word: "not permitted",
+    },
+    Entry {
+        number: codes::RMS_NO_CURRENT,
+        word: "no current record",
+    },
+    Entry {
+        number: codes::RMS_RECORD_NOT_FOUND,
+        word: "record not found",
+    },
+    Entry {
+        number: codes::RMS_RECORD_EXISTS,
+        word: "record exists",
+    },
+    Entry {
+        number: codes::RMS_NUMBER_OUT_OF_RANGE,
+        word: "number out of range",
+    },
+    Entry {
+        number: codes::RMS_BAD_LENGTH,
+        word: "bad length",
+    },
+    Entry {
+        number: codes::RMS_BAD_ACCESS_MODE,
+        word: "bad access mode",
+    },
+    Entry {
+        number: codes::RMS_DELETE_NOT_ALLOWED,
+        word: "delete not allowed",
+    },
+    Entry {
+        number: codes::RMS_TOO_LARGE_FOR_BUFFER,
+        word: "too large for buffer",
+    },
+    Entry {
+        number: codes::RMS_BAD_KEY,
+        word: "bad key",
     },
 ];
 

@@ -37,6 +37,8 @@ pub const MAX_TYPE: u8 = 16;
 pub const ACCFUNC_OPEN: u8 = 1;
 /// To make a new file.
 pub const ACCFUNC_CREATE: u8 = 2;
+/// To remove a file that is there.
+pub const ACCFUNC_ERASE: u8 = 4;
 
 /// CTLFUNC (DAP 5.6.0, Control message): to read a record, or the whole file.
 pub const CTLFUNC_GET: u8 = 1;
@@ -129,6 +131,33 @@ pub const REASON_BAD_ATTRIBUTES: u8 = 11;
 /// The key is no number.
 pub const REASON_BAD_KEY: u8 = 12;
 
+/// STSCODE of RMS's errors, from memory: [`ACCESS_REFUSED`], and MICCODE says that there is a file of the name.
+pub const RMS_FILE_EXISTS: u16 = 0x402d;
+/// The link, or the user, has not the right.
+pub const RMS_ACCESS_NOT_PERMITTED: u16 = 0x4055;
+/// No file has these attributes.
+pub const RMS_BAD_ATTRIBUTES: u16 = 0x405d;
+/// [`RECORD_REFUSED`], and the file was not opened for the operation.
+pub const RMS_NOT_PERMITTED: u16 = 0x502c;
+/// No record is current.
+pub const RMS_NO_CURRENT: u16 = 0x5019;
+/// There is no record of the number.
+pub const RMS_RECORD_NOT_FOUND: u16 = 0x5060;
+/// There is a record of the number.
+pub const RMS_RECORD_EXISTS: u16 = 0x505b;
+/// No record may have the number.
+pub const RMS_NUMBER_OUT_OF_RANGE: u16 = 0x5049;
+/// No record of the file may have this length.
+pub const RMS_BAD_LENGTH: u16 = 0x5066;
+/// The file's records are not found so.
+pub const RMS_BAD_ACCESS_MODE: u16 = 0x5057;
+/// Nothing is removed from a file of this organization.
+pub const RMS_DELETE_NOT_ALLOWED: u16 = 0x503a;
+/// The record's Data message is longer than the peer takes.
+pub const RMS_TOO_LARGE_FOR_BUFFER: u16 = 0x5067;
+/// The key is no number.
+pub const RMS_BAD_KEY: u16 = 0x503e;
+
 const UNSUPPORTED: u16 = 0x2000;
 
 const MALFORMED: u16 = 0x8000;
@@ -175,6 +204,49 @@ pub(crate) fn malformed(message_type: u8) -> u16
     }
 }
 
+/// Returns the STSCODE of a refused Access with a reason, as RMS has it.
+fn access_error(reason: u8) -> u16
+    ensures { result ≡ codes.rms_code codes.stscode.access_refused reason }
+{
+    match reason {
+        REASON_FILE_EXISTS => RMS_FILE_EXISTS,
+        REASON_NOT_PERMITTED => RMS_ACCESS_NOT_PERMITTED,
+        REASON_BAD_ATTRIBUTES => RMS_BAD_ATTRIBUTES,
+        _ => ACCESS_REFUSED,
+    }
+}
+
+/// Returns the STSCODE of a refused operation on a record with a reason, as RMS has it.
+fn record_error(reason: u8) -> u16
+    ensures { result ≡ codes.rms_code codes.stscode.record_refused reason }
+{
+    match reason {
+        REASON_NOT_PERMITTED => RMS_NOT_PERMITTED,
+        REASON_NO_CURRENT => RMS_NO_CURRENT,
+        REASON_RECORD_NOT_FOUND => RMS_RECORD_NOT_FOUND,
+        REASON_RECORD_EXISTS => RMS_RECORD_EXISTS,
+        REASON_NUMBER_OUT_OF_RANGE => RMS_NUMBER_OUT_OF_RANGE,
+        REASON_BAD_LENGTH => RMS_BAD_LENGTH,
+        REASON_BAD_ACCESS_MODE => RMS_BAD_ACCESS_MODE,
+        REASON_DELETE_NOT_ALLOWED => RMS_DELETE_NOT_ALLOWED,
+        REASON_TOO_LARGE_FOR_BUFFER => RMS_TOO_LARGE_FOR_BUFFER,
+        REASON_BAD_KEY => RMS_BAD_KEY,
+        _ => RECORD_REFUSED,
+    }
+}
+
+/// Returns the STSCODE of a refusal with a reason as RMS has it: the MICCODE by which programs that use RMS know why,
+/// from memory. Any other code, and one with a reason that RMS has no error for, stays as it is.
+pub fn rms_code(code: u16, reason: u8) -> u16
+    ensures { result ≡ codes.rms_code code reason }
+{
+    match code {
+        ACCESS_REFUSED => access_error(reason),
+        RECORD_REFUSED => record_error(reason),
+        _ => code,
+    }
+}
+
 /// States that the constants are the numbers that the definitions name.
 pub fn names_the_numbers()
     ensures config { TYPE_CONFIGURATION ≡ codes.types.config }
@@ -189,6 +261,7 @@ pub fn names_the_numbers()
     ensures greatest { MAX_TYPE ≡ codes.max_type }
     ensures open { ACCFUNC_OPEN ≡ codes.accfunc.opening }
     ensures create { ACCFUNC_CREATE ≡ codes.accfunc.creating }
+    ensures erase { ACCFUNC_ERASE ≡ codes.accfunc.erasing }
     ensures get { CTLFUNC_GET ≡ codes.ctlfunc.get }
     ensures connect { CTLFUNC_CONNECT ≡ codes.ctlfunc.connect }
     ensures update { CTLFUNC_UPDATE ≡ codes.ctlfunc.update }
@@ -219,7 +292,33 @@ pub fn names_the_numbers()
     ensures record_refused { RECORD_REFUSED ≡ codes.stscode.record_refused }
     ensures end_of_file { END_OF_FILE ≡ codes.stscode.end_of_file }
     ensures reason_file_exists { REASON_FILE_EXISTS ≡ codes.reasons.file_exists }
+    ensures reason_not_permitted { REASON_NOT_PERMITTED ≡ codes.reasons.not_permitted }
+    ensures reason_no_current { REASON_NO_CURRENT ≡ codes.reasons.no_current }
+    ensures reason_record_not_found { REASON_RECORD_NOT_FOUND ≡ codes.reasons.record_not_found }
+    ensures reason_record_exists { REASON_RECORD_EXISTS ≡ codes.reasons.record_exists }
+    ensures reason_number_out_of_range { REASON_NUMBER_OUT_OF_RANGE
+        ≡ codes.reasons.number_out_of_range }
+    ensures reason_bad_length { REASON_BAD_LENGTH ≡ codes.reasons.bad_length }
+    ensures reason_bad_access_mode { REASON_BAD_ACCESS_MODE ≡ codes.reasons.bad_access_mode }
+    ensures reason_delete_not_allowed { REASON_DELETE_NOT_ALLOWED
+        ≡ codes.reasons.delete_not_allowed }
     ensures reason_too_large_for_buffer { REASON_TOO_LARGE_FOR_BUFFER
         ≡ codes.reasons.too_large_for_buffer }
     ensures reason_bad_attributes { REASON_BAD_ATTRIBUTES ≡ codes.reasons.bad_attributes }
+    ensures reason_bad_key { REASON_BAD_KEY ≡ codes.reasons.bad_key }
+    ensures rms_file_exists { RMS_FILE_EXISTS ≡ codes.rms_access.file_exists }
+    ensures rms_access_not_permitted { RMS_ACCESS_NOT_PERMITTED ≡ codes.rms_access.not_permitted }
+    ensures rms_bad_attributes { RMS_BAD_ATTRIBUTES ≡ codes.rms_access.bad_attributes }
+    ensures rms_not_permitted { RMS_NOT_PERMITTED ≡ codes.rms_record.not_permitted }
+    ensures rms_no_current { RMS_NO_CURRENT ≡ codes.rms_record.no_current }
+    ensures rms_record_not_found { RMS_RECORD_NOT_FOUND ≡ codes.rms_record.record_not_found }
+    ensures rms_record_exists { RMS_RECORD_EXISTS ≡ codes.rms_record.record_exists }
+    ensures rms_number_out_of_range { RMS_NUMBER_OUT_OF_RANGE
+        ≡ codes.rms_record.number_out_of_range }
+    ensures rms_bad_length { RMS_BAD_LENGTH ≡ codes.rms_record.bad_length }
+    ensures rms_bad_access_mode { RMS_BAD_ACCESS_MODE ≡ codes.rms_record.bad_access_mode }
+    ensures rms_delete_not_allowed { RMS_DELETE_NOT_ALLOWED ≡ codes.rms_record.delete_not_allowed }
+    ensures rms_too_large_for_buffer { RMS_TOO_LARGE_FOR_BUFFER
+        ≡ codes.rms_record.too_large_for_buffer }
+    ensures rms_bad_key { RMS_BAD_KEY ≡ codes.rms_record.bad_key }
 {}

@@ -78,7 +78,7 @@ record IsSoundThen (c : GroupedItems) : Type 0 where
   least : min_buffer ≤ c.standing.scene.limit
   most : c.standing.scene.limit ≤ max_nsp_message
 
-by_lock : (own : ServerSetup) (c : GroupedItems) (item : Item) → IsSound c → (locked : Bool) → IsSoundThen (if locked then next_group c.standing item (Does (refuse_access c.standing.scene (bare_status file_locked))) else after_item own c item)
+by_lock : (own : ServerSetup) (c : GroupedItems) (item : Item) → IsSound c → (locked : Bool) → IsSoundThen (if locked then next_group own c.standing item (Does (refuse_access c.standing.scene (bare_status file_locked))) else after_item own c item)
 by_lock own c item h true = record { files = h.standing.files; least = h.standing.least; most = h.standing.most }
 by_lock own c item h false =
     let after = more-sound own c.standing c.begun item (record { standing = h.standing; begun = h.begun }) in
@@ -118,7 +118,7 @@ event_sound own node (Drops at) s g h = drop_by node at h (is_open at node)
 -- ---- Names.
 
 apart_lock : (own : ServerSetup) (c : GroupedItems) (item : Item) → NamesAreApart own.names c.standing.scene.files → (locked : Bool)
-    → NamesAreApart own.names (if locked then next_group c.standing item (Does (refuse_access c.standing.scene (bare_status file_locked))) else after_item own c item).standing.scene.files
+    → NamesAreApart own.names (if locked then next_group own c.standing item (Does (refuse_access c.standing.scene (bare_status file_locked))) else after_item own c item).standing.scene.files
 apart_lock own c item h true = h
 apart_lock own c item h false = more-leaves own c.standing c.begun item h
 

@@ -285,18 +285,18 @@ pub record Goes (c d : GroupedItems) (asks : Option OpenFile) : Type 0 where
   pub moved : Moved c.standing.scene.files asks (open_in c.standing.state) d.standing.scene.files (open_in d.standing.state)
   pub steady : IsSteady d
 
-pub next-goes : (asks : Option OpenFile) (s : Standing) (item : Item) (t : Turn) → HasRights s.state → LeftIn s.scene asks (open_in s.state) t → Goes (record { standing = s; begun = None }) (next_group s item t) asks
-next-goes asks s item (Does e) h l = record { moved = l.moved; steady = record { rights = l.rights; begun = tt } }
-next-goes asks s item (BeginsGroup b) h l = record { moved = keeps (open_in s.state); steady = record { rights = h; begun = l } }
+pub next-goes : (own : ServerSetup) (asks : Option OpenFile) (s : Standing) (item : Item) (t : Turn) → HasRights s.state → LeftIn s.scene asks (open_in s.state) t → Goes (record { standing = s; begun = None }) (next_group own s item t) asks
+next-goes own asks s item (Does e) h l = record { moved = l.moved; steady = record { rights = l.rights; begun = tt } }
+next-goes own asks s item (BeginsGroup b) h l = record { moved = keeps (open_in s.state); steady = record { rights = h; begun = l } }
 
 by-begun : (own : ServerSetup) (s : Standing) (begun : Option Begun) (item : Item) → HasRights s.state → IfSome begun (λ b. (open_in s.state ≡ Some b.opened) × (b.stream.rights ≡ b.opened.rights))
     → Goes (record { standing = s; begun = begun }) (more_after own s begun item) (asks_to_open own s.scene.files s.state item)
-by-begun own s None item h n = next-goes _ s item (turn_of own s item) h (of-item s.scene _ own s.past s.state h item refl)
+by-begun own s None item h n = next-goes own _ s item (turn_of own s item) h (of-item s.scene _ own s.past s.state h item refl)
 by-begun own s (Some b) item h n =
     let asks = asks_to_open own s.scene.files s.state item in
     let l = with-second s.scene asks b.opened b.change b.stream item n.1 in
     record {
-      moved = subst (λ (held : Option OpenFile). Moved s.scene.files asks held (after_two s b item).scene.files (open_in (after_two s b item).state)) (sym n.0) l.moved;
+      moved = subst (λ (held : Option OpenFile). Moved s.scene.files asks held (after_two own s b item).scene.files (open_in (after_two own s b item).state)) (sym n.0) l.moved;
       steady = record { rights = l.rights; begun = tt };
     }
 

@@ -137,7 +137,7 @@ module _ (own : ServerSetup) (node : Node) (link : ℕ) (item : Item) (there : l
   abbrev asks : Bool → Option OpenFile
   asks locked = if locked then None else asked
 
-  by-lock : (locked : Bool) → Goes old (if locked then next_group old.standing item (Does (refuse_access old.standing.scene (bare_status file_locked))) else after_item its old item) (asks locked)
+  by-lock : (locked : Bool) → Goes old (if locked then next_group its old.standing item (Does (refuse_access old.standing.scene (bare_status file_locked))) else after_item its old item) (asks locked)
   by-lock true = record { moved = closes (open_in old.standing.state); steady = record { rights = tt; begun = tt } }
   by-lock false = one-goes its old item (record { rights = (h.steady link).rights; begun = (h.steady link).begun })
 

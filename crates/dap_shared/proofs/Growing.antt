@@ -28,7 +28,7 @@ count-all own node (GivesRecord at number body ∷ events) = count-all own (afte
 count-all own node (Drops at ∷ events) = count-all own (after_event own node (Drops at)) events ∙ count-drop own node at
 
 by-lock : (own : ServerSetup) (c : GroupedItems) (item : Item) (locked : Bool) →
-    answers_in (if locked then locked_group c.standing item else after_item own c item).standing.past ≡ answers_in c.standing.past ++ (if locked then bare_status file_locked ∷ [] else answers_of own c item)
+    answers_in (if locked then locked_group own c.standing item else after_item own c item).standing.past ≡ answers_in c.standing.past ++ (if locked then bare_status file_locked ∷ [] else answers_of own c item)
 by-lock own c item true = refl
 by-lock own c item false = answers_after-more own c.standing c.begun item
 

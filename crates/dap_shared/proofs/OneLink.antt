@@ -31,7 +31,7 @@ module _ (own : ServerSetup) (most : Rights) where
   pub alone : (c : GroupedItems) (item : Item) → more_beside its (None ∷ []) c item ≡ after_item its c item
   alone c item =
       let s = c.standing in
-      ap (λ (b : Bool). if b then next_group s item (Does (refuse_access s.scene (bare_status file_locked))) else after_item its c item)
+      ap (λ (b : Bool). if b then next_group its s item (Does (refuse_access s.scene (bare_status file_locked))) else after_item its c item)
       (none-locked (asks_to_open its s.scene.files s.state item))
 
   one-served : (c : GroupedItems) (item : Item) → after_event own (node_of c) (Serves 0 item) ≡ node_of (after_item its c item)

@@ -212,12 +212,12 @@ locked-kept v link item first events h =
 
 -- ---- What is refused.
 
-abbrev pub locked_group : Standing → Item → GroupedItems
-locked_group s item = next_group s item (Does (refuse_access s.scene (bare_status file_locked)))
+abbrev pub locked_group : (own : ServerSetup) → Standing → Item → GroupedItems
+locked_group own s item = next_group own s item (Does (refuse_access s.scene (bare_status file_locked)))
 
 refused-by : (own : ServerSetup) (others : List (Option OpenFile)) (scene : Scene) (past : List Group) (state : ServerState) (item : Item) → is_locked others (asks_to_open own scene.files state item) ≡ true →
     let s : Standing = record { scene = scene; state = state; past = past } in
-    session_of (present_of own (locked_group s item)) ≡ record { own = own.identity.bufsiz; setup = own; limit = scene.limit; kept = Some plain_shape; phase = phases.Ready }
+    session_of (present_of own (locked_group own s item)) ≡ record { own = own.identity.bufsiz; setup = own; limit = scene.limit; kept = Some plain_shape; phase = phases.Ready }
 refused-by own others scene past Ready (Whole (Access a)) e =
     ap (λ (k : Option Shape). let t : SessionValue = record { own = own.identity.bufsiz; setup = own; limit = scene.limit; kept = k; phase = phases.Ready } in t) (access-keeps past a (bare_status file_locked ∷ []))
 refused-by own others scene past Ready (Whole message) e = cc
@@ -286,7 +286,7 @@ module _ (own : ServerSetup) (node : Node) (link : ℕ) (item : Item) (h : IsSha
     pub within : AllAtMost max_nsp_message (bodies answers.items)
 
   by-lock : (locked : Bool) (files : Files) (s : SessionValue) (answers : Vec (Vec ℕ)) → locked ≡ is_locked others asked → beside.ServesOrRefuses locked item node.files session files s answers →
-      Leaves (if locked then locked_group before.standing item else after_item its before item) (if locked then bare_status file_locked ∷ [] else answers_of its before item) files s answers
+      Leaves (if locked then locked_group its before.standing item else after_item its before item) (if locked then bare_status file_locked ∷ [] else answers_of its before item) files s answers
   by-lock true files s answers e does =
       record {
         same_files = does.0;
@@ -306,7 +306,7 @@ module _ (own : ServerSetup) (node : Node) (link : ℕ) (item : Item) (h : IsSha
   leaves : (files : Files) (s : SessionValue) (answers : Vec (Vec ℕ)) → beside.ServesOrRefuses (is_barred kept_beside (asked_by session node.files item)) item node.files session files s answers →
       Leaves (more_beside its others before item) (answers_beside its others before item) files s answers
   leaves files s answers does =
-      subst (λ (b : Bool). Leaves (if b then locked_group before.standing item else after_item its before item) (if b then bare_status file_locked ∷ [] else answers_of its before item) files s answers) lock-is
+      subst (λ (b : Bool). Leaves (if b then locked_group its before.standing item else after_item its before item) (if b then bare_status file_locked ∷ [] else answers_of its before item) files s answers) lock-is
       (by-lock (is_barred kept_beside (asked_by session node.files item)) files s answers lock-is does)
 
   abbrev after : GroupedItems

@@ -88,7 +88,7 @@ abbrev pub more_beside : (own : ServerSetup) → (others : List (Option OpenFile
 more_beside own others c item =
     let s = c.standing in
     if is_locked others (asks_to_open own s.scene.files s.state item)
-    then next_group s item (Does (refuse_access s.scene (bare_status file_locked)))
+    then next_group own s item (Does (refuse_access s.scene (bare_status file_locked)))
     else after_item own c item
 
 -- its answers

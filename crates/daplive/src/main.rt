@@ -1,5 +1,4 @@
-//! The program `daplive`: one end of a DECnet file access, over lines; listings of captures, and the packets in capture
-//! files.
+//! The program `daplive`: one end of a DECnet file access, over lines.
 #![tactic(auto)]
 
 use linewise::{ErrorOutput, Outcome, Output, exit_status, finish, write_text};

@@ -7,7 +7,7 @@ use Rattle.dap_fields.specs.Spelling.{AreBytes}
 use Rattle.dap_listing.specs.Listing.{packet_limit}
 use Rattle.capture_file.specs.Meanings.{Record}
 use Rattle.decnet_frames.specs.Frames.{Packet, and_then, bytes_by_length, data_of, fitting, is_node, is_tag, long_of, routing_message, nsp_packet_of, packet_by_flags, short_of, payload_by_type, packet_after_padding, bytes_after_tags, number_at}
-use Rattle.decnet_frames.specs.Lines.{packet_in}
+use Rattle.decnet_frames.specs.Founds.{packet_in}
 use Rattle.decnet_frames.specs.declared.packet.Passed.{Passed}
 
 no_bytes : AreBytes []

@@ -1,6 +1,12 @@
-mod ListingLemmas
+mod BoolLemmas
 mod BytesLemmas
-mod TimeLemmas
-mod ReadBack
+mod CommentLemmas
+mod LineLemmas
+mod ListingLemmas
 mod MadeLemmas
-pub mod ForCallers
+mod OriginLemmas
+mod ReadBack
+mod TakingLemmas
+mod TalkLemmas
+mod TimeLemmas
+mod WrittenLemmas

@@ -1,37 +1,48 @@
--- The lines of captured frames are read back.
-use Rattle.std.proofs.Common.{◌≡◌, ◌<◌, ◌≤◌, ◌+◌, ◌-◌, ◌*◌, ◌/◌, ◌%◌, ◌^◌, ◌==◌, ◌&&◌, not, ℕ, zero, suc, Bool, true, false, List, [], ◌∷◌, ◌++◌, length, drop, map, slice_index, Option, Some, None, Result, Ok, Err, refl, sym, ap, ◌∙◌, arith, decimal, append_assoc, append-nil}
-use Rattle.std.specs.Prelude.{codes, nat_lt, nat_le, option_map}
-use Rattle.std.specs.Result.{result_err, result_unwrap_or}
+-- The lines of packets are read back.
+use Rattle.std.proofs.Common.{◌≡◌, ◌<◌, ◌≤◌, ◌+◌, ◌-◌, ◌*◌, ◌/◌, ◌%◌, ◌^◌, ◌==◌, ◌&&◌, ◌||◌, not, ℕ, zero, suc, Bool, true, false, List, [], ◌∷◌, ◌++◌, length, length-append, length-drop, drop, map, slice_index, Option, Some, None, Result, Ok, Err, refl, sym, ap, subst, ◌∙◌, arith, decimal, append_assoc, append-nil}
+use Rattle.std.specs.Prelude.{codes, nat_lt, nat_le, is_err}
+use Rattle.std.specs.Option.{option_map_or}
+use Rattle.std.specs.Result.{result_unwrap_or}
 use Rattle.std.specs.Char.{is_ascii_hexdigit}
-use Rattle.std.specs.List.{AllByRecursion, AllPass, concat, enumerate_from, filter_map, list_all, slice_split}
+use Rattle.std.specs.List.{AllByRecursion, AllPass, concat, list_all, list_any, slice_split}
 use Rattle.std.specs.Str.Lines.{lines, lines_of_parts, strip_carriage_return}
 use Rattle.std.proofs.lemmas.Bool.{cond_both, ltb-true}
 use Rattle.std.proofs.lemmas.Bool.Decides.{nat_tests}
-use Rattle.std.proofs.lemmas.Fmt.{decimal_by_steps_wide}
-use Rattle.std.proofs.lemmas.List.{map-append}
+use Rattle.std.proofs.lemmas.Fmt.{decimal_by_steps_wide, length-decimal-le}
 use Rattle.std.proofs.lemmas.List.Elements.{All-weaker}
 use Rattle.std.proofs.lemmas.List.Splits.{slice_split_at, length-slice_split}
 use Rattle.std.proofs.lemmas.List.Sums.{AllPass-from_list_all, list_all-from_AllPass}
-use Rattle.hex.specs.Hex.{encode_lower, is_hex_digit, lower_digits}
+use Rattle.std.proofs.lemmas.Nat.{mod_below}
+use Rattle.hex.specs.Hex.{decode_of, encode_lower, is_hex_digit, lower_digits}
 use Rattle.hex.proofs.HexLemmas.{decode_of-encode_lower, decode_of-ok, length-encode_with}
 use Rattle.dap_fields.specs.Spelling.{AreBytes}
 use Rattle.texts.specs.Text.{line_feed}
 use Rattle.texts.specs.Words.{is_hex_text}
-use Rattle.dap_listing.specs.Lines.{Capture, line_of}
-use Rattle.dap_listing.specs.Listing.{arrow_text, captures, faults_from, packet_limit}
-use Rattle.linewise.specs.declared.fault.CaptureFault.{CaptureFault}
+use Rattle.linewise.specs.Talks.{max_line}
+use Rattle.dap_listing.specs.Lines.{Capture, Line, line_of}
+use Rattle.dap_listing.specs.Listing.{arrow_text, packet_limit}
 use Rattle.dap_listing.specs.declared.lines.Direction.{Direction}
 use Rattle.dap_listing.specs.declared.lines.Direction.TheVariants.{Right, Left}
 use Rattle.capture_file.specs.Files.{bounded_count}
 use Rattle.capture_file.specs.Meanings.{Record}
 use Rattle.capture_file.specs.declared.meaning.Time.{Time}
+use Rattle.decnet_frames.specs.Found.{FoundPacket}
+use Rattle.decnet_frames.specs.Founds.{found_as, founds_from, founds_of_file, packet_in, record_founds, record_pairs, seen_founds}
 use Rattle.decnet_frames.specs.Frames.{Packet}
-use Rattle.decnet_frames.specs.Lines.{ListedPacket, capture_of, data_text, digits_after_first, ends_after, ends_or_those_of, heading_text, frame_lines, node_text, packet_in, packets_from, parts_in_second, record_packets, record_text, seconds_text, seen_packets, seen_text, shown_parts, time_text, way_of, way_packets, way_text}
+use Rattle.decnet_frames.specs.HexLines.{all_hex_lines, data_line, hex_lines}
+use Rattle.decnet_frames.specs.Lines.{capture_in, comment_origin, found_by, found_in, is_refused, packets_after, packets_of_lines}
+use Rattle.decnet_frames.specs.Nodes.{node_text, pair_text}
+use Rattle.decnet_frames.specs.Origins.{PacketOrigin, comment_text, frame_by}
+use Rattle.decnet_frames.specs.Times.{digits_after_first, frame_text, parts_in_second, seconds_text, shown_parts, time_text}
+use Rattle.decnet_frames.specs.Ways.{nodes_of, way_in}
+use Rattle.decnet_frames.specs.declared.addresses.Nodes.{Nodes}
 use Rattle.decnet_frames.specs.declared.packet.Passed.{Passed}
-use Rattle.decnet_frames.specs.declared.text.Ends.{Ends}
-use Rattle.std.proofs.lemmas.Nat.{mod_below}
-use Rattle.decnet_frames.proofs.TimeLemmas.{few_shown, scaled_below, some_parts, some_shown}
+use Rattle.decnet_frames.specs.declared.ways.Between.{Between}
+use Rattle.decnet_frames.specs.declared.ways.Ends.{Ends}
 use Rattle.decnet_frames.proofs.BytesLemmas.{IsPacket, OkPacket, OkShort, packet_in_bytes, packet_in_short}
+use Rattle.decnet_frames.proofs.CommentLemmas.{none_by_packet, told_short}
+use Rattle.decnet_frames.proofs.TimeLemmas.{few_shown, scaled_below, some_parts, some_shown}
+use Rattle.decnet_frames.proofs.WrittenLemmas.{comment_read}
 
 -- ---- text without the end of a line
 
@@ -156,19 +167,11 @@ plain_node : (node : ℕ) → node < 65536 → IsPlain (node_text node)
 plain_node node small =
     plain_concat (decimal (node / 1024) ∷ codes "." ∷ decimal (node % 1024) ∷ []) (plain_decimal (node / 1024) (omega (arith, small)), (refl, (plain_decimal (node % 1024) (omega (arith, small)), tt)))
 
--- the words of a comment, without its end
-abbrev heading_words : ℕ → Option Time → Packet → List (List ℕ)
-heading_words number time p = codes "# frame " ∷ decimal number ∷ codes " " ∷ time_text time ∷ codes " " ∷ node_text p.source ∷ codes " -> " ∷ node_text p.destination ∷ []
-
-plain_heading : (number : ℕ) (time : Option Time) (p : Packet) → number < 2 ^ 64 → IsPacket p → AllByRecursion IsPlain (heading_words number time p)
-plain_heading number time p small is =
-    (refl, (plain_decimal number (omega (arith, small)), (refl, (plain_time time, (refl, (plain_node p.source is.source, (refl, (plain_node p.destination is.destination, tt))))))))
-
 abbrev data_words : Direction → List ℕ → List (List ℕ)
 data_words way packet = arrow_text way ∷ codes " " ∷ encode_lower packet ∷ []
 
-plain_data : (way : Direction) (p : Packet) → IsPacket p → AllByRecursion IsPlain (data_words way p.packet)
-plain_data way p is = (plain_arrow way, (refl, (plain_hex p.packet is.bytes, tt)))
+plain_data : (way : Direction) (bytes : List ℕ) → AreBytes bytes → AllByRecursion IsPlain (data_words way bytes)
+plain_data way bytes are = (plain_arrow way, (refl, (plain_hex bytes are, tt)))
 
 -- ---- a packet
 
@@ -187,68 +190,211 @@ at_most a b h = grind (arith, nat_tests)
 few_digits : (bytes : List ℕ) → length bytes ≤ packet_limit → nat_le (length (encode_lower bytes)) (2 * packet_limit) ≡ true
 few_digits bytes few = at_most (length (encode_lower bytes)) (2 * packet_limit) (omega (arith, length-encode_with lower_digits bytes, few))
 
-data_line : (way : Direction) (p : Packet) → IsPacket p → length p.packet ≤ packet_limit → line_of packet_limit (concat (data_words way p.packet)) ≡ Ok (Some (capture_of (way, p.packet)))
-data_line Right p is few =
-    rw (append-nil (encode_lower p.packet), some_hex p.packet is.bytes is.some, few_digits p.packet few) refl
-data_line Left p is few =
-    rw (append-nil (encode_lower p.packet), some_hex p.packet is.bytes is.some, few_digits p.packet few) refl
+packet_line : (way : Direction) (bytes : List ℕ) → AreBytes bytes → 0 < length bytes → length bytes ≤ packet_limit
+    → line_of packet_limit (concat (data_words way bytes)) ≡ Ok (Some (way, encode_lower bytes))
+packet_line Right bytes are some few = rw (append-nil (encode_lower bytes), some_hex bytes are some, few_digits bytes few) refl
+packet_line Left bytes are some few = rw (append-nil (encode_lower bytes), some_hex bytes are some, few_digits bytes few) refl
 
--- what two lines and others have
-pub record ReadsOn (packets : List ListedPacket) (text rest : List ℕ) : Type 0 where
-  pub captures_are : captures packet_limit (text ++ rest) ≡ map capture_of packets ++ captures packet_limit rest
-  pub clean : (number : ℕ) → (next : ℕ) × (faults_from packet_limit number (text ++ rest) ≡ faults_from packet_limit next rest)
+-- ---- how long a line is
 
-abbrev capture_in : List (List ℕ) → List Capture
-capture_in ls = filter_map (λ line. result_unwrap_or (line_of packet_limit line) None) ls
+decimal_long : (n : ℕ) → n < 2 ^ 64 → length (decimal n) ≤ 20
+decimal_long n small = length-decimal-le 20 n (omega arith) (omega (arith, small)) small
 
-abbrev faults_in : ℕ → List (List ℕ) → List CaptureFault
-faults_in number ls = filter_map (λ (index, line). option_map (λ fault. fault index) (result_err (line_of packet_limit line))) (enumerate_from number ls)
+seconds_long : (seconds n : ℕ) → seconds < 2 ^ 64 → n < 2 ^ 64 → length (decimal seconds ++ (codes "." ++ digits_after_first n)) ≤ 41
+seconds_long seconds n low small =
+    omega (arith, length-append (decimal seconds) (codes "." ++ digits_after_first n), length-drop 1 (decimal n), decimal_long seconds low, decimal_long n small)
 
-two_lines : (way : Direction) (number : ℕ) (time : Option Time) (p : Packet) (rest : List ℕ) → number < 2 ^ 64 → IsPacket p
-    → lines ((heading_text number time p ++ data_text way p.packet) ++ rest) ≡ concat (heading_words number time p) ∷ concat (data_words way p.packet) ∷ lines rest
-two_lines way number time p rest small is =
-    ap lines (append_assoc (heading_text number time p) (data_text way p.packet) rest)
-    ∙ (line_of_words (heading_words number time p) (data_text way p.packet ++ rest) (plain_heading number time p small is)
-    ∙ ap (λ ls. concat (heading_words number time p) ∷ ls) (line_of_words (data_words way p.packet) rest (plain_data way p is)))
+time_long : (time : Option Time) → length (time_text time) ≤ 41
+time_long None = omega arith
+time_long (Some t) =
+    let m = parts_in_second t.resolution in
+    let below : (t.parts % m) * shown_parts t.resolution / m < shown_parts t.resolution =
+    scaled_below (t.parts % m) m (shown_parts t.resolution) (mod_below t.parts m (some_parts t.resolution)) (some_shown t.resolution) in
+    cond_both {A = List ℕ} (nat_lt ((t.parts / m + t.offset) % 2 ^ 64) (2 ^ 63)) _ _ (λ text. length text ≤ 41)
+    (λ few. seconds_long ((t.parts / m + t.offset) % 2 ^ 64) (shown_parts t.resolution + (t.parts % m) * shown_parts t.resolution / m) (omega (arith, ltb-true _ _ few)) (omega (arith, below, few_shown t.resolution)))
+    (λ _. omega arith)
 
-way_reads : (way : Option Direction) (number : ℕ) (time : Option Time) (p : Packet) (rest : List ℕ) → number < 2 ^ 64 → IsPacket p → length p.packet ≤ packet_limit
-    → ReadsOn (way_packets way p) (way_text way number time p) rest
-way_reads None number time p rest small is few = record { captures_are = refl; clean = λ n. (n, refl) }
-way_reads (Some way) number time p rest small is few =
-    let two = two_lines way number time p rest small is in
-    let line = data_line way p is few in
-    record {
-      captures_are = ap capture_in two ∙ rw line refl;
-      clean = λ n. (n + 1 + 1, ap (faults_in n) two ∙ rw line refl);
-    }
+node_long : (node : ℕ) → node < 65536 → length (node_text node) ≤ 41
+node_long node small =
+    omega (
+      arith,
+      length-append (decimal (node / 1024)) (codes "." ++ (decimal (node % 1024) ++ [])),
+      length-append (decimal (node % 1024)) [],
+      decimal_long (node / 1024) (omega (arith, small)),
+      decimal_long (node % 1024) (omega arith),
+    )
 
-seen_reads : (ends : Option Ends) (number : ℕ) (time : Option Time) (seen : Result Packet Passed) (rest : List ℕ) → number < 2 ^ 64 → OkPacket seen → OkShort seen
-    → ReadsOn (seen_packets ends seen) (seen_text ends number time seen) rest
-seen_reads ends number time (Ok p) rest small is few = way_reads (way_of (ends_or_those_of ends p) p) number time p rest small is few
-seen_reads ends number time (Err e) rest small is few = record { captures_are = refl; clean = λ n. (n, refl) }
+frame_long : (number : ℕ) (time : Option Time) → number < 2 ^ 64 → length (frame_text number time) ≤ 68
+frame_long number time small =
+    omega (arith, length-append (decimal number) (codes " " ++ (time_text time ++ [])), length-append (time_text time) [], decimal_long number small, time_long time)
 
-record_reads : (ends : Option Ends) (number : ℕ) (r : Record) (rest : List ℕ) → number < 2 ^ 64 → AreBytes r.bytes → ReadsOn (record_packets ends r) (record_text ends number r) rest
-record_reads ends number r rest small is = seen_reads ends number r.time (packet_in r) rest small (packet_in_bytes r is) (packet_in_short r)
+pair_long : (nodes : Nodes) → nodes.source < 65536 → nodes.destination < 65536 → length (pair_text nodes) ≤ 86
+pair_long nodes source destination =
+    omega (
+      arith,
+      length-append (node_text nodes.source) (codes " -> " ++ (node_text nodes.destination ++ [])),
+      length-append (node_text nodes.destination) [],
+      node_long nodes.source source,
+      node_long nodes.destination destination,
+    )
 
--- ---- all of them
+comment_long : (number : ℕ) (time : Option Time) (nodes : Nodes) → number < 2 ^ 64 → nodes.source < 65536 → nodes.destination < 65536
+    → length (comment_text (frame_text number time) nodes) ≤ max_line
+comment_long number time nodes small source destination =
+    omega (
+      arith,
+      length-append (frame_text number time) (codes " " ++ (pair_text nodes ++ [])),
+      length-append (pair_text nodes) [],
+      frame_long number time small,
+      pair_long nodes source destination,
+    )
+
+data_long : (way : Direction) (bytes : List ℕ) → length bytes ≤ packet_limit → length (concat (data_words way bytes)) ≤ max_line
+data_long Right bytes few = omega (arith, length-append (encode_lower bytes) [], length-encode_with lower_digits bytes, few)
+data_long Left bytes few = omega (arith, length-append (encode_lower bytes) [], length-encode_with lower_digits bytes, few)
+
+-- ---- a packet that is written
+
+-- its frame and nodes are told, and its bytes fit a line
+pub record IsWritten (f : FoundPacket) : Type 0 where
+  pub number : ℕ
+  pub time : Option Time
+  pub nodes : Nodes
+  pub small : number < 2 ^ 64
+  pub source : nodes.source < 65536
+  pub destination : nodes.destination < 65536
+  pub bytes : AreBytes f.bytes
+  pub some : 0 < length f.bytes
+  pub few : length f.bytes ≤ packet_limit
+  pub is : f ≡ record { way = f.way; frame = frame_text number time; nodes = Some nodes; bytes = f.bytes }
+
+plain_frame : (number : ℕ) (time : Option Time) → number < 2 ^ 64 → IsPlain (frame_text number time)
+plain_frame number time small =
+    plain_concat (codes "frame " ∷ decimal number ∷ codes " " ∷ time_text time ∷ []) (refl, (plain_decimal number (omega (arith, small)), (refl, (plain_time time, tt))))
+
+plain_pair : (nodes : Nodes) → nodes.source < 65536 → nodes.destination < 65536 → IsPlain (pair_text nodes)
+plain_pair nodes source destination =
+    plain_concat (node_text nodes.source ∷ codes " -> " ∷ node_text nodes.destination ∷ []) (plain_node nodes.source source, (refl, (plain_node nodes.destination destination, tt)))
+
+plain_comment : (number : ℕ) (time : Option Time) (nodes : Nodes) → number < 2 ^ 64 → nodes.source < 65536 → nodes.destination < 65536
+    → IsPlain (comment_text (frame_text number time) nodes)
+plain_comment number time nodes small source destination =
+    plain_concat (codes "# " ∷ frame_text number time ∷ codes " " ∷ pair_text nodes ∷ [])
+    (refl, (plain_frame number time small, (refl, (plain_pair nodes source destination, tt))))
+
+-- the packet, from its parts
+abbrev written_of : Direction → ℕ → Option Time → Nodes → List ℕ → FoundPacket
+written_of way number time nodes bytes = record { way = way; frame = frame_text number time; nodes = Some nodes; bytes = bytes }
+
+two_lines : (way : Direction) (number : ℕ) (time : Option Time) (nodes : Nodes) (bytes rest : List ℕ) → number < 2 ^ 64 → nodes.source < 65536 → nodes.destination < 65536 → AreBytes bytes
+    → lines (hex_lines (written_of way number time nodes bytes) ++ rest) ≡ comment_text (frame_text number time) nodes ∷ concat (data_words way bytes) ∷ lines rest
+two_lines way number time nodes bytes rest small source destination are =
+    let comment = comment_text (frame_text number time) nodes in
+    ap lines (append_assoc (comment ++ line_feed) (data_line way bytes) rest ∙ append_assoc comment line_feed (data_line way bytes ++ rest))
+    ∙ (one_line comment (data_line way bytes ++ rest) (plain_comment number time nodes small source destination)
+    ∙ ap (λ ls. comment ∷ ls) (line_of_words (data_words way bytes) rest (plain_data way bytes are)))
+
+no_capture : (frame : List ℕ) (nodes : Nodes) → capture_in (comment_text frame nodes) ≡ None
+no_capture frame nodes = refl
+
+decoded : (bytes : List ℕ) → AreBytes bytes → result_unwrap_or (decode_of (encode_lower bytes)) [] ≡ bytes
+decoded bytes are = rw (decode_of-encode_lower bytes are) refl
+
+-- what two lines tell, and the others
+told : (origin : Option PacketOrigin) (comment line : List ℕ) (others : List (List ℕ)) (capture : Capture) → capture_in comment ≡ None → capture_in line ≡ Some capture → comment_origin line ≡ None
+    → packets_after origin (comment ∷ line ∷ others) ≡ found_in (comment_origin comment) capture ∷ packets_after None others
+told origin comment line others capture none some last = rw (none, some, last) refl
+
+read_one : (way : Direction) (number : ℕ) (time : Option Time) (nodes : Nodes) (bytes rest : List ℕ) → number < 2 ^ 64 → nodes.source < 65536 → nodes.destination < 65536 → AreBytes bytes
+    → 0 < length bytes → length bytes ≤ packet_limit
+    → packets_after None (lines (hex_lines (written_of way number time nodes bytes) ++ rest)) ≡ written_of way number time nodes bytes ∷ packets_after None (lines rest)
+read_one way number time nodes bytes rest small source destination are some few =
+    let comment = comment_text (frame_text number time) nodes in
+    let line = concat (data_words way bytes) in
+    let is = packet_line way bytes are some few in
+    let says : comment_origin comment ≡ Some (record { frame = frame_text number time; nodes = nodes }) =
+    told_short comment (comment_long number time nodes small source destination) ∙ comment_read number time nodes small source destination in
+    ap (packets_after None) (two_lines way number time nodes bytes rest small source destination are)
+    ∙ (told None comment line (lines rest) (way, encode_lower bytes) (no_capture (frame_text number time) nodes) (ap (λ (r : Line). result_unwrap_or r None) is)
+    (none_by_packet packet_limit line (way, encode_lower bytes) (data_long way bytes few) is)
+    ∙ (ap (λ o. found_by o way (result_unwrap_or (decode_of (encode_lower bytes)) []) ∷ packets_after None (lines rest)) says
+    ∙ ap (λ bs. written_of way number time nodes bs ∷ packets_after None (lines rest)) (decoded bytes are)))
+
+not_over : (n : ℕ) → n ≤ max_line → nat_lt max_line n ≡ false
+not_over n short = grind (arith, nat_tests)
+
+good_comment : (frame : List ℕ) (nodes : Nodes) → length (comment_text frame nodes) ≤ max_line → is_refused (comment_text frame nodes) ≡ false
+good_comment frame nodes short = ap (λ b. b || false) (not_over (length (comment_text frame nodes)) short)
+
+good_data : (line : List ℕ) (capture : Capture) → length line ≤ max_line → line_of packet_limit line ≡ Ok (Some capture) → is_refused line ≡ false
+good_data line capture short is = ap (λ b. b || is_err (line_of packet_limit line)) (not_over (length line) short) ∙ ap (λ (r : Line). is_err r) is
+
+clean_one : (way : Direction) (number : ℕ) (time : Option Time) (nodes : Nodes) (bytes rest : List ℕ) → number < 2 ^ 64 → nodes.source < 65536 → nodes.destination < 65536 → AreBytes bytes
+    → 0 < length bytes → length bytes ≤ packet_limit
+    → list_any is_refused (lines (hex_lines (written_of way number time nodes bytes) ++ rest)) ≡ list_any is_refused (lines rest)
+clean_one way number time nodes bytes rest small source destination are some few =
+    let comment = comment_text (frame_text number time) nodes in
+    let line = concat (data_words way bytes) in
+    ap (list_any is_refused) (two_lines way number time nodes bytes rest small source destination are)
+    ∙ (ap (λ b. b || (is_refused line || list_any is_refused (lines rest))) (good_comment (frame_text number time) nodes (comment_long number time nodes small source destination))
+    ∙ ap (λ b. b || list_any is_refused (lines rest)) (good_data line (way, encode_lower bytes) (data_long way bytes few) (packet_line way bytes are some few)))
+
+-- ---- packets
+
+pub all_read : (founds : List FoundPacket) → AllByRecursion IsWritten founds → packets_of_lines (all_hex_lines founds) ≡ founds
+all_read [] are = refl
+all_read (f ∷ founds) are =
+    let w = are.0 in
+    ap (λ x. packets_after None (lines (hex_lines x ++ all_hex_lines founds))) w.is
+    ∙ (read_one f.way w.number w.time w.nodes f.bytes (all_hex_lines founds) w.small w.source w.destination w.bytes w.some w.few
+    ∙ (ap (λ x. x ∷ packets_after None (lines (all_hex_lines founds))) (sym w.is) ∙ ap (λ fs. f ∷ fs) (all_read founds are.1)))
+
+pub all_clean : (founds : List FoundPacket) → AllByRecursion IsWritten founds → list_any is_refused (lines (all_hex_lines founds)) ≡ false
+all_clean [] are = refl
+all_clean (f ∷ founds) are =
+    let w = are.0 in
+    ap (λ x. list_any is_refused (lines (hex_lines x ++ all_hex_lines founds))) w.is
+    ∙ (clean_one f.way w.number w.time w.nodes f.bytes (all_hex_lines founds) w.small w.source w.destination w.bytes w.some w.few ∙ all_clean founds are.1)
+
+-- ---- those of a file
+
+as_written : (way : Option Direction) (number : ℕ) (time : Option Time) (p : Packet) → number < 2 ^ 64 → IsPacket p → length p.packet ≤ packet_limit → AllByRecursion IsWritten (found_as way number time p)
+as_written None number time p small is few = tt
+as_written (Some way) number time p small is few = (
+  record {
+    number = number;
+    time = time;
+    nodes = nodes_of p;
+    small = small;
+    source = is.source;
+    destination = is.destination;
+    bytes = is.bytes;
+    some = is.some;
+    few = few;
+    is = refl;
+  },
+  tt,
+)
+
+seen_written : (between : Between) (pairs : List Ends) (number : ℕ) (time : Option Time) (seen : Result Packet Passed) → number < 2 ^ 64 → OkPacket seen → OkShort seen
+    → AllByRecursion IsWritten (seen_founds between pairs number time seen)
+seen_written between pairs number time (Ok p) small is few = as_written (way_in between pairs (nodes_of p)) number time p small is few
+seen_written between pairs number time (Err e) small is few = tt
+
+both_written : (some others : List FoundPacket) → AllByRecursion IsWritten some → AllByRecursion IsWritten others → AllByRecursion IsWritten (some ++ others)
+both_written [] others one two = two
+both_written (f ∷ some) others one two = (one.0, both_written some others one.1 two)
 
 counted_small : (count : ℕ) → bounded_count (count + 1) < 2 ^ 64
 counted_small count = omega arith
 
-pub lines_read : (ends : Option Ends) (count : ℕ) (records : List Record) → AllByRecursion (λ r. AreBytes r.bytes) records
-    → captures packet_limit (frame_lines ends count records) ≡ map capture_of (packets_from ends records)
-lines_read ends count [] are = refl
-lines_read ends count (r ∷ records) are =
+from_written : (between : Between) (pairs : List Ends) (count : ℕ) (records : List Record) → AllByRecursion (λ r. AreBytes r.bytes) records → AllByRecursion IsWritten (founds_from between pairs count records)
+from_written between pairs count [] are = tt
+from_written between pairs count (r ∷ records) are =
     let number = bounded_count (count + 1) in
-    let one = record_reads ends number r (frame_lines (ends_after ends r) number records) (counted_small count) are.0 in
-    one.captures_are ∙ (ap (λ cs. map capture_of (record_packets ends r) ++ cs) (lines_read (ends_after ends r) number records are.1)
-    ∙ sym (map-append capture_of (record_packets ends r) (packets_from (ends_after ends r) records)))
+    both_written (record_founds between pairs number r) (founds_from between (record_pairs between pairs r) number records)
+    (seen_written between pairs number r.time (packet_in r) (counted_small count) (packet_in_bytes r are.0) (packet_in_short r))
+    (from_written between (record_pairs between pairs r) number records are.1)
 
-pub lines_clean : (ends : Option Ends) (count from : ℕ) (records : List Record) → AllByRecursion (λ r. AreBytes r.bytes) records
-    → faults_from packet_limit from (frame_lines ends count records) ≡ []
-lines_clean ends count from [] are = refl
-lines_clean ends count from (r ∷ records) are =
-    let number = bounded_count (count + 1) in
-    let one = record_reads ends number r (frame_lines (ends_after ends r) number records) (counted_small count) are.0 in
-    let next = one.clean from in
-    next.1 ∙ lines_clean (ends_after ends r) number next.0 records are.1
+pub file_written : (between : Between) (records : List Record) → AllByRecursion (λ r. AreBytes r.bytes) records → AllByRecursion IsWritten (founds_of_file between records)
+file_written between records are = from_written between [] 0 records are

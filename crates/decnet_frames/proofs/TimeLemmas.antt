@@ -4,7 +4,7 @@ use Rattle.std.specs.Prelude.{nat_lt, nat_le}
 use Rattle.std.proofs.lemmas.Bool.{cond_both}
 use Rattle.std.proofs.lemmas.Nat.{div_below}
 use Rattle.std.proofs.Math.Nat.{mul-lt-mul_of_pos_right, one-le-pow, pow-le-pow_right}
-use Rattle.decnet_frames.specs.Lines.{parts_in_second, shown_parts}
+use Rattle.decnet_frames.specs.Times.{parts_in_second, shown_parts}
 
 pub ten_power : (n : ℕ) → 10 ^ min n 38 < 2 ^ 128
 ten_power n =

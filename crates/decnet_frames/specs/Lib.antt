@@ -1,6 +1,12 @@
 pub mod Frames
 pub mod Made
-pub mod Lines
 pub mod Nodes
+pub mod Origins
+pub mod Times
+pub mod Found
+pub mod Ways
+pub mod Founds
+pub mod Lines
+pub mod HexLines
 pub mod Listed
 pub mod Inner

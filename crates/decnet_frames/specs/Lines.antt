@@ -1,147 +1,98 @@
--- The lines of a capture: for each NSP packet between two nodes a comment, and its bytes in hex.
-use Rattle.std.specs.Prelude.{ℕ, ◌+◌, ◌-◌, ◌*◌, ◌/◌, ◌%◌, ◌^◌, ◌==◌, ◌&&◌, nat_lt, nat_le, min, List, [], ◌∷◌, ◌++◌, drop, length, codes, if◌then◌else◌, Option, Some, None, Result, Ok, Err}
-use Rattle.std.specs.List.{concat}
-use Rattle.std.specs.Fmt.{decimal}
-use Rattle.hex.specs.Hex.{encode_lower}
-use Rattle.texts.specs.Text.{line_feed}
-use Rattle.dap_listing.specs.Lines.{Capture}
-use Rattle.dap_listing.specs.Listing.{arrow_text}
+-- The packets of the lines of a capture.
+use Rattle.std.specs.Prelude.{◌≡◌, ℕ, ◌||◌, nat_le, nat_lt, Bool, true, false, is_err, is_some, List, [], ◌∷◌, ◌++◌, length, filter, if◌then◌else◌, Option, Some, None, option_map}
+use Rattle.std.specs.Option.{option_map_or}
+use Rattle.std.specs.Result.{result_unwrap_or}
+use Rattle.std.specs.Io.KnownBytes.{Appends}
+use Rattle.std.specs.Str.Lines.{lines}
+use Rattle.hex.specs.Hex.{decode_of}
+use Rattle.linewise.specs.Output.{WritesFront}
+use Rattle.linewise.specs.Talks.{ReadsPart, max_line}
+use Rattle.linewise.specs.declared.fault.CaptureFault.{CaptureFault}
+use Rattle.linewise.specs.declared.fault.CaptureFault.TheVariants.{NoMemory, ReadFailed, WriteFailed}
+use Rattle.dap_listing.specs.Lines.{Capture, line_of}
+use Rattle.dap_listing.specs.Listing.{packet_limit}
 use Rattle.dap_listing.specs.declared.lines.Direction.{Direction}
-use Rattle.dap_listing.specs.declared.lines.Direction.TheVariants.{Right, Left}
-use Rattle.capture_file.specs.Files.{bounded_count}
-use Rattle.capture_file.specs.Meanings.{Record}
-use Rattle.capture_file.specs.declared.meaning.Time.{Time}
-use Rattle.decnet_frames.specs.Frames.{Packet, nsp_packet_of}
-use Rattle.decnet_frames.specs.declared.packet.Passed.{Passed}
-use Rattle.decnet_frames.specs.declared.packet.Passed.TheVariants.{OtherFrame}
-use Rattle.decnet_frames.specs.declared.text.Ends.{Ends}
-use Rattle.decnet_frames.specs.declared.text.Counts.{Counts}
+use Rattle.decnet_frames.specs.Found.{FoundPacket, TakesAll, Taking}
+use Rattle.decnet_frames.specs.Founds.{counts_by}
+use Rattle.decnet_frames.specs.Origins.{PacketOrigin, origin_of}
+use Rattle.decnet_frames.specs.Ways.{way_of}
+use Rattle.decnet_frames.specs.declared.tally.Counts.{Counts}
+use Rattle.decnet_frames.specs.declared.ways.Between.{Between}
+use Rattle.decnet_frames.specs.declared.ways.Between.TheVariants.{All, Two}
 
--- ---- a comment
+-- ---- a line
 
--- how many parts a second has; one of more than 10^38 shows as one of 10^38: no part is a billionth of a second
-abbrev pub parts_in_second : ℕ → ℕ
-parts_in_second resolution = if nat_lt resolution 128 then 10 ^ min resolution 38 else 2 ^ (resolution - 128)
+-- what a line tells of the packet directly after it, unless it is too long
+abbrev pub comment_origin : List ℕ → Option PacketOrigin
+comment_origin line = if nat_le (length line) max_line then origin_of line else None
 
--- the parts that are shown: millionths of a second, or billionths of one with finer parts or a power of two of them
-abbrev pub shown_parts : ℕ → ℕ
-shown_parts resolution = if nat_le resolution 6 then 1000000 else 1000000000
+-- what is captured in a line, if something is
+abbrev pub capture_in : List ℕ → Option Capture
+capture_in line = result_unwrap_or (line_of packet_limit line) None
 
--- the digits after the first one
-abbrev pub digits_after_first : ℕ → List ℕ
-digits_after_first number = drop 1 (decimal number)
+-- a packet with this sign and these bytes, of which the line directly before it tells this
+abbrev pub found_by : Option PacketOrigin → Direction → List ℕ → FoundPacket
+found_by origin way bytes =
+    record { way = way; frame = option_map_or (λ o. o.frame) origin []; nodes = option_map (λ o. o.nodes) origin; bytes = bytes }
 
--- seconds, a point, and parts of a second with all their zeros, rounded down; nothing but `-` before 1970
-abbrev pub seconds_text : (seconds parts in_second shown : ℕ) → List ℕ
-seconds_text seconds parts in_second shown =
-    if nat_lt seconds (2 ^ 63) then decimal seconds ++ (codes "." ++ digits_after_first (shown + parts * shown / in_second)) else codes "-"
+-- the packet that is captured, with the bytes that its digits spell
+abbrev pub found_in : Option PacketOrigin → Capture → FoundPacket
+found_in origin (way, digits) = found_by origin way (result_unwrap_or (decode_of digits) [])
 
--- a time; the offset is added as two's complement of 64 bits
-abbrev pub time_text : Option Time → List ℕ
-time_text None = codes "-"
-time_text (Some time) =
-    let in_second = parts_in_second time.resolution in
-    seconds_text ((time.parts / in_second + time.offset) % 2 ^ 64) (time.parts % in_second) in_second (shown_parts time.resolution)
+-- a line that is none of a capture, or that is too long: it is reported, and has no packet
+abbrev pub is_refused : List ℕ → Bool
+is_refused line = nat_lt max_line (length line) || is_err (line_of packet_limit line)
 
--- a node: its area in the upper six bits, and its number there
-abbrev pub node_text : ℕ → List ℕ
-node_text node = concat (decimal (node / 1024) ∷ codes "." ∷ decimal (node % 1024) ∷ [])
+-- ---- lines
 
--- the comment before a packet
-abbrev pub heading_text : ℕ → Option Time → Packet → List ℕ
-heading_text number time p = concat (
-    codes "# frame " ∷ decimal number ∷ codes " " ∷ time_text time ∷ codes " " ∷ node_text p.source ∷ codes " -> " ∷ node_text p.destination ∷ line_feed ∷ [])
+-- their packets, where the line before the first one tells this
+abbrev pub packets_after : Option PacketOrigin → List (List ℕ) → List FoundPacket
+packets_after origin [] = []
+packets_after origin (line ∷ others) =
+    option_map_or (λ capture. found_in origin capture ∷ []) (capture_in line) [] ++ packets_after (comment_origin line) others
 
--- the line of a packet
-abbrev pub data_text : Direction → List ℕ → List ℕ
-data_text way packet = concat (arrow_text way ∷ codes " " ∷ encode_lower packet ∷ line_feed ∷ [])
+-- the packets of an input
+abbrev pub packets_of_lines : List ℕ → List FoundPacket
+packets_of_lines input = packets_after None (lines input)
 
--- ---- a packet
+-- whether a packet is taken: between two nodes those that are known to go between them, either way
+abbrev pub takes_packet : Between → FoundPacket → Bool
+takes_packet All found = true
+takes_packet (Two ends) found = option_map_or (λ nodes. is_some (way_of ends nodes)) found.nodes false
 
--- both ends: those that are named, or those of the first packet
-abbrev pub ends_or_those_of : Option Ends → Packet → Ends
-ends_or_those_of None p = record { first = p.source; other = p.destination }
-ends_or_those_of (Some ends) p = ends
+-- the packets of an input that are taken
+abbrev pub founds_of_lines : Between → List ℕ → List FoundPacket
+founds_of_lines between input = filter (takes_packet between) (packets_of_lines input)
 
--- the direction of a packet between the ends
-abbrev pub way_of : Ends → Packet → Option Direction
-way_of ends p =
-    if (p.source == ends.first) && (p.destination == ends.other) then Some Right
-    else if (p.source == ends.other) && (p.destination == ends.first) then Some Left
-    else None
+-- how many these are, and how many packets are passed over
+abbrev pub counts_of_lines : Between → List ℕ → Counts
+counts_of_lines between input = counts_by (length (packets_of_lines input)) (founds_of_lines between input)
 
--- the lines of a packet that goes between the ends
-abbrev pub way_text : Option Direction → ℕ → Option Time → Packet → List ℕ
-way_text None number time p = []
-way_text (Some way) number time p = heading_text number time p ++ data_text way p.packet
+-- ---- what is written
 
--- a packet that is listed: its direction, and its bytes
-abbrev pub ListedPacket : Type 0
-ListedPacket = Direction × List ℕ
+-- the taker took the packets of an input, their text is written, and these are the counts
+abbrev pub LinesListed : {T : Type 0} → Taking T → Between → T → (input : List ℕ) → T → (written holds : Option (List ℕ)) → Counts → Type 0
+LinesListed taken between old input new written holds counts =
+    (text : List ℕ) × TakesAll taken old (founds_of_lines between input) new text × Appends written holds text × (counts ≡ counts_of_lines between input)
 
--- such a packet, if it goes between the ends
-abbrev pub way_packets : Option Direction → Packet → List ListedPacket
-way_packets None p = []
-way_packets (Some way) p = (way, p.packet) ∷ []
+-- these packets are taken of the lines before a rest of the input
+pub record HasFounds (between : Between) (input rest : List ℕ) (founds : List FoundPacket) : Type 0 where
+  pub front : List ℕ
+  pub joined : input ≡ front ++ rest
+  pub origin : Option PacketOrigin
+  pub are : founds_of_lines between input ≡ founds ++ filter (takes_packet between) (packets_after origin (lines rest))
 
--- ---- a captured frame
-
--- the NSP packet of a captured frame
-abbrev pub packet_in : Record → Result Packet Passed
-packet_in r = if r.is_ethernet then nsp_packet_of r.bytes else Err OtherFrame
-
--- the lines of what was read of a frame
-abbrev pub seen_text : Option Ends → ℕ → Option Time → Result Packet Passed → List ℕ
-seen_text ends number time (Ok p) = way_text (way_of (ends_or_those_of ends p) p) number time p
-seen_text ends number time (Err passed) = []
-
--- the lines of a captured frame
-abbrev pub record_text : Option Ends → ℕ → Record → List ℕ
-record_text ends number r = seen_text ends number r.time (packet_in r)
-
--- the ends, as far as they are known after what was read of a frame
-abbrev pub seen_ends : Option Ends → Result Packet Passed → Option Ends
-seen_ends ends (Ok p) = Some (ends_or_those_of ends p)
-seen_ends ends (Err passed) = ends
-
--- and after a captured frame
-abbrev pub ends_after : Option Ends → Record → Option Ends
-ends_after ends r = seen_ends ends (packet_in r)
-
--- the packet that is listed of what was read of a frame
-abbrev pub seen_packets : Option Ends → Result Packet Passed → List ListedPacket
-seen_packets ends (Ok p) = way_packets (way_of (ends_or_those_of ends p) p) p
-seen_packets ends (Err passed) = []
-
--- the packet that is listed of a captured frame
-abbrev pub record_packets : Option Ends → Record → List ListedPacket
-record_packets ends r = seen_packets ends (packet_in r)
-
--- ---- captured frames
-
--- their lines, after this many frames
-abbrev pub frame_lines : Option Ends → ℕ → List Record → List ℕ
-frame_lines ends count [] = []
-frame_lines ends count (r ∷ records) = record_text ends (bounded_count (count + 1)) r ++ frame_lines (ends_after ends r) (bounded_count (count + 1)) records
-
--- their packets that are listed
-abbrev pub packets_from : Option Ends → List Record → List ListedPacket
-packets_from ends [] = []
-packets_from ends (r ∷ records) = record_packets ends r ++ packets_from (ends_after ends r) records
-
--- how many packets are listed after these, counted one by one
-abbrev pub taken_with : ℕ → List ListedPacket → ℕ
-taken_with taken [] = taken
-taken_with taken (sent ∷ others) = taken_with (bounded_count (taken + 1)) others
-
--- how many frames are listed, and how many are passed over
-abbrev pub counts_of : Option Ends → List Record → Counts
-counts_of ends records =
-    let taken = bounded_count (length (packets_from ends records)) in
-    record { taken = taken; passed = bounded_count (length records) - taken }
-
--- ---- reading them back
-
--- a packet as a line of a capture has it
-abbrev pub capture_of : ListedPacket → Capture
-capture_of (way, bytes) = (way, encode_lower bytes)
+-- Where the reader fails: the taker took the packets of all lines that were read whole, and their text is written. Where
+-- memory is refused: those of some lines from the first on. Where the writer fails: a prefix of such a text is written.
+-- A line at fault ends nothing.
+abbrev pub LinesFail : {T : Type 0} → Taking T → Between → T → (input : List ℕ) → T → (left written holds : Option (List ℕ)) → CaptureFault → Type 0
+LinesFail taken between old input new left written holds ReadFailed =
+    (rest : List ℕ) × (founds : List FoundPacket) × (text : List ℕ) × HasFounds between input rest founds × ReadsPart (Some rest) left
+    × TakesAll taken old founds new text × Appends written holds text
+LinesFail {T} taken between old input new left written holds NoMemory =
+    (rest : List ℕ) × (founds : List FoundPacket) × (now : T) × (text : List ℕ) × HasFounds between input rest founds
+    × TakesAll taken old founds now text × Appends written holds text
+LinesFail {T} taken between old input new left written holds WriteFailed =
+    (rest : List ℕ) × (founds : List FoundPacket) × (now : T) × (text : List ℕ) × HasFounds between input rest founds
+    × TakesAll taken old founds now text × WritesFront written holds text
+LinesFail taken between old input new left written holds _ = ⊥

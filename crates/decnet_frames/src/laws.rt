@@ -1,26 +1,42 @@
 //! Laws over the definitions alone. The functions do nothing: their contracts are the laws.
 
-ghost use Rattle.std.specs.Prelude.{◌≡◌, ◌≢◌, ◌<◌, ◌≤◌, ◌+◌, ◌^◌, ◌++◌, ℕ, List, [], Option, Ok, Err, length, map, take};
-ghost use Rattle.std.specs.List.{AllByRecursion};
+ghost use Rattle.std.specs.Prelude.{◌≡◌, ◌≢◌, ◌<◌, ◌≤◌, ◌+◌, ◌^◌, ◌++◌, ℕ, List, Option, Some, Ok, Err, false, length, take};
+ghost use Rattle.dap_listing.specs.Listing.{packet_limit};
+ghost use Rattle.std.specs.List.{AllByRecursion, list_any};
+ghost use Rattle.std.specs.Str.Lines.{lines};
 ghost use Rattle.dap_fields.specs.Spelling.{AreBytes};
 ghost use Rattle.capture_file.specs.Meanings.{Record};
-ghost use Rattle.dap_listing.specs.Listing.{captures, faults_from, packet_limit};
+ghost use Rattle.capture_file.specs.declared.meaning.Time.{Time};
+ghost use Rattle.decnet_frames.specs.Founds.{founds_of_file};
 ghost use Rattle.decnet_frames.specs.Frames.{nsp_packet_of};
-ghost use Rattle.decnet_frames.specs.Lines.{capture_of, frame_lines, packets_from};
 ghost use Rattle.decnet_frames.specs.Made.{Envelope, FitsData, IsControl, IsEnvelope, IsOtherType, IsPadding, MadeData, bytes_of_frame, bytes_to_type, message_of_control, message_of_data, node_of_address, packet_of_data, routing_type};
+ghost use Rattle.decnet_frames.specs.HexLines.{all_hex_lines};
+ghost use Rattle.decnet_frames.specs.Lines.{is_refused, packets_of_lines};
+ghost use Rattle.decnet_frames.specs.Origins.{comment_text, origin_of};
+ghost use Rattle.decnet_frames.specs.Times.{frame_text};
+ghost use Rattle.decnet_frames.specs.declared.addresses.Nodes.{Nodes as TheNodes};
+ghost use Rattle.decnet_frames.specs.declared.ways.Between.{Between as TheBetween};
 ghost use Rattle.decnet_frames.specs.declared.packet.Passed.TheVariants.{CutShort, OtherFrame, OtherMessage, ToItself, TooLong};
-ghost use Rattle.decnet_frames.specs.declared.text.Ends.{Ends as TheEnds};
 
-/// States that the lines of captured frames are read back: they are lines of a capture, none of them at fault, and
-/// what is captured in them are the packets, in order.
+/// States that a comment that is written before a packet is read as what it was made of: its frame's number and time,
+/// and its nodes.
+pub fn comments_are_read()
+    ensures { (number : ℕ) (time : Option Time) (nodes : TheNodes) → number < 2 ^ 64
+        → nodes.source < 2 ^ 16 → nodes.destination < 2 ^ 16
+        → origin_of (comment_text (frame_text number time) nodes)
+        ≡ Some (record { frame = frame_text number time; nodes = nodes }) }
+{}
+
+/// States that the lines that `HexLines` makes of a file's packets are read back: none of them is bad, and their
+/// packets are those of the file, in order, with their signs, frames, nodes and bytes.
 pub fn written_lines_are_read()
-    ensures clean { (ends : Option TheEnds) (count : ℕ) (records : List Record)
+    ensures clean { (between : TheBetween) (records : List Record)
         → AllByRecursion (λ r. AreBytes r.bytes) records
-        → faults_from packet_limit 1 (frame_lines ends count records) ≡ [] }
-    ensures read { (ends : Option TheEnds) (count : ℕ) (records : List Record)
+        → list_any is_refused (lines (all_hex_lines (founds_of_file between records))) ≡ false }
+    ensures read { (between : TheBetween) (records : List Record)
         → AllByRecursion (λ r. AreBytes r.bytes) records
-        → captures packet_limit (frame_lines ends count records)
-        ≡ map capture_of (packets_from ends records) }
+        → packets_of_lines (all_hex_lines (founds_of_file between records))
+        ≡ founds_of_file between records }
 {}
 
 /// States that an Ethernet frame is read as what it was made of: two stations, any tags, and a routing message, which

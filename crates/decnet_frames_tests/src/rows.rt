@@ -2,8 +2,8 @@
 
 use capture_file::FaultKind;
 
-/// The name of a row, two nodes, a file, what is written, and how many frames are taken and passed over; or the fault,
-/// its offset, and how many were before it.
+/// The name of a row, two nodes, a file, what is written, and how many packets are taken and frames passed over; or the
+/// fault, its offset, and how many were before it.
 pub(crate) type Row = (
     &'static str,
     Option<(u16, u16)>,
@@ -314,8 +314,9 @@ pub(crate) const ROWS: &[Row] = &[
 \xff\x8f\x00\x00\x00\x00\x00\x00\x00\x00\x1d\x00\x00\x00\x1d\x00\x00\x00\x00\x00\x00\x00\
 \x00\x00\x00\x00\x00\x00\x00\x00`\x03\x0d\x00\x02\x01\x04\x02\x04\x00\x04\x02\x01\x01\x03\
 \xff\x8f",
-        b"# frame 1 0.000000 1.7 -> 1.8\n> 0402010103ff8f\n",
-        Ok((1, 2)),
+        b"# frame 1 0.000000 1.7 -> 1.8\n> 0402010103ff8f\n# frame 2 0.000000 1.1 -> 1.2\n> 04020101\
+03ff8f\n# frame 3 0.000000 1.2 -> 1.1\n< 0402010103ff8f\n",
+        Ok((3, 0)),
     ),
     (
         "named nodes",
@@ -334,7 +335,7 @@ pub(crate) const ROWS: &[Row] = &[
     ),
     (
         "frames alike, of every form",
-        None,
+        Some((1025, 1026)),
         b"\xd4\xc3\xb2\xa1\x02\x00\x04\x00\x00\x00\x00\x00\x00\x00\x00\x00\xff\xff\x00\x00\x01\x00\
 \x00\x00\x00\x00\x00\x00\x00\x00\x00\x00\x1d\x00\x00\x00\x1d\x00\x00\x00\x00\x00\x00\x00\
 \x00\x00\x00\x00\x00\x00\x00\x00`\x03\x0d\x00\x02\x02\x04\x01\x04\x00\x04\x02\x01\x01\x03\

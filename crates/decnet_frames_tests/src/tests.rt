@@ -2,7 +2,9 @@
 
 use crate::rows::{ROWS, Row};
 use capture_file::FileFault;
-use decnet_frames::{Counts, Ends, FramesFault, list_frames, read_node};
+use decnet_frames::{
+    Between, Counts, Ends, FramesFault, HexLines, Nothing, list_frames, list_lines, read_node,
+};
 use std::alloc::Global;
 use std::io;
 use std::io::{ErrorKind, Read};
@@ -39,11 +41,11 @@ fn outcome(row: &Row) -> Result<Counts, FramesFault> {
     }
 }
 
-/// Returns both ends that a row names.
-fn ends(row: &Row) -> Option<Ends> {
+/// Returns between which nodes a row takes packets.
+fn between(row: &Row) -> Between {
     match row.1 {
-        Some((first, other)) => Some(Ends { first, other }),
-        None => None,
+        Some((first, other)) => Between::Two(Ends { first, other }),
+        None => Between::All,
     }
 }
 
@@ -55,7 +57,13 @@ fn holds(alloc: Global, row: &Row, most: usize) -> bool {
         fails: false,
     };
     let mut written = Vec::new(alloc);
-    let result = list_frames(alloc, ends(row), &mut reader, &mut written);
+    let result = list_frames(
+        alloc,
+        between(row),
+        &mut HexLines,
+        &mut reader,
+        &mut written,
+    );
     result == outcome(row) && written.as_slice() == row.3
 }
 
@@ -80,10 +88,107 @@ fn a_read_that_fails_leaves_the_lines_before(rt: HostRuntime) -> Result<(), Fail
                 fails: true,
             };
             let mut written = Vec::new(rt.alloc());
-            let result = list_frames(rt.alloc(), ends(row), &mut reader, &mut written);
+            let result = list_frames(
+                rt.alloc(),
+                between(row),
+                &mut HexLines,
+                &mut reader,
+                &mut written,
+            );
             assert!(rt; result == Err(FramesFault::ReadFailed));
             assert!(rt; written.as_slice() == row.3);
         }
+    }
+    Ok(())
+}
+
+/// An input of lines: between which nodes packets are taken, what is written of them and told, whether a line is bad,
+/// and how many packets are taken and passed over.
+type Lines = (
+    Between,
+    &'static [u8],
+    &'static [u8],
+    &'static [u8],
+    (bool, u64, u64),
+);
+
+const TWO: Between = Between::Two(Ends {
+    first: 1026,
+    other: 1025,
+});
+
+const LINES: &[Lines] = &[
+    (Between::All, b"", b"", b"", (false, 0, 0)),
+    // The comment directly before, in each of its forms.
+    (
+        Between::All,
+        b"# frame 1 - 0.0 -> 63.1023\n> 04\r\n<  05\n# frame 007 1.5 1.1 -> 1.2\r\n< 0A0b",
+        b"# frame 1 - 0.0 -> 63.1023\n> 04\n# frame 007 1.5 1.1 -> 1.2\n< 0a0b\n",
+        b"bad line 3\n",
+        (true, 2, 0),
+    ),
+    // Not directly before, or no such comment.
+    (
+        Between::All,
+        b"# frame 1 - 1.1 -> 1.2\n\n> 01\n# frame 1 - 1.1 -> 1.2\nwaits 1\n> 02\n# frame 1 - 1.1 -> 1.2\n> 03\n\
+> 04\n# frame 1 - 1.1 -> 64.2\n> 05\n# frame 1 - 1.1 -> 1.1024\n> 06\n# frame 1 . 1.1 -> 1.2\n> 07\n\
+#  frame 1 - 1.1 -> 1.2\n> 08\n# frame 1 - 1.1 -> 1.2 \n> 09\n# frame 1 1. 1.1 -> 1.2\n> 0a\n\
+# frame  - 1.1 -> 1.2\n> 0b\n# frame 123456789012345678901 - 1.1 -> 1.2\n> 0c\n",
+        b"> 01\n> 02\n# frame 1 - 1.1 -> 1.2\n> 03\n> 04\n> 05\n> 06\n> 07\n> 08\n> 09\n> 0a\n> 0b\n> 0c\n",
+        b"bad line 5\n",
+        (true, 12, 0),
+    ),
+    // Between two nodes: the sign is the line's own.
+    (
+        TWO,
+        b"> 01\n# frame 1 - 1.1 -> 1.2\n> 02\n# frame 2 - 1.2 -> 1.1\n> 03\n# frame 3 - 1.1 -> 1.3\n> 04\n",
+        b"# frame 1 - 1.1 -> 1.2\n> 02\n# frame 2 - 1.2 -> 1.1\n> 03\n",
+        b"",
+        (false, 2, 2),
+    ),
+];
+
+/// Returns whether lines come to what is said of them.
+fn listed(alloc: Global, row: &Lines) -> bool {
+    let mut reader = row.1;
+    let mut written = Vec::new(alloc);
+    let mut told = Vec::new(alloc);
+    let result = list_lines(
+        alloc,
+        row.0,
+        &mut HexLines,
+        &mut reader,
+        &mut written,
+        &mut told,
+    );
+    let (bad, taken, passed) = row.4;
+    result == Ok((bad, Counts { taken, passed }))
+        && written.as_slice() == row.2
+        && told.as_slice() == row.3
+}
+
+#[test]
+fn lines_are_listed(rt: HostRuntime) -> Result<(), Fail> {
+    for row in LINES {
+        assert!(rt; listed(rt.alloc(), row));
+    }
+    Ok(())
+}
+
+#[test]
+fn nothing_is_written_of_files_that_are_checked(rt: HostRuntime) -> Result<(), Fail> {
+    for row in ROWS {
+        let mut reader = row.2;
+        let mut written = Vec::new(rt.alloc());
+        let result = list_frames(
+            rt.alloc(),
+            between(row),
+            &mut Nothing,
+            &mut reader,
+            &mut written,
+        );
+        assert!(rt; result == outcome(row));
+        assert!(rt; written.is_empty());
     }
     Ok(())
 }

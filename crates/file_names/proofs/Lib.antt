@@ -1,2 +1,3 @@
 pub mod Examples
 mod Capitals
+mod FoldLemmas

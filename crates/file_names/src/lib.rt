@@ -3,5 +3,7 @@
 #![tactic(auto)]
 
 mod fold;
+mod laws;
 
 pub use fold::{is_alike, stem};
+pub use laws::folds_find_themselves;

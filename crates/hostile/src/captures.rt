@@ -3,7 +3,7 @@
 use crate::altered::{Counts, Outcome, Taking, alter};
 use crate::growing::{Growing, Trouble};
 use crate::text::Text;
-use decnet_frames::{FramesFault, list_frames};
+use decnet_frames::{Between, FramesFault, HexLines, list_frames};
 use std::alloc::Global;
 use std::io;
 use std::io::Read;
@@ -65,7 +65,7 @@ fn list(
 ) -> Result<Outcome, FramesFault> {
     written.clear();
     let mut reader = Pieces { left: bytes, step };
-    match list_frames(alloc, None, &mut reader, written) {
+    match list_frames(alloc, Between::All, &mut HexLines, &mut reader, written) {
         Ok(_) => Ok(Outcome::Taken),
         Err(FramesFault::File(_, _)) => Ok(Outcome::Refused),
         Err(fault) => Err(fault),

@@ -6,5 +6,4 @@ pub mod PieceLemmas
 pub mod OneText
 pub mod ForCallers
 mod TalkLemmas
-mod FrontLemmas
 pub mod ErrorLemmas

@@ -3,8 +3,6 @@
 #![tactic(auto)]
 
 mod fault;
-mod files;
-mod front;
 mod input;
 mod lines;
 mod output;
@@ -12,10 +10,8 @@ mod pipe;
 mod reading;
 mod refusing;
 mod talking;
-mod telling;
 
 pub use fault::{CaptureFault, Outcome, finish, tell_fault};
-pub use front::Fronted;
 pub use input::{CHUNK, MAX_INPUT, read_input};
 pub use lines::{is_skipped, next_line};
 pub use output::write_text;
@@ -23,4 +19,3 @@ pub use pipe::{CLOSED_PIPE, ErrorOutput, Output, exit_status};
 pub use reading::MAX_LINE;
 pub use refusing::refuse;
 pub use talking::{Answer, Answers, Became, talk};
-pub use telling::{LineCommand, finish_reading};

@@ -9,8 +9,8 @@ use Rattle.std.proofs.lemmas.Bool.{cases_eq, cases_lt, cases_Bool}
 use Rattle.std.proofs.lemmas.Bool.Decides.{nat_tests}
 use Rattle.std.proofs.lemmas.Map.Keys.{sorted_from_strictly_increasing}
 use Rattle.nsp_link.specs.Cutting as cutting
-use Rattle.dap_follow.specs.Segments.{NumberedSegment, sequenced_at}
-use Rattle.dap_follow.specs.Streams.{AreSequenced, Sequenced, at, no_more, one_more}
+use Rattle.dap_follow.specs.Segments.{sequenced_at}
+use Rattle.dap_follow.specs.Streams.{AreSequenced, NumberedSegment, Sequenced, at, no_more, one_more}
 use Rattle.dap_follow.specs.Joined.{Message, Fragment, is_message, joins, fragment_message, messages, payload, fragments_of, with_segment}
 use Rattle.std.specs.List.{filter, flat_map, range_with_len}
 use Rattle.std.specs.Int.{div_ceil}

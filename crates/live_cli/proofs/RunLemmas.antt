@@ -1,42 +1,36 @@
 -- What the program's command line makes of words, and what holds where a reader's bytes are known.
-use Rattle.std.proofs.Common.{◌≡◌, ◌∙◌, refl, inr, ap, sym, subst, ℕ, List, [], ◌∷◌, true, false, codes, Ok, Err}
-use Rattle.std.specs.Prelude.{Option, Some, None, IfSome, IsErrAnd, Result, fold, option_map}
+use Rattle.std.proofs.Common.{◌≡◌, ◌∙◌, refl, inr, ap, sym, subst, ℕ, List, [], ◌∷◌, Bool, true, false, codes, Ok, Err}
+use Rattle.std.specs.Prelude.{Option, Some, None, IfSome, IsErrAnd, Result, bytes_eq, fold, if◌then◌else◌, option_map}
 use Rattle.std.specs.Fmt.{digits}
 use Rattle.std.specs.Io.KnownBytes.{Keeps}
+use Rattle.std.proofs.lemmas.Slice.Eq.{bytes_eq-Decides}
 use Rattle.hex.specs.Hex.{decode_pairs}
 use Rattle.clap.specs.Words.{App, FailsBy, HasKind, HasMatchesOf, Kinds, Row, Text, app_of, fault_of, is_simple, is_simple_and_free}
 use Rattle.clap.specs.Words.{subcommand_name_of, subcommand_of, subcommand_rows_of, with_subcommand}
 use Rattle.clap.specs.declared.builder.command.Command.{Command}
 use Rattle.clap.specs.declared.error.Error.{Error}
+use Rattle.clap.specs.declared.error.kind.ErrorKind.TheVariants.{DisplayHelp, InvalidSubcommand, UnknownArgument}
 use Rattle.clap.specs.declared.parser.matches.ArgMatches.{ArgMatches}
 use Rattle.clap.specs.declared.parser.matches.ArgMatches.TheViews.{out-ArgMatches}
 use Rattle.linewise.specs.Programs.{new_program}
 use Rattle.clap.proofs.OnLiterals.{clap_on_literals}
 use Rattle.live_cli.specs.declared.words.Role.{Role}
 use Rattle.live_cli.specs.declared.words.Role.TheVariants.{Serve, Ask}
-use Rattle.live_cli.specs.declared.words.Task.{Task}
-use Rattle.live_cli.specs.declared.words.Task.TheVariants.{End, Follow, Frames, Watch}
+use Rattle.live_cli.specs.declared.words.Options.{Options}
 use Rattle.linewise.specs.declared.fault.CaptureFault.TheVariants.{NoMemory}
-use Rattle.dap_follow.proofs.ForCallers.{nothing_listed}
-use Rattle.decnet_frames.proofs.ForCallers.{nothing_written}
-use Rattle.decnet_frames.specs.declared.run.FramesFault.TheVariants.{NoMemory as Wants}
 use Rattle.linewise.specs.Gives.{TellsFault}
-use Rattle.live_cli.specs.Running.{TaskGives}
-use Rattle.live_cli.specs.Words.{daplive, follow_line, frames_line, task_of, usual, watch_line}
+use Rattle.linewise.specs.Output.{WritesFront}
+use Rattle.live_cli.specs.Running.{EndGives}
+use Rattle.live_cli.specs.Words.{capture_hint, daplive, end_named, usual}
 use Rattle.live_cli.specs.Inner.CommandLine.{end_line_by, serve_line_by}
 
 pub some_from : {X : Type 0} {P Q : X → Type 0} (o : Option X) → IfSome o P → ((x : X) → P x → Q x) → IfSome o Q
 some_from None holds next = tt
 some_from (Some x) holds next = next x holds
 
-pub some_both : {X : Type 0} {P Q R : X → Type 0} (o : Option X) → IfSome o P → IfSome o Q → ((x : X) → P x → Q x → R x) → IfSome o R
-some_both None one two next = tt
-some_both (Some x) one two next = next x one two
-
 -- the command line, with the digits of what is usual
 pub daplive_by : daplive ≡ fold with_subcommand (new_program (codes "daplive"))
-    (serve_line_by.top ∷ (end_line_by (codes "ask") (codes "0101") (codes "0202")).top
-    ∷ follow_line.top ∷ frames_line.top ∷ watch_line.top ∷ [])
+    (serve_line_by.top ∷ (end_line_by (codes "ask") (codes "0101") (codes "0202")).top ∷ [])
 unfolding digits
 daplive_by = refl
 
@@ -75,67 +69,95 @@ unfolding clap_on_literals digits
 no_fault program Serve = refl
 no_fault program Ask = refl
 
-pub names_usual : (program : Text) (role : Role) → task_of (program ∷ (usual role).0 ∷ []) ≡ Some (End (usual role).1)
+pub names_usual : (program : Text) (role : Role) → end_named (program ∷ (usual role).0 ∷ []) ≡ Some (usual role).1
 unfolding clap_on_literals decode_pairs digits
 names_usual program Serve = refl
 names_usual program Ask = refl
 
--- and on that of the listing
-pub no_fault_follow : (program : Text) → fault_of daplive (program ∷ codes "follow" ∷ []) ≡ []
-unfolding clap_on_literals digits
-no_fault_follow program = refl
-
-pub names_follow : (program : Text) → task_of (program ∷ codes "follow" ∷ []) ≡ Some (Follow false)
-unfolding clap_on_literals digits
-names_follow program = refl
-
--- with its flag
-pub no_fault_in_words : (program : Text) → fault_of daplive (program ∷ codes "follow" ∷ codes "--words" ∷ []) ≡ []
-unfolding clap_on_literals digits
-no_fault_in_words program = refl
-
-pub names_in_words : (program : Text) → task_of (program ∷ codes "follow" ∷ codes "--words" ∷ []) ≡ Some (Follow true)
-unfolding clap_on_literals digits
-names_in_words program = refl
-
--- and on that of the frames
-pub no_fault_frames : (program : Text) → fault_of daplive (program ∷ codes "frames" ∷ []) ≡ []
-unfolding clap_on_literals digits
-no_fault_frames program = refl
-
-pub names_frames : (program : Text) → task_of (program ∷ codes "frames" ∷ []) ≡ Some (Frames None)
-unfolding clap_on_literals digits
-names_frames program = refl
-
--- and on that of the listing as lines come
-pub no_fault_watch : (program : Text) → fault_of daplive (program ∷ codes "watch" ∷ []) ≡ []
-unfolding clap_on_literals digits
-no_fault_watch program = refl
-
-pub names_watch : (program : Text) → task_of (program ∷ codes "watch" ∷ []) ≡ Some (Watch false)
-unfolding clap_on_literals digits
-names_watch program = refl
-
-pub no_fault_watch_in_words : (program : Text) → fault_of daplive (program ∷ codes "watch" ∷ codes "--words" ∷ []) ≡ []
-unfolding clap_on_literals digits
-no_fault_watch_in_words program = refl
-
-pub names_watch_in_words : (program : Text) → task_of (program ∷ codes "watch" ∷ codes "--words" ∷ []) ≡ Some (Watch true)
-unfolding clap_on_literals digits
-names_watch_in_words program = refl
-
 -- out of memory, of whatever input
-pub refused : (task : Task) (known left old new told tells : Option (List ℕ)) (status : ℕ) → (status ≡ 3) × Keeps old new × TellsFault NoMemory told tells
-    → IfSome known (λ input. TaskGives task input left old new told tells status)
-refused task None left old new told tells status memory = tt
-refused (End options) (Some input) left old new told tells status memory = inr (memory.1, memory.0, memory.2)
-refused (Follow in_words) (Some input) left old new told tells status memory = (Err NoMemory, (memory.1, memory.2), memory.0, tt)
-refused (Watch in_words) (Some input) left old new told tells status memory = inr (NoMemory, nothing_listed in_words input old new memory.1, memory.0)
-refused (Frames ends) (Some input) left old new told tells status memory = inr (Wants, nothing_written ends input old new memory.1, memory.0, memory.2)
+pub refused : (o : Options) (known left old new told tells : Option (List ℕ)) (status : ℕ) → (status ≡ 3) × Keeps old new × TellsFault NoMemory told tells
+    → IfSome known (λ input. EndGives o input left old new told tells status)
+refused o None left old new told tells status memory = tt
+refused o (Some input) left old new told tells status memory = inr (memory.1, memory.0, memory.2)
 
--- two things that the words name are one
-pub one_task : (words : List Text) (a b : Task) → Some a ≡ task_of words → task_of words ≡ Some b → a ≡ b
-one_task words a b first second = let same : Some a ≡ Some b = first ∙ second in cc
+-- two ends that the words name are one
+pub one_end : (words : List Text) (a b : Options) → Some a ≡ end_named words → end_named words ≡ Some b → a ≡ b
+one_end words a b first second = let same : Some a ≡ Some b = first ∙ second in cc
 
-pub none_named : (words : List Text) (task : Task) → None ≡ task_of words → task_of words ≡ Some task → ⊥
-none_named words task none some = let no : None ≡ Some task = none ∙ some in cc
+pub none_named : (words : List Text) (o : Options) → None ≡ end_named words → end_named words ≡ Some o → ⊥
+none_named words o none some = let no : None ≡ Some o = none ∙ some in cc
+
+-- what `clap` says of a word that is no subcommand
+abbrev pub stray_words : Kinds
+stray_words = UnknownArgument ∷ InvalidSubcommand ∷ []
+
+-- it says so of the words of captures, whatever follows
+follow_is_stray : (program : Text) (rest : List Text) → fault_of daplive (program ∷ codes "follow" ∷ rest) ≡ stray_words
+unfolding clap_on_literals digits
+follow_is_stray program rest = refl
+
+watch_is_stray : (program : Text) (rest : List Text) → fault_of daplive (program ∷ codes "watch" ∷ rest) ≡ stray_words
+unfolding clap_on_literals digits
+watch_is_stray program rest = refl
+
+frames_is_stray : (program : Text) (rest : List Text) → fault_of daplive (program ∷ codes "frames" ∷ rest) ≡ stray_words
+unfolding clap_on_literals digits
+frames_is_stray program rest = refl
+
+named_so : (program word name : Text) (rest : List Text) → bytes_eq word name ≡ true → fault_of daplive (program ∷ name ∷ rest) ≡ stray_words
+    → fault_of daplive (program ∷ word ∷ rest) ≡ stray_words
+named_so program word name rest is stray = rw ((bytes_eq-Decides word name).0 is) stray
+
+by_frames : (program word : Text) (rest : List Text) (hint : Text) (is_frames : Bool) → bytes_eq word (codes "frames") ≡ is_frames
+    → (if is_frames then Some (codes "daplive: frames: dapcap lists captures; see dapcap --help\n") else None) ≡ Some hint
+    → fault_of daplive (program ∷ word ∷ rest) ≡ stray_words
+by_frames program word rest hint true is told = named_so program word (codes "frames") rest is (frames_is_stray program rest)
+by_frames program word rest hint false is told = absurd cc
+
+by_watch : (program word : Text) (rest : List Text) (hint : Text) (is_watch : Bool) → bytes_eq word (codes "watch") ≡ is_watch
+    → (if is_watch then Some (codes "daplive: watch: dapcap lists captures; see dapcap --help\n")
+    else if bytes_eq word (codes "frames") then Some (codes "daplive: frames: dapcap lists captures; see dapcap --help\n") else None) ≡ Some hint
+    → fault_of daplive (program ∷ word ∷ rest) ≡ stray_words
+by_watch program word rest hint true is told = named_so program word (codes "watch") rest is (watch_is_stray program rest)
+by_watch program word rest hint false is told = by_frames program word rest hint (bytes_eq word (codes "frames")) refl told
+
+by_follow : (program word : Text) (rest : List Text) (hint : Text) (is_follow : Bool) → bytes_eq word (codes "follow") ≡ is_follow
+    → (if is_follow then Some (codes "daplive: follow: dapcap lists captures; see dapcap --help\n")
+    else if bytes_eq word (codes "watch") then Some (codes "daplive: watch: dapcap lists captures; see dapcap --help\n")
+    else if bytes_eq word (codes "frames") then Some (codes "daplive: frames: dapcap lists captures; see dapcap --help\n") else None) ≡ Some hint
+    → fault_of daplive (program ∷ word ∷ rest) ≡ stray_words
+by_follow program word rest hint true is told = named_so program word (codes "follow") rest is (follow_is_stray program rest)
+by_follow program word rest hint false is told = by_watch program word rest hint (bytes_eq word (codes "watch")) refl told
+
+pub hint_is_stray : (words : List Text) (hint : Text) → capture_hint words ≡ Some hint → fault_of daplive words ≡ stray_words
+hint_is_stray [] hint told = absurd cc
+hint_is_stray (program ∷ []) hint told = absurd cc
+hint_is_stray (program ∷ word ∷ rest) hint told = by_follow program word rest hint (bytes_eq word (codes "follow")) refl told
+
+-- so the words have a fault, and it is no request for help
+pub is_some_fault : (words : List Text) (hint : Text) → Some hint ≡ capture_hint words → fault_of daplive words ≡ [] → ⊥
+is_some_fault words hint told none = let no : stray_words ≡ [] = sym (hint_is_stray words hint (sym told)) ∙ none in cc
+
+pub is_no_help : (words : List Text) (hint : Text) → Some hint ≡ capture_hint words → fault_of daplive words ≡ DisplayHelp ∷ [] → ⊥
+is_no_help words hint told help = let no : stray_words ≡ DisplayHelp ∷ [] = sym (hint_is_stray words hint (sym told)) ∙ help in cc
+
+-- nor are they the word of an end alone
+no_hint : (program : Text) (role : Role) → capture_hint (program ∷ (usual role).0 ∷ []) ≡ None
+no_hint program Serve = refl
+no_hint program Ask = refl
+
+pub is_no_end : (words : List Text) (program : Text) (role : Role) (hint : Text) → Some hint ≡ capture_hint words → words ≡ program ∷ (usual role).0 ∷ [] → ⊥
+is_no_end words program role hint told named = let no : Some hint ≡ None = told ∙ ap capture_hint named ∙ no_hint program role in cc
+
+-- the hint that is told is the one of the words
+pub hinted_once : (words : List Text) (a b : Text) (told tells : Option (List ℕ)) → Some a ≡ capture_hint words → capture_hint words ≡ Some b
+    → WritesFront told tells a → WritesFront told tells b
+hinted_once words a b told tells first second front =
+    let same : Some a ≡ Some b = first ∙ second in
+    let equal : a ≡ b = cc in
+    subst (λ (t : Text). WritesFront told tells t) equal front
+
+-- known bytes are kept by what doesn't write
+pub untouched : (known : Option (List ℕ)) → Keeps known known
+untouched None = tt
+untouched (Some bytes) = refl

@@ -1,13 +1,12 @@
 -- The command line of `daplive`.
-use Rattle.std.specs.Prelude.{ℕ, ◌-◌, ◌^◌, Bool, true, false, ◌||◌, ◌&&◌, nat_le, nat_lt, List, [], ◌∷◌, ◌++◌, length, replicate, codes, bytes_eq, fold, if◌then◌else◌, pos, max, Option, Some, None, option_map, option_and_then}
+use Rattle.std.specs.Prelude.{ℕ, ◌-◌, ◌^◌, Bool, true, false, ◌||◌, ◌&&◌, nat_le, nat_lt, List, [], ◌∷◌, ◌++◌, length, replicate, codes, bytes_eq, fold, if◌then◌else◌, pos, max, slice_get, Option, Some, None, option_map, option_and_then}
 use Rattle.std.specs.Fmt.{decimal}
 use Rattle.std.specs.Int.{from_be_bytes, w128}
 use Rattle.std.specs.Result.{result_ok}
 use Rattle.hex.specs.Hex.{decode_sized}
 use Rattle.std.specs.Option.{option_map_or}
 use Rattle.std.specs.List.{find}
-use Rattle.clap.specs.declared.builder.action.ArgAction.TheVariants.{SetTrue}
-use Rattle.clap.specs.Words.{App, Row, Rule, Text, all_of, first_of, new_app, new_rule, subcommand_of, with_rule, with_subcommand}
+use Rattle.clap.specs.Words.{App, Row, Rule, Text, first_of, new_app, new_rule, subcommand_of, with_rule, with_subcommand}
 use Rattle.clap.specs.declared.parser.matches.ValueSource.{ValueSource}
 use Rattle.clap.specs.declared.parser.matches.ValueSource.TheVariants.{CommandLine}
 use Rattle.linewise.specs.Programs.{new_program}
@@ -17,13 +16,9 @@ use Rattle.nsp_link.specs.Limits.{max_segment, max_window}
 use Rattle.texts.specs.Text.{word_text}
 use Rattle.texts.specs.Words.{decimal_of, short}
 use Rattle.dap_live.specs.Orders.{address_of}
-use Rattle.decnet_frames.specs.Nodes.{node_of}
-use Rattle.decnet_frames.specs.declared.text.Ends.{Ends}
 use Rattle.live_cli.specs.declared.words.Options.{Options}
 use Rattle.live_cli.specs.declared.words.Role.{Role}
 use Rattle.live_cli.specs.declared.words.Role.TheVariants.{Serve, Ask}
-use Rattle.live_cli.specs.declared.words.Task.{Task}
-use Rattle.live_cli.specs.declared.words.Task.TheVariants.{End, Follow, Frames, Watch}
 
 -- how many bytes of answers may wait: at least this
 abbrev pub min_waiting : ℕ
@@ -110,26 +105,10 @@ serve_line =
     (number (codes "links") (decimal 1) 1 max_links))
     (option (codes "names") (codes "exact"))
 
--- the subcommand `frames`, which has two nodes or none
-abbrev pub frames_line : App
-frames_line = with_rule (new_app (codes "frames")) (record (new_rule (codes "nodes")) { value_names = 2 })
-
--- a subcommand that lists a capture, which has a flag
-abbrev pub listing_line : Text → App
-listing_line name = with_rule (new_app name) (record (new_rule (codes "words")) { long = Some (codes "words"); action = Some SetTrue })
-
--- the subcommand `follow`
-abbrev pub follow_line : App
-follow_line = listing_line (codes "follow")
-
--- the subcommand `watch`
-abbrev pub watch_line : App
-watch_line = listing_line (codes "watch")
-
--- all words: one of five subcommands
+-- all words: one of two subcommands
 abbrev pub daplive : App
 daplive = fold with_subcommand (new_program (codes "daplive"))
-    (serve_line.top ∷ (end_line (usual Ask)).top ∷ follow_line.top ∷ frames_line.top ∷ watch_line.top ∷ [])
+    (serve_line.top ∷ (end_line (usual Ask)).top ∷ [])
 
 -- ---- What they say.
 
@@ -217,29 +196,22 @@ options_of role rows =
       folded = folded;
     })) (names_of role rows)) (links_of role rows)) (waiting_of role rows)))))))))
 
--- both ends, of two addresses of nodes
-abbrev pub ends_by : Option ℕ → Option ℕ → Option Ends
-ends_by (Some first) (Some other) = Some (record { first = first; other = other })
-ends_by _ _ = None
-
--- both ends, by two words; `clap` lets no other number of words pass but none
-abbrev pub ends_of : Option (List Text) → Option (Option Ends)
-ends_of (Some (first ∷ other ∷ [])) = option_map Some (ends_by (node_of first) (node_of other))
-ends_of words = Some None
-
--- whether the flag is given
-abbrev pub has_words : List Row → Bool
-has_words rows = option_map_or (λ word. bytes_eq word (codes "true")) (first_of (codes "words") rows) false
-
--- what a subcommand and its options name
-abbrev pub task_in : Text × List Row → Option Task
-task_in p =
-    if bytes_eq p.0 (codes "serve") then option_map End (options_of Serve p.1)
-    else if bytes_eq p.0 (codes "ask") then option_map End (options_of Ask p.1)
-    else if bytes_eq p.0 (codes "frames") then option_map Frames (ends_of (all_of (codes "nodes") p.1))
-    else if bytes_eq p.0 (codes "watch") then Some (Watch (has_words p.1))
-    else Some (Follow (has_words p.1))
+-- which end a subcommand names, and its options
+abbrev pub end_in : Text × List Row → Option Options
+end_in p = if bytes_eq p.0 (codes "serve") then options_of Serve p.1 else options_of Ask p.1
 
 -- what the words name, the program's name first, where nothing is at fault in them
-abbrev pub task_of : List Text → Option Task
-task_of words = option_and_then task_in (subcommand_of daplive words)
+abbrev pub end_named : List Text → Option Options
+end_named words = option_and_then end_in (subcommand_of daplive words)
+
+-- what is told of a word of captures, which the program `dapcap` lists
+abbrev pub hint_of : Text → Option Text
+hint_of word =
+    if bytes_eq word (codes "follow") then Some (codes "daplive: follow: dapcap lists captures; see dapcap --help\n")
+    else if bytes_eq word (codes "watch") then Some (codes "daplive: watch: dapcap lists captures; see dapcap --help\n")
+    else if bytes_eq word (codes "frames") then Some (codes "daplive: frames: dapcap lists captures; see dapcap --help\n")
+    else None
+
+-- what is told where the word after the program's name is one of these
+abbrev pub capture_hint : List Text → Option Text
+capture_hint words = option_and_then hint_of (slice_get words 1)

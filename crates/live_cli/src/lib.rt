@@ -1,4 +1,4 @@
-//! The command line of the program `daplive`: its options, what it answers, lists or writes, and the exit status.
+//! The command line of the program `daplive`: its options, what it answers, and the exit status.
 #![tactic(auto)]
 
 mod laws;
@@ -7,4 +7,4 @@ mod words;
 
 pub use laws::{ends_say_by_default_what_is_true, inputs_have_one_text};
 pub use running::{run_options, run_words};
-pub use words::{Options, Role, Task};
+pub use words::{Options, Role};

@@ -4,24 +4,22 @@ ghost use Rattle.std.specs.Result.{result_ok};
 ghost use Rattle.std.specs.Prelude.{◌≡◌, ◌≤◌, false, ◌<◌, ◌^◌, ◌++◌, ◌-◌, ◌∷◌, [], if◌then◌else◌, IfErr, IfOk, IfSome, IsTrue, None, OnErr, OnOk, Some, codes, length, map, option_and_then, option_map, pos, replicate, string_bytes};
 ghost use Rattle.std.specs.Int.{from_be_bytes, w128};
 ghost use Rattle.hex.specs.Hex.{decode_sized};
-ghost use Rattle.clap.specs.Words.{FailsBy, all_of, fault_of, first_of, found_of, kind_of, rows_of, rule_of, subcommand_of};
+ghost use Rattle.clap.specs.Words.{FailsBy, fault_of, first_of, found_of, kind_of, rows_of, rule_of, subcommand_of};
 ghost use Rattle.clap.specs.declared.builder.value_parser.ValueParser.TheVariants as parser;
 ghost use Rattle.dap_msg.specs.BothEnds.{max_nsp_message, min_buffer};
 ghost use Rattle.nsp_link.specs.Limits.{max_segment, max_window};
 ghost use Rattle.texts.specs.Words.{short};
 ghost use Rattle.dap_live.specs.Orders.{address_of};
-ghost use Rattle.decnet_frames.specs.Nodes.{node_of};
-ghost use Rattle.live_cli.specs.Words.{code_of, folded_of, names_of, syscap_of, daplive, ends_of, max_waiting, has_address, has_value as is_given_in, is_word as is_in_words, min_waiting, links_of, max_links, option as option_rule, options_of, task_in as task_of_rows, task_of, has_words as words_wanted, waiting_of};
-ghost use Rattle.live_cli.specs.Inner.CommandLine.{HasAddresses, HasCodes, HasIdentity, HasLimits, HasLinks, HasNames, HasBufferRoom, HasSyscap, HasWaiting, IsDapliveLine, IsEndLine, IsFollowLine, IsFramesLine, IsServeLine, IsWatchLine};
-ghost use Rattle.live_cli.specs.Inner.Spelling.{AreRight, IsFirstWrong, IsMisspelt, first_no_node, link_spellings, spellings};
+ghost use Rattle.live_cli.specs.Words.{code_of, folded_of, names_of, syscap_of, daplive, max_waiting, has_address, has_value as is_given_in, is_word as is_in_words, min_waiting, links_of, max_links, option as option_rule, options_of, capture_hint, end_in as end_of_rows, end_named, waiting_of};
+ghost use Rattle.live_cli.specs.Inner.CommandLine.{HasAddresses, HasCodes, HasIdentity, HasLimits, HasLinks, HasNames, HasBufferRoom, HasSyscap, HasWaiting, IsDapliveLine, IsEndLine, IsServeLine};
+ghost use Rattle.live_cli.specs.Inner.Spelling.{AreRight, IsFirstWrong, IsMisspelt, link_spellings, spellings};
 
 use clap::builder::ValueParser;
 use clap::error::ErrorKind;
 use clap::parser::ValueSource;
-use clap::{Arg, ArgAction, ArgMatches, Command, Error, value_parser};
+use clap::{Arg, ArgMatches, Command, Error, value_parser};
 use dap_live::read_address;
 use dap_msg::{MAX_MESSAGE, MIN_BUFFER};
-use decnet_frames::{Ends, read_node};
 use nsp_link::{MAX_SEGMENT, MAX_WINDOW};
 use std::alloc::Global;
 use std::fmt;
@@ -30,7 +28,7 @@ use texts::{is, read_number, read_short};
 
 const ABOUT: &str =
     "A client or a server for DECnet file access, over lines of standard input and output. A bridge carries \
-the lines, and has the network and the timers. It also lists captured packets, with messages reassembled, and reads capture files.";
+the lines, and has the network and the timers.";
 
 const LINES: &str = "\
 Each line is answered before the next is read. Each answer ends with 'waits N': N packets aren't acknowledged yet, and one
@@ -56,30 +54,6 @@ Example: echo 'ask hello' | ./daplive ask
   asked 1
   < 60020201010080010001020e0004120d0506000000e6e8f08020
   waits 1";
-
-const FOLLOW: &str = "\
-Reads lines of > or <, for the direction of a packet, a space, and its bytes in hex, at most 4,096.
-Empty lines, and lines that begin with #, are skipped. Messages are listed after 'message', under the packet that completes
-them. At the end 'gap' has the segments that are missing, and 'part' those that belong to no whole message.
-
-Example: echo '> 600201040305800100060200' | ./daplive follow
-
-docs/LISTING.md explains each word of a listing.";
-
-const WATCH: &str = "\
-Reads the lines that follow reads, and lists each packet before it reads the next line: with the messages that are whole with it. At
-the end come 'gap' and 'part', as those of follow. A line that is none is reported, and the listing goes on.
-
-Live: tcpdump -i eth0 --immediate-mode -U -w - ether proto 0x6003 | ./daplive frames | ./daplive watch";
-
-const FRAMES: &str = "\
-Reads a capture file of Ethernet frames, pcap or pcapng, as 'tcpdump -w' writes it, and writes each DECnet packet between two nodes as
-soon as its frame is read: a comment with its number, its time and its nodes, and a line of > or < with its NSP packet in hex.
-FIRST and OTHER are the nodes, as 1.10 1.20; without them they are the source and the destination of the first packet. At the end
-'taken' counts the frames that were written, and 'passed' the others.
-
-Example: ./daplive frames <examples/wire.pcap | ./daplive follow
-Live: tcpdump -i eth0 --immediate-mode -U -w - ether proto 0x6003 | ./daplive frames";
 
 /// What help says of an end, and the addresses that are usual for it.
 struct Usual {
@@ -380,53 +354,6 @@ fn serve_command<'a>(alloc: Global) -> Result<Command<'a>, Error>
     with_names(alloc, command)
 }
 
-/// Returns the command line of the listing.
-fn follow_command<'a>(alloc: Global) -> Result<Command<'a>, Error>
-    ensures line { IfOk result IsFollowLine }
-    ensures memory { IfErr result (λ error. kind_of error ≡ ErrorKind.OutOfMemory) }
-{
-    let words = Arg::new(alloc, "words")
-        .long("words")
-        .action(ArgAction::SetTrue)
-        .help("Also what the lines say in words");
-    let command = Command::new(alloc, "follow")
-        .about("Lists captured NSP packets, with DAP messages reassembled")
-        .after_help(FOLLOW)
-        .arg(words)?;
-    Ok(command)
-}
-
-/// Returns the command line of the listing that is written as lines come.
-fn watch_command<'a>(alloc: Global) -> Result<Command<'a>, Error>
-    ensures line { IfOk result IsWatchLine }
-    ensures memory { IfErr result (λ error. kind_of error ≡ ErrorKind.OutOfMemory) }
-{
-    let words = Arg::new(alloc, "words")
-        .long("words")
-        .action(ArgAction::SetTrue)
-        .help("Also what the lines say in words");
-    let command = Command::new(alloc, "watch")
-        .about("Lists captured NSP packets as their lines come, with DAP messages reassembled")
-        .after_help(WATCH)
-        .arg(words)?;
-    Ok(command)
-}
-
-/// Returns the command line of `frames`, which writes the packets in a capture file as lines.
-fn frames_command<'a>(alloc: Global) -> Result<Command<'a>, Error>
-    ensures line { IfOk result IsFramesLine }
-    ensures memory { IfErr result (λ error. kind_of error ≡ ErrorKind.OutOfMemory) }
-{
-    let nodes = Arg::new(alloc, "nodes")
-        .value_names(&["FIRST", "OTHER"])
-        .help("Two nodes, as 1.10 1.20");
-    let command = Command::new(alloc, "frames")
-        .about("Writes the NSP packets in a capture file as lines for follow")
-        .after_help(FRAMES)
-        .arg(nodes)?;
-    Ok(command)
-}
-
 /// Returns the program's command line.
 fn command_line<'a>(alloc: Global) -> Result<Command<'a>, Error>
     ensures line { IfOk result IsDapliveLine }
@@ -438,9 +365,6 @@ fn command_line<'a>(alloc: Global) -> Result<Command<'a>, Error>
         .disable_help_subcommand(true);
     let command = command.subcommand(serve_command(alloc)?)?;
     let command = command.subcommand(end_command(alloc, &ASKING)?)?;
-    let command = command.subcommand(follow_command(alloc)?)?;
-    let command = command.subcommand(frames_command(alloc)?)?;
-    let command = command.subcommand(watch_command(alloc)?)?;
     Ok(command)
 }
 
@@ -475,19 +399,6 @@ pub struct Options {
     pub folded: bool,
 }
 
-/// What the program does.
-#[derive(Clone, Copy, PartialEq, Eq)]
-pub enum Task {
-    /// Answers lines as an end.
-    End(Options),
-    /// Lists a capture; also in words.
-    Follow { in_words: bool },
-    /// Lists a capture as its lines come; also in words.
-    Watch { in_words: bool },
-    /// Writes the packets in a capture file, between these nodes or those of the first packet.
-    Frames(Option<Ends>),
-}
-
 /// How an option's value has to be spelled.
 #[derive(Clone, Copy, PartialEq, Eq)]
 pub(crate) enum Digits {
@@ -503,8 +414,6 @@ pub(crate) enum Digits {
     Abilities,
     /// By one of two words.
     Comparing,
-    /// By the address of a node.
-    Node,
     /// Not at all: a server of several links has no address among its options.
     Nowhere,
 }
@@ -525,7 +434,6 @@ impl Display for Digits {
                 "a number is decimal digits, ten at most",
             Digits::Abilities => "a SYSCAP is 1 to 21 hex digits",
             Digits::Comparing => "names are exact or folded",
-            Digits::Node => "a node is an area, 1 to 63, a point, and a number, 1 to 1023, as 1.10",
             Digits::Nowhere => "with several links the addresses are those of 'new'",
         })
     }
@@ -533,10 +441,7 @@ impl Display for Digits {
 
 impl Display for Misspelt<'_> {
     fn fmt<W: fmt::Write>(&self, f: &mut fmt::Formatter<W>) -> fmt::Result {
-        match self.digits {
-            Digits::Node => write!(f, "{}: {}", self.value, self.digits),
-            _ => write!(f, "--{} {}: {}", self.option, self.value, self.digits),
-        }
+        write!(f, "--{} {}: {}", self.option, self.value, self.digits)
     }
 }
 
@@ -870,91 +775,27 @@ fn options_in<'a>(role: Role, matches: &ArgMatches<'a>) -> Result<Options, Missp
     })
 }
 
-/// Reads a node by its address.
-fn node_in(text: &str) -> Result<u16, Misspelt<'_>>
-    ensures value { result_ok result ≡ node_of text.now }
-    ensures misspelt { IfErr result (λ m. (m.digits ≡ Digits.Node)
-        × (m.value.now ≡ text.now) × (node_of m.value.now ≡ None)) }
-{
-    match read_node(text.as_bytes()) {
-        Some(node) => Ok(node),
-        None => {
-            Err(Misspelt {
-                option: "nodes",
-                value: text,
-                digits: Digits::Node,
-            })
-        }
-    }
-}
-
-/// Returns the words after `frames`.
-fn nodes_of<'a, 'b>(matches: &'b ArgMatches<'a>) -> Option<&'b [&'a str]>
-    ensures { option_map (λ s. map (λ word. word.now) s.now) result
-        ≡ all_of (codes "nodes") (rows_of (found_of matches.now)) }
-{
-    matches.get_strs("nodes")
-}
-
-/// Reads the nodes between which packets are wanted, or returns the first address that is none.
-fn ends_in<'a>(matches: &ArgMatches<'a>) -> Result<Option<Ends>, Misspelt<'a>>
-    ensures ends { result_ok result
-        ≡ ends_of (all_of (codes "nodes") (rows_of (found_of matches.now))) }
-    ensures misspelt { IfErr result (IsMisspelt (rows_of (found_of matches.now))) }
-    ensures first { IfErr result (λ m. first_no_node
-        (all_of (codes "nodes") (rows_of (found_of matches.now))) ≡ Some m.value.now) }
-{
-    match nodes_of(matches) {
-        Some([first, other]) => {
-            let first = node_in(first)?;
-            let other = node_in(other)?;
-            Ok(Some(Ends { first, other }))
-        }
-        _ => Ok(None),
-    }
-}
-
-/// Returns whether the lines of a listing are wanted in words, too.
-fn has_words(matches: &ArgMatches<'_>) -> bool
-    ensures { result ≡ words_wanted (rows_of (found_of matches.now)) }
-{
-    match text_in(matches, "words") {
-        Some(value) => is(value.as_bytes(), "true"),
-        None => false,
-    }
-}
-
-/// Reads what a word and those after it name.
-fn task_in<'a>(name: &str, matches: &ArgMatches<'a>) -> Result<Task, Misspelt<'a>>
-    ensures task { result_ok result ≡ task_of_rows (name.now, rows_of (found_of matches.now)) }
+/// Reads which end a word names, and how those after it set it up.
+fn end_in<'a>(name: &str, matches: &ArgMatches<'a>) -> Result<Options, Misspelt<'a>>
+    ensures options { result_ok result ≡ end_of_rows (name.now, rows_of (found_of matches.now)) }
     ensures room { IfOk result HasBufferRoom }
     ensures misspelt { IfErr result (IsMisspelt (rows_of (found_of matches.now))) }
 {
     if is(name.as_bytes(), "serve") {
-        Ok(Task::End(options_in(Role::Serve, matches)?))
-    } else if is(name.as_bytes(), "ask") {
-        Ok(Task::End(options_in(Role::Ask, matches)?))
-    } else if is(name.as_bytes(), "frames") {
-        Ok(Task::Frames(ends_in(matches)?))
-    } else if is(name.as_bytes(), "watch") {
-        Ok(Task::Watch {
-            in_words: has_words(matches),
-        })
+        options_in(Role::Serve, matches)
     } else {
-        Ok(Task::Follow {
-            in_words: has_words(matches),
-        })
+        options_in(Role::Ask, matches)
     }
 }
 
-/// Reads what the words name, the program's name first, or returns the first address or number that isn't spelled as it
-/// has to be.
+/// Reads which end the words name, the program's name first, and how they set it up, or returns the first value that
+/// isn't spelled as it has to be.
 pub(crate) fn read_words<'a>(
     alloc: Global,
     words: &'a [String],
-) -> Result<Result<Task, Misspelt<'a>>, Error>
-    ensures task { IfOk result
-        (λ named. result_ok named ≡ task_of (map string_bytes words.entry.now)) }
+) -> Result<Result<Options, Misspelt<'a>>, Error>
+    ensures options { IfOk result
+        (λ named. result_ok named ≡ end_named (map string_bytes words.entry.now)) }
     ensures room { IfOk result (λ named. IfOk named HasBufferRoom) }
     ensures misspelt { IfOk result (λ named. IfErr named
         (λ m. IfSome (subcommand_of daplive (map string_bytes words.entry.now))
@@ -964,7 +805,23 @@ pub(crate) fn read_words<'a>(
     let command = command_line(alloc)?;
     let matches = command.try_get_matches_from(words)?;
     match matches.subcommand() {
-        Some((name, matches)) => Ok(task_in(name, matches)),
+        Some((name, matches)) => Ok(end_in(name, matches)),
         None => unreachable!(),
+    }
+}
+
+/// Returns what is told where the word after the program's name is one of captures, which `dapcap` lists.
+pub(crate) fn capture_hint(words: &[String]) -> Option<&'static str>
+    ensures { option_map (λ hint. hint.now) result ≡ capture_hint (map string_bytes words.now) }
+{
+    let word = words.get(1)?.as_bytes();
+    if is(word, "follow") {
+        Some("daplive: follow: dapcap lists captures; see dapcap --help\n")
+    } else if is(word, "watch") {
+        Some("daplive: watch: dapcap lists captures; see dapcap --help\n")
+    } else if is(word, "frames") {
+        Some("daplive: frames: dapcap lists captures; see dapcap --help\n")
+    } else {
+        None
     }
 }

@@ -2,8 +2,6 @@
 #![tactic(auto)]
 
 #[cfg(test)]
-mod listing_rows;
-#[cfg(test)]
 mod rows;
 #[cfg(test)]
 mod tests;

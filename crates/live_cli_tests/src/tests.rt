@@ -1,7 +1,6 @@
 //! The rows, and devices that fail.
 
-use crate::listing_rows::LISTING_ROWS;
-use crate::rows::Row;
+use crate::rows::{CAPTURE_ROWS, Row};
 use live_cli::run_words;
 use std::alloc::Global;
 use std::io;
@@ -29,8 +28,8 @@ fn holds(alloc: Global, row: &Row) -> Result<bool, Fail> {
 }
 
 #[test]
-fn each_row_of_a_listing_holds(rt: HostRuntime) -> Result<(), Fail> {
-    for row in LISTING_ROWS {
+fn captures_are_another_programs(rt: HostRuntime) -> Result<(), Fail> {
+    for row in CAPTURE_ROWS {
         assert!(rt; holds(rt.alloc(), row)?);
     }
     Ok(())
@@ -56,7 +55,7 @@ impl BufRead for Broken {
 
 #[test]
 fn a_read_that_fails_is_told_alone(rt: HostRuntime) -> Result<(), Fail> {
-    for word in ["follow", "frames", "watch", "serve", "ask"] {
+    for word in ["serve", "ask"] {
         let words = words_of(rt.alloc(), &[word])?;
         let mut written = Vec::new(rt.alloc());
         let mut told = Vec::new(rt.alloc());

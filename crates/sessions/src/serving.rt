@@ -18,6 +18,7 @@ fn live(call: &mut Call) -> Accessed {
         identity: Configuration::truthful(call.buffer()),
         names: names(call),
         most: rights_of_fac(call.number(15)),
+        full: true,
     };
     Accessed::with_setup(call.alloc(), setup)
 }

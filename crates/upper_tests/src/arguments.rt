@@ -150,13 +150,13 @@ fn run_helping<R: Read>(alloc: Global, command: &str, reader: &mut R) -> Result<
 }
 
 /// What a pcap file comes to.
-const PCAP: &[u8] = b"bad line 1\ndapnsp: line 1: a pcap file; daplive frames turns it into lines \
-for dapnsp show and daplive follow\n";
+const PCAP: &[u8] = b"bad line 1\ndapnsp: line 1: a pcap file; dapcap lists it, and dapcap --lines \
+turns it into lines for dapnsp show\n";
 
 /// What a pcapng file comes to: the first byte is a line feed, so its second line is the first that says something.
 const PCAPNG: &[u8] =
-    b"bad line 2\ndapnsp: line 1: a pcapng file; daplive frames turns it into lines \
-for dapnsp show and daplive follow\n";
+    b"bad line 2\ndapnsp: line 1: a pcapng file; dapcap lists it, and dapcap --lines \
+turns it into lines for dapnsp show\n";
 
 /// How files of captured frames begin, and what is printed of them.
 const FILES: &[(&[u8], &[u8])] = &[

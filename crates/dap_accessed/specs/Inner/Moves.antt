@@ -1,15 +1,12 @@
 -- What an item does to what an end keeps, and its answers.
-use Rattle.std.specs.Prelude.{ℕ, ◌≡◌, ◌<◌, ◌≤◌, Bool, true, false, not, ◌==◌, nat_lt, List, [], ◌∷◌, length, Option, IfSome, IsTrue, Result, IfOk}
+use Rattle.std.specs.Prelude.{ℕ, ◌≡◌, Bool, true, false, not, ◌==◌, nat_lt, List, [], ◌∷◌, length, Option, Result, IfOk}
 use Rattle.std.specs.Global.{Vec}
 use Rattle.dap_msg.specs.Codes as codes
 use Rattle.dap_msg.specs.declared.message.Message.{Message}
 use Rattle.dap_msg.specs.declared.message.Message.TheVariants.{Attrib, Access, Control, Contran, Filedata, Other}
 use Rattle.dap_msg.specs.declared.items.Item.{Item}
 use Rattle.dap_msg.specs.declared.items.Item.TheVariants.{Whole, Malformed}
-use Rattle.dap_msg.specs.BothEnds.{min_buffer}
 use Rattle.rec_file.specs.declared.shapes.Shape.{Shape}
-use Rattle.rec_file.specs.Limits.{max_record_number}
-use Rattle.rec_file.specs.Shapes.{is_shape}
 use Rattle.rec_file.specs.Acts.{StreamVal}
 use Rattle.rec_file.specs.declared.refusals.Refusal.{Refusal}
 use Rattle.dap_accessed.specs.declared.fault.NoMemory.{NoMemory}
@@ -19,14 +16,14 @@ use Rattle.dap_accessed.specs.declared.phase.Phase.{Phase}
 use Rattle.dap_accessed.specs.declared.phase.Phase.TheVariants as phases
 use Rattle.dap_accessed.specs.declared.verbs.Verb.{Verb}
 use Rattle.dap_accessed.specs.declared.verbs.Verb.TheVariants as verbs
-use Rattle.dap_accessed.specs.Standing.{Files, index_by, ServerState, Scene, Effect, enters, Fresh, Ready, Opened, Connected, Store, Stopped}
+use Rattle.dap_accessed.specs.Standing.{index_by, ServerState, Scene, Effect, enters, Fresh, Ready, Opened, Connected, Store, Stopped}
 use Rattle.dap_msg.specs.BothEnds.{no_attributes}
 use Rattle.dap_accessed.specs.Past.{asked_shape, next_ordinal}
 use Rattle.dap_accessed.specs.Accesses.{refuse_access, open_file, create_file}
 use Rattle.dap_accessed.specs.Replies.{bare_status, too_large}
 use Rattle.dap_accessed.specs.Records.{verb_of, Putting, Updating, refused_effect, stream_without_current}
 use Rattle.dap_accessed.specs.Transfers.{fetch}
-use Rattle.dap_accessed.specs.Effects.{Turn, Does, BeginsGroup, effect_fresh, effect_ready, effect_opened, turn_connected, effect_store, effect_stopped, effect_with}
+use Rattle.dap_accessed.specs.Effects.{Turn, Does, BeginsGroup, told, effect_fresh, effect_ready, effect_opened, turn_connected, effect_store, effect_stopped, effect_with}
 use Rattle.dap_accessed.specs.Present.{Present, Memory, phase_at, phase_within}
 use Rattle.dap_accessed.specs.Served.{AreAnswers}
 
@@ -93,7 +90,8 @@ begins_group p phase = record { present = record p { phase = phase }; answers = 
 
 -- an item that begins a group, or is one with this effect
 abbrev pub turns : Turn → Present → Memory → ServerState → Item → Move
-turns (Does effect) p memory state item = settles p (remembers memory state item effect.answers) effect
+turns (Does effect) p memory state item =
+    settles p (remembers memory state item (told p.setup effect).answers) (told p.setup effect)
 turns (BeginsGroup begun) p memory state item = begins_group p (phase_within begun.change begun.opened begun.stream)
 
 -- what an item does outside a group of two, where this counts of the past
@@ -112,7 +110,7 @@ between p memory state item = turns (turn_by p.setup (scene_in p) memory state i
 
 -- a group that is over, outside a Store
 abbrev pub does : Present → Effect → Move
-does p effect = settles p (plain_memory p.kept) effect
+does p effect = settles p (plain_memory p.kept) (told p.setup effect)
 
 abbrev pub move_in : Phase → Present → Item → Move
 move_in phases.Fresh p item = between p (plain_memory p.kept) Fresh item
@@ -162,7 +160,7 @@ Makes step old new result = IfOk result (Moves old step new)
 
 -- an Access, which uses up the attributes that were kept
 abbrev pub accesses : Present → Effect → Move
-accesses p effect = settles p (plain_memory (asked_shape no_attributes)) effect
+accesses p effect = settles p (plain_memory (asked_shape no_attributes)) (told p.setup effect)
 
 abbrev pub opens_nothing : Present → Message → Move
 opens_nothing p status = accesses p (refuse_access (scene_in p) status)
@@ -185,4 +183,5 @@ abbrev pub fetched_phase : Present → OpenFile → StreamVal → Phase
 fetched_phase p opened stream = phase_at (fetch (scene_in p) opened stream).state (plain_memory p.kept)
 
 abbrev pub HasFetched : Present → OpenFile → StreamVal → Vec (Vec ℕ) → Type 0
-HasFetched p opened stream answers = AreAnswers p.limit (fetch (scene_in p) opened stream).answers answers
+HasFetched p opened stream answers =
+    AreAnswers p.limit (told p.setup (fetch (scene_in p) opened stream)).answers answers

@@ -14,7 +14,8 @@ use Rattle.dap_accessed.specs.declared.step.Step.{Step}
 use Rattle.dap_accessed.specs.declared.step.Step.TheVariants as steps
 use Rattle.dap_accessed.specs.Standing.{Files, the_file}
 use Rattle.dap_accessed.specs.Accesses.{files_after_purge}
-use Rattle.dap_accessed.specs.Replies.{bare_status, complete_response}
+use Rattle.dap_accessed.specs.Effects.{told}
+use Rattle.dap_accessed.specs.Replies.{bare_status, coded, complete_response}
 use Rattle.dap_accessed.specs.Past.{next_ordinal}
 use Rattle.dap_accessed.specs.Records.{Putting, Updating, effect_of_change, get_pick, put_key, record_got, effect_of_outcome}
 use Rattle.dap_accessed.specs.Transfers.{fetch, store_one}
@@ -25,7 +26,7 @@ use Rattle.dap_accessed.specs.Sessions.{IsOpenIn}
 
 -- one answer, and nothing moves but the phase
 abbrev pub replies : Present → Message → Phase → Move
-replies p message phase = record { present = record p { phase = phase }; answers = message ∷ [] }
+replies p message phase = record { present = record p { phase = phase }; answers = coded p.setup.full message ∷ [] }
 
 -- what a step leaves, and its answers
 abbrev pub step_move : Step → Present → Move
@@ -51,7 +52,7 @@ step_move (steps.Update opened stream body) p = does p (effect_of_change Updatin
 step_move (steps.Delete opened stream) p =
     does p (effect_of_outcome (scene_in p) opened (act delete_record (the_file p.files opened) stream))
 step_move (steps.Store opened stream ordinal body) p =
-    let e = store_one ordinal (scene_in p) opened stream body.now in
+    let e = told p.setup (store_one ordinal (scene_in p) opened stream body.now) in
     settles p (store_memory p.kept (nat_lt 0 (length e.answers)) (next_ordinal ordinal)) e
 
 -- what it needs: the file is in the table, and so is that of the phase that is entered

@@ -9,13 +9,12 @@ use Rattle.dap_msg.specs.Canon.{canon}
 use Rattle.dap_msg.specs.Sizes.{file_data_size}
 use Rattle.dap_msg.specs.BothEnds.{four_bytes, min_buffer}
 use Rattle.dap_msg.specs.Fitting.{FieldsFit}
-use Rattle.dap_msg.specs.Blocked.{Blocked, all_joined, bodies, AllFit}
 use Rattle.rec_file.specs.Limits.{max_record}
 use Rattle.dap_accessed.specs.declared.answers.Answer.{Answer}
 use Rattle.dap_accessed.specs.declared.answers.Answer.TheVariants as answer
 use Rattle.dap_accessed.specs.declared.fault.NoMemory.{NoMemory}
 use Rattle.dap_accessed.specs.Replies.{attributes_for, complete_response, status, bare_status}
-use Rattle.dap_accessed.specs.Served.{AllAtMost, AreAnswers}
+use Rattle.dap_accessed.specs.Served.{AreAnswers}
 
 abbrev pub reply_message : Answer → Message
 reply_message (answer.Config own) = Config own
@@ -24,7 +23,7 @@ reply_message answer.Ack = Ack
 reply_message answer.Complete = complete_response
 reply_message (answer.Status code) = bare_status code
 reply_message (answer.Reason code reason) = status code [] [] reason
-reply_message (answer.StoreRefusal reason ordinal) = status codes.stscode.record_refused [] ordinal reason
+reply_message (answer.StoreRefusal code reason ordinal) = status code [] ordinal reason
 reply_message (answer.Done number) = status codes.stscode.success number number []
 reply_message (answer.Record number body) = Filedata number body.now
 

@@ -153,12 +153,12 @@ module _ (P : ℕ → Type 0) where
     of-second change o s (Whole (Filedata r body)) = of-change change o s body
     of-second change o s (Whole message) = p
 
-  of-next : (s : Standing) (item : Item) (t : Turn) → P s.scene.limit → In t → P (next_group s item t).standing.scene.limit
-  of-next s item (Does effect) p q = q
-  of-next s item (BeginsGroup begun) p q = p
+  of-next : (own : ServerSetup) (s : Standing) (item : Item) (t : Turn) → P s.scene.limit → In t → P (next_group own s item t).standing.scene.limit
+  of-next own s item (Does effect) p q = q
+  of-next own s item (BeginsGroup begun) p q = p
 
   of-one : (own : ServerSetup) (s : Standing) (b : Option Begun) (item : Item) → P s.scene.limit → Fits item → P (more_after own s b item).standing.scene.limit
-  of-one own s None item p q = of-next s item (turn_of own s item) p (of-item s.scene p own s.past s.state item q)
+  of-one own s None item p q = of-next own s item (turn_of own s item) p (of-item s.scene p own s.past s.state item q)
   of-one own s (Some b) item p q = of-second s.scene p b.change b.opened b.stream item
 
   abbrev pub AllFit : List Item → Type 0

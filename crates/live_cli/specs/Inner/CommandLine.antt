@@ -5,9 +5,8 @@ use Rattle.clap.specs.declared.builder.command.Command.TheViews.{out-Command}
 use Rattle.clap.specs.Words.{App, Text, app_of, new_app, with_rule}
 use Rattle.dap_msg.specs.BothEnds.{max_nsp_message, min_buffer}
 use Rattle.nsp_link.specs.Limits.{max_segment, max_window}
-use Rattle.live_cli.specs.declared.words.Task.{Task}
-use Rattle.live_cli.specs.declared.words.Task.TheVariants.{End, Follow, Frames, Watch}
-use Rattle.live_cli.specs.Words.{daplive, follow_line, frames_line, max_waiting, min_waiting, max_links, number, option, watch_line}
+use Rattle.live_cli.specs.declared.words.Options.{Options}
+use Rattle.live_cli.specs.Words.{daplive, max_waiting, min_waiting, max_links, number, option}
 
 -- the command is another with more words, none of them global
 pub record Becomes (before : Command) (line : App) (command : Command) : Type 0 where
@@ -86,21 +85,6 @@ pub record IsServeLine (command : Command) : Type 0 where
   pub app : app_of command ≡ serve_line_by
   pub local : (out-Command command).has_globals ≡ false
 
--- a command that is the command line of `follow`
-pub record IsFollowLine (command : Command) : Type 0 where
-  pub app : app_of command ≡ follow_line
-  pub local : (out-Command command).has_globals ≡ false
-
--- a command that is the command line of `watch`
-pub record IsWatchLine (command : Command) : Type 0 where
-  pub app : app_of command ≡ watch_line
-  pub local : (out-Command command).has_globals ≡ false
-
--- a command that is the command line of `frames`
-pub record IsFramesLine (command : Command) : Type 0 where
-  pub app : app_of command ≡ frames_line
-  pub local : (out-Command command).has_globals ≡ false
-
 -- a command that is the program's command line
 pub record IsDapliveLine (command : Command) : Type 0 where
   pub app : app_of command ≡ daplive
@@ -108,8 +92,5 @@ pub record IsDapliveLine (command : Command) : Type 0 where
   pub required : (out-Command command).subcommand_required ≡ true
 
 -- an end's buffer has room for any message of a fixed length, and its SYSCAP fits into a Configuration
-abbrev pub HasBufferRoom : Task → Type 0
-HasBufferRoom (End options) = (min_buffer ≤ options.buffer) × (options.syscap < 2 ^ 84)
-HasBufferRoom (Follow in_words) = Unit {0}
-HasBufferRoom (Watch in_words) = Unit {0}
-HasBufferRoom (Frames ends) = Unit {0}
+abbrev pub HasBufferRoom : Options → Type 0
+HasBufferRoom options = (min_buffer ≤ options.buffer) × (options.syscap < 2 ^ 84)

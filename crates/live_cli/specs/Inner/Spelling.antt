@@ -5,9 +5,8 @@ use Rattle.std.specs.List.{find}
 use Rattle.clap.specs.Words.{Row, Text, first_of}
 use Rattle.texts.specs.Words.{decimal_of, short}
 use Rattle.dap_live.specs.Orders.{address_of}
-use Rattle.decnet_frames.specs.Nodes.{node_of}
 use Rattle.live_cli.specs.declared.words.Digits.{Digits}
-use Rattle.live_cli.specs.declared.words.Digits.TheVariants.{Abilities, Address, Bytes, Code, Comparing, Node, Nowhere, Number}
+use Rattle.live_cli.specs.declared.words.Digits.TheVariants.{Abilities, Address, Bytes, Code, Comparing, Nowhere, Number}
 use Rattle.live_cli.specs.declared.words.Misspelt.{Misspelt}
 use Rattle.live_cli.specs.declared.words.Role.{Role}
 use Rattle.live_cli.specs.declared.words.Role.TheVariants.{Serve, Ask}
@@ -16,7 +15,6 @@ use Rattle.live_cli.specs.Words.{code_of, folded_of, max_waiting, has_value, sys
 -- what a value says that has to be spelled so
 abbrev pub read_of : Digits → Text → Option ℕ
 read_of Address = address_of
-read_of Node = node_of
 read_of Number = short
 read_of Bytes = decimal_of max_waiting
 read_of Code = code_of
@@ -24,9 +22,8 @@ read_of Abilities = syscap_of
 read_of Comparing = λ text. option_map (λ folded. 0) (folded_of text)
 read_of Nowhere = λ text. None
 
--- it is the value of its option; of nodes, it may be any; where none is allowed, the words give one
+-- it is the value of its option; where none is allowed, the words give one
 abbrev pub IsValue : Digits → List Row → (option text : Text) → Type 0
-IsValue Node rows option text = Unit {0}
 IsValue Nowhere rows option text = IsTrue (has_value option rows) × IfSome (first_of option rows) (λ value. value ≡ text)
 IsValue _ rows option text = IfSome (first_of option rows) (λ value. value ≡ text)
 
@@ -65,8 +62,3 @@ IsFirstWrong options rows m = find (is_wrong rows) options ≡ Some (m.option.no
 -- none is wrong
 abbrev pub AreRight : List (Text × Digits) → List Row → Type 0
 AreRight options rows = find (is_wrong rows) options ≡ None
-
--- the first of two words that is no node
-abbrev pub first_no_node : Option (List Text) → Option Text
-first_no_node (Some words) = find (λ word. is_none (node_of word)) words
-first_no_node None = None

@@ -1,5 +1,5 @@
-use Rattle.dap_follow.proofs.StayLemmas.{goes}
+use Rattle.dap_follow.proofs.StayLemmas.{goes_between}
 use Rattle.dap_follow.proofs.laws.listed_messages_can_go.Goals as goal
 
 pub returns : goal.returns
-returns c = goes
+returns c = goes_between

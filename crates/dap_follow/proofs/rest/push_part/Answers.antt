@@ -1,7 +1,7 @@
 use Rattle.std.proofs.Common.{◌≡◌, ◌++◌, List, [], codes, ap, sym, ◌∙◌, if◌then◌else◌}
 use Rattle.std.proofs.lemmas.Result.{on_ok_weaker}
-use Rattle.dap_follow.specs.Following.{length_text, range_text, stream_text}
-use Rattle.dap_follow.specs.Inner.Kept.{kept_bytes}
+use Rattle.dap_follow.specs.Lines.{length_text, range_text, stream_text}
+use Rattle.dap_follow.specs.Keeping.Kept.{kept_bytes}
 use Rattle.dap_follow.proofs.RestLemmas.{appended_twice}
 use Rattle.dap_follow.proofs.rest.push_part.Goals as goal
 

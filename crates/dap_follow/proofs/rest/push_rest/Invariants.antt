@@ -1,5 +1,5 @@
 use Rattle.std.proofs.Common.{◌≡◌, ◌++◌, length}
-use Rattle.dap_follow.specs.Inner.Rest.{kept_rest}
+use Rattle.dap_follow.specs.Keeping.Rest.{kept_rest}
 use Rattle.dap_follow.proofs.rest.push_rest.Given as goal
 
 -- the text so far and what is left of the others are all

@@ -1,17 +1,33 @@
-use Rattle.std.proofs.Common.{◌≡◌, rules, map, string_bytes, ap, subst, ◌∙◌, inl, inr, refl, true, false}
-use Rattle.std.specs.Prelude.{IfSome, Some, None}
+use Rattle.std.proofs.Common.{◌≡◌, ◌∙◌, rules, map, string_bytes, ap, sym, subst, inl, inr, refl}
+use Rattle.std.specs.Prelude.{IfSome, Some, None, option_map}
 use Rattle.clap.specs.Words.{fault_of}
 use Rattle.linewise.proofs.ForCallers.{memory_or_help, memory_or_mistake, only_memory}
-use Rattle.live_cli.specs.declared.words.Task.{Task}
-use Rattle.live_cli.specs.declared.words.Task.TheVariants.{End, Follow, Frames, Watch}
-use Rattle.live_cli.specs.Running.{TaskGives}
-use Rattle.live_cli.specs.Words.{daplive, task_of, usual}
-use Rattle.live_cli.proofs.RunLemmas.{names_follow, names_in_words, no_fault_in_words, names_frames, names_usual, names_watch, names_watch_in_words, no_fault, no_fault_follow, no_fault_frames, no_fault_watch, no_fault_watch_in_words, none_named, one_task, refused}
+use Rattle.live_cli.specs.declared.words.Options.{Options}
+use Rattle.live_cli.specs.Running.{EndGives}
+use Rattle.live_cli.specs.Words.{capture_hint, daplive, end_named, usual}
+use Rattle.live_cli.proofs.RunLemmas.{hinted_once, is_no_end, is_no_help, is_some_fault, names_usual, no_fault, none_named, one_end, refused, untouched}
 use Rattle.live_cli.proofs.running.run_words.Goals as goal
+
+pub returns-in-Some : goal.returns-in-Some
+returns-in-Some g c =
+    let words = map string_bytes c.args.words.now in
+    let hint = c.in-Some.hint.now in
+    let told : Some hint ≡ capture_hint words = search rules in
+    record {
+      named = λ options none named. absurd (is_some_fault words hint told none);
+      usual = λ program role named. absurd (is_no_end words program role hint told named);
+      digits = λ none unnamed. (inl c.tell_hint.ensures.status, untouched _);
+      mistake = λ mistakes. (inl c.tell_hint.ensures.status, untouched _);
+      captures = λ other asked. (c.tell_hint.ensures.status, untouched _, hinted_once words hint other _ _ told asked c.tell_hint.ensures.told);
+      unread = λ fault. refl;
+      help = λ help. absurd (is_no_help words hint told help);
+      quiet = λ help zero. absurd (is_no_help words hint told help);
+    }
 
 pub returns-in-Err : goal.returns-in-Err
 returns-in-Err g c =
-    let kinds = fault_of daplive (map string_bytes c.args.words.now) in
+    let words = map string_bytes c.args.words.now in
+    let kinds = fault_of daplive words in
     let e = c.in-Err.error in
     let has = c.in-Err.ensures.kinds in
     let input = g.R.Read.remaining c.args.reader.now in
@@ -20,19 +36,9 @@ returns-in-Err g c =
     let told = g.E.Write.contents c.args.error_writer.now in
     let tells = g.E.Write.contents c.refuse.new.error_writer in
     record {
-      named = λ task none named. refused task input input old new told tells c.refuse.result (c.refuse.ensures.memory (only_memory kinds e none has));
-      usual = λ program role words. refused (End (usual role).1) input input old new told tells c.refuse.result
+      named = λ options none named. refused options input input old new told tells c.refuse.result (c.refuse.ensures.memory (only_memory kinds e none has));
+      usual = λ program role words. refused (usual role).1 input input old new told tells c.refuse.result
           (c.refuse.ensures.memory (only_memory kinds e (ap (fault_of daplive) words ∙ no_fault program role) has));
-      follow = λ program words. refused (Follow false) input input old new told tells c.refuse.result
-          (c.refuse.ensures.memory (only_memory kinds e (ap (fault_of daplive) words ∙ no_fault_follow program) has));
-      in_words = λ program words. refused (Follow true) input input old new told tells c.refuse.result
-          (c.refuse.ensures.memory (only_memory kinds e (ap (fault_of daplive) words ∙ no_fault_in_words program) has));
-      frames = λ program words. refused (Frames None) input input old new told tells c.refuse.result
-          (c.refuse.ensures.memory (only_memory kinds e (ap (fault_of daplive) words ∙ no_fault_frames program) has));
-      watch = λ program words. refused (Watch false) input input old new told tells c.refuse.result
-          (c.refuse.ensures.memory (only_memory kinds e (ap (fault_of daplive) words ∙ no_fault_watch program) has));
-      watch_in_words = λ program words. refused (Watch true) input input old new told tells c.refuse.result
-          (c.refuse.ensures.memory (only_memory kinds e (ap (fault_of daplive) words ∙ no_fault_watch_in_words program) has));
       digits = λ none unnamed. let kept = c.refuse.ensures.memory (only_memory kinds e none has) in (inr (kept.0, kept.2), kept.1);
       mistake = λ mistakes.
           elim (memory_or_mistake kinds e mistakes has) [
@@ -43,6 +49,7 @@ returns-in-Err g c =
                   | inr told ↦ (inl told.0, told.1)
                 ]
           ];
+      captures = λ hint asked. let none : None ≡ capture_hint words = search rules in let no : None ≡ Some hint = none ∙ asked in absurd cc;
       unread = λ fault. refl;
       help = λ help.
           elim (memory_or_help kinds e help has) [
@@ -55,77 +62,12 @@ returns-in-Err g c =
 pub returns-in-Ok-Ok-clause-usual : goal.returns-in-Ok-Ok-clause-usual
 returns-in-Ok-Ok-clause-usual g c program role named =
     let words = map string_bytes c.args.words.now in
-    let named_first : Some c.in-Ok-Ok.task ≡ task_of words = search rules in
-    let same = one_task words c.in-Ok-Ok.task (End (usual role).1) named_first (ap task_of named ∙ names_usual program role) in
-    subst (λ (task : Task). IfSome (g.R.Read.remaining c.args.reader.now) (λ input. TaskGives task input (g.R.Read.remaining c.run_task.new.reader) (g.W.Write.contents c.args.writer.now) (g.W.Write.contents c.run_task.new.writer) (g.E.Write.contents c.args.error_writer.now) (g.E.Write.contents c.run_task.new.error_writer) c.run_task.result)) same c.run_task.ensures
-
-pub returns-in-Ok-Ok-clause-follow : goal.returns-in-Ok-Ok-clause-follow
-returns-in-Ok-Ok-clause-follow g c program named =
-    let words = map string_bytes c.args.words.now in
-    let named_first : Some c.in-Ok-Ok.task ≡ task_of words = search rules in
-    let same = one_task words c.in-Ok-Ok.task (Follow false) named_first (ap task_of named ∙ names_follow program) in
-    subst (λ (task : Task). IfSome (g.R.Read.remaining c.args.reader.now) (λ input. TaskGives task input (g.R.Read.remaining c.run_task.new.reader) (g.W.Write.contents c.args.writer.now) (g.W.Write.contents c.run_task.new.writer) (g.E.Write.contents c.args.error_writer.now) (g.E.Write.contents c.run_task.new.error_writer) c.run_task.result)) same c.run_task.ensures
-
-pub returns-in-Ok-Ok-clause-in_words : goal.returns-in-Ok-Ok-clause-in_words
-returns-in-Ok-Ok-clause-in_words g c program named =
-    let words = map string_bytes c.args.words.now in
-    let named_first : Some c.in-Ok-Ok.task ≡ task_of words = search rules in
-    let same = one_task words c.in-Ok-Ok.task (Follow true) named_first (ap task_of named ∙ names_in_words program) in
-    subst (λ (task : Task). IfSome (g.R.Read.remaining c.args.reader.now) (λ input. TaskGives task input (g.R.Read.remaining c.run_task.new.reader) (g.W.Write.contents c.args.writer.now) (g.W.Write.contents c.run_task.new.writer) (g.E.Write.contents c.args.error_writer.now) (g.E.Write.contents c.run_task.new.error_writer) c.run_task.result)) same c.run_task.ensures
-
-pub returns-in-Ok-Ok-clause-watch : goal.returns-in-Ok-Ok-clause-watch
-returns-in-Ok-Ok-clause-watch g c program named =
-    let words = map string_bytes c.args.words.now in
-    let named_first : Some c.in-Ok-Ok.task ≡ task_of words = search rules in
-    let same = one_task words c.in-Ok-Ok.task (Watch false) named_first (ap task_of named ∙ names_watch program) in
-    subst (λ (task : Task). IfSome (g.R.Read.remaining c.args.reader.now) (λ input. TaskGives task input (g.R.Read.remaining c.run_task.new.reader) (g.W.Write.contents c.args.writer.now) (g.W.Write.contents c.run_task.new.writer) (g.E.Write.contents c.args.error_writer.now) (g.E.Write.contents c.run_task.new.error_writer) c.run_task.result)) same c.run_task.ensures
-
-pub returns-in-Ok-Ok-clause-watch_in_words : goal.returns-in-Ok-Ok-clause-watch_in_words
-returns-in-Ok-Ok-clause-watch_in_words g c program named =
-    let words = map string_bytes c.args.words.now in
-    let named_first : Some c.in-Ok-Ok.task ≡ task_of words = search rules in
-    let same = one_task words c.in-Ok-Ok.task (Watch true) named_first (ap task_of named ∙ names_watch_in_words program) in
-    subst (λ (task : Task). IfSome (g.R.Read.remaining c.args.reader.now) (λ input. TaskGives task input (g.R.Read.remaining c.run_task.new.reader) (g.W.Write.contents c.args.writer.now) (g.W.Write.contents c.run_task.new.writer) (g.E.Write.contents c.args.error_writer.now) (g.E.Write.contents c.run_task.new.error_writer) c.run_task.result)) same c.run_task.ensures
-
-pub returns-in-Ok-Ok-clause-frames : goal.returns-in-Ok-Ok-clause-frames
-returns-in-Ok-Ok-clause-frames g c program named =
-    let words = map string_bytes c.args.words.now in
-    let named_first : Some c.in-Ok-Ok.task ≡ task_of words = search rules in
-    let same = one_task words c.in-Ok-Ok.task (Frames None) named_first (ap task_of named ∙ names_frames program) in
-    subst (λ (task : Task). IfSome (g.R.Read.remaining c.args.reader.now) (λ input. TaskGives task input (g.R.Read.remaining c.run_task.new.reader) (g.W.Write.contents c.args.writer.now) (g.W.Write.contents c.run_task.new.writer) (g.E.Write.contents c.args.error_writer.now) (g.E.Write.contents c.run_task.new.error_writer) c.run_task.result)) same c.run_task.ensures
+    let named_first : Some c.in-Ok-Ok.options ≡ end_named words = search rules in
+    let same = one_end words c.in-Ok-Ok.options (usual role).1 named_first (ap end_named named ∙ names_usual program role) in
+    subst (λ (o : Options). IfSome (g.R.Read.remaining c.args.reader.now) (λ input. EndGives o input (g.R.Read.remaining c.run_options.new.reader) (g.W.Write.contents c.args.writer.now) (g.W.Write.contents c.run_options.new.writer) (g.E.Write.contents c.args.error_writer.now) (g.E.Write.contents c.run_options.new.error_writer) c.run_options.result)) same c.run_options.ensures
 
 pub returns-in-Ok-Err-clause-usual : goal.returns-in-Ok-Err-clause-usual
 returns-in-Ok-Err-clause-usual g c program role named =
     let words = map string_bytes c.args.words.now in
-    let none : None ≡ task_of words = search rules in
-    absurd (none_named words (End (usual role).1) none (ap task_of named ∙ names_usual program role))
-
-pub returns-in-Ok-Err-clause-follow : goal.returns-in-Ok-Err-clause-follow
-returns-in-Ok-Err-clause-follow g c program named =
-    let words = map string_bytes c.args.words.now in
-    let none : None ≡ task_of words = search rules in
-    absurd (none_named words (Follow false) none (ap task_of named ∙ names_follow program))
-
-pub returns-in-Ok-Err-clause-in_words : goal.returns-in-Ok-Err-clause-in_words
-returns-in-Ok-Err-clause-in_words g c program named =
-    let words = map string_bytes c.args.words.now in
-    let none : None ≡ task_of words = search rules in
-    absurd (none_named words (Follow true) none (ap task_of named ∙ names_in_words program))
-
-pub returns-in-Ok-Err-clause-watch : goal.returns-in-Ok-Err-clause-watch
-returns-in-Ok-Err-clause-watch g c program named =
-    let words = map string_bytes c.args.words.now in
-    let none : None ≡ task_of words = search rules in
-    absurd (none_named words (Watch false) none (ap task_of named ∙ names_watch program))
-
-pub returns-in-Ok-Err-clause-watch_in_words : goal.returns-in-Ok-Err-clause-watch_in_words
-returns-in-Ok-Err-clause-watch_in_words g c program named =
-    let words = map string_bytes c.args.words.now in
-    let none : None ≡ task_of words = search rules in
-    absurd (none_named words (Watch true) none (ap task_of named ∙ names_watch_in_words program))
-
-pub returns-in-Ok-Err-clause-frames : goal.returns-in-Ok-Err-clause-frames
-returns-in-Ok-Err-clause-frames g c program named =
-    let words = map string_bytes c.args.words.now in
-    let none : None ≡ task_of words = search rules in
-    absurd (none_named words (Frames None) none (ap task_of named ∙ names_frames program))
+    let none : None ≡ end_named words = search rules in
+    absurd (none_named words (usual role).1 none (ap end_named named ∙ names_usual program role))

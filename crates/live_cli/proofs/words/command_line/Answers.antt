@@ -9,17 +9,8 @@ returns-clause-line c =
     let ask = c.in_ok-end_command.ensures.line in
     let first = c.in_ok-command.ensures in
     let second = c.in_ok-command-2.ensures in
-    let third = c.in_ok-command-3.ensures in
-    let follow = c.in_ok-follow_command.ensures.line in
-    let frames = c.in_ok-frames_command.ensures.line in
-    let watch = c.in_ok-watch_command.ensures.line in
-    let fourth = c.in_ok-command-4.ensures in
-    let fifth = c.in_ok-command-5.ensures in
-    let app = fifth.shape watch.local
-    ∙ ap (λ (a : App). with_subcommand a (app_of c.in_ok-watch_command.field-0).top) (fourth.shape frames.local
-    ∙ ap (λ (a : App). with_subcommand a (app_of c.in_ok-frames_command.field-0).top) (third.shape follow.local
-    ∙ ap (λ (a : App). with_subcommand a (app_of c.in_ok-follow_command.field-0).top) (second.shape ask.local
-    ∙ ap (λ (a : App). with_subcommand a (app_of c.in_ok-end_command.field-0).top) (first.shape serve.local))))
+    let app = second.shape ask.local
+    ∙ ap (λ (a : App). with_subcommand a (app_of c.in_ok-end_command.field-0).top) (first.shape serve.local)
     ∙ search rules ∙ sym daplive_by in
     record {
       app = app;

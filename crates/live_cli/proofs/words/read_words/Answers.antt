@@ -1,7 +1,7 @@
 use Rattle.std.proofs.Common.{◌∙◌, ap, sym, subst, List, map, string_bytes}
 use Rattle.std.specs.Prelude.{IfErr, IfSome, Option, option_and_then}
 use Rattle.clap.specs.Words.{App, HasKind, Row, Text, fault_of, is_simple_and_free, found_of, rows_of}
-use Rattle.live_cli.specs.Words.{daplive, task_in as task_of_rows}
+use Rattle.live_cli.specs.Words.{daplive, end_in as end_of_rows}
 use Rattle.live_cli.specs.Inner.Spelling.{IsMisspelt}
 use Rattle.live_cli.proofs.RunLemmas.{fails_with, is_free_line, subcommand_is}
 use Rattle.live_cli.proofs.words.read_words.Goals as goal
@@ -19,13 +19,13 @@ returns-clause-kinds c =
     let line = c.in_ok-command.ensures.line in
     ap (λ (a : App). fault_of a words) (sym line.app) ∙ c.in_ok-matches.ensures.kinds (ap is_simple_and_free line.app ∙ is_free_line)
 
-pub returns-clause-task : goal.returns-clause-task
-returns-clause-task c =
+pub returns-clause-options : goal.returns-clause-options
+returns-clause-options c =
     let words = map string_bytes c.args.words.now in
     let found = c.in-Some in
     let is = subcommand_is c.in_ok-command.command c.in_ok-matches.matches words found.name.now (rows_of (found_of found.matches.now))
     c.in_ok-command.ensures.line.app c.in_ok-matches.ensures.matches found.ensures.name found.ensures.rows in
-    c.task_in.ensures.task ∙ sym (ap (option_and_then task_of_rows) is)
+    c.end_in.ensures.options ∙ sym (ap (option_and_then end_of_rows) is)
 
 pub returns-clause-misspelt : goal.returns-clause-misspelt
 returns-clause-misspelt c =
@@ -33,4 +33,4 @@ returns-clause-misspelt c =
     let found = c.in-Some in
     let is = subcommand_is c.in_ok-command.command c.in_ok-matches.matches words found.name.now (rows_of (found_of found.matches.now))
     c.in_ok-command.ensures.line.app c.in_ok-matches.ensures.matches found.ensures.name found.ensures.rows in
-    subst (λ (o : Option (Text × List Row)). IfErr c.task_in.result (λ m. IfSome o (λ found. IsMisspelt found.1 m))) (sym is) c.task_in.ensures.misspelt
+    subst (λ (o : Option (Text × List Row)). IfErr c.end_in.result (λ m. IfSome o (λ found. IsMisspelt found.1 m))) (sym is) c.end_in.ensures.misspelt

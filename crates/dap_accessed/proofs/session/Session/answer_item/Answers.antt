@@ -1,6 +1,5 @@
 use Rattle.std.proofs.Common.{subst, sym}
 use Rattle.dap_accessed.specs.Sessions.{SessionValue, IsOpenIn}
-use Rattle.dap_accessed.specs.Inner.Steps.{CanDo}
 use Rattle.dap_accessed.proofs.session.Session.answer_item.Goals as goal
 
 pub step-requires-clause-there : goal.step-requires-clause-there

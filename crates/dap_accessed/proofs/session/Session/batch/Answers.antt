@@ -1,9 +1,9 @@
-use Rattle.std.proofs.Common.{ℕ, List, ap, sym, subst, ◌≡◌, [], ◌∷◌, ◌++◌, ◌+◌, ◌≤◌, arith, map, length, ◌∙◌, ◌<◌}
+use Rattle.std.proofs.Common.{ℕ, Bool, List, ap, sym, subst, ◌≡◌, [], ◌∷◌, ◌++◌, ◌+◌, ◌≤◌, arith, map, length, ◌∙◌, ◌<◌}
 use Rattle.std.proofs.lemmas.Bool.{le-leb, lt-leb}
 use Rattle.dap_accessed.specs.declared.phase.Phase.TheVariants as phases
-use Rattle.dap_accessed.specs.Standing.{Effect, the_file}
+use Rattle.dap_accessed.specs.Standing.{Effect}
 use Rattle.dap_msg.specs.Codes as codes
-use Rattle.dap_accessed.specs.Replies.{bare_status, too_large}
+use Rattle.dap_accessed.specs.Replies.{bare_status, coded, too_large}
 use Rattle.dap_accessed.specs.Present.{phase_at}
 use Rattle.dap_accessed.specs.Inner.Moves.{plain_memory, scene_in}
 use Rattle.rec_file.specs.AnyFiles.{any_value}
@@ -13,7 +13,9 @@ use Rattle.dap_msg.specs.declared.message.Message.{Message}
 use Rattle.dap_msg.specs.declared.message.Message.TheVariants.{Filedata}
 use Rattle.dap_accessed.specs.Sessions.{SessionValue, with_files}
 use Rattle.dap_accessed.specs.Served.{AreAnswers}
+use Rattle.dap_accessed.specs.Effects.{told}
 use Rattle.dap_accessed.specs.Records.{filedata_of}
+use Rattle.dap_accessed.proofs.Coding.{coded-records}
 use Rattle.dap_accessed.proofs.Fetching.{GoesOn, filedata_size, begins, goes_on, above_next, ends_there, stops_there}
 use Rattle.dap_accessed.proofs.session.Session.batch.Goals as goal
 
@@ -56,11 +58,14 @@ returns-then-filedata_len-from-clause-answers c =
     let file = c.file-file.ensures in
     let large : c.args.self.now.limit < length (canon (filedata_of (c.in-Some.number, c.in-Some.body.now))) = omega (arith, filedata_size (c.in-Some.number, c.in-Some.body.now), c.if-filedata_len-from.true, c.filedata_len.ensures, c.from.ensures, limit) in
     let given = c.loop-number.invariant.given in
-    subst (λ (e : Effect). AreAnswers c.args.self.now.limit e.answers c.append.new.answers)
+    let full : c.self.inside.setup.full ≡ c.args.self.now.setup.full = ap (λ (p : SessionValue). p.setup.full) c.self.view_is in
+    let message = c.coded-answer.ensures.message ∙ ap (coded c.self.inside.setup.full) c.too_large.ensures.message ∙ ap (λ (b : Bool). coded b too_large) full in
+    subst (λ (e : Effect). AreAnswers c.args.self.now.limit (told c.args.self.now.setup e).answers c.append.new.answers)
     (sym (stops_there (scene_in (with_files c.args.files.now c.args.self.now)) c.args.opened c.args.stream (any_value c.file-file.result.now) c.loop-number.next c.loop-number.answers
     (c.in-Some.number, c.in-Some.body.now) (records_from (any_value c.file-file.result.now).records (c.in-Some.number + 1)) file c.loop-number.invariant c.in-Some.ensures.some (lt-leb _ _ large)))
-    (subst (λ (l : ℕ). AreAnswers l (map filedata_of given ++ too_large ∷ []) c.append.new.answers) limit
-    (subst (λ (m : Message). AreAnswers c.self.inside.limit (map filedata_of given ++ m ∷ []) c.append.new.answers) c.too_large.ensures.message (c.in_ok-append.ensures (map filedata_of given) (subst (λ (l : ℕ). AreAnswers l (map filedata_of given) c.loop-number.answers) (sym limit) c.loop-number.invariant.answered))))
+    (subst (λ (l : List Message). AreAnswers c.args.self.now.limit l c.append.new.answers) (sym (coded-records c.args.self.now.setup.full given too_large))
+    (subst (λ (l : ℕ). AreAnswers l (map filedata_of given ++ coded c.args.self.now.setup.full too_large ∷ []) c.append.new.answers) limit
+    (subst (λ (m : Message). AreAnswers c.self.inside.limit (map filedata_of given ++ m ∷ []) c.append.new.answers) message (c.in_ok-append.ensures (map filedata_of given) (subst (λ (l : ℕ). AreAnswers l (map filedata_of given) c.loop-number.answers) (sym limit) c.loop-number.invariant.answered)))))
 
 pub returns-clause-phase : goal.returns-clause-phase
 returns-clause-phase c =
@@ -74,8 +79,9 @@ returns-clause-answers c =
     let limit : c.self.inside.limit ≡ c.args.self.now.limit = ap (λ (p : SessionValue). p.limit) c.self.view_is in
     let file = c.file-file.ensures in
     let given = c.loop-number.invariant.given in
-    subst (λ (e : Effect). AreAnswers c.args.self.now.limit e.answers c.append-2.new.answers)
+    subst (λ (e : Effect). AreAnswers c.args.self.now.limit (told c.args.self.now.setup e).answers c.append-2.new.answers)
     (sym (ends_there (scene_in (with_files c.args.files.now c.args.self.now)) c.args.opened c.args.stream (any_value c.file-file.result.now) c.loop-number.next c.loop-number.answers
     file c.loop-number.invariant c.in_default.ensures.none))
+    (subst (λ (l : List Message). AreAnswers c.args.self.now.limit l c.append-2.new.answers) (sym (coded-records c.args.self.now.setup.full given (bare_status codes.stscode.end_of_file)))
     (subst (λ (l : ℕ). AreAnswers l (map filedata_of given ++ bare_status codes.stscode.end_of_file ∷ []) c.append-2.new.answers) limit
-    (c.in_ok-append-3.ensures (map filedata_of given) (subst (λ (l : ℕ). AreAnswers l (map filedata_of given) c.loop-number.answers) (sym limit) c.loop-number.invariant.answered)))
+    (c.in_ok-append-3.ensures (map filedata_of given) (subst (λ (l : ℕ). AreAnswers l (map filedata_of given) c.loop-number.answers) (sym limit) c.loop-number.invariant.answered))))

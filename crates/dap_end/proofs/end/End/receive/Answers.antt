@@ -1,7 +1,6 @@
 use Rattle.std.proofs.Common.{subst, sym}
 use Rattle.dap_end.specs.By.{end_with}
 use Rattle.dap_end.specs.Ports.{PortValue}
-use Rattle.dap_end.specs.Inner.Kept.{LinkMoved}
 use Rattle.dap_end.specs.Histories.{Still}
 use Rattle.dap_end.proofs.Roles.{received}
 use Rattle.dap_end.proofs.Taking.{grown}

@@ -1,6 +1,6 @@
 use Rattle.std.proofs.Common.{◌≡◌, ◌++◌, drop}
 use Rattle.std.specs.List.{flat_map}
-use Rattle.dap_follow.specs.Inner.Kept.{kept_bytes}
+use Rattle.dap_follow.specs.Keeping.Kept.{kept_bytes}
 use Rattle.dap_follow.proofs.kept.Kept.gather.Given as goal
 
 -- the bytes so far and those of the others are all
