@@ -1,7 +1,9 @@
 """Standard output, which may be a pipe that nobody reads for long. A thread writes to it, so that nobody waits for that."""
 import collections
 import contextlib
+import errno
 import os
+import select
 import socket
 import sys
 import threading
@@ -14,7 +16,8 @@ LOOK_SECONDS = 60
 
 
 class Output:
-    """What is written waits until standard output takes it. An OSError of that is raised at the next use."""
+    """What is written waits until standard output takes it. An OSError of that is raised at the next use; at once where
+    it is a pipe that nobody can read any more, so that no work is said to be done whose output is lost."""
 
     def __init__(self, signals, file=None, most=MAX_WAITING):
         self.signals, self.most = signals, most
@@ -80,6 +83,14 @@ class Output:
     def check(self):
         if self.fault:
             raise self.fault
+        if self.is_unread():
+            raise BrokenPipeError(errno.EPIPE, os.strerror(errno.EPIPE))
+
+    def is_unread(self):
+        """Whether it is a pipe whose other end is closed, though the thread may not have met that yet."""
+        found = select.poll()
+        found.register(self.file, 0)
+        return any(event & select.POLLERR for _, event in found.poll(0))
 
     @property
     def is_full(self):

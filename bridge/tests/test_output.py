@@ -73,12 +73,12 @@ class OutputTest(Case):
         self.assertFalse(self.output.is_slow)
         os.close(self.writing)
 
-    def test_a_pipe_that_is_closed_is_told_at_the_next_use(self):
+    def test_a_pipe_that_is_closed_is_told_at_once(self):
+        """Also where its thread hasn't written yet, and where the pipe is closed while something waits."""
         reading, writing = os.pipe()
-        os.close(reading)
         output = Output(self.signals, writing)
-        output.write(b"text")
-        until(lambda: output.fault, "a fault")
+        output.write(bytes(2 * PIPE))
+        os.close(reading)
         for use in (output.check, output.flush, lambda: output.write(b"")):
             with self.assertRaises(BrokenPipeError):
                 use()
